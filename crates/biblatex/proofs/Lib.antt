@@ -1,0 +1,10 @@
+pub mod Shorter
+pub mod Fields
+pub mod Tidying
+pub mod Indexes
+pub mod Items
+pub mod Loading
+pub mod GrammarTools
+pub mod GrammarTakes
+pub mod GrammarAgain
+pub mod GrammarUnique

@@ -1,0 +1,19 @@
+use Rattle.std.proofs.Common.{◌≡◌, ℕ, true, List, Result, Ok, Err, refl, sym, ap, ◌∙◌}
+use Rattle.std.specs.Prelude.{is_ok}
+use Rattle.std.specs.Str.{chars}
+use Rattle.biblatex.specs.Grammar.{Item, IsFile}
+use Rattle.biblatex.specs.Reading.{items_of}
+use Rattle.biblatex.specs.declared.profile.Outside.{Outside}
+use Rattle.biblatex.proofs.GrammarTakes.{file_takes}
+use Rattle.biblatex.proofs.GrammarAgain.{file_again}
+use Rattle.biblatex.proofs.profile.is_first_profile.Goals as goal
+
+-- items that are read are related to the text
+related : (cs : List ℕ) (r : Result (List Item) Outside) → items_of cs ≡ r → is_ok r ≡ true → (items : List Item) × IsFile cs items
+related cs (Ok items) e t = (items, file_takes cs items e)
+related cs (Err f) e t = absurd cc
+
+pub returns-clause-grammar : goal.returns-clause-grammar
+returns-clause-grammar c =
+    let cs = chars c.args.text.now in
+    (λ t. related cs (items_of cs) refl (sym c.can_be_read.ensures ∙ t), λ h. c.can_be_read.ensures ∙ ap is_ok (file_again cs h.0 h.1))

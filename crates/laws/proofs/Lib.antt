@@ -1,0 +1,5 @@
+pub mod Results
+pub mod Runs
+pub mod Steps
+pub mod Cut
+pub mod Text

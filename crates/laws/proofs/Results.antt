@@ -1,0 +1,62 @@
+-- What steps in a row give.
+use Rattle.std.proofs.Common.{◌≡◌, Bool, true, false, cond, List, ℕ, Result, Ok, Err, refl}
+use Rattle.std.specs.Prelude.{IfOk, IsOk}
+use Rattle.laws.specs.Results.{◌>>=◌, Reads}
+
+-- the value of a step that did not fail
+pub bind_ok : {F A B : Type 0} (r : Result A F) (f : A → Result B F) (y : B) → (r >>= f) ≡ Ok y → (x : A) × (r ≡ Ok x) × (f x ≡ Ok y)
+bind_ok (Ok x) f y e = (x, refl, e)
+bind_ok (Err d) f y e = absurd cc
+
+-- steps in a row may be grouped
+pub bind_bind : {F A B C : Type 0} (r : Result A F) (f : A → Result B F) (g : B → Result C F) → ((r >>= f) >>= g) ≡ (r >>= λ x. f x >>= g)
+bind_bind (Ok x) f g = refl
+bind_bind (Err d) f g = refl
+
+-- a test that let the step go on
+pub test_ok : {F A : Type 0} (b : Bool) (r : Result A F) (d : F) (y : A) → cond b r (Err d) ≡ Ok y → (b ≡ true) × (r ≡ Ok y)
+test_ok true r d y e = (refl, e)
+test_ok false r d y e = absurd cc
+
+-- a test that did not make the step fail
+pub guard_ok : {F A : Type 0} (b : Bool) (r : Result A F) (d : F) (y : A) → cond b (Err d) r ≡ Ok y → (b ≡ false) × (r ≡ Ok y)
+guard_ok true r d y e = absurd cc
+guard_ok false r d y e = (refl, e)
+
+-- a test, and which of the two went on
+pub chosen : {A : Type 0} (b : Bool) (x y z : A) → cond b x y ≡ z → (b ≡ true → x ≡ z) × (b ≡ false → y ≡ z)
+chosen true x y z e = (λ _. e, λ h. absurd cc)
+chosen false x y z e = (λ h. absurd cc, λ _. e)
+
+abbrev done : (F : Type 0) {A : Type 0} → A → Result A F
+done F x = Ok x
+
+pub ok_is : {F A : Type 0} (x y : A) → done F x ≡ done F y → x ≡ y
+ok_is x y e = cc
+
+-- what holds of the value of steps in a row
+pub bind_if_ok : {F A B : Type 0} (P : A → Type 0) (Q : B → Type 0) (r : Result A F) (f : A → Result B F) → IfOk r P → ((x : A) → P x → IfOk (f x) Q) → IfOk (r >>= f) Q
+bind_if_ok P Q (Ok x) f p more = more x p
+bind_if_ok P Q (Err d) f p more = tt
+
+-- a test whose other outcome is a fault
+pub test_if_ok : {F A : Type 0} (Q : A → Type 0) (b : Bool) (r : Result A F) (d : F) → IfOk r Q → IfOk (cond b r (Err d)) Q
+test_if_ok Q true r d p = p
+test_if_ok Q false r d p = tt
+
+pub guard_if_ok : {F A : Type 0} (Q : A → Type 0) (b : Bool) (r : Result A F) (d : F) → IfOk r Q → IfOk (cond b (Err d) r) Q
+guard_if_ok Q true r d p = tt
+guard_if_ok Q false r d p = p
+
+-- the value of a step that is known not to have failed
+pub if_ok_at : {F A : Type 0} (Q : A → Type 0) (r : Result A F) (x : A) → r ≡ Ok x → IfOk r Q → Q x
+if_ok_at {F} {A} Q r x e p = let h : IfOk {E = F} (Ok x) Q = rw e at p in h
+
+-- what reading gives, where the function's answer is known
+pub reads_ok : {F X Y : Type 0} (view : X → Y) (r : Result X F) (x : X) (rest : List ℕ) (read : Result (Y × List ℕ) F) → r ≡ Ok x → Reads view r rest read → read ≡ Ok (view x, rest)
+reads_ok {F} view r x rest read e h = let g : Reads {F = F} view (Ok x) rest read = rw e at h in g
+
+-- a function whose reading has no fault answers Ok
+pub reads_fine : {F X Y : Type 0} (view : X → Y) (r : Result X F) (rest : List ℕ) (read : Result (Y × List ℕ) F) → ((f : F) → read ≡ Err f → ⊥) → Reads view r rest read → IsOk r
+reads_fine view (Ok x) rest read never h = λ _. true
+reads_fine view (Err f) rest read never h = absurd (never f h)

@@ -1,0 +1,4 @@
+pub mod Results
+pub mod Runs
+pub mod Steps
+pub mod Text
