@@ -7,8 +7,7 @@ use Rattle.biblatex.specs.declared.entry.Entry.{Entry}
 use Rattle.biblatex.specs.declared.error.ParseError.{ParseError}
 use Rattle.biblatex.specs.declared.error.ParseError.TheVariants as errors
 use Rattle.biblatex.specs.TypeNames.{type_name}
-use Rattle.biblatex.specs.Grammar.{Item}
-use Rattle.biblatex.specs.Works.{Work, works_of, first_repeat}
+use Rattle.biblatex.specs.Works.{Work, first_repeat}
 
 -- the characters of a text
 abbrev pub characters : String Global → List ℕ
@@ -27,8 +26,8 @@ work e = record {
 abbrev pub works : List Entry → List Work
 works es = map work es
 
--- What reading these items answers: all their entries, or the first key that means an entry before its own; or memory ran out.
-abbrev pub Loads : Result (List Work) ParseError → List Item → Type 0
-Loads (Ok b) is = (first_repeat [] (works_of is) ≡ None) × (b ≡ works_of is)
-Loads (Err errors.Memory) is = Unit {0}
-Loads (Err (errors.DuplicateKey key)) is = first_repeat [] (works_of is) ≡ Some (string_bytes key)
+-- What reading these entries answers: all of them, or the first key that means an entry before its own; or memory ran out.
+abbrev pub Loads : Result (List Work) ParseError → List Work → Type 0
+Loads (Ok b) ws = (first_repeat [] ws ≡ None) × (b ≡ ws)
+Loads (Err errors.Memory) ws = Unit {0}
+Loads (Err (errors.DuplicateKey key)) ws = first_repeat [] ws ≡ Some (string_bytes key)

@@ -10,6 +10,7 @@ use Rattle.laws.specs.Runs.{front_of, after}
 use Rattle.laws.specs.Text.{lowered}
 use Rattle.biblatex.specs.Character.{passes, is_id_start}
 use Rattle.biblatex.specs.Grammar.{Field, Texts, Item, texts_of}
+use Rattle.biblatex.specs.Works.{Work, works_of}
 use Rattle.biblatex.specs.declared.character.Class.TheVariants.{Space, Identifier, Key, Value}
 use Rattle.biblatex.specs.declared.profile.FieldName.{FieldName}
 use Rattle.biblatex.specs.declared.profile.FieldName.TheVariants.{Title, Author, Publisher, Date}
@@ -111,3 +112,11 @@ next_item_at cs = item_or_end_at (after (passes Space) cs)
 -- all items of a text
 unfoldable pub items_of : List ℕ → Result (List Item) Outside
 items_of cs = each next_item_at cs >>= λ p. Ok p.0
+
+-- the entries that a text says, or none where it is outside the profile
+abbrev pub works_read : Result (List Item) Outside → Option (List Work)
+works_read (Ok items) = Some (works_of items)
+works_read (Err f) = None
+
+abbrev pub works_in : List ℕ → Option (List Work)
+works_in cs = works_read (items_of cs)

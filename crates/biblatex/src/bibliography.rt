@@ -1,10 +1,11 @@
 //! Bibliographies: entries in file order, found by their names.
 
-ghost use Rattle.std.specs.Prelude.{◌≡◌, ◌++◌, ◌∷◌, [], List, MatchOption, OnOk, OnErr, None, Some, is_some};
+ghost use Rattle.std.specs.Prelude.{◌≡◌, ◌++◌, ◌∷◌, [], List, MatchOption, OnOk, OnErr, Ok, None, Some, is_some};
 ghost use Rattle.std.specs.Str.{chars};
 ghost use Rattle.laws.specs.Text.{text};
 ghost use Rattle.biblatex.specs.Grammar.{Item, IsFile};
-ghost use Rattle.biblatex.specs.Works.{Work, meaning};
+ghost use Rattle.biblatex.specs.Works.{Work, works_of, meaning};
+ghost use Rattle.biblatex.specs.Reading.{items_of, works_in};
 ghost use Rattle.biblatex.specs.Entries.{work, works, Loads};
 ghost use Rattle.biblatex.specs.Index.{IsIndex};
 
@@ -48,7 +49,17 @@ impl Bibliography {
     pub fn parse(alloc: Global, text: &str) -> Result<Bibliography, ParseError>
         requires { (items : List Item) × IsFile (chars text.now) items }
         // The entries of the items that the grammar relates to the text, or the first repeated key.
-        ensures { (items : List Item) → IsFile (chars text.now) items → Loads result items }
+        ensures grammar { (items : List Item) → IsFile (chars text.now) items → Loads result (works_of items) }
+        // The entries that reading from the left gives, or the first repeated key.
+        ensures reading { (entries : List Work) → works_in (chars text.now) ≡ Some entries → Loads result entries }
+    {
+        Bibliography::load(alloc, text)
+    }
+
+    /// Reads the entries of a text that can be read from the left to its end.
+    fn load(alloc: Global, text: &str) -> Result<Bibliography, ParseError>
+        requires { (items : List Item) × (items_of (chars text.now) ≡ Ok items) }
+        ensures { (items : List Item) → items_of (chars text.now) ≡ Ok items → Loads result (works_of items) }
     {
         let mut bibliography = Bibliography::new(alloc);
         let mut reader = Reader::new(text);

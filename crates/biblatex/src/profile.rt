@@ -1,14 +1,14 @@
 //! The first profile: items of a kind, a key and up to four fields. The reader goes over a text once, and borrows
 //! what it finds.
 
-ghost use Rattle.std.specs.Prelude.{◌≡◌, ◌↔◌, List, false, is_ok, IsTrue};
+ghost use Rattle.std.specs.Prelude.{◌≡◌, ◌↔◌, List, false, is_ok, is_some, IsTrue};
 ghost use Rattle.std.specs.Str.{chars, bytes_eq, str_to_ascii_lowercase};
 ghost use Rattle.std.specs.Option.{option_map};
 ghost use Rattle.laws.specs.Results.{Reads, Passes};
 ghost use Rattle.laws.specs.Runs.{front_of, after};
 ghost use Rattle.biblatex.specs.Character.{passes};
 ghost use Rattle.biblatex.specs.Grammar.{no_texts, placed, Item, IsFile};
-ghost use Rattle.biblatex.specs.Reading.{token_at, spaced_token_at, identifier_at, field_name, has_hyphen_pair, is_year, is_fit, named_field, field_at, field_or_end_at, next_field_at, fields_at, is_other_kind, kind_at, item_at, next_item_at, items_of};
+ghost use Rattle.biblatex.specs.Reading.{token_at, spaced_token_at, identifier_at, field_name, has_hyphen_pair, is_year, is_fit, named_field, field_at, field_or_end_at, next_field_at, fields_at, is_other_kind, kind_at, item_at, next_item_at, items_of, works_in};
 ghost use Rattle.biblatex.specs.Views.{left, field, texts, item, Makes};
 ghost use Rattle.laws.specs.Text.{lowered};
 ghost use Rattle.biblatex.specs.declared.character.Class.TheVariants.{Space, Identifier, Key, Value};
@@ -244,8 +244,8 @@ impl<'s> WrittenTexts<'s> {
 pub fn is_first_profile(text: &str) -> bool
     // True exactly where the grammar relates some items to the text.
     ensures grammar { IsTrue result ↔ ((items : List Item) × IsFile (chars text.now) items) }
-    // True exactly where reading from the left succeeds.
-    ensures reading { result ≡ is_ok (items_of (chars text.now)) }
+    // True exactly where reading from the left comes to the end.
+    ensures reading { result ≡ is_some (works_in (chars text.now)) }
 {
     can_be_read(text)
 }

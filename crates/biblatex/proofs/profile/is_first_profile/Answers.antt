@@ -1,8 +1,8 @@
 use Rattle.std.proofs.Common.{◌≡◌, ℕ, true, List, Result, Ok, Err, refl, sym, ap, ◌∙◌}
-use Rattle.std.specs.Prelude.{is_ok}
+use Rattle.std.specs.Prelude.{is_ok, is_some}
 use Rattle.std.specs.Str.{chars}
 use Rattle.biblatex.specs.Grammar.{Item, IsFile}
-use Rattle.biblatex.specs.Reading.{items_of}
+use Rattle.biblatex.specs.Reading.{items_of, works_read}
 use Rattle.biblatex.specs.declared.profile.Outside.{Outside}
 use Rattle.biblatex.proofs.GrammarTakes.{file_takes}
 use Rattle.biblatex.proofs.GrammarAgain.{file_again}
@@ -17,3 +17,11 @@ pub returns-clause-grammar : goal.returns-clause-grammar
 returns-clause-grammar c =
     let cs = chars c.args.text.now in
     (λ t. related cs (items_of cs) refl (sym c.can_be_read.ensures ∙ t), λ h. c.can_be_read.ensures ∙ ap is_ok (file_again cs h.0 h.1))
+
+-- items that are read say entries
+said : (r : Result (List Item) Outside) → is_ok r ≡ is_some (works_read r)
+said (Ok items) = refl
+said (Err f) = refl
+
+pub returns-clause-reading : goal.returns-clause-reading
+returns-clause-reading c = c.can_be_read.ensures ∙ said (items_of (chars c.args.text.now))

@@ -2,7 +2,7 @@ use Rattle.std.proofs.Common.{length}
 use Rattle.std.specs.Str.{chars}
 use Rattle.biblatex.specs.Views.{left}
 use Rattle.biblatex.proofs.Loading.{Loading}
-use Rattle.biblatex.proofs.bibliography.Bibliography.parse.Given as goal
+use Rattle.biblatex.proofs.bibliography.Bibliography.load.Given as goal
 
 abbrev pub invariant-loop-item : goal.invariant-loop-item
 invariant-loop-item l = Loading l.bibliography (left l.reader) (chars l.text)

@@ -1,0 +1,33 @@
+-- What the engine holds and gives, without where it lies in memory.
+use Rattle.std.specs.Prelude.{◌≡◌, ℕ, List, map, Option, Result, Ok, Err}
+use Rattle.std.specs.Option.{option_map}
+use Rattle.std.specs.Str.{chars}
+use Rattle.std.specs.Borrow.{Bor}
+use Rattle.cite.specs.Marker as marker
+use Rattle.cite.specs.declared.document.Citation.{Citation}
+use Rattle.cite.specs.declared.document.Document.{Document}
+use Rattle.cite.specs.declared.document.NoMarker.{NoMarker}
+use Rattle.cite.specs.declared.document.Rest.{Rest}
+
+-- the characters of a borrowed text
+abbrev pub spelled : Bor (List ℕ) → List ℕ
+spelled s = chars s.now
+
+-- the characters that are left
+abbrev pub left : Rest → List ℕ
+left r = spelled r.text
+
+abbrev pub citation : Citation → marker.Citation
+citation c = record { before = spelled c.before; name = spelled c.name }
+
+abbrev pub citations : List Citation → List marker.Citation
+citations cs = map citation cs
+
+-- What was found and what is left are what reading gives; of an opening that begins no marker, what follows it.
+abbrev pub Finds : Result (Option Citation) NoMarker → List ℕ → Result (Option marker.Citation × List ℕ) (List ℕ) → Type 0
+Finds (Ok found) rest read = read ≡ Ok (option_map citation found, rest)
+Finds (Err fault) rest read = read ≡ Err (spelled fault.opened)
+
+-- a document's citations, and the characters after the last one
+abbrev pub parsed : Document → List marker.Citation × List ℕ
+parsed d = (citations d.citations.items, spelled d.tail)

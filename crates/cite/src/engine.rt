@@ -1,0 +1,140 @@
+//! The filter: all is known before anything is written.
+
+ghost use Rattle.std.specs.Prelude.{◌≡◌, ◌++◌, List, length, true, false, MatchOption, IfErr, OnOk, string_bytes};
+ghost use Rattle.std.specs.Str.{chars, is_utf8};
+ghost use Rattle.laws.specs.Text.{text as text_of};
+ghost use Rattle.biblatex.specs.Works.{Work};
+ghost use Rattle.cite.specs.Order.{names_of};
+ghost use Rattle.cite.specs.Orders.{cited_works};
+ghost use Rattle.std.specs.Io.KnownBytes.{Appends};
+ghost use Rattle.cite.specs.Sinks.{HasFailed, AppendsFront};
+ghost use Rattle.cite.specs.Verdict.{document_stage, supported_stage, output_stage, verdict};
+ghost use Rattle.cite.specs.Views.{parsed};
+ghost use Rattle.cite.specs.Answers.{Answers, Writes, IsRefusalUnlessWrite, UnlessWrite, OnWrite};
+
+use crate::document::Document;
+use crate::error::{BibTextError, CiteError, DocumentTextError};
+use crate::format::BufWriteFormat;
+use crate::numbers::numbered_document;
+use crate::sink::{Sink, write_all};
+use crate::style::{Locale, Style};
+use biblatex::{Bibliography, ParseError, is_first_profile};
+use std::alloc::Global;
+
+/// The greatest number of an entry.
+const GREATEST_NUMBER: usize = 2_147_483_647;
+
+/// The text that the bytes spell, if they are UTF-8.
+fn utf8_text(bytes: &[u8]) -> Option<&str>
+    ensures { MatchOption result (is_utf8 bytes.now ≡ false) (λ s. (s.now ≡ bytes.now) × (is_utf8 bytes.now ≡ true)) }
+{
+    str::from_utf8(bytes).ok()
+}
+
+/// The entries of a bib text, where they are served.
+fn read_library(
+    alloc: Global,
+    bib: &[u8],
+    sections: &[&str],
+    format: BufWriteFormat,
+) -> Result<Bibliography, CiteError>
+    ensures { Answers (λ (b : List Work). b) result (supported_stage bib.now (length sections.now) format) }
+{
+    if format.is_html() || !sections.is_empty() {
+        return Err(CiteError::NotYet);
+    }
+    let Some(text) = utf8_text(bib) else {
+        return Err(CiteError::BibText(BibTextError::Utf8));
+    };
+    if !is_first_profile(text) {
+        return Err(CiteError::NotYet);
+    }
+    match Bibliography::parse(alloc, text) {
+        Ok(library) => Ok(library),
+        Err(ParseError::Memory) => Err(CiteError::Memory),
+        Err(ParseError::DuplicateKey(key)) => {
+            let fault = ParseError::DuplicateKey(key);
+            Err(CiteError::BibText(BibTextError::Parse(fault)))
+        }
+    }
+}
+
+/// The citations of a document.
+fn read_document<'s>(alloc: Global, document: &'s [u8]) -> Result<Document<'s>, CiteError>
+    ensures { Answers parsed result (document_stage document.now) }
+{
+    let Some(text) = utf8_text(document) else {
+        return Err(CiteError::Document(DocumentTextError::Utf8));
+    };
+    Document::parse(alloc, text)
+}
+
+/// The output: the document with numbers for its citations, and the bibliography.
+#[tactic(auto, unfolding(crate::specs::Verdict::output_stage))]
+fn write_output(
+    alloc: Global,
+    library: &Bibliography,
+    document: &Document<'_>,
+) -> Result<String, CiteError>
+    ensures { Answers (λ s. string_bytes s) result (output_stage library.now (parsed document.now).0 (parsed document.now).1) }
+{
+    let (mut output, order) = numbered_document(alloc, library, document)?;
+    if order.len() > GREATEST_NUMBER {
+        return Err(CiteError::Overflow);
+    }
+    output.push('\n')?;
+    order.write_bibliography(&mut output)?;
+    Ok(output)
+}
+
+/// The output for a bib text and a document, or the first refusal.
+#[tactic(auto, unfolding(crate::specs::Verdict::verdict))]
+fn decide(
+    alloc: Global,
+    bib: &[u8],
+    document: &[u8],
+    sections: &[&str],
+    format: BufWriteFormat,
+) -> Result<String, CiteError>
+    ensures { Answers (λ s. string_bytes s) result (verdict bib.now document.now (length sections.now) format) }
+{
+    let library = read_library(alloc, bib, sections, format)?;
+    let document = read_document(alloc, document)?;
+    write_output(alloc, &library, &document)
+}
+
+/// Replaces each marker of the document by its citation and writes the bibliography of the cited entries after it.
+///
+/// `bib` is a BibLaTeX file of the first profile (`biblatex::is_first_profile`), `document` a text with markers `[@name]`;
+/// both are UTF-8. The style is plain numbers, the format plain text, and no section may be given.
+///
+/// # Errors
+/// The first refusal in this order: `NotYet`; `BibText`; `Document`; `Name`; `Overflow`. `Memory` may stand in place of any
+/// answer. After these nothing was written. `Write` where a call of the sink's `write` failed or took nothing: the sink then
+/// holds a beginning of the output.
+pub fn cite<W: Sink>(
+    alloc: Global,
+    bib: &[u8],
+    document: &[u8],
+    _style: &Style,
+    _locale: &Locale,
+    sections: &[&str],
+    format: BufWriteFormat,
+    sink: &mut W,
+) -> Result<(), CiteError>
+    // The sink has taken exactly the output.
+    ensures written { OnOk result (Writes (verdict bib.now document.now (length sections.now) format) (λ output. Appends (W.contents sink.old) (W.contents sink.new) output)) }
+    // A refusal is the first one, with its fault.
+    ensures refused { IfErr result (λ e. IsRefusalUnlessWrite e (verdict bib.now document.now (length sections.now) format)) }
+    // Nothing is written after any refusal but a failed write.
+    ensures untouched { IfErr result (λ e. UnlessWrite e (sink.new ≡ sink.old)) }
+    // After a failed write a beginning of the output stands, and some call of `write` failed or took nothing.
+    ensures cut_short { IfErr result (λ e. OnWrite e (Writes (verdict bib.now document.now (length sections.now) format) (λ output. AppendsFront (W.contents sink.old) (W.contents sink.new) output))) }
+    ensures cause { IfErr result (λ e. OnWrite e (HasFailed (W.failures sink.old) (W.failures sink.new))) }
+{
+    let output = decide(alloc, bib, document, sections, format)?;
+    match write_all(sink, output.as_bytes()) {
+        Ok(()) => Ok(()),
+        Err(fault) => Err(CiteError::Write(fault)),
+    }
+}

@@ -1,0 +1,21 @@
+//! A citation filter: replaces the markers of a document by citations of a BibLaTeX file, and writes the bibliography
+//! after it. `cite` is the library's call, `run` is the program over any files and writers.
+#![tactic(auto)]
+
+mod document;
+mod engine;
+mod error;
+mod format;
+mod numbers;
+mod order;
+mod output;
+mod program;
+mod sink;
+mod style;
+
+pub use engine::cite;
+pub use error::{BibTextError, CiteError, DocumentTextError};
+pub use format::BufWriteFormat;
+pub use program::{ReadFault, ReadPath, run};
+pub use sink::{Sink, SinkFault, Tap};
+pub use style::{Locale, Style, english, num};

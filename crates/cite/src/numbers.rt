@@ -1,0 +1,51 @@
+//! Plain numbers: each citation is the number of its entry.
+
+ghost use Rattle.std.specs.Prelude.{◌≡◌, IfOk, MatchOption, string_bytes, None, Some};
+ghost use Rattle.std.specs.Str.{chars};
+ghost use Rattle.laws.specs.Text.{text as text_of};
+ghost use Rattle.biblatex.specs.Works.{meaning};
+ghost use Rattle.biblatex.specs.Entries.{work};
+ghost use Rattle.cite.specs.Views.{parsed};
+ghost use Rattle.cite.specs.Orders.{Numbers};
+
+use crate::document::Document;
+use crate::error::CiteError;
+use crate::order::Order;
+use crate::output::{push_citation, push_text};
+use biblatex::{Bibliography, Entry};
+use std::alloc::{AllocError, Global};
+
+/// The document with numbers for its citations, and the cited entries.
+pub(crate) fn numbered_document<'b>(
+    alloc: Global,
+    library: &'b Bibliography,
+    document: &Document<'_>,
+) -> Result<(String, Order<'b>), CiteError>
+    ensures { Numbers result library.now (parsed document.now).0 (parsed document.now).1 }
+{
+    let mut output = String::new(alloc);
+    let mut order = Order::new(alloc);
+    for citation in &document.citations {
+        let Some(entry) = meant(library, citation.name) else {
+            return Err(CiteError::Name(owned(alloc, citation.name)?));
+        };
+        let number = order.number(entry)?;
+        push_citation(&mut output, citation.before, number)?;
+    }
+    push_text(&mut output, document.tail)?;
+    Ok((output, order))
+}
+
+/// The entry that a name of the document means.
+fn meant<'b>(library: &'b Bibliography, name: &str) -> Option<&'b Entry>
+    ensures { MatchOption result (meaning (text_of (chars name.now)) library.now ≡ None) (λ e. meaning (text_of (chars name.now)) library.now ≡ Some (work e.now)) }
+{
+    library.get(name)
+}
+
+/// A text of its own.
+fn owned(alloc: Global, borrowed: &str) -> Result<String, AllocError>
+    ensures { IfOk result (λ s. string_bytes s ≡ text_of (chars borrowed.now)) }
+{
+    String::from_str(alloc, borrowed)
+}
