@@ -1,0 +1,113 @@
+//! Calls that are also run with each of their allocations refused in turn (checks/each_allocation). These tests hold in
+//! each of those runs: want of memory answers `Memory`, and then nothing is written.
+
+use crate::calls::ONE_BOOK;
+use crate::programs::Files;
+use biblatex::{Bibliography, EntryType, ParseError, is_first_profile};
+use cite::{BufWriteFormat, CiteError, Tap, cite, english, num, run};
+use std::io;
+use std::io::{ErrorKind, Write};
+
+/// A writer that takes exactly the bytes that it waits for, and no memory.
+#[derive(Drop)]
+struct Waiting<'a> {
+    rest: &'a [u8],
+}
+
+impl Write for Waiting<'_> {
+    fn write(&mut self, bytes: &[u8]) -> io::Result<usize> {
+        let Some(rest) = self.rest.strip_prefix(bytes) else {
+            return Err(io::Error::from(ErrorKind::InvalidData));
+        };
+        self.rest = rest;
+        Ok(bytes.len())
+    }
+
+    fn flush(&mut self) -> io::Result<()> {
+        Ok(())
+    }
+}
+
+#[test]
+fn cite_answers_memory(rt: HostRuntime) {
+    let wanted = b"See [1].\nA\n".as_slice();
+    let mut out = Waiting { rest: wanted };
+    let mut sink = Tap::new(&mut out);
+    let answer = cite(
+        rt.alloc(),
+        ONE_BOOK.as_bytes(),
+        b"See [@a].",
+        &num(),
+        &english(),
+        &[],
+        BufWriteFormat::Plain,
+        &mut sink,
+    );
+    match answer {
+        Ok(()) => assert!(rt; out.rest.is_empty()),
+        Err(error) => {
+            assert!(rt; matches!(error, CiteError::Memory));
+            assert_eq!(rt; out.rest, wanted);
+        }
+    }
+}
+
+#[test]
+fn refusals_answer_memory(rt: HostRuntime) {
+    let mut out = Waiting { rest: b"no" };
+    let mut sink = Tap::new(&mut out);
+    let answer = cite(
+        rt.alloc(),
+        ONE_BOOK.as_bytes(),
+        b"[@a][@z]",
+        &num(),
+        &english(),
+        &[],
+        BufWriteFormat::Plain,
+        &mut sink,
+    );
+    match answer {
+        Err(CiteError::Name(name)) => assert_eq!(rt; name.as_str(), "z"),
+        other => assert!(rt; matches!(other, Err(CiteError::Memory))),
+    }
+    assert_eq!(rt; out.rest, b"no".as_slice());
+}
+
+#[test]
+fn parse_answers_memory(rt: HostRuntime) {
+    let text = "@book{a, title={A}, author={B}, publisher={C}}@my{a}";
+    assert!(rt; is_first_profile(text));
+    match Bibliography::parse(rt.alloc(), text) {
+        Err(ParseError::DuplicateKey(key)) => assert_eq!(rt; key.as_str(), "a"),
+        other => assert!(rt; matches!(other, Err(ParseError::Memory))),
+    }
+}
+
+#[test]
+fn entry_type_answers_memory(rt: HostRuntime) {
+    match EntryType::new(rt.alloc(), "My") {
+        Ok(EntryType::Unknown(name)) => assert_eq!(rt; name.as_str(), "my"),
+        other => assert!(rt; matches!(other, Err(_))),
+    }
+}
+
+#[test]
+fn run_answers_memory(rt: HostRuntime) {
+    let wanted = b"See [1].\nA\n".as_slice();
+    let line = b"cite: out of memory\n".as_slice();
+    let mut out = Waiting { rest: wanted };
+    let mut err = Waiting { rest: line };
+    let status = run(
+        rt.alloc(),
+        &["num", "plain", "a.bib", "a.txt"],
+        &Files,
+        &mut out,
+        &mut err,
+    );
+    let left = if status == 0 {
+        (b"".as_slice(), line)
+    } else {
+        (wanted, b"".as_slice())
+    };
+    assert_eq!(rt; (out.rest, err.rest), left);
+}
