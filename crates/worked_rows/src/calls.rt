@@ -5,10 +5,10 @@ use std::alloc::Global;
 use std::test::Fail;
 
 /// A bib text of one book.
-pub const ONE_BOOK: &str = "@book{a, title={A}, date={2001}}";
+pub(crate) const ONE_BOOK: &str = "@book{a, title={A}, date={2001}}";
 
 /// What plain numbers make of a bib text and a document.
-pub fn cited(alloc: Global, bib: &str, document: &str) -> Result<String, Fail> {
+pub(crate) fn cited(alloc: Global, bib: &str, document: &str) -> Result<String, Fail> {
     let mut taken = Vec::new(alloc);
     let mut sink = Tap::new(&mut taken);
     cite(
@@ -25,7 +25,7 @@ pub fn cited(alloc: Global, bib: &str, document: &str) -> Result<String, Fail> {
 }
 
 /// What a refusal is called. After it nothing may have been written.
-pub fn refusal(
+pub(crate) fn refusal(
     alloc: Global,
     bib: &[u8],
     document: &[u8],

@@ -12,7 +12,7 @@ use std::process::Abort;
 /// Files: a.bib has one book, a.txt cites it, z.txt cites no entry, broken.txt has no marker, twice.bib has a key twice,
 /// other.bib is not of the first profile, bytes is not UTF-8, and for big there is no memory.
 #[derive(Drop)]
-pub struct Files;
+pub(crate) struct Files;
 
 impl ReadPath for Files {
     ghost holds = { λ _ _. None };
