@@ -1,0 +1,11 @@
+pub mod Characters
+pub mod Members
+pub mod Lexing
+pub mod Pairing
+pub mod Marks
+pub mod Shifting
+pub mod Pieces
+pub mod Neighbours
+pub mod PlainPieces
+pub mod TidyTexts
+pub mod WritingRows

@@ -1,0 +1,6 @@
+use Rattle.std.proofs.Common.{◌≡◌, ◌++◌, replicate}
+use Rattle.biblatex_content.specs.Views.{characters}
+use Rattle.biblatex_content.proofs.ordinary.push_dashes.Given as goal
+
+abbrev pub invariant-loop : goal.invariant-loop
+invariant-loop l = characters l.text ≡ characters l.fn.text ++ replicate l.counter 8212

@@ -1,0 +1,14 @@
+pub mod Character
+pub mod Styled
+pub mod Tidy
+pub mod Verbatim
+pub mod Token
+pub mod TokenViews
+pub mod Command
+pub mod Accent
+pub mod Ordinary
+pub mod OrdinaryViews
+pub mod Views
+pub mod Parted
+pub mod Writing
+pub mod Lending

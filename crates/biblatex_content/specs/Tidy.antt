@@ -1,0 +1,64 @@
+-- Tidying: blanks become spaces, of neighbouring spaces the first stays, and none stays at an end.
+use Rattle.std.specs.Prelude.{ℕ, not, ◌&&◌, ◌||◌, Bool, true, false, ◌==◌, List, [], ◌∷◌, ◌++◌, map, if◌then◌else◌}
+use Rattle.biblatex_content.specs.declared.chunk.Kind.{Kind}
+use Rattle.biblatex_content.specs.declared.tidy.Gap.{Gap}
+use Rattle.biblatex_content.specs.declared.tidy.Gap.TheVariants.{Beginning, Nothing, Space}
+use Rattle.biblatex_content.specs.declared.tidy.Tidying.{Tidying}
+use Rattle.biblatex_content.specs.Character.{is_blank}
+use Rattle.biblatex_content.specs.Styled.{Member, Letter, Math}
+use Rattle.biblatex_content.specs.Views.{so_far}
+
+-- a blank becomes a space of its kind
+abbrev pub spaced : Member → Member
+spaced (Letter kind c) = if is_blank c then Letter kind 32 else Letter kind c
+spaced (Math text) = Math text
+
+abbrev pub is_space : Member → Bool
+is_space (Letter kind c) = c == 32
+is_space (Math text) = false
+
+-- a space goes where a space, or the beginning, stands before it
+abbrev pub squeezed : Bool → List Member → List Member
+squeezed after_space [] = []
+squeezed after_space (m ∷ ms) = if is_space m then (if after_space then squeezed true ms else m ∷ squeezed true ms) else m ∷ squeezed false ms
+
+-- a space at the end goes
+abbrev pub without_last_space : List Member → List Member
+without_last_space [] = []
+without_last_space (m ∷ []) = if is_space m then [] else m ∷ []
+without_last_space (m ∷ n ∷ ms) = m ∷ without_last_space (n ∷ ms)
+
+-- a styled text, tidied
+abbrev pub tidied : List Member → List Member
+tidied ms = without_last_space (squeezed true (map spaced ms))
+
+-- whether tidying leaves a character as it is: it is no blank, or a space behind another character
+abbrev pub stays : Bool → ℕ → Bool
+stays after_space c = not (is_blank c && (after_space || not (c == 32)))
+
+-- whether tidying leaves characters as they are, where a space, or the beginning, stands before them or not
+abbrev pub is_tidy : Bool → List ℕ → Bool
+is_tidy after_space [] = not after_space
+is_tidy after_space (c ∷ cs) = stays after_space c && is_tidy (c == 32) cs
+
+-- what is still to be written of a text in which the gap stands before these members
+abbrev pub tidied_behind : Gap → List Member → List Member
+tidied_behind Beginning ms = tidied ms
+tidied_behind Nothing ms = without_last_space (squeezed false (map spaced ms))
+tidied_behind (Space kind) ms = without_last_space (Letter kind 32 ∷ squeezed true (map spaced ms))
+
+-- the gap behind one more blank
+abbrev pub widened : Gap → Kind → Gap
+widened Beginning kind = Beginning
+widened Nothing kind = Space kind
+widened (Space first) kind = Space first
+
+-- the space that a gap becomes
+abbrev pub owed : Gap → List Member
+owed Beginning = []
+owed Nothing = []
+owed (Space kind) = Letter kind 32 ∷ []
+
+-- what has been written, and what is still to be written of these members
+abbrev pub to_come : Tidying → List Member → List Member
+to_come t ms = so_far t.contents ++ tidied_behind t.gap ms

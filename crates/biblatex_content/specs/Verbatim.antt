@@ -1,0 +1,41 @@
+-- Reading a verbatim field: a backslash makes some characters themselves, braces give nothing, all else is itself.
+use Rattle.std.specs.Prelude.{ℕ, Bool, true, false, not, ◌==◌, ◌||◌, ◌&&◌, List, [], ◌∷◌, ◌++◌, if◌then◌else◌, codes}
+use Rattle.std.specs.Str.{bytes_eq}
+use Rattle.std.specs.List.{list_any}
+
+-- { }
+abbrev pub is_brace : ℕ → Bool
+is_brace c = c == 123 || c == 125
+
+-- # & % $ _
+abbrev pub is_reserved : ℕ → Bool
+is_reserved c = c == 35 || c == 38 || c == 37 || c == 36 || c == 95
+
+-- Whether a backslash before the character stands for the character: in an ordinary field before { } # & % $ _, in a
+-- verbatim field before these and \ ~ ^ where it is read, and before { } \ where it is written.
+abbrev pub is_escapable : ℕ → Bool → Bool → Bool
+is_escapable c false is_read = is_brace c || is_reserved c
+is_escapable c true true = is_brace c || is_reserved c || c == 92 || c == 126 || c == 94
+is_escapable c true false = is_brace c || c == 92
+
+-- a backslash that is behind no other one waits for the next character
+abbrev pub is_verbatim_escape : Bool → ℕ → Bool
+is_verbatim_escape is_escaped c = not is_escaped && c == 92
+
+-- what a character gives, behind a backslash that waits for it or not
+abbrev pub verbatim_piece : Bool → ℕ → List ℕ
+verbatim_piece true c = if is_escapable c true true then c ∷ [] else 92 ∷ c ∷ []
+verbatim_piece false c = if c == 92 || is_brace c then [] else c ∷ []
+
+-- what a verbatim text gives, where a backslash may wait before it
+abbrev pub verbatim_from : Bool → List ℕ → List ℕ
+verbatim_from is_escaped [] = if is_escaped then 92 ∷ [] else []
+verbatim_from is_escaped (c ∷ cs) = verbatim_piece is_escaped c ++ verbatim_from (is_verbatim_escape is_escaped c) cs
+
+-- what a verbatim text gives
+abbrev pub verbatim_text : List ℕ → List ℕ
+verbatim_text cs = verbatim_from false cs
+
+-- whether the field of that name, in lower case, is read verbatim
+abbrev pub is_verbatim_name : List ℕ → Bool
+is_verbatim_name name = list_any (bytes_eq name) (codes "file" ∷ codes "doi" ∷ codes "uri" ∷ codes "eprint" ∷ codes "verba" ∷ codes "verbb" ∷ codes "verbc" ∷ codes "pdf" ∷ codes "url" ∷ codes "urlraw" ∷ [])

@@ -1,0 +1,66 @@
+-- What the code holds, as plain lists.
+use Rattle.std.specs.Global.{Global}
+use Rattle.std.specs.Prelude.{◌≡◌, ℕ, ◌-◌, length, slice_get, List, [], ◌∷◌, ◌++◌, flat_map, Result, Ok, Err, string_bytes, String}
+use Rattle.std.specs.Option.{option_map_or}
+use Rattle.std.specs.Str.{chars}
+use Rattle.std.specs.Borrow.{Bor}
+use Rattle.biblatex_content.specs.declared.chunk.Kind.TheVariants.{Normal, Verbatim}
+use Rattle.biblatex_content.specs.declared.chunk.Chunk.{Chunk}
+use Rattle.biblatex_content.specs.declared.chunk.Chunk.TheVariants as chunks
+use Rattle.biblatex_text.specs.declared.spanned.Spanned.{Spanned}
+use Rattle.biblatex_content.specs.declared.contents.Contents.{Contents}
+use Rattle.biblatex_content.specs.declared.error.ContentError.{ContentError}
+use Rattle.biblatex_content.specs.declared.error.ContentError.TheVariants as errors
+use Rattle.biblatex_content.specs.declared.error.Malformed.{Malformed}
+use Rattle.biblatex_content.specs.declared.error.Malformed.TheVariants.{MalformedText}
+use Rattle.laws.specs.Results.{◌>>=◌}
+use Rattle.biblatex_content.specs.Styled.{Member, Math, letters}
+
+-- the characters of a text
+abbrev pub characters : String Global → List ℕ
+characters s = chars (string_bytes s)
+
+-- the characters of a borrowed text
+abbrev pub spelled : Bor (List ℕ) → List ℕ
+spelled s = chars s.now
+
+-- the text of a chunk
+abbrev pub chunk_text : Chunk → List ℕ
+chunk_text (chunks.Normal s) = characters s
+chunk_text (chunks.Verbatim s) = characters s
+chunk_text (chunks.Math s) = characters s
+
+-- the texts of chunks, one behind the other
+abbrev pub plain_text : List (Spanned Chunk) → List ℕ
+plain_text cs = flat_map (λ c. chunk_text c.v) cs
+
+-- where the first chunk begins, and where the last one ends
+abbrev pub span_start : List (Spanned Chunk) → ℕ
+span_start cs = option_map_or (λ c. c.span.start) (slice_get cs 0) 0
+
+abbrev pub span_end : List (Spanned Chunk) → ℕ
+span_end cs = option_map_or (λ c. c.span.end) (slice_get cs (length cs - 1)) 0
+
+-- the members that a chunk spells
+abbrev pub members : Chunk → List Member
+members (chunks.Normal s) = letters Normal (characters s)
+members (chunks.Verbatim s) = letters Verbatim (characters s)
+members (chunks.Math s) = Math (characters s) ∷ []
+
+-- the styled text that chunks spell
+abbrev pub styled : List (Spanned Chunk) → List Member
+styled cs = flat_map (λ c. members c.v) cs
+
+-- the styled text that has been read
+abbrev pub so_far : Contents → List Member
+so_far c = styled c.chunks.items ++ letters c.kind (characters c.run)
+
+-- What was made, seen by view, or the refusal, is what reading gives; of want of memory nothing is said.
+abbrev pub Gives : {X Y : Type 0} → (X → Y) → Result X ContentError → Result Y Malformed → Type 0
+Gives view (Ok x) read = read ≡ Ok (view x)
+Gives view (Err errors.Memory) read = Unit {0}
+Gives view (Err errors.MalformedCommand) read = read ≡ Err MalformedText
+
+-- what reading gives, behind these members
+abbrev pub behind : List Member → Result (List Member) Malformed → Result (List Member) Malformed
+behind done read = read >>= λ ms. Ok (done ++ ms)

@@ -1,0 +1,21 @@
+//! The contents of BibLaTeX fields: pieces of a field become chunks of normal text, verbatim text and math.
+#![tactic(auto)]
+
+mod accent;
+mod character;
+mod chunk;
+mod command;
+mod contents;
+mod error;
+mod ordinary;
+#[cfg(test)]
+mod tests;
+mod tidy;
+mod token;
+mod verbatim;
+
+pub use biblatex_text::Spanned;
+pub use chunk::{Chunk, Chunks, ChunksExt, Span};
+pub use contents::Contents;
+pub use error::ContentError;
+pub use verbatim::{is_escapable, is_verbatim_field};

@@ -1,0 +1,444 @@
+//! Ordinary fields.
+
+ghost use Rattle.std.specs.Prelude.{◌≡◌, ◌-◌, ◌++◌, ◌∷◌, [], true, IfOk, OnOk, IsOkUnless, if◌then◌else◌, length, reverse};
+ghost use Rattle.std.specs.Str.{chars};
+ghost use Rattle.laws.specs.Runs.{after};
+ghost use Rattle.laws.specs.Text.{text};
+ghost use Rattle.biblatex_content.specs.Character.{passes};
+ghost use Rattle.biblatex_content.specs.declared.character.Class.TheVariants.{Plain};
+ghost use Rattle.biblatex_content.specs.declared.error.ContentError.TheVariants.{Memory};
+ghost use Rattle.biblatex_content.specs.Ordinary.{kept_in, given, marked_behind, given_text, text_in, accented, opened, closed_to, closed_in, dollar, dashes, hyphens_in, sign, command, unit, in_math, step, begun, ended_in, ordinary};
+ghost use Rattle.biblatex_content.specs.Command.{sign_mark, letter_mark};
+ghost use Rattle.biblatex_content.specs.Token.{written};
+ghost use Rattle.biblatex_content.specs.TokenViews.{token};
+ghost use Rattle.biblatex_content.specs.Views.{characters, so_far, behind, Gives};
+ghost use Rattle.biblatex_content.specs.OrdinaryViews.{state, Moves};
+
+use crate::accent::{put_marks, reversed};
+use crate::character::{Class, split_first, split_run};
+use crate::chunk::Kind;
+use crate::command::{letter_character, letter_mark, sign_character, sign_mark};
+use crate::contents::{Contents, empty_text, has_text, push_character, push_text, take_text};
+use crate::error::ContentError;
+use crate::token::{Token, paired_tokens};
+use std::alloc::{AllocError, Global};
+
+/// What comes next.
+#[derive(Clone, Copy)]
+pub(crate) enum Mode {
+    /// Anything.
+    Free,
+    /// The argument of an accent; where it gives nothing, so many marks still wait.
+    Argument(usize),
+    /// Groups directly after a command; where they give nothing, so many marks still wait.
+    Groups(usize),
+    /// More of a math piece, in so many groups.
+    InMath(usize),
+}
+
+/// The kind and the mode around a group.
+#[derive(Clone, Copy)]
+pub(crate) struct Frame {
+    kind: Kind,
+    mode: Mode,
+}
+
+/// Whether each character of the piece stands for itself.
+#[tactic(auto, using(crate::proofs::PlainPieces::nothing_filled))]
+fn is_plain(piece: &str) -> bool
+    ensures { result ≡ true → after (passes Plain) (chars piece.now) ≡ [] }
+{
+    !has_text(split_run(piece, Class::Plain).1)
+}
+
+/// The number of characters.
+fn count_of(text: &str) -> usize
+    ensures { result ≡ length (chars text.now) }
+{
+    text.chars().count()
+}
+
+/// Puts dashes last, as a run of so many hyphens gives them.
+fn push_dashes(text: &mut String, count: usize) -> Result<(), AllocError>
+    ensures { OnOk result (characters text.new ≡ characters text.old ++ dashes count) }
+{
+    for _ in 0..count / 3 {
+        push_character(text, '—')?;
+    }
+    match count % 3 {
+        1 => push_character(text, '-'),
+        2 => push_character(text, '–'),
+        _ => Ok(()),
+    }
+}
+
+/// Puts a token last as it was written.
+fn push_written(text: &mut String, read: Token<'_>) -> Result<(), AllocError>
+    ensures { OnOk result (characters text.new ≡ characters text.old ++ written (token read.entry)) }
+{
+    match read {
+        Token::Text(piece) | Token::Hyphens(piece) => push_text(text, piece),
+        Token::Tie => push_character(text, '~'),
+        Token::Open(_) => push_character(text, '{'),
+        Token::Close => push_character(text, '}'),
+        Token::Dollar(_) => push_character(text, '$'),
+        Token::Sign(c) => {
+            push_character(text, '\\')?;
+            push_character(text, c)
+        }
+        Token::Command(name, blanks) => {
+            push_character(text, '\\')?;
+            push_text(text, name)?;
+            push_text(text, blanks)
+        }
+    }
+}
+
+/// What has been read of a piece of an ordinary field.
+#[derive(Drop)]
+struct Reading {
+    alloc: Global,
+    contents: Contents,
+    kind: Kind,
+    frames: Vec<Frame>,
+    marks: Vec<char>,
+    mode: Mode,
+    math: String,
+}
+
+impl Reading {
+    /// Before the first token.
+    fn new(alloc: Global, contents: Contents) -> Reading
+        ensures { state result ≡ begun (so_far contents) }
+    {
+        Reading {
+            alloc,
+            contents,
+            kind: Kind::Normal,
+            frames: Vec::new(alloc),
+            marks: Vec::new(alloc),
+            mode: Mode::Free,
+            math: empty_text(alloc),
+        }
+    }
+
+    /// How many marks still wait where what is read now gives nothing.
+    fn kept(&self) -> usize
+        ensures { result ≡ kept_in self.now.mode self.now.marks.items }
+    {
+        match self.mode {
+            Mode::Argument(kept) | Mode::Groups(kept) => kept,
+            Mode::Free | Mode::InMath(_) => self.marks.len(),
+        }
+    }
+
+    /// Nothing is given: the marks that waited for it go.
+    fn give_nothing(&mut self)
+        ensures { state self.new ≡ given [] (state self.old) }
+    {
+        let kept = self.kept();
+        self.marks.truncate(kept);
+        self.mode = Mode::Free;
+    }
+
+    /// Puts letters last, with the marks that wait on the first, which is the last of the list.
+    fn push_letters(&mut self, mut letters: Vec<char>) -> Result<(), AllocError>
+        ensures { OnOk result (state self.new ≡ marked_behind (reverse letters.items) (state self.old)) }
+    {
+        put_marks(self.alloc, &mut letters, &mut self.marks)?;
+        self.contents.push_reversed(self.kind, letters)
+    }
+
+    /// Puts a text last, with the marks that wait on its first character.
+    fn push_text(&mut self, piece: &str) -> Result<(), AllocError>
+        ensures { OnOk result (state self.new ≡ marked_behind (chars piece.now) (state self.old)) }
+    {
+        if self.marks.is_empty() {
+            return self.contents.push_str(self.kind, piece);
+        }
+        self.push_letters(reversed(self.alloc, piece)?)
+    }
+
+    /// Puts a character last, with the marks that wait.
+    fn push_character(&mut self, c: char) -> Result<(), AllocError>
+        ensures { OnOk result (state self.new ≡ marked_behind (c ∷ []) (state self.old)) }
+    {
+        if self.marks.is_empty() {
+            return self.contents.push(self.kind, c);
+        }
+        let mut letters = Vec::new(self.alloc);
+        letters.push(c)?;
+        self.push_letters(letters)
+    }
+
+    /// Gives a character.
+    fn give_character(&mut self, c: char) -> Result<(), AllocError>
+        ensures { OnOk result (state self.new ≡ given (c ∷ []) (state self.old)) }
+    {
+        self.push_character(c)?;
+        self.mode = Mode::Free;
+        Ok(())
+    }
+
+    /// Gives a text, or waits on where there is none.
+    fn give_text(&mut self, piece: &str) -> Result<(), AllocError>
+        ensures { OnOk result (state self.new ≡ given_text (chars piece.now) (state self.old)) }
+    {
+        if split_first(piece).is_some() {
+            self.push_text(piece)?;
+            self.mode = Mode::Free;
+        }
+        Ok(())
+    }
+
+    /// Reads a text of plain characters.
+    fn text(&mut self, piece: &str) -> Result<(), AllocError>
+        ensures { OnOk result (state self.new ≡ given_text (text_in self.old.mode (chars piece.now)) (state self.old)) }
+    {
+        match self.mode {
+            Mode::Argument(_) => self.give_text(split_run(piece, Class::Blank).1),
+            _ => self.give_text(piece),
+        }
+    }
+
+    /// Begins to wait for the argument of an accent.
+    fn accent(&mut self, mark: char) -> Result<(), ContentError>
+        ensures accented { OnOk result (state self.new ≡ accented mark (state self.old)) }
+        ensures memory { IsOkUnless result Memory }
+    {
+        let kept = self.kept();
+        self.marks.push(mark)?;
+        self.mode = Mode::Argument(kept);
+        Ok(())
+    }
+
+    /// Begins a group.
+    fn open(&mut self, is_command: bool) -> Result<(), ContentError>
+        ensures opened { OnOk result (state self.new ≡ opened is_command (state self.old)) }
+        ensures memory { IsOkUnless result Memory }
+    {
+        self.frames.push(Frame {
+            kind: self.kind,
+            mode: self.mode,
+        })?;
+        match self.mode {
+            Mode::Free if !is_command => self.kind = Kind::Verbatim,
+            Mode::Argument(_) | Mode::Groups(_) => self.mode = Mode::Free,
+            Mode::Free | Mode::InMath(_) => {}
+        }
+        Ok(())
+    }
+
+    /// Ends a group, if one is open.
+    fn close_group(&mut self) -> Result<(), ContentError>
+        ensures { Moves result (state self.new) (closed_to (state self.old).frames (state self.old)) }
+    {
+        let Some(frame) = self.frames.pop() else {
+            return Err(ContentError::MalformedCommand);
+        };
+        self.kind = frame.kind;
+        self.mode = frame.mode;
+        if let Mode::Argument(kept) = frame.mode {
+            self.marks.truncate(kept);
+            self.mode = Mode::Free;
+        }
+        Ok(())
+    }
+
+    /// Ends a group, in which no accent may wait for an argument.
+    fn close(&mut self) -> Result<(), ContentError>
+        ensures { Moves result (state self.new) (closed_in self.old.mode (state self.old)) }
+    {
+        match self.mode {
+            Mode::Argument(_) => Err(ContentError::MalformedCommand),
+            _ => self.close_group(),
+        }
+    }
+
+    /// Begins a math piece, or gives a dollar sign that has no partner.
+    fn dollar(&mut self, has_partner: bool) -> Result<(), AllocError>
+        ensures { OnOk result (state self.new ≡ dollar has_partner (state self.old)) }
+    {
+        if !has_partner {
+            return self.give_character('$');
+        }
+        self.marks.clear();
+        self.mode = Mode::InMath(self.frames.len());
+        Ok(())
+    }
+
+    /// Reads a run of hyphens.
+    fn hyphens(&mut self, run: &str) -> Result<(), AllocError>
+        ensures { OnOk result (state self.new ≡ given (hyphens_in self.old.mode (length (chars run.now))) (state self.old)) }
+    {
+        let count = count_of(run);
+        match self.mode {
+            Mode::Argument(_) => self.hyphen_argument(count),
+            _ => self.dashes(count),
+        }
+    }
+
+    /// Gives the dashes of a run of so many hyphens.
+    fn dashes(&mut self, count: usize) -> Result<(), AllocError>
+        ensures { OnOk result (state self.new ≡ given (dashes count) (state self.old)) }
+    {
+        match count {
+            1 => self.give_character('-'),
+            2 => self.give_character('–'),
+            _ => {
+                let mut text = empty_text(self.alloc);
+                push_dashes(&mut text, count)?;
+                self.give(text.as_str())
+            }
+        }
+    }
+
+    /// Gives a hyphen, and the dashes of the others of a run of so many.
+    fn hyphen_argument(&mut self, count: usize) -> Result<(), AllocError>
+        ensures { OnOk result (state self.new ≡ given (45 ∷ dashes (count - 1)) (state self.old)) }
+    {
+        if count <= 1 {
+            return self.give_character('-');
+        }
+        let mut text = empty_text(self.alloc);
+        push_character(&mut text, '-')?;
+        push_dashes(&mut text, count - 1)?;
+        self.give(text.as_str())
+    }
+
+    /// Gives a text.
+    fn give(&mut self, piece: &str) -> Result<(), AllocError>
+        ensures { OnOk result (state self.new ≡ given (chars piece.now) (state self.old)) }
+    {
+        if split_first(piece).is_none() {
+            self.give_nothing();
+            return Ok(());
+        }
+        self.give_text(piece)
+    }
+
+    /// Reads a backslash and a sign.
+    fn sign(&mut self, c: char) -> Result<(), ContentError>
+        ensures sign { OnOk result (state self.new ≡ sign (sign_mark c) c (state self.old)) }
+        ensures memory { IsOkUnless result Memory }
+    {
+        if let Some(mark) = sign_mark(c) {
+            return self.accent(mark);
+        }
+        match sign_character(c) {
+            Some(given) => self.give_character(given)?,
+            None => self.give_nothing(),
+        }
+        Ok(())
+    }
+
+    /// Reads a command of letters.
+    #[tactic(auto, using(crate::proofs::Characters::spelled_again))]
+    fn command(&mut self, name: &str) -> Result<(), ContentError>
+        ensures command { OnOk result (state self.new ≡ command (letter_mark (text (chars name.now))) (text (chars name.now)) (state self.old)) }
+        ensures memory { IsOkUnless result Memory }
+    {
+        if let Some(mark) = letter_mark(name) {
+            return self.accent(mark);
+        }
+        match letter_character(name) {
+            Some(c) => self.give_character(c)?,
+            None => self.mode = Mode::Groups(self.kept()),
+        }
+        Ok(())
+    }
+
+    /// Reads a token outside math.
+    fn unit(&mut self, read: Token<'_>) -> Result<(), ContentError>
+        ensures { Moves result (state self.new) (unit (token read.entry) (state self.old)) }
+    {
+        match read {
+            Token::Text(text) => self.text(text)?,
+            Token::Hyphens(run) => self.hyphens(run)?,
+            Token::Tie => self.give_character('\u{a0}')?,
+            Token::Open(is_command) => self.open(is_command)?,
+            Token::Close => self.close()?,
+            Token::Dollar(has_partner) => self.dollar(has_partner)?,
+            Token::Sign(c) => self.sign(c)?,
+            Token::Command(name, _) => self.command(name)?,
+        }
+        Ok(())
+    }
+
+    /// Reads a token in a math piece that stands in so many groups.
+    fn in_math(&mut self, depth: usize, read: Token<'_>) -> Result<(), ContentError>
+        ensures { Moves result (state self.new) (in_math depth (token read.entry) (state self.old)) }
+    {
+        match read {
+            Token::Dollar(_) if self.frames.len() == depth => {
+                let math = take_text(self.alloc, &mut self.math);
+                self.contents.push_math(math)?;
+                self.mode = Mode::Free;
+                return Ok(());
+            }
+            Token::Open(is_command) => self.open(is_command)?,
+            Token::Close => self.close_group()?,
+            _ => {}
+        }
+        Ok(push_written(&mut self.math, read)?)
+    }
+
+    /// Reads a token.
+    #[tactic(auto, unfolding(crate::specs::Ordinary::step))]
+    fn step(&mut self, read: Token<'_>) -> Result<(), ContentError>
+        ensures { Moves result (state self.new) (step (token read.entry) (state self.old)) }
+    {
+        match (self.mode, read) {
+            (Mode::InMath(depth), _) => return self.in_math(depth, read),
+            (Mode::Groups(_), Token::Open(_)) => {}
+            (Mode::Groups(_), _) => self.give_nothing(),
+            _ => {}
+        }
+        self.unit(read)
+    }
+
+    /// What was read, where the piece may end.
+    fn end(self) -> Result<Contents, ContentError>
+        ensures { Gives so_far result (ended_in self.mode (reverse self.frames.items) (so_far self.contents)) }
+    {
+        match self.mode {
+            Mode::Free | Mode::Groups(_) if self.frames.is_empty() => Ok(self.contents),
+            _ => Err(ContentError::MalformedCommand),
+        }
+    }
+}
+
+impl Contents {
+    /// The same with a piece of an ordinary field behind it, whose first row that fits counts: `---`, `--` and `~` are
+    /// dashes and a tie; a backslash and one of `{ } # & % $ _` that character, a backslash before a backslash or a blank a
+    /// space, `\,` a thin space, `\-` and `\/` nothing; accents are composed with their arguments; commands of letters are
+    /// characters or are passed over; groups are verbatim but for arguments, groups behind a command, and groups that begin
+    /// with a backslash; math stands between dollar signs of one depth.
+    ///
+    /// # Errors
+    ///
+    /// `MalformedCommand` where a brace has no partner, the last character is a lone backslash, or an accent has no argument.
+    #[tactic(auto, using(crate::proofs::PlainPieces::ordinary_plain))]
+    pub fn push_ordinary(mut self, piece: &str) -> Result<Contents, ContentError>
+        ensures { Gives so_far result (behind (so_far self) (ordinary (chars piece.now))) }
+    {
+        if is_plain(piece) {
+            self.push_str(Kind::Normal, piece)?;
+            return Ok(self);
+        }
+        self.push_tokens(piece)
+    }
+
+    /// The same, whatever the piece is made of.
+    fn push_tokens(self, piece: &str) -> Result<Contents, ContentError>
+        ensures { Gives so_far result (behind (so_far self) (ordinary (chars piece.now))) }
+    {
+        let alloc = self.allocator();
+        let mut tokens = paired_tokens(alloc, piece)?;
+        let mut reading = Reading::new(alloc, self);
+        while let Some(token) = tokens.pop() {
+            reading.step(token)?;
+        }
+        reading.end()
+    }
+}

@@ -1,0 +1,290 @@
+//! The rows that the reading is held against: what is written, and what it gives. Verbatim text stands between « and »,
+//! math between ⟨ and ⟩.
+
+use crate::{Chunk, Chunks, ChunksExt, ContentError, Contents, is_escapable, is_verbatim_field};
+use std::alloc::Global;
+use std::test::Fail;
+
+/// The chunks as one text.
+fn shown(alloc: Global, chunks: &Chunks) -> Result<String, Fail> {
+    let mut text = String::new(alloc);
+    for chunk in chunks {
+        match &chunk.v {
+            Chunk::Normal(normal) => text.push_str(normal.as_str())?,
+            Chunk::Verbatim(verbatim) => {
+                text.push('«')?;
+                text.push_str(verbatim.as_str())?;
+                text.push('»')?;
+            }
+            Chunk::Math(math) => {
+                text.push('⟨')?;
+                text.push_str(math.as_str())?;
+                text.push('⟩')?;
+            }
+        }
+    }
+    Ok(text)
+}
+
+/// What one piece of an ordinary field gives.
+fn ordinary(alloc: Global, piece: &str) -> Result<String, Fail> {
+    match Contents::new(alloc).push_ordinary(piece) {
+        Ok(contents) => shown(alloc, &contents.finish()?),
+        Err(ContentError::MalformedCommand) => Ok(String::from_str(alloc, "malformed")?),
+        Err(ContentError::Memory) => Ok(String::from_str(alloc, "out of memory")?),
+    }
+}
+
+/// What one piece of a verbatim field gives.
+fn verbatim(alloc: Global, piece: &str) -> Result<String, Fail> {
+    shown(alloc, &Contents::new(alloc).push_verbatim(piece)?.finish()?)
+}
+
+#[test]
+fn dashes_ties_and_escapes(rt: HostRuntime) -> Result<(), Fail> {
+    let rows = [
+        ("a---b--c-d~e", "a—b–c-d\u{a0}e"),
+        ("-----", "—–"),
+        ("------", "——"),
+        ("-{-}", "-«-»"),
+        ("{a--b}", "«a–b»"),
+        ("a-\\/-b", "a--b"),
+        ("\\{\\}\\#\\&\\%\\$\\_", "{}#&%$_"),
+        ("a\\\\b\\ c\\\td", "a b c d"),
+        ("a\\,b\\-c\\/d", "a\u{2009}bcd"),
+        ("\\@\\!\\|\\\u{a0}", "@!|\u{a0}"),
+        ("é ü 中", "é ü 中"),
+    ];
+    for (written, wanted) in rows.iter() {
+        let given = ordinary(rt.alloc(), written)?;
+        assert_eq!(rt; given.as_str(), *wanted, "of {written}");
+    }
+    Ok(())
+}
+
+#[test]
+fn accents(rt: HostRuntime) -> Result<(), Fail> {
+    let rows = [
+        ("\\`a\\'a\\^a\\~a\\=a\\.a\\\"a", "àáâãāȧä"),
+        (
+            "\\u a\\r{a}\\H o\\v{s}\\d{a}\\c c\\k{a}\\b{b}",
+            "ăåőšạçą\u{1e07}",
+        ),
+        ("L\\^{e} D\\~{u}ng Tr\\'{a}ng", "Lê Dũng Tráng"),
+        ("Andr\\'{e}", "André"),
+        ("\\'{{e}}", "«é»"),
+        ("\\'\\\"a", "ä\u{301}"),
+        ("\\'\\u{a}", "ắ"),
+        ("\\'\\emph{e}", "é"),
+        ("\\'\\emph{}{e}", "é"),
+        ("\\'\\emph e", "e"),
+        ("\\'~a", "\u{a0}\u{301}a"),
+        ("\\'--", "-\u{301}-"),
+        ("\\'---", "-\u{301}–"),
+        ("\\'----", "-\u{301}—"),
+        ("\\'{--}", "–\u{301}"),
+        ("\\'$x$y", "⟨x⟩y"),
+        ("\\'{$x$}y", "⟨x⟩y"),
+        ("\\'$y", "$\u{301}y"),
+        ("a\\'{ e}", "a \u{301}e"),
+        ("\\' \t e", "é"),
+        ("\\'{\\b{x}}", "x\u{301}\u{331}"),
+        ("\\'\\i\\^\\j", "íĵ"),
+        ("\\'{\\i}", "í"),
+        ("\\'{}a", "a"),
+        ("\\'{{}e}", "é"),
+        ("\\'{\\\"{}e}", "é"),
+        ("\\'\\\"{}e", "e"),
+        ("\\'\\-e", "e"),
+        ("\\'\\&", "&\u{301}"),
+        ("\\'\\ss x", "ß\u{301}x"),
+        ("\\'{abc}d", "ábcd"),
+        ("\\'{a}{b}", "á«b»"),
+        ("\\'abc", "ábc"),
+        ("\\c\\'{c}", "ḉ"),
+    ];
+    for (written, wanted) in rows.iter() {
+        let given = ordinary(rt.alloc(), written)?;
+        assert_eq!(rt; given.as_str(), *wanted, "of {written}");
+    }
+    Ok(())
+}
+
+#[test]
+fn commands(rt: HostRuntime) -> Result<(), Fail> {
+    let rows = [
+        (
+            "\\ss\\ae\\AE\\oe\\OE\\o\\O\\aa\\AA\\l\\L\\i\\j\\dh\\DH\\th\\TH\\S\\P",
+            "ßæÆœŒøØåÅłŁıȷðÐþÞ§¶",
+        ),
+        ("\\copyright\\pounds\\ldots\\dots\\textellipsis", "©£………"),
+        (
+            "\\textendash\\textemdash\\textquoteleft\\textquoteright",
+            "–—‘’",
+        ),
+        ("\\textquotedblleft\\textquotedblright", "“”"),
+        ("\\textbackslash\\textasciitilde\\textasciicircum", "\\~^"),
+        ("\\ss x", "ßx"),
+        ("\\ss{x}", "ß«x»"),
+        ("\\ss{}x", "ßx"),
+        ("\\emph{x}", "x"),
+        ("\\emph {x}", "x"),
+        ("\\f{a}{b}c", "abc"),
+        ("\\f{a} {b}", "a «b»"),
+        ("\\f x", "x"),
+        ("{x \\f{y}}", "«x y»"),
+        ("{\\f{y} z}", "y z"),
+        ("{\\f{y} {z}}", "y «z»"),
+        ("\\f{{a}b}", "«a»b"),
+        ("\\emph\\ss", "ß"),
+        ("\\uber{x}", "x"),
+    ];
+    for (written, wanted) in rows.iter() {
+        let given = ordinary(rt.alloc(), written)?;
+        assert_eq!(rt; given.as_str(), *wanted, "of {written}");
+    }
+    Ok(())
+}
+
+#[test]
+fn groups_and_math(rt: HostRuntime) -> Result<(), Fail> {
+    let rows = [
+        ("a {B} c", "a «B» c"),
+        ("{a}{b}", "«ab»"),
+        ("{a{b}c}", "«abc»"),
+        ("{}", ""),
+        ("$x$", "⟨x⟩"),
+        ("a$x^2$b", "a⟨x^2⟩b"),
+        ("$a\\$b$", "⟨a\\$b⟩"),
+        ("$\\'{}--~$", "⟨\\'{}--~⟩"),
+        ("${$}$", "⟨{$}⟩"),
+        ("{$a}$", "«$a»$"),
+        ("${$}", "$«$»"),
+        ("$a", "$a"),
+        ("$$", "⟨⟩"),
+        ("$$x$$", "⟨⟩x⟨⟩"),
+        ("$a$b$c$", "⟨a⟩b⟨c⟩"),
+        ("$a$b$", "⟨a⟩b$"),
+        ("${a$}b", "$«a$»b"),
+        ("$\\alpha  \t$", "⟨\\alpha  \t⟩"),
+        ("{\\$a$b$}", "$a⟨b⟩"),
+    ];
+    for (written, wanted) in rows.iter() {
+        let given = ordinary(rt.alloc(), written)?;
+        assert_eq!(rt; given.as_str(), *wanted, "of {written}");
+    }
+    Ok(())
+}
+
+#[test]
+fn tidied(rt: HostRuntime) -> Result<(), Fail> {
+    let rows = [
+        (" \t a \n\r\u{c} b  ", "a b"),
+        ("A {} {\\ }{ B}", "A «B»"),
+        ("a\\ \\ b", "a b"),
+        ("$x$ a", "⟨x⟩ a"),
+        (" $x$ ", "⟨x⟩"),
+        ("a { b} c", "a «b» c"),
+        ("a{ }b", "a« »b"),
+        ("a {b} ", "a «b»"),
+        ("\\, a ~", "\u{2009} a \u{a0}"),
+        ("   ", ""),
+    ];
+    for (written, wanted) in rows.iter() {
+        let given = ordinary(rt.alloc(), written)?;
+        assert_eq!(rt; given.as_str(), *wanted, "of {written}");
+    }
+    Ok(())
+}
+
+#[test]
+fn malformed(rt: HostRuntime) -> Result<(), Fail> {
+    let rows = [
+        "\\'", "\\' ", "\\'}", "{\\'}", "{", "}", "a\\", "{a}}", "\\c", "\\'{", "\\'\\u", "$a{$b",
+        "}a{", "\\f{a",
+    ];
+    for written in rows.iter() {
+        let given = ordinary(rt.alloc(), written)?;
+        assert_eq!(rt; given.as_str(), "malformed", "of {written}");
+    }
+    Ok(())
+}
+
+#[test]
+fn pieces_are_read_one_by_one(rt: HostRuntime) -> Result<(), Fail> {
+    let contents = Contents::new(rt.alloc()).push_ordinary("ABC")?;
+    let contents = contents
+        .push_ordinary("good {TIMES}")?
+        .push_ordinary("hello")?;
+    let contents = contents.push_ordinary("person")?.push_ordinary("last")?;
+    let given = shown(rt.alloc(), &contents.finish()?)?;
+    assert_eq!(rt; given.as_str(), "ABCgood «TIMES»hellopersonlast");
+
+    let contents = Contents::new(rt.alloc())
+        .push_ordinary("-")?
+        .push_ordinary("-")?;
+    let given = shown(rt.alloc(), &contents.finish()?)?;
+    assert_eq!(rt; given.as_str(), "--");
+
+    let contents = Contents::new(rt.alloc())
+        .push_ordinary("a ")?
+        .push_ordinary(" b")?;
+    let given = shown(rt.alloc(), &contents.finish()?)?;
+    assert_eq!(rt; given.as_str(), "a b");
+    Ok(())
+}
+
+#[test]
+fn verbatim_fields(rt: HostRuntime) -> Result<(), Fail> {
+    let rows = [
+        ("https://e.org/\\~a", "«https://e.org/~a»"),
+        (
+            "a\\{b\\}c\\\\d\\^e\\#f\\&g\\%h\\$i\\_j",
+            "«a{b}c\\d^e#f&g%h$i_j»",
+        ),
+        ("{a}b{c", "«abc»"),
+        ("a--b~c$d$\\'e\\x", "«a--b~c$d$\\'e\\x»"),
+        ("a\\", "«a\\»"),
+        ("  a  b ", "«a b»"),
+        ("{}", ""),
+    ];
+    for (written, wanted) in rows.iter() {
+        let given = verbatim(rt.alloc(), written)?;
+        assert_eq!(rt; given.as_str(), *wanted, "of {written}");
+    }
+    Ok(())
+}
+
+#[test]
+fn chunks_as_one_text(rt: HostRuntime) -> Result<(), Fail> {
+    let mut chunks = Contents::new(rt.alloc())
+        .push_ordinary("a {B} $c$")?
+        .finish()?;
+    let text = chunks.as_slice().format_verbatim(rt.alloc())?;
+    assert_eq!(rt; text.as_str(), "a B c");
+    let span = chunks.as_slice().span();
+    assert_eq!(rt; span.start, usize::MAX);
+    for chunk in chunks.iter_mut() {
+        chunk.v.get_mut().push('!')?;
+    }
+    let text = chunks.as_slice().format_verbatim(rt.alloc())?;
+    assert_eq!(rt; text.as_str(), "a !B! !c!");
+    Ok(())
+}
+
+#[test]
+fn names_and_escapes(rt: HostRuntime) -> Result<(), Fail> {
+    let verbatim = [
+        "file", "doi", "uri", "eprint", "verba", "verbb", "verbc", "pdf", "url", "urlraw",
+    ];
+    for name in verbatim.iter() {
+        assert!(rt; is_verbatim_field(name), "{name}");
+    }
+    assert!(rt; !is_verbatim_field("title"));
+    assert!(rt; is_escapable('&', false, true));
+    assert!(rt; !is_escapable('~', false, true));
+    assert!(rt; is_escapable('~', true, true));
+    assert!(rt; !is_escapable('~', true, false));
+    assert!(rt; is_escapable('\\', true, false));
+    Ok(())
+}

@@ -1,0 +1,71 @@
+//! Verbatim fields.
+
+ghost use Rattle.std.specs.Prelude.{◌≡◌, ◌++◌, ◌==◌, IfOk, OnOk};
+ghost use Rattle.std.specs.Str.{chars, str_to_ascii_lowercase};
+ghost use Rattle.biblatex_content.specs.declared.chunk.Kind.TheVariants.{Verbatim};
+ghost use Rattle.biblatex_content.specs.Styled.{letters};
+ghost use Rattle.biblatex_content.specs.Verbatim.{is_escapable, verbatim_piece, is_verbatim_escape, verbatim_text, is_verbatim_name};
+ghost use Rattle.biblatex_content.specs.Views.{so_far};
+
+use crate::chunk::Kind;
+use crate::contents::Contents;
+use std::alloc::AllocError;
+
+/// Whether a backslash before the character stands for the character: in an ordinary field before `{ } # & % $ _`; in a
+/// verbatim field (`verb`) before these and `\ ~ ^` where it is read (`read_char`), and before `{ } \` where it is written.
+pub fn is_escapable(c: char, verb: bool, read_char: bool) -> bool
+    ensures { result ≡ is_escapable c verb read_char }
+{
+    match c {
+        '{' | '}' => true,
+        '\\' => verb,
+        '~' | '^' => verb && read_char,
+        '#' | '&' | '%' | '$' | '_' => !verb || read_char,
+        _ => false,
+    }
+}
+
+/// Whether the field of that name is read verbatim: `file`, `doi`, `uri`, `eprint`, `verba`, `verbb`, `verbc`, `pdf`,
+/// `url` and `urlraw`. The name is in lower case.
+pub fn is_verbatim_field(key: &str) -> bool
+    ensures { result ≡ is_verbatim_name key.now }
+{
+    matches!(
+        key,
+        "file" | "doi" | "uri" | "eprint" | "verba" | "verbb" | "verbc" | "pdf" | "url" | "urlraw"
+    )
+}
+
+impl Contents {
+    /// The same with a piece of a verbatim field behind it: a backslash before one of `{ } \ ~ ^ # & % $ _` gives that
+    /// character, other braces give nothing, and all else is itself.
+    pub fn push_verbatim(mut self, piece: &str) -> Result<Contents, AllocError>
+        ensures { IfOk result (λ c. so_far c ≡ so_far self ++ letters Verbatim (verbatim_text (chars piece.now))) }
+    {
+        let mut is_escaped = false;
+        for c in piece.chars() {
+            is_escaped = self.push_verbatim_character(is_escaped, c)?;
+        }
+        if is_escaped {
+            self.push(Kind::Verbatim, '\\')?;
+        }
+        Ok(self)
+    }
+
+    /// Reads a character behind a backslash or not, and says whether it is a backslash that the next one decides about.
+    fn push_verbatim_character(&mut self, is_escaped: bool, c: char) -> Result<bool, AllocError>
+        ensures pushed { IfOk result (λ is_next. so_far self.new ≡ so_far self.old ++ letters Verbatim (verbatim_piece is_escaped c)) }
+        ensures next { IfOk result (λ is_next. is_next ≡ is_verbatim_escape is_escaped c) }
+    {
+        if !is_escaped && c == '\\' {
+            return Ok(true);
+        }
+        if is_escaped && !is_escapable(c, true, true) {
+            self.push(Kind::Verbatim, '\\')?;
+        }
+        if is_escaped || !matches!(c, '{' | '}') {
+            self.push(Kind::Verbatim, c)?;
+        }
+        Ok(false)
+    }
+}

@@ -1,0 +1,10 @@
+pub mod Character
+pub mod Token
+pub mod Run
+pub mod Raw
+pub mod Reading
+pub mod Value
+pub mod Fields
+pub mod Items
+pub mod Span
+pub mod Views

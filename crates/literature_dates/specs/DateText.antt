@@ -1,0 +1,52 @@
+-- How dates are written, and which of them are read back.
+use Rattle.std.specs.Prelude.{ℕ, ◌+◌, ◌-◌, ◌<◌, ◌≤◌, Bool, true, false, List, [], ◌∷◌, ◌++◌, length, replicate, Option, Some, None, ℤ, unsigned_abs}
+use Rattle.std.specs.Fmt.{decimal, sign_text}
+use Rattle.std.specs.Int.{is_negative}
+use Rattle.literature_dates.specs.Dates.{days_in_month}
+use Rattle.literature_dates.specs.declared.date.Date.{Date}
+
+-- a number with zeros before it, up to so many digits
+abbrev pub padded : ℕ → ℕ → List ℕ
+padded width n = replicate (width - length (decimal n)) 48 ++ decimal n
+
+-- four digits or more, behind a hyphen where the year is negative
+abbrev pub year_text : ℤ → List ℕ
+year_text y = sign_text (is_negative y) ++ padded 4 (unsigned_abs y)
+
+-- a hyphen and two digits or more, counted from one
+abbrev pub counted_text : ℕ → List ℕ
+counted_text n = 45 ∷ padded 2 (n + 1)
+
+-- the day, where there is one
+abbrev pub day_text : Option ℕ → List ℕ
+day_text None = []
+day_text (Some d) = counted_text d
+
+-- a day is written behind its month alone
+abbrev pub month_text : Option ℕ → Option ℕ → List ℕ
+month_text None day = []
+month_text (Some m) day = counted_text m ++ day_text day
+
+-- a tilde, where the date is approximate
+abbrev pub mark_text : Bool → List ℕ
+mark_text false = []
+mark_text true = 126 ∷ []
+
+-- the year, the month and the day, and the mark
+abbrev pub date_text : Date → List ℕ
+date_text d = year_text d.year ++ (month_text d.month d.day ++ mark_text d.approximate)
+
+-- the month has the day; months and days count from zero
+abbrev pub HasDay : ℤ → ℕ → Option ℕ → Type 0
+HasDay y m None = Unit {0}
+HasDay y m (Some d) = d < days_in_month y (m + 1)
+
+-- the year has the month and the day; there is no day without a month
+abbrev pub HasMonth : ℤ → Option ℕ → Option ℕ → Type 0
+HasMonth y None None = Unit {0}
+HasMonth y None (Some d) = ⊥
+HasMonth y (Some m) day = (m < 12) × HasDay y m day
+
+-- a date of the calendar, of a year from -9999 to 9999
+abbrev pub Exists : Date → Type 0
+Exists d = (unsigned_abs d.year ≤ 9999) × HasMonth d.year d.month d.day

@@ -1,0 +1,69 @@
+-- Numbers with letters before and after: the value that a text spells.
+use Rattle.std.specs.Prelude.{ℕ, List, [], ◌∷◌, Option, Some, None, Result, Ok, ℤ}
+use Rattle.laws.specs.Results.{◌>>=◌}
+use Rattle.laws.specs.Steps.{each}
+use Rattle.laws.specs.Runs.{front_of, after}
+use Rattle.literature_reader.specs.Character.{passes}
+use Rattle.literature_reader.specs.Reading.{number_at, end_at}
+use Rattle.literature_numbers.specs.Numbers.{separator_at}
+use Rattle.literature_reader.specs.declared.character.Class.TheVariants.{Letter}
+use Rattle.literature_numbers.specs.declared.separator.NumericDelimiter.{NumericDelimiter}
+use Rattle.literature_reader.specs.declared.reader.Unreadable.{Unreadable}
+
+-- numbers in a row, each with the separator after it
+abbrev pub Numbers : Type 0
+Numbers = List (ℤ × Option NumericDelimiter)
+
+-- one number, or a set of numbers
+pub data Value : Type 0 where
+  Number : ℤ → Value
+  Set : Numbers → Value
+
+-- a value with letters before and after it, where there are any
+pub record Numeral : Type 0 where
+  pub value : Value
+  pub prefix : Option (List ℕ)
+  pub suffix : Option (List ℕ)
+
+-- one number, without letters
+abbrev pub plain : ℤ → Numeral
+plain n = record { value = Number n; prefix = None; suffix = None }
+
+-- a number, and others with the separators before them
+abbrev pub linked : ℤ → List (NumericDelimiter × ℤ) → Numbers
+linked n [] = (n, None) ∷ []
+linked n (other ∷ others) = (n, Some other.0) ∷ linked other.1 others
+
+-- one number alone is no set
+abbrev pub value_of : Numbers → Value
+value_of [] = Set []
+value_of (n ∷ []) = Number n.0
+value_of (n ∷ m ∷ ns) = Set (n ∷ m ∷ ns)
+
+-- no letters are no affix
+abbrev pub affix : List ℕ → Option (List ℕ)
+affix [] = None
+affix (c ∷ cs) = Some (c ∷ cs)
+
+-- behind a separator a number is wanted
+abbrev pub number_behind : Option NumericDelimiter × List ℕ → Result (Option (NumericDelimiter × ℤ) × List ℕ) Unreadable
+number_behind (None, rest) = Ok (None, rest)
+number_behind (Some d, rest) = number_at rest >>= λ n. Ok (Some (d, n.0), n.1)
+
+-- a separator and a number, or nothing
+unfoldable pub next_number_at : List ℕ → Result (Option (NumericDelimiter × ℤ) × List ℕ) Unreadable
+next_number_at cs = number_behind (separator_at cs)
+
+-- a number, and further ones behind separators
+unfoldable pub numbers_at : List ℕ → Result (Numbers × List ℕ) Unreadable
+numbers_at cs = do
+  first ← number_at cs
+  others ← each next_number_at first.1
+  Ok (linked first.0 others.0, others.1)
+
+-- letters, numbers and letters, up to the end
+unfoldable pub numeral_of : List ℕ → Result Numeral Unreadable
+numeral_of cs = do
+  numbers ← numbers_at (after (passes Letter) cs)
+  rest ← end_at (after (passes Letter) numbers.1)
+  Ok (record { value = value_of numbers.0; prefix = affix (front_of (passes Letter) cs); suffix = affix (front_of (passes Letter) numbers.1) })

@@ -1,0 +1,4 @@
+pub mod Digits
+pub mod Starts
+pub mod Shorter
+pub mod Writing

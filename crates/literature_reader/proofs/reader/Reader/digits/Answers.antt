@@ -1,0 +1,29 @@
+use Rattle.std.proofs.Common.{rules, sym, ◌∙◌, Ok}
+use Rattle.laws.proofs.Results.{ok_is}
+use Rattle.literature_reader.specs.Views.{left}
+use Rattle.literature_reader.proofs.Digits.{run_bytes, digits_parsed, digits_at-ok, digits_at-err}
+use Rattle.literature_reader.proofs.reader.Reader.digits.Goals as goal
+
+pub returns-then-not-is_within : goal.returns-then-not-is_within
+returns-then-not-is_within c =
+    let digits = c.run-digits.result.now in
+    let text = left c.args.self.now in
+    digits_at-err digits text c.args.least c.args.most (run_bytes digits text c.run-digits.utf8 c.run-digits.ensures.front) (sym c.is_within.ensures ∙ c.if-not-is_within.true)
+
+pub unwrap-requires : goal.unwrap-requires
+unwrap-requires c =
+    let digits = c.run-digits.result.now in
+    let text = left c.args.self.now in
+    let p = digits_parsed digits text c.parse.result c.args.least c.args.most c.run-digits.utf8 c.run-digits.ensures.front c.parse.ensures.value.0 c.requires.some c.requires.few
+    (sym c.is_within.ensures ∙ c.if-not-is_within.false) in
+    search (rules, p)
+
+pub returns : goal.returns
+returns c =
+    let digits = c.run-digits.result.now in
+    let text = left c.args.self.now in
+    let test = sym c.is_within.ensures ∙ c.if-not-is_within.false in
+    let p = digits_parsed digits text c.parse.result c.args.least c.args.most c.run-digits.utf8 c.run-digits.ensures.front c.parse.ensures.value.0 c.requires.some c.requires.few test in
+    let same = ok_is _ _ (sym p ∙ c.unwrap.ensures) in
+    digits_at-ok digits text c.args.least c.args.most (run_bytes digits text c.run-digits.utf8 c.run-digits.ensures.front) test
+    ∙ (λ i. Ok (same i, sym c.run-digits.ensures.rest i))

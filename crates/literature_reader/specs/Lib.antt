@@ -1,0 +1,3 @@
+pub mod Character
+pub mod Reading
+pub mod Views

@@ -1,0 +1,74 @@
+-- The initials of given names, on characters and grapheme clusters.
+use Rattle.std.specs.Prelude.{ℕ, Bool, true, ◌&&◌, List, [], ◌∷◌, ◌++◌, length, drop, if◌then◌else◌, Option, Some, None, Result, Ok, Err}
+use Rattle.std.specs.List.{flat_map}
+use Rattle.std.specs.Str.{chars, drop_trailing_whitespace}
+use Rattle.laws.specs.Steps.{each}
+use Rattle.laws.specs.Runs.{front_of, after}
+use Rattle.laws.specs.Text.{text}
+use Rattle.unicode_segmentation.specs.Grapheme.{graphemes}
+use Rattle.literature_reader.specs.Character.{passes}
+use Rattle.literature_reader.specs.Reading.{taken}
+use Rattle.literature_reader.specs.declared.character.Class.TheVariants.{Blank, Apart, Name}
+
+-- a run of a name without white space and hyphens, and whether a hyphen stands before it
+pub record Run : Type 0 where
+  pub is_hyphenated : Bool
+  pub name : List ℕ
+
+-- a run that is not empty, and what follows it
+abbrev pub run_behind : Bool → List ℕ → List ℕ → Option Run × List ℕ
+run_behind hyphen [] rest = (None, rest)
+run_behind hyphen (c ∷ cs) rest = (Some (record { is_hyphenated = hyphen; name = c ∷ cs }), rest)
+
+-- what follows white space and hyphens, of which the first that is no white space decides
+abbrev pub run_from : Bool × List ℕ → Option Run × List ℕ
+run_from (hyphen, cs) = run_behind hyphen (front_of (passes Name) (after (passes Apart) cs)) (after (passes Name) (after (passes Apart) cs))
+
+-- the next run, or nothing at the end; there is no fault
+unfoldable pub next_run_at : List ℕ → Result (Option Run × List ℕ) ⊥
+next_run_at cs = Ok (run_from (taken 45 (after (passes Blank) cs)))
+
+-- the first of the pieces of a text, or nothing
+abbrev pub first_piece : List (List ℕ) → List ℕ
+first_piece [] = []
+first_piece (p ∷ ps) = p
+
+-- the first grapheme cluster
+abbrev pub cluster : List ℕ → List ℕ
+cluster cs = chars (first_piece (graphemes true (text cs)))
+
+-- how initials are parted: a delimiter, cut before the white space at its end, and hyphens where that is asked
+pub record Style : Type 0 where
+  pub kept : List ℕ
+  pub dropped : List ℕ
+  pub with_hyphen : Bool
+
+-- the style of a delimiter
+abbrev pub style : List ℕ → Bool → Style
+style delimiter hyphen = record { kept = drop_trailing_whitespace delimiter; dropped = drop (length (drop_trailing_whitespace delimiter)) delimiter; with_hyphen = hyphen }
+
+-- the first cluster of a run, and the delimiter without the white space at its end
+abbrev pub initial : Style → List ℕ → List ℕ
+initial s name = cluster name ++ s.kept
+
+-- between two initials: a hyphen, where one is asked and stands there, or the white space at the delimiter's end
+abbrev pub between : Style → Bool → List ℕ
+between s hyphen = if s.with_hyphen && hyphen then 45 ∷ [] else s.dropped
+
+-- an initial behind another one
+abbrev pub further : Style → Run → List ℕ
+further s r = between s r.is_hyphenated ++ initial s r.name
+
+-- the first initial, and the others behind it
+abbrev pub joined : Style → List Run → List ℕ
+joined s [] = []
+joined s (r ∷ rs) = initial s r.name ++ flat_map (further s) rs
+
+-- the same of the runs that were read, which have no fault
+abbrev pub joined_runs : Style → Result (List Run × List ℕ) ⊥ → List ℕ
+joined_runs s (Ok p) = joined s p.0
+joined_runs s (Err e) = absurd e
+
+-- the initials of given names
+unfoldable pub initials_of : Style → List ℕ → List ℕ
+initials_of s cs = joined_runs s (each next_run_at cs)

@@ -1,0 +1,4 @@
+pub mod Initials
+pub mod PersonViews
+pub mod TextViews
+pub mod TypedViews

@@ -1,0 +1,49 @@
+-- People of the code as callers see them.
+use Rattle.std.specs.Prelude.{ℕ, List, [], Option, Some, None, String}
+use Rattle.std.specs.Global.{Global}
+use Rattle.std.specs.Option.{option_map}
+use Rattle.std.specs.Str.{chars}
+use Rattle.std.specs.Borrow.{Bor}
+use Rattle.literature_values.specs.Initials.{Run, Style}
+use Rattle.literature_numbers.specs.Views.{characters}
+use Rattle.literature_values.specs.declared.person.InitialsStyle.{InitialsStyle}
+use Rattle.literature_values.specs.declared.person.Person.{Person}
+use Rattle.literature_values.specs.declared.person.NameRun.{NameRun}
+
+-- a person by the characters of the four parts
+pub record Named : Type 0 where
+  pub name : List ℕ
+  pub given_name : Option (List ℕ)
+  pub prefix : Option (List ℕ)
+  pub suffix : Option (List ℕ)
+
+-- the characters of the four parts
+abbrev pub person : Person → Named
+person p = record {
+  name = characters p.name;
+  given_name = option_map characters p.given_name;
+  prefix = option_map characters p.prefix;
+  suffix = option_map characters p.suffix;
+}
+
+-- a run by its characters
+abbrev pub run : NameRun → Run
+run r = record { is_hyphenated = r.is_hyphenated; name = chars r.name.now }
+
+-- a style by its characters
+abbrev pub initials_style : InitialsStyle → Style
+initials_style s = record { kept = chars s.kept.now; dropped = chars s.dropped.now; with_hyphen = s.with_hyphen }
+
+-- the characters of a text, where there is one
+abbrev pub borrowed : Option (Bor (List ℕ)) → List ℕ
+borrowed None = []
+borrowed (Some s) = chars s.now
+
+-- the same of a text of its own
+abbrev pub owned : Option (String Global) → List ℕ
+owned None = []
+owned (Some s) = characters s
+
+-- the characters of the given name, where there is one
+abbrev pub given : Person → List ℕ
+given p = owned p.given_name

@@ -1,0 +1,24 @@
+//! Values of bibliographic entries: texts, people, publishers, addresses and serial numbers. Numbers, page ranges and
+//! dates are handed on.
+#![tactic(auto)]
+
+mod maybe_typed;
+mod person;
+mod publisher;
+mod qualified_url;
+mod serial_number;
+#[cfg(test)]
+mod tests;
+mod text;
+
+pub use literature_dates::{Date, DateError};
+pub use literature_numbers::{
+    Numeric, NumericDelimiter, NumericError, NumericValue, PageRanges, PageRangesError,
+    PageRangesPart,
+};
+pub use maybe_typed::MaybeTyped;
+pub use person::Person;
+pub use publisher::Publisher;
+pub use qualified_url::QualifiedUrl;
+pub use serial_number::SerialNumber;
+pub use text::{ChunkKind, ChunkedString, FormatString, StringChunk};

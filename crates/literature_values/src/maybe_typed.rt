@@ -1,0 +1,51 @@
+//! Values that may have been written in a form that is not read.
+
+ghost use Rattle.std.specs.Prelude.{◌≡◌, IfOk};
+ghost use Rattle.std.specs.Str.{chars};
+ghost use Rattle.literature_numbers.specs.Numerics.{numeral_of};
+ghost use Rattle.literature_numbers.specs.Pages.{pages_of};
+ghost use Rattle.literature_values.specs.TypedViews.{KeepsNumeric, KeepsPages};
+
+use literature_numbers::{Numeric, NumericError, PageRanges, PageRangesError};
+use std::alloc::{AllocError, Global};
+
+/// A value of a type, or the text that could not be read as one.
+#[derive(Clone, Debug, PartialEq, Eq, Drop)]
+pub enum MaybeTyped<T> {
+    Typed(T),
+    String(String),
+}
+
+impl MaybeTyped<Numeric> {
+    /// Reads numbers as `Numeric::read` does, and keeps a text that spells none.
+    ///
+    /// # Errors
+    /// Want of memory alone.
+    pub fn read(alloc: Global, text: &str) -> Result<MaybeTyped<Numeric>, AllocError>
+        ensures { IfOk result (λ m. KeepsNumeric m text.now (numeral_of (chars text.now))) }
+    {
+        match Numeric::read(alloc, text) {
+            Ok(numeric) => Ok(MaybeTyped::Typed(numeric)),
+            Err(NumericError::Malformed) => Ok(MaybeTyped::String(String::from_str(alloc, text)?)),
+            Err(NumericError::Memory) => Err(AllocError),
+        }
+    }
+}
+
+impl MaybeTyped<PageRanges> {
+    /// Reads page ranges as `PageRanges::read` does, and keeps a text that spells none.
+    ///
+    /// # Errors
+    /// Want of memory alone.
+    pub fn read(alloc: Global, text: &str) -> Result<MaybeTyped<PageRanges>, AllocError>
+        ensures { IfOk result (λ m. KeepsPages m text.now (pages_of (chars text.now))) }
+    {
+        match PageRanges::read(alloc, text) {
+            Ok(pages) => Ok(MaybeTyped::Typed(pages)),
+            Err(PageRangesError::Malformed) => Ok(MaybeTyped::String(String::from_str(
+                alloc, text,
+            )?)),
+            Err(PageRangesError::Memory) => Err(AllocError),
+        }
+    }
+}

@@ -1,0 +1,180 @@
+//! People.
+
+ghost use Rattle.std.specs.Prelude.{◌≡◌, Ok, IsOk, length, drop};
+ghost use Rattle.std.specs.Fmt.{WritesInCalls};
+ghost use Rattle.std.specs.Option.{option_map};
+ghost use Rattle.std.specs.Str.{chars, drop_trailing_whitespace};
+ghost use Rattle.laws.specs.Text.{text as text_of};
+ghost use Rattle.literature_values.specs.Initials.{next_run_at, cluster, style, initial, between, further, initials_of};
+ghost use Rattle.literature_values.specs.PersonViews.{person, run, initials_style, borrowed, given};
+ghost use Rattle.literature_reader.specs.Views.{left};
+
+use literature_reader::{Class, Reader, split_first};
+use std::alloc::AllocError;
+use std::fmt;
+use unicode_segmentation::UnicodeSegmentation;
+
+/// A person by name.
+#[derive(Debug, PartialEq, Eq, Drop)]
+pub struct Person {
+    pub name: String,
+    pub given_name: Option<String>,
+    pub prefix: Option<String>,
+    pub suffix: Option<String>,
+}
+
+/// How initials are parted: by a delimiter, cut before the white space at its end, and by hyphens where that is asked.
+#[derive(Clone, Copy)]
+struct InitialsStyle<'s> {
+    kept: &'s str,
+    dropped: &'s str,
+    with_hyphen: bool,
+}
+
+impl Person {
+    /// Writes the initials of the given name: of each run without white space and hyphens its first grapheme cluster
+    /// and the delimiter; between runs with a hyphen between them, where hyphens are asked, a hyphen in place of the
+    /// white space at the delimiter's end. The white space at the end of the last delimiter is not written.
+    ///
+    /// # Errors
+    /// What the writer answers when it refuses a text.
+    pub fn initials<W: fmt::Write>(
+        &self,
+        writer: &mut W,
+        delimiter: Option<&str>,
+        with_hyphen: bool,
+    ) -> fmt::Result
+        // What the writer took is exactly the initials.
+        ensures { IsOk result → WritesInCalls W.write_str_gives writer.old (text_of (initials_of (style (borrowed delimiter.entry) with_hyphen) (given self.now))) writer.new }
+    {
+        let Some(given) = &self.given_name else {
+            return Ok(());
+        };
+        write_initials(given.as_str(), style(delimiter, with_hyphen), writer)
+    }
+}
+
+impl Clone for Person {
+    ghost is_clone = { λ p q. person q ≡ person p };
+
+    fn clone(&self) -> Result<Person, AllocError> {
+        Ok(Person {
+            name: self.name.clone()?,
+            given_name: self.given_name.clone()?,
+            prefix: self.prefix.clone()?,
+            suffix: self.suffix.clone()?,
+        })
+    }
+}
+
+/// How initials are parted.
+fn style<'s>(delimiter: Option<&'s str>, with_hyphen: bool) -> InitialsStyle<'s>
+    ensures { initials_style result ≡ style (borrowed delimiter.entry) with_hyphen }
+{
+    let (kept, dropped) = split_trailing(borrowed(delimiter));
+    InitialsStyle {
+        kept,
+        dropped,
+        with_hyphen,
+    }
+}
+
+/// The text, or an empty one.
+fn borrowed<'s>(text: Option<&'s str>) -> &'s str
+    ensures { chars result.now ≡ borrowed text.entry }
+{
+    match text {
+        Some(text) => text,
+        None => "",
+    }
+}
+
+/// Writes the initials of given names.
+#[tactic(auto, unfolding(crate::specs::Initials::initials_of))]
+fn write_initials<W: fmt::Write>(given: &str, style: InitialsStyle, writer: &mut W) -> fmt::Result
+    ensures { IsOk result → WritesInCalls W.write_str_gives writer.old (text_of (initials_of (initials_style style.entry) (chars given.now))) writer.new }
+{
+    let mut reader = Reader::new(given);
+    let Some(first) = next_run(&mut reader) else {
+        return Ok(());
+    };
+    write_initial(first.name, style, writer)?;
+    while let Some(run) = next_run(&mut reader) {
+        write_further(run, style, writer)?;
+    }
+    Ok(())
+}
+
+/// Writes the initial of a run behind another one.
+fn write_further<W: fmt::Write>(next: NameRun, style: InitialsStyle, writer: &mut W) -> fmt::Result
+    ensures { IsOk result → WritesInCalls W.write_str_gives writer.old (text_of (further (initials_style style.entry) (run next.entry))) writer.new }
+{
+    write_text(between(next.is_hyphenated, style), writer)?;
+    write_initial(next.name, style, writer)
+}
+
+/// What stands between two initials.
+fn between<'s>(is_hyphenated: bool, style: InitialsStyle<'s>) -> &'s str
+    ensures { chars result.now ≡ between (initials_style style.entry) is_hyphenated }
+{
+    if style.with_hyphen && is_hyphenated {
+        return "-";
+    }
+    style.dropped
+}
+
+/// Writes the first cluster of a run, and the delimiter without the white space at its end.
+fn write_initial<W: fmt::Write>(name: &str, style: InitialsStyle, writer: &mut W) -> fmt::Result
+    ensures { IsOk result → WritesInCalls W.write_str_gives writer.old (text_of (initial (initials_style style.entry) (chars name.now))) writer.new }
+{
+    write_text(first_cluster(name), writer)?;
+    write_text(style.kept, writer)
+}
+
+/// Writes a text.
+fn write_text<W: fmt::Write>(text: &str, writer: &mut W) -> fmt::Result
+    ensures { IsOk result → WritesInCalls W.write_str_gives writer.old (text_of (chars text.now)) writer.new }
+{
+    writer.write_str(text)
+}
+
+/// A run of a given name without white space and hyphens, and whether a hyphen stands before it.
+#[derive(Clone, Copy)]
+struct NameRun<'s> {
+    is_hyphenated: bool,
+    name: &'s str,
+}
+
+/// The next run, or nothing at the end.
+#[tactic(auto, unfolding(crate::specs::Initials::next_run_at))]
+fn next_run<'s>(reader: &mut Reader<'s>) -> Option<NameRun<'s>>
+    ensures { next_run_at (left reader.old) ≡ Ok (option_map run result, left reader.new) }
+{
+    reader.run(Class::Blank);
+    let is_hyphenated = reader.take('-');
+    reader.run(Class::Apart);
+    let name = reader.run(Class::Name);
+    split_first(name)?;
+    Some(NameRun {
+        is_hyphenated,
+        name,
+    })
+}
+
+/// The first grapheme cluster, or nothing.
+fn first_cluster(text: &str) -> &str
+    ensures { chars result.now ≡ cluster (chars text.now) }
+{
+    match text.graphemes(true).next() {
+        Some(cluster) => cluster,
+        None => "",
+    }
+}
+
+/// The text without the white space at its end, and that white space.
+fn split_trailing(text: &str) -> (&str, &str)
+    ensures kept { chars result.0.now ≡ drop_trailing_whitespace (chars text.now) }
+    ensures dropped { chars result.1.now ≡ drop (length (drop_trailing_whitespace (chars text.now))) (chars text.now) }
+{
+    text.split_at(text.trim_end().len())
+}

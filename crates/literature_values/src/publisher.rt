@@ -1,0 +1,25 @@
+//! Publishers.
+
+ghost use Rattle.std.specs.Prelude.{◌≡◌};
+ghost use Rattle.literature_values.specs.TextViews.{publishing};
+
+use crate::text::FormatString;
+use std::alloc::AllocError;
+
+/// A publisher by name and place.
+#[derive(Debug, PartialEq, Eq, Drop)]
+pub struct Publisher {
+    pub name: Option<FormatString>,
+    pub location: Option<FormatString>,
+}
+
+impl Clone for Publisher {
+    ghost is_clone = { λ p q. publishing q ≡ publishing p };
+
+    fn clone(&self) -> Result<Publisher, AllocError> {
+        Ok(Publisher {
+            name: self.name.clone()?,
+            location: self.location.clone()?,
+        })
+    }
+}
