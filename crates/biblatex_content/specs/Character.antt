@@ -8,7 +8,7 @@ use Rattle.biblatex_content.specs.declared.character.Class.TheVariants.{Blank, L
 abbrev pub is_blank : ℕ → Bool
 is_blank c = c == 32 || c == 9 || c == 10 || c == 12 || c == 13
 
--- a character that stands for itself wherever it is written: none of \ { } $ ~ -
+-- a character that begins nothing but itself: none of \ { } $ ~ -
 abbrev pub is_plain : ℕ → Bool
 is_plain c = not (c == 92 || c == 123 || c == 125 || c == 36 || c == 126 || c == 45)
 

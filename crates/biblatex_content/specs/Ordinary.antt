@@ -71,7 +71,7 @@ given_text (c ∷ cs) s = given (c ∷ cs) s
 abbrev pub accented : ℕ → State → State
 accented mark s = record s { marks = s.marks ++ mark ∷ []; mode = Argument (kept_in s.mode s.marks) }
 
--- a group is Verbatim, unless it begins with a command, or is an argument, or follows a command
+-- a group is Verbatim, unless it begins with a backslash, or is an argument, or follows a command that is passed over
 abbrev pub kind_in : Mode → Bool → Kind → Kind
 kind_in Free is_command kind = if is_command then kind else Verbatim
 kind_in mode is_command kind = kind

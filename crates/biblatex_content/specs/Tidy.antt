@@ -36,7 +36,8 @@ tidied ms = without_last_space (squeezed true (map spaced ms))
 abbrev pub stays : Bool → ℕ → Bool
 stays after_space c = not (is_blank c && (after_space || not (c == 32)))
 
--- whether tidying leaves characters as they are, where a space, or the beginning, stands before them or not
+-- whether tidying leaves characters as they are, where a space, or the beginning, stands before them or not; no characters
+-- behind a space are not, since the space would go
 abbrev pub is_tidy : Bool → List ℕ → Bool
 is_tidy after_space [] = not after_space
 is_tidy after_space (c ∷ cs) = stays after_space c && is_tidy (c == 32) cs

@@ -11,14 +11,14 @@ is_brace c = c == 123 || c == 125
 abbrev pub is_reserved : ℕ → Bool
 is_reserved c = c == 35 || c == 38 || c == 37 || c == 36 || c == 95
 
--- Whether a backslash before the character stands for the character: in an ordinary field before { } # & % $ _, in a
+-- Whether the character is one of those that a backslash escapes: in an ordinary field before { } # & % $ _, in a
 -- verbatim field before these and \ ~ ^ where it is read, and before { } \ where it is written.
 abbrev pub is_escapable : ℕ → Bool → Bool → Bool
 is_escapable c false is_read = is_brace c || is_reserved c
 is_escapable c true true = is_brace c || is_reserved c || c == 92 || c == 126 || c == 94
 is_escapable c true false = is_brace c || c == 92
 
--- a backslash that is behind no other one waits for the next character
+-- a backslash that is behind no waiting one waits for the next character
 abbrev pub is_verbatim_escape : Bool → ℕ → Bool
 is_verbatim_escape is_escaped c = not is_escaped && c == 92
 

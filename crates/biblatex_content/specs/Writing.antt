@@ -1,5 +1,7 @@
--- How a styled text is written so that reading it gives it back. No code writes yet.
+-- How a styled text is written, so that reading it gives it back where it is tidy and no two of its hyphens are neighbours.
+-- No code writes yet.
 use Rattle.std.specs.Prelude.{ℕ, Bool, true, false, ◌==◌, List, [], ◌∷◌, ◌++◌, if◌then◌else◌, codes}
+use Rattle.std.specs.List.{flat_map}
 use Rattle.biblatex_content.specs.declared.chunk.Kind.TheVariants.{Normal, Verbatim}
 use Rattle.biblatex_content.specs.Styled.{Member, Letter, Math}
 use Rattle.biblatex_content.specs.Token.{begins_command}
@@ -31,8 +33,12 @@ written_from false (Math text ∷ ms) = 36 ∷ text ++ 36 ∷ written_from false
 abbrev pub written_ordinary : List Member → List ℕ
 written_ordinary ms = written_from false ms
 
--- a verbatim field: braces and backslashes behind a backslash
+-- a character of a verbatim field: braces and backslashes behind a backslash
+abbrev pub written_as_is : ℕ → List ℕ
+written_as_is c = if is_escapable c true false then 92 ∷ c ∷ [] else c ∷ []
+
+-- a verbatim field, in which math is text too
 abbrev pub written_verbatim : List Member → List ℕ
 written_verbatim [] = []
-written_verbatim (Letter kind c ∷ ms) = if is_escapable c true false then 92 ∷ c ∷ written_verbatim ms else c ∷ written_verbatim ms
-written_verbatim (Math text ∷ ms) = text ++ written_verbatim ms
+written_verbatim (Letter kind c ∷ ms) = written_as_is c ++ written_verbatim ms
+written_verbatim (Math text ∷ ms) = flat_map written_as_is text ++ written_verbatim ms

@@ -14,7 +14,7 @@ pub(crate) enum Class {
     Letter,
     /// A hyphen.
     Hyphen,
-    /// A character that stands for itself wherever it is written.
+    /// A character that begins nothing but itself.
     Plain,
 }
 

@@ -412,8 +412,9 @@ impl Contents {
     /// The same with a piece of an ordinary field behind it, whose first row that fits counts: `---`, `--` and `~` are
     /// dashes and a tie; a backslash and one of `{ } # & % $ _` that character, a backslash before a backslash or a blank a
     /// space, `\,` a thin space, `\-` and `\/` nothing; accents are composed with their arguments; commands of letters are
-    /// characters or are passed over; groups are verbatim but for arguments, groups behind a command, and groups that begin
-    /// with a backslash; math stands between dollar signs of one depth.
+    /// characters or are passed over; a backslash and another character is that character; groups are verbatim but for
+    /// arguments, groups behind a command that is passed over, and groups that begin with a backslash; math stands between
+    /// dollar signs of one depth, and a dollar sign without a partner is itself.
     ///
     /// # Errors
     ///
