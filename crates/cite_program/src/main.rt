@@ -3,7 +3,7 @@
 
 mod files;
 
-use cite::{CiteError, run};
+use cite::{CiteError, Tap, run};
 use files::{RealFiles, StoredFiles};
 use std::io::{ErrorKind, Write};
 use std::process::ExitCode;
@@ -27,8 +27,8 @@ fn run_words(rt: &HostRuntime, given: &[String]) -> io::Result<u8> {
     for word in given {
         words.push(word.as_str())?;
     }
-    let mut out = rt.stdout();
-    let mut err = rt.stderr();
+    let mut out = Tap::new(rt.stdout());
+    let mut err = Tap::new(rt.stderr());
     Ok(run(rt.alloc(), &words, &RealFiles { rt }, &mut out, &mut err))
 }
 
@@ -36,8 +36,8 @@ fn run_words(rt: &HostRuntime, given: &[String]) -> io::Result<u8> {
 fn start(rt: &HostRuntime) -> io::Result<u8> {
     match words_given(rt) {
         Ok(words) if words.is_empty() => {
-            let mut out = rt.stdout();
-            let mut err = rt.stderr();
+            let mut out = Tap::new(rt.stdout());
+            let mut err = Tap::new(rt.stderr());
             Ok(run(rt.alloc(), &STORED_WORDS, &StoredFiles, &mut out, &mut err))
         }
         Ok(words) => run_words(rt, &words),

@@ -10,15 +10,15 @@ use Rattle.std.proofs.lemmas.Fmt.{digits_value-decimal, length-decimal-le}
 use Rattle.std.proofs.lemmas.List.{length-replicate}
 use Rattle.laws.specs.Runs.{AllPassTest, Bars}
 use Rattle.laws.proofs.Runs.{cuts}
-use Rattle.literature_reader.specs.Character.{passes}
-use Rattle.literature_reader.specs.Reading.{digits_at, taken, mark_at}
+use Rattle.text_reader.specs.Character.{passes}
+use Rattle.text_reader.specs.Reading.{digits_at, taken, mark_at}
 use Rattle.literature_dates.specs.Dates.{part_at, time_at, year_at, side_of, month_of, date_of, is_leap_year, days_in_month}
 use Rattle.literature_dates.specs.DateText.{padded, year_text, counted_text, day_text, month_text, mark_text, date_text, HasMonth, Exists}
-use Rattle.literature_reader.specs.declared.character.Class.TheVariants.{Digit}
+use Rattle.text_reader.specs.declared.character.Class.TheVariants.{Digit}
 use Rattle.literature_dates.specs.declared.date.Date.{Date}
 use Rattle.literature_dates.specs.declared.date.Side.{Side}
-use Rattle.literature_reader.proofs.Digits.{own, digits_at-ok}
-use Rattle.literature_reader.proofs.Starts.{Starts, starts, decimal_digits}
+use Rattle.text_reader.proofs.Digits.{own, digits_at-ok}
+use Rattle.text_reader.proofs.Starts.{Starts, starts, decimal_digits}
 
 -- zeros in front change no number
 zeros_value : (k : ℕ) (ds : List ℕ) → digits_value 10 (replicate k 48 ++ ds) ≡ digits_value 10 ds

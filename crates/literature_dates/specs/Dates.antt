@@ -2,12 +2,12 @@
 use Rattle.std.specs.Prelude.{ℕ, ◌-◌, ◌%◌, Bool, true, false, not, ◌==◌, ◌&&◌, ◌||◌, List, [], ◌∷◌, if◌then◌else◌, Option, Some, None, Result, Ok, Err, ℤ, pos, neg_ℤ, unsigned_abs}
 use Rattle.std.specs.Int.{is_in_range}
 use Rattle.laws.specs.Results.{◌>>=◌}
-use Rattle.literature_reader.specs.Reading.{end_at, digits_at, token_at, taken, mark_at}
+use Rattle.text_reader.specs.Reading.{end_at, digits_at, token_at, taken, mark_at}
 use Rattle.literature_dates.specs.declared.date.Date.{Date}
 use Rattle.literature_dates.specs.declared.date.Side.{Side}
 use Rattle.literature_dates.specs.declared.date.DateError.{DateError}
 use Rattle.literature_dates.specs.declared.date.DateError.TheVariants.{UnknownFormat, MonthOutOfBounds, DayOutOfBounds}
-use Rattle.literature_reader.specs.declared.reader.Unreadable.{Unreadable}
+use Rattle.text_reader.specs.declared.reader.Unreadable.{Unreadable}
 
 -- the year before 1 is 0; every fourth year is a leap year, but of the centuries only every fourth
 abbrev pub is_leap_year : ℤ → Bool

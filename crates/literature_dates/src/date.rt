@@ -8,11 +8,11 @@ ghost use Rattle.laws.specs.Results.{Reads, Passes};
 ghost use Rattle.literature_dates.specs.Dates.{is_leap_year, days_in_month, part_at, minutes_at, offset_at, clock_at, time_at, year_at, side_of, year_alone, in_month, day_of, month_of, date_of};
 ghost use Rattle.laws.specs.Text.{text as text_of};
 ghost use Rattle.literature_dates.specs.DateText.{padded, year_text, counted_text, month_text, mark_text, date_text, Exists};
-ghost use Rattle.literature_reader.specs.Views.{left};
+ghost use Rattle.text_reader.specs.Views.{left};
 ghost use Rattle.literature_dates.specs.declared.date.DateError.TheVariants.{UnknownFormat};
 ghost use Rattle.literature_dates.specs.declared.date.Date.{Date};
 
-use literature_reader::{Reader, Unreadable};
+use text_reader::{Reader, Unreadable};
 use std::fmt;
 use thiserror::Error;
 

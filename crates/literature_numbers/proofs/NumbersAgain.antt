@@ -6,16 +6,16 @@ use Rattle.laws.specs.Results.{◌>>=◌}
 use Rattle.laws.specs.Runs.{AllPassTest, Bars}
 use Rattle.laws.specs.Steps.{each}
 use Rattle.laws.proofs.Steps.{each-none, each-some}
-use Rattle.literature_reader.specs.Character.{passes}
-use Rattle.literature_reader.specs.Reading.{number_at}
+use Rattle.text_reader.specs.Character.{passes}
+use Rattle.text_reader.specs.Reading.{number_at}
 use Rattle.literature_numbers.specs.Numerics.{Numbers, Value, Number, Set, linked, value_of, next_number_at, numbers_at}
 use Rattle.literature_numbers.specs.NumericText.{delimiter_text, separator_text, linked_text, value_text, IsCount, AreLinked, IsReadableValue}
-use Rattle.literature_reader.specs.declared.character.Class.TheVariants.{Letter, Digit}
+use Rattle.text_reader.specs.declared.character.Class.TheVariants.{Letter, Digit}
 use Rattle.literature_numbers.specs.declared.separator.NumericDelimiter.{NumericDelimiter}
 use Rattle.literature_numbers.specs.declared.separator.NumericDelimiter.TheVariants.{Comma, Ampersand, Hyphen}
-use Rattle.literature_reader.specs.declared.reader.Unreadable.{Unreadable}
+use Rattle.text_reader.specs.declared.reader.Unreadable.{Unreadable}
 use Rattle.literature_numbers.proofs.Shorter.{numbers_shorten}
-use Rattle.literature_reader.proofs.Starts.{Starts, decimal_starts, number_again}
+use Rattle.text_reader.proofs.Starts.{Starts, decimal_starts, number_again}
 use Rattle.literature_numbers.proofs.Separators.{delimiter_again, letters_bar, no_separator}
 
 -- no digit begins a separator

@@ -3,16 +3,16 @@ use Rattle.std.proofs.Common.{◌≡◌, ℕ, List, [], ◌∷◌, ◌++◌, Opt
 use Rattle.laws.specs.Runs.{front_of, after, AllPassTest}
 use Rattle.laws.proofs.Results.{ok_is}
 use Rattle.laws.proofs.Runs.{cuts}
-use Rattle.literature_reader.specs.Character.{passes}
+use Rattle.text_reader.specs.Character.{passes}
 use Rattle.literature_numbers.specs.Numerics.{Numeral, affix, numeral_of}
 use Rattle.literature_numbers.specs.NumericText.{value_text, affix_text, numeral_text, IsAffix, IsReadable}
-use Rattle.literature_reader.specs.declared.character.Class.TheVariants.{Letter}
+use Rattle.text_reader.specs.declared.character.Class.TheVariants.{Letter}
 use Rattle.literature_numbers.specs.Views.{Means, ReadsBack}
 use Rattle.literature_numbers.specs.declared.numeric.Numeric.{Numeric}
 use Rattle.literature_numbers.specs.declared.numeric.NumericError.{NumericError}
 use Rattle.literature_numbers.specs.declared.numeric.NumericError.TheVariants as errors
-use Rattle.literature_reader.specs.declared.reader.Unreadable.{Unreadable}
-use Rattle.literature_reader.proofs.Starts.{digit_bars}
+use Rattle.text_reader.specs.declared.reader.Unreadable.{Unreadable}
+use Rattle.text_reader.proofs.Starts.{digit_bars}
 use Rattle.literature_numbers.proofs.NumbersAgain.{value_again, value_starts}
 
 affix_letters : (a : Option (List ℕ)) → IsAffix a → AllPassTest (passes Letter) (affix_text a)

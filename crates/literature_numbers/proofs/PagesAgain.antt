@@ -12,7 +12,7 @@ use Rattle.literature_numbers.specs.declared.separator.NumericDelimiter.TheVaria
 use Rattle.literature_numbers.specs.declared.page_ranges.PageRanges.{PageRanges}
 use Rattle.literature_numbers.specs.declared.page_ranges.PageRangesError.{PageRangesError}
 use Rattle.literature_numbers.specs.declared.page_ranges.PageRangesError.TheVariants as errors
-use Rattle.literature_reader.specs.declared.reader.Unreadable.{Unreadable}
+use Rattle.text_reader.specs.declared.reader.Unreadable.{Unreadable}
 use Rattle.literature_numbers.proofs.NumbersAgain.{numbers_again}
 
 -- the numbers that parts were made of

@@ -3,12 +3,12 @@ use Rattle.std.specs.Prelude.{ℕ, List, [], ◌∷◌, Option, Some, None, Resu
 use Rattle.laws.specs.Results.{◌>>=◌}
 use Rattle.laws.specs.Steps.{each}
 use Rattle.laws.specs.Runs.{front_of, after}
-use Rattle.literature_reader.specs.Character.{passes}
-use Rattle.literature_reader.specs.Reading.{number_at, end_at}
+use Rattle.text_reader.specs.Character.{passes}
+use Rattle.text_reader.specs.Reading.{number_at, end_at}
 use Rattle.literature_numbers.specs.Numbers.{separator_at}
-use Rattle.literature_reader.specs.declared.character.Class.TheVariants.{Letter}
+use Rattle.text_reader.specs.declared.character.Class.TheVariants.{Letter}
 use Rattle.literature_numbers.specs.declared.separator.NumericDelimiter.{NumericDelimiter}
-use Rattle.literature_reader.specs.declared.reader.Unreadable.{Unreadable}
+use Rattle.text_reader.specs.declared.reader.Unreadable.{Unreadable}
 
 -- numbers in a row, each with the separator after it
 abbrev pub Numbers : Type 0

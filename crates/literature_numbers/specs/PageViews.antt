@@ -9,7 +9,7 @@ use Rattle.literature_numbers.specs.declared.page_ranges.PageRangesPart.{PageRan
 use Rattle.literature_numbers.specs.declared.page_ranges.PageRangesPart.TheVariants as parts
 use Rattle.literature_numbers.specs.declared.page_ranges.PageRangesError.{PageRangesError}
 use Rattle.literature_numbers.specs.declared.page_ranges.PageRangesError.TheVariants as errors
-use Rattle.literature_reader.specs.declared.reader.Unreadable.{Unreadable}
+use Rattle.text_reader.specs.declared.reader.Unreadable.{Unreadable}
 
 -- a part, its numbers seen by value
 abbrev pub part : PageRangesPart → Part

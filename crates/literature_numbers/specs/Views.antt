@@ -4,7 +4,7 @@ use Rattle.std.specs.Prelude.{◌≡◌, ℕ, List, Result, Ok, Err, String, str
 use Rattle.std.specs.Option.{option_map}
 use Rattle.std.specs.Str.{chars}
 use Rattle.literature_numbers.specs.Numerics.{Value, Number, Set, Numeral}
-use Rattle.literature_reader.specs.declared.reader.Unreadable.{Unreadable}
+use Rattle.text_reader.specs.declared.reader.Unreadable.{Unreadable}
 use Rattle.literature_numbers.specs.declared.numeric.Numeric.{Numeric}
 use Rattle.literature_numbers.specs.declared.numeric.NumericValue.{NumericValue}
 use Rattle.literature_numbers.specs.declared.numeric.NumericValue.TheVariants as values

@@ -8,12 +8,12 @@ ghost use Rattle.std.specs.Str.{chars};
 ghost use Rattle.literature_numbers.specs.Numerics.{Numeral, plain, numeral_of, numbers_at, value_of, affix};
 ghost use Rattle.laws.specs.Text.{text as text_of};
 ghost use Rattle.literature_numbers.specs.NumericText.{delimiter_text, linked_text, value_text, affix_text, numeral_text, is_plural, IsReadable};
-ghost use Rattle.literature_reader.specs.Views.{left};
+ghost use Rattle.text_reader.specs.Views.{left};
 ghost use Rattle.literature_numbers.specs.Views.{value, numeral, characters, Means, ReadsBack, ReadsInMemory};
 ghost use Rattle.literature_numbers.specs.declared.numeric.NumericError.TheVariants.{Memory, Malformed};
 
 use crate::separator::{NumericDelimiter, next_number};
-use literature_reader::{Class, Reader, Unreadable, split_first};
+use text_reader::{Class, Reader, Unreadable, split_first};
 use std::alloc::{AllocError, AllocFailed, Global};
 use std::fmt;
 use thiserror::Error;

@@ -11,7 +11,7 @@ ghost use Rattle.literature_numbers.specs.declared.page_ranges.PageRangesError.T
 
 use crate::numeric::{Numeric, NumericError, read_numbers};
 use crate::separator::NumericDelimiter;
-use literature_reader::{Reader, Unreadable};
+use text_reader::{Reader, Unreadable};
 use std::alloc::{AllocError, AllocFailed, Global};
 use std::fmt;
 use thiserror::Error;

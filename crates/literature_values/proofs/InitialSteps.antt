@@ -11,10 +11,10 @@ use Rattle.laws.proofs.Results.{ok_is}
 use Rattle.laws.proofs.Text.{text-append}
 use Rattle.laws.proofs.Runs.{length-after, front-after}
 use Rattle.laws.proofs.Steps.{each-none, each-some}
-use Rattle.literature_reader.specs.Character.{passes}
-use Rattle.literature_reader.specs.Reading.{taken}
+use Rattle.text_reader.specs.Character.{passes}
+use Rattle.text_reader.specs.Reading.{taken}
 use Rattle.literature_values.specs.Initials.{Run, Style, initial, further, joined_runs, run_behind, run_from, next_run_at, initials_of}
-use Rattle.literature_reader.specs.declared.character.Class.TheVariants.{Blank, Apart, Name}
+use Rattle.text_reader.specs.declared.character.Class.TheVariants.{Blank, Apart, Name}
 
 taken-leaves : (c : ℕ) (cs : List ℕ) → length (taken c cs).1 ≤ length cs
 taken-leaves c [] = omega arith

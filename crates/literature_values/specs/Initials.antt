@@ -6,9 +6,9 @@ use Rattle.laws.specs.Steps.{each}
 use Rattle.laws.specs.Runs.{front_of, after}
 use Rattle.laws.specs.Text.{text}
 use Rattle.unicode_segmentation.specs.Grapheme.{graphemes}
-use Rattle.literature_reader.specs.Character.{passes}
-use Rattle.literature_reader.specs.Reading.{taken}
-use Rattle.literature_reader.specs.declared.character.Class.TheVariants.{Blank, Apart, Name}
+use Rattle.text_reader.specs.Character.{passes}
+use Rattle.text_reader.specs.Reading.{taken}
+use Rattle.text_reader.specs.declared.character.Class.TheVariants.{Blank, Apart, Name}
 
 -- a run of a name without white space and hyphens, and whether a hyphen stands before it
 pub record Run : Type 0 where

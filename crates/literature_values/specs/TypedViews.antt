@@ -1,6 +1,6 @@
 -- Values that keep a text which is not read.
 use Rattle.std.specs.Prelude.{◌≡◌, ℕ, List, Result, Ok, Err, string_bytes}
-use Rattle.literature_reader.specs.declared.reader.Unreadable.{Unreadable}
+use Rattle.text_reader.specs.declared.reader.Unreadable.{Unreadable}
 use Rattle.literature_numbers.specs.Numerics.{Numeral}
 use Rattle.literature_numbers.specs.Pages.{Part}
 use Rattle.literature_numbers.specs.Views.{numeral}

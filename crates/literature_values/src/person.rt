@@ -7,9 +7,9 @@ ghost use Rattle.std.specs.Str.{chars, drop_trailing_whitespace};
 ghost use Rattle.laws.specs.Text.{text as text_of};
 ghost use Rattle.literature_values.specs.Initials.{next_run_at, cluster, style, initial, between, further, initials_of};
 ghost use Rattle.literature_values.specs.PersonViews.{person, run, initials_style, borrowed, given};
-ghost use Rattle.literature_reader.specs.Views.{left};
+ghost use Rattle.text_reader.specs.Views.{left};
 
-use literature_reader::{Class, Reader, split_first};
+use text_reader::{Class, Reader, split_first};
 use std::alloc::AllocError;
 use std::fmt;
 use unicode_segmentation::UnicodeSegmentation;

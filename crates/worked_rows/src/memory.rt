@@ -101,8 +101,8 @@ fn run_answers_memory(rt: HostRuntime) {
         rt.alloc(),
         &["num", "plain", "a.bib", "a.txt"],
         &Files,
-        &mut out,
-        &mut err,
+        &mut Tap::new(&mut out),
+        &mut Tap::new(&mut err),
     );
     let left = if status == 0 {
         (b"".as_slice(), line)

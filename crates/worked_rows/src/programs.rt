@@ -3,7 +3,7 @@
 ghost use Rattle.std.specs.Prelude.{None};
 
 use crate::calls::ONE_BOOK;
-use cite::{ReadFault, ReadPath, run};
+use cite::{ReadFault, ReadPath, Tap, run};
 use std::alloc::Global;
 use std::io;
 use std::io::{ErrorKind, Write};
@@ -109,17 +109,17 @@ const FAULTS: [(&[&str], &str); 19] = [
     ),
 ];
 
+/// Runs the program over two writers.
+fn run_over<O: Write + Drop, E: Write + Drop>(alloc: Global, words: &[&str], out: O, err: E) -> u8 {
+    run(alloc, words, &Files, &mut Tap::new(out), &mut Tap::new(err))
+}
+
 #[test]
 fn output_goes_to_the_first_writer(rt: HostRuntime) {
     let mut out = Vec::new(rt.alloc());
     let mut err = Vec::new(rt.alloc());
-    let status = run(
-        rt.alloc(),
-        &["num", "plain", "a.bib", "a.txt"],
-        &Files,
-        &mut out,
-        &mut err,
-    );
+    let words = ["num", "plain", "a.bib", "a.txt"];
+    let status = run_over(rt.alloc(), &words, &mut out, &mut err);
     assert_eq!(rt; (status, out.as_slice()), (0, b"See [1].\nA\n".as_slice()));
     assert!(rt; err.is_empty());
 }
@@ -128,7 +128,7 @@ fn output_goes_to_the_first_writer(rt: HostRuntime) {
 fn check(rt: &impl Abort, alloc: Global, words: &[&str], wanted: &str) {
     let mut out = Vec::new(alloc);
     let mut err = Vec::new(alloc);
-    let status = run(alloc, words, &Files, &mut out, &mut err);
+    let status = run_over(alloc, words, &mut out, &mut err);
     assert_eq!(rt;
         (status, err.as_slice()),
         (1, wanted.as_bytes()),
@@ -148,10 +148,7 @@ fn faults_go_to_the_second_writer(rt: HostRuntime) {
 fn writers_fail(rt: HostRuntime) {
     let words = ["num", "plain", "a.bib", "a.txt"];
     let mut err = Vec::new(rt.alloc());
-    assert_eq!(rt; run(rt.alloc(), &words, &Files, &mut Full, &mut err), 1);
+    assert_eq!(rt; run_over(rt.alloc(), &words, Full, &mut err), 1);
     assert_eq!(rt; err.as_slice(), b"cite: write failed\n".as_slice());
-    assert_eq!(rt;
-        run(rt.alloc(), &words[..1], &Files, &mut Full, &mut Full),
-        1
-    );
+    assert_eq!(rt; run_over(rt.alloc(), &words[..1], Full, Full), 1);
 }

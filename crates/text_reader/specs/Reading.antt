@@ -2,10 +2,10 @@
 use Rattle.std.specs.Prelude.{ℕ, Bool, true, false, ◌==◌, ◌&&◌, nat_lt, nat_le, ◌^◌, List, [], ◌∷◌, length, if◌then◌else◌, Result, Ok, Err, ℤ, pos}
 use Rattle.std.specs.Str.Parse.{digits_value}
 use Rattle.laws.specs.Runs.{front_of, after}
-use Rattle.literature_reader.specs.Character.{passes}
-use Rattle.literature_reader.specs.declared.character.Class.TheVariants.{Digit, Mark}
-use Rattle.literature_reader.specs.declared.reader.Unreadable.{Unreadable}
-use Rattle.literature_reader.specs.declared.reader.Unreadable.TheVariants.{NotThere}
+use Rattle.text_reader.specs.Character.{passes}
+use Rattle.text_reader.specs.declared.character.Class.TheVariants.{Digit, Mark}
+use Rattle.text_reader.specs.declared.reader.Unreadable.{Unreadable}
+use Rattle.text_reader.specs.declared.reader.Unreadable.TheVariants.{NotThere}
 
 -- digits spell a number: one digit or more, and at most 2147483647
 abbrev pub is_number : List ℕ → Bool

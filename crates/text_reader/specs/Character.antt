@@ -1,8 +1,8 @@
 -- Classes of characters. Characters are numbers.
 use Rattle.std.specs.Prelude.{ℕ, Bool, not, ◌==◌, ◌||◌}
 use Rattle.std.specs.Char.{is_ascii_alphabetic, is_ascii_digit, is_whitespace}
-use Rattle.literature_reader.specs.declared.character.Class.{Class}
-use Rattle.literature_reader.specs.declared.character.Class.TheVariants.{Letter, Digit, Space, Dash, Mark, Blank, Apart, Name}
+use Rattle.text_reader.specs.declared.character.Class.{Class}
+use Rattle.text_reader.specs.declared.character.Class.TheVariants.{Letter, Digit, Space, Dash, Mark, Blank, Apart, Name}
 
 -- Whether a character is of a class. The dashes are hyphen, en dash and em dash, the marks ? ~ % and the space that
 -- does not break.

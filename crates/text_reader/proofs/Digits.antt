@@ -11,11 +11,11 @@ use Rattle.std.proofs.lemmas.Str.Parse.{IsNumeralModel, numerals_by_value, tells
 use Rattle.std.proofs.lemmas.Fmt.{IsAscii-from_digits}
 use Rattle.laws.specs.Runs.{front_of, after, AllPassTest}
 use Rattle.laws.proofs.Runs.{all-front}
-use Rattle.literature_reader.specs.Character.{passes}
-use Rattle.literature_reader.specs.Reading.{is_number, number_at}
-use Rattle.literature_reader.specs.Reading.{digits_at}
-use Rattle.literature_reader.specs.declared.character.Class.TheVariants.{Digit}
-use Rattle.literature_reader.specs.declared.reader.Unreadable.TheVariants.{NotThere}
+use Rattle.text_reader.specs.Character.{passes}
+use Rattle.text_reader.specs.Reading.{is_number, number_at}
+use Rattle.text_reader.specs.Reading.{digits_at}
+use Rattle.text_reader.specs.declared.character.Class.TheVariants.{Digit}
+use Rattle.text_reader.specs.declared.reader.Unreadable.TheVariants.{NotThere}
 
 -- std's words for digits and their value
 pub own : IsNumeralModel (λ ds. all_ascii_digits ds ≡ true) (digits_value 10)

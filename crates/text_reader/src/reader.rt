@@ -4,10 +4,10 @@ ghost use Rattle.std.specs.Prelude.{◌≡◌, ◌<◌, ◌≤◌, ◌&&◌, nat
 ghost use Rattle.std.specs.Str.{chars};
 ghost use Rattle.laws.specs.Results.{Reads, Passes};
 ghost use Rattle.laws.specs.Runs.{front_of, after};
-ghost use Rattle.literature_reader.specs.Character.{passes};
-ghost use Rattle.literature_reader.specs.Reading.{number_at, end_at};
-ghost use Rattle.literature_reader.specs.Reading.{digits_at, token_at, taken, mark_at};
-ghost use Rattle.literature_reader.specs.Views.{left};
+ghost use Rattle.text_reader.specs.Character.{passes};
+ghost use Rattle.text_reader.specs.Reading.{number_at, end_at};
+ghost use Rattle.text_reader.specs.Reading.{digits_at, token_at, taken, mark_at};
+ghost use Rattle.text_reader.specs.Views.{left};
 
 use crate::character::{Class, split_first, split_run};
 

@@ -3,7 +3,7 @@
 ghost use Rattle.std.specs.Prelude.{◌≡◌, ◌++◌, ◌∷◌, [], MatchOption};
 ghost use Rattle.std.specs.Str.{chars};
 ghost use Rattle.laws.specs.Runs.{front_of, after};
-ghost use Rattle.literature_reader.specs.Character.{passes};
+ghost use Rattle.text_reader.specs.Character.{passes};
 
 /// What a character may be part of.
 #[derive(Clone, Copy)]

@@ -1,7 +1,7 @@
 use Rattle.std.proofs.Common.{rules, sym, ◌∙◌, w32, FitsSigned, Ok}
 use Rattle.std.proofs.lemmas.Int.{to_z-of_z}
-use Rattle.literature_reader.proofs.Digits.{number_parsed, number_refused}
-use Rattle.literature_reader.proofs.reader.Reader.number.Goals as goal
+use Rattle.text_reader.proofs.Digits.{number_parsed, number_refused}
+use Rattle.text_reader.proofs.reader.Reader.number.Goals as goal
 
 pub returns-in-Ok : goal.returns-in-Ok
 returns-in-Ok c =

@@ -1,6 +1,6 @@
 use Rattle.std.proofs.Common.{◌≡◌, ◌++◌, encode_utf8}
 use Rattle.std.proofs.lemmas.Str.{chars_past_char}
-use Rattle.literature_reader.proofs.character.split_first.Goals as goal
+use Rattle.text_reader.proofs.character.split_first.Goals as goal
 
 pub returns : goal.returns
 returns c =

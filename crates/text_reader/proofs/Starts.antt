@@ -9,10 +9,10 @@ use Rattle.std.proofs.lemmas.Bool.Decides.{nat_tests}
 use Rattle.std.proofs.lemmas.Fmt.{digits_decimal, digits_value-decimal, decimal_nonempty}
 use Rattle.laws.specs.Runs.{AllPassTest, Bars}
 use Rattle.laws.proofs.Runs.{cuts}
-use Rattle.literature_reader.specs.Character.{passes}
-use Rattle.literature_reader.specs.Reading.{is_number, number_at}
-use Rattle.literature_reader.specs.declared.character.Class.TheVariants.{Letter, Digit, Space, Dash}
-use Rattle.literature_reader.proofs.Digits.{own, is_number_true}
+use Rattle.text_reader.specs.Character.{passes}
+use Rattle.text_reader.specs.Reading.{is_number, number_at}
+use Rattle.text_reader.specs.declared.character.Class.TheVariants.{Letter, Digit, Space, Dash}
+use Rattle.text_reader.proofs.Digits.{own, is_number_true}
 
 -- a digit is of no other class
 digit_only : (c : ℕ) → passes Digit c ≡ true → (passes Letter c ≡ false) × (passes Space c ≡ false) × (passes Dash c ≡ false)

@@ -5,10 +5,10 @@ use Rattle.std.specs.Str.Parse.{digits_value}
 use Rattle.laws.specs.Runs.{front_of, after}
 use Rattle.laws.proofs.Results.{test_if_ok}
 use Rattle.laws.proofs.Runs.{length-after}
-use Rattle.literature_reader.specs.Character.{passes}
-use Rattle.literature_reader.specs.Reading.{is_number, number_at}
-use Rattle.literature_reader.specs.declared.character.Class.TheVariants.{Digit}
-use Rattle.literature_reader.specs.declared.reader.Unreadable.TheVariants.{NotThere}
+use Rattle.text_reader.specs.Character.{passes}
+use Rattle.text_reader.specs.Reading.{is_number, number_at}
+use Rattle.text_reader.specs.declared.character.Class.TheVariants.{Digit}
+use Rattle.text_reader.specs.declared.reader.Unreadable.TheVariants.{NotThere}
 
 -- at most n characters are left
 abbrev pub LeavesAtMost : {X : Type 0} → ℕ → X × List ℕ → Type 0

@@ -1,7 +1,7 @@
 -- What the reader holds, without where it lies in memory.
 use Rattle.std.specs.Prelude.{ℕ, List}
 use Rattle.std.specs.Str.{chars}
-use Rattle.literature_reader.specs.declared.reader.Reader.{Reader}
+use Rattle.text_reader.specs.declared.reader.Reader.{Reader}
 
 -- the characters that are left to read
 abbrev pub left : Reader → List ℕ

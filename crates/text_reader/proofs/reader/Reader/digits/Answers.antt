@@ -1,8 +1,8 @@
 use Rattle.std.proofs.Common.{rules, sym, ◌∙◌, Ok}
 use Rattle.laws.proofs.Results.{ok_is}
-use Rattle.literature_reader.specs.Views.{left}
-use Rattle.literature_reader.proofs.Digits.{run_bytes, digits_parsed, digits_at-ok, digits_at-err}
-use Rattle.literature_reader.proofs.reader.Reader.digits.Goals as goal
+use Rattle.text_reader.specs.Views.{left}
+use Rattle.text_reader.proofs.Digits.{run_bytes, digits_parsed, digits_at-ok, digits_at-err}
+use Rattle.text_reader.proofs.reader.Reader.digits.Goals as goal
 
 pub returns-then-not-is_within : goal.returns-then-not-is_within
 returns-then-not-is_within c =

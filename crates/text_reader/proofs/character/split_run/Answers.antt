@@ -1,7 +1,7 @@
 use Rattle.std.proofs.Common.{◌≡◌, true, false, length, take, drop, sym, ◌∙◌}
 use Rattle.laws.proofs.Cut.{CutsRun, runs_none, runs_more, stops_before, stops_at_end}
-use Rattle.literature_reader.specs.Character.{passes}
-use Rattle.literature_reader.proofs.character.split_run.Goals as goal
+use Rattle.text_reader.specs.Character.{passes}
+use Rattle.text_reader.proofs.character.split_run.Goals as goal
 
 pub loop-i-init : goal.loop-i-init
 loop-i-init c =
