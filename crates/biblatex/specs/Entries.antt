@@ -6,7 +6,7 @@ use Rattle.std.specs.Str.{chars}
 use Rattle.biblatex.specs.declared.entry.Entry.{Entry}
 use Rattle.biblatex.specs.declared.error.ParseError.{ParseError}
 use Rattle.biblatex.specs.declared.error.ParseError.TheVariants as errors
-use Rattle.biblatex.specs.TypeNames.{type_name}
+use Rattle.biblatex_entries.specs.TypeNames.{type_name}
 use Rattle.biblatex.specs.Works.{Work, first_repeat}
 
 -- the characters of a text

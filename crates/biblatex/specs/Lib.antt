@@ -1,6 +1,5 @@
 pub mod Character
 pub mod Content
-pub mod TypeNames
 pub mod Grammar
 pub mod Reading
 pub mod Works

@@ -4,7 +4,7 @@ use Rattle.std.specs.Option.{option_map}
 use Rattle.std.specs.Str.{bytes_eq}
 use Rattle.laws.specs.Text.{text, lowered}
 use Rattle.biblatex.specs.Content.{tidied}
-use Rattle.biblatex.specs.TypeNames.{TypeName, type_of}
+use Rattle.biblatex_entries.specs.TypeNames.{TypeName, type_of}
 use Rattle.biblatex.specs.Grammar.{Item}
 
 -- An entry without where it lies in memory: its key as bytes, its type, and the characters of its fields.

@@ -10,8 +10,8 @@ ghost use Rattle.biblatex.specs.Entries.{work, characters};
 ghost use Rattle.biblatex.specs.Views.{item, spelled};
 
 use crate::content::tidy;
-use crate::entry_type::EntryType;
 use crate::profile::WrittenItem;
+use biblatex_entries::EntryType;
 use std::alloc::{AllocError, Global};
 
 /// An entry: its key, its type, and the fields of the first profile that it has. Of equal names the last counts, and

@@ -5,12 +5,11 @@ mod bibliography;
 mod character;
 mod content;
 mod entry;
-mod entry_type;
 mod error;
 mod profile;
 
+pub use biblatex_entries::EntryType;
 pub use bibliography::Bibliography;
 pub use entry::Entry;
-pub use entry_type::EntryType;
 pub use error::ParseError;
 pub use profile::is_first_profile;

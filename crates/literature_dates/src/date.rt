@@ -12,8 +12,8 @@ ghost use Rattle.text_reader.specs.Views.{left};
 ghost use Rattle.literature_dates.specs.declared.date.DateError.TheVariants.{UnknownFormat};
 ghost use Rattle.literature_dates.specs.declared.date.Date.{Date};
 
-use text_reader::{Reader, Unreadable};
 use std::fmt;
+use text_reader::{Reader, Unreadable};
 use thiserror::Error;
 
 /// A year, or a month or a day of it. Months and days count from zero.

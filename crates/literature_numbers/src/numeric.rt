@@ -13,9 +13,9 @@ ghost use Rattle.literature_numbers.specs.Views.{value, numeral, characters, Mea
 ghost use Rattle.literature_numbers.specs.declared.numeric.NumericError.TheVariants.{Memory, Malformed};
 
 use crate::separator::{NumericDelimiter, next_number};
-use text_reader::{Class, Reader, Unreadable, split_first};
 use std::alloc::{AllocError, AllocFailed, Global};
 use std::fmt;
+use text_reader::{Class, Reader, Unreadable, split_first};
 use thiserror::Error;
 
 /// One number, or several, each with the delimiter that follows it.

@@ -11,9 +11,9 @@ ghost use Rattle.literature_numbers.specs.declared.page_ranges.PageRangesError.T
 
 use crate::numeric::{Numeric, NumericError, read_numbers};
 use crate::separator::NumericDelimiter;
-use text_reader::{Reader, Unreadable};
 use std::alloc::{AllocError, AllocFailed, Global};
 use std::fmt;
+use text_reader::{Reader, Unreadable};
 use thiserror::Error;
 
 /// A part of page ranges.

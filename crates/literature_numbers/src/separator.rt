@@ -9,8 +9,8 @@ ghost use Rattle.literature_numbers.specs.Numbers.{delimiter_at, separator_at};
 ghost use Rattle.literature_numbers.specs.Numerics.{next_number_at};
 ghost use Rattle.literature_numbers.specs.NumericText.{delimiter_text};
 
-use text_reader::{Class, Reader, Unreadable, split_first, split_run};
 use std::fmt;
+use text_reader::{Class, Reader, Unreadable, split_first, split_run};
 
 /// What stands between two numbers.
 #[derive(Clone, Copy, Debug, PartialEq, Eq)]

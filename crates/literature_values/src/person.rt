@@ -9,9 +9,9 @@ ghost use Rattle.literature_values.specs.Initials.{next_run_at, cluster, style, 
 ghost use Rattle.literature_values.specs.PersonViews.{person, run, initials_style, borrowed, given};
 ghost use Rattle.text_reader.specs.Views.{left};
 
-use text_reader::{Class, Reader, split_first};
 use std::alloc::AllocError;
 use std::fmt;
+use text_reader::{Class, Reader, split_first};
 use unicode_segmentation::UnicodeSegmentation;
 
 /// A person by name.

@@ -1,0 +1,6 @@
+pub mod Bounds
+pub mod Padded
+pub mod Months
+pub mod DatesAgain
+pub mod Existing
+pub mod PartsExist

@@ -1,0 +1,17 @@
+use Rattle.std.proofs.Common.{rules, refl, w32, FitsSigned, true, List, ℕ, ◌++◌, sym, ◌∙◌}
+use Rattle.std.proofs.lemmas.Int.{to_z-of_z}
+use Rattle.std.proofs.Output.{has_written_of_eq, has_written_append}
+use Rattle.laws.specs.Text.{text}
+use Rattle.laws.proofs.Text.{text-append}
+use Rattle.biblatex_dates.specs.Written.{year_text, month_text}
+use Rattle.biblatex_dates.proofs.written.DatetimeDisplay.fmt.Goals as goal
+
+pub returns-clause-writes : goal.returns-clause-writes
+returns-clause-writes g c = λ plain ok.
+    let d = c.args.self.now in
+    let month : List ℕ = month_text d.month d.day d.time in
+    let f : FitsSigned w32 c.args.self.now.year = search rules in
+    let a = c.in_ok-write_year.ensures plain (refl {a = true}) in
+    has_written_of_eq _ _ _ _ _
+    ((λ i. text (year_text (to_z-of_z w32 d.year f i)) ++ text month) ∙ sym (text-append (year_text d.year) month))
+    (has_written_append _ _ _ _ _ _ a (c.write_month.ensures a.plain ok))

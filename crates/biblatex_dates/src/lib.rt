@@ -1,0 +1,17 @@
+//! Dates of bibliographic entries: read from one text or from year, month and day, and written.
+#![tactic(auto)]
+
+mod calendar;
+mod date;
+mod datetime;
+mod error;
+mod parts;
+mod shape;
+mod side;
+#[cfg(test)]
+mod tests;
+mod written;
+
+pub use date::{Date, DateValue};
+pub use datetime::{Datetime, Time, TimeOffset};
+pub use error::TypeErrorKind;

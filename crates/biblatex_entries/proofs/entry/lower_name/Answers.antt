@@ -1,0 +1,7 @@
+use Rattle.std.proofs.Common.{◌≡◌, List, ℕ, IfOk, map, string_bytes, sym, subst}
+use Rattle.std.specs.Char.{to_ascii_lowercase}
+use Rattle.std.proofs.lemmas.Str.{encodes-chars}
+use Rattle.biblatex_entries.proofs.entry.lower_name.Goals as goal
+
+pub returns : goal.returns
+returns c = subst (λ (bs : List ℕ). IfOk c.to_ascii_lowercase.result (λ s. string_bytes s ≡ map to_ascii_lowercase bs)) (sym (encodes-chars c.args.name.now c.utf8.name)) c.to_ascii_lowercase.ensures.ok

@@ -1,0 +1,45 @@
+-- Entries as callers see them, and the names in their fields.
+use Rattle.std.specs.Prelude.{ℕ, List, [], ◌∷◌, ◌++◌, map, Option, Some, None, string_bytes, codes}
+use Rattle.std.specs.List.{flat_map}
+use Rattle.laws.specs.Text.{text}
+use Rattle.biblatex_content.specs.Styled.{Member, Letter, Math}
+use Rattle.biblatex_fields.specs.Fields.{Named, value_named}
+use Rattle.biblatex_entries.specs.TypeNames.{TypeName, type_name}
+use Rattle.biblatex_entries.specs.Names.{trimmed, listed}
+use Rattle.biblatex_entries.specs.declared.entry.Entry.{Entry}
+
+-- An entry without where it lies in memory: its key as bytes, its type, and its fields with their styled texts.
+pub record Source : Type 0 where
+  pub key : List ℕ
+  pub entry_type : TypeName
+  pub fields : List Named
+
+abbrev pub source : Entry → Source
+source e = record { key = string_bytes e.key; entry_type = type_name e.entry_type; fields = e.fields }
+
+abbrev pub sources : List Entry → List Source
+sources es = map source es
+
+-- the characters of a styled text, of math those between the dollar signs
+abbrev pub member_text : Member → List ℕ
+member_text (Letter kind c) = c ∷ []
+member_text (Math cs) = cs
+
+abbrev pub plain : List Member → List ℕ
+plain ms = flat_map member_text ms
+
+-- the text of a field, as bytes; none where there is no such field
+abbrev pub text_in : Option (List Member) → List ℕ
+text_in None = []
+text_in (Some ms) = text (plain ms)
+
+abbrev pub field_text : List ℕ → List Named → List ℕ
+field_text name fs = text_in (value_named name fs)
+
+-- the names of the entries that an entry refers to: the one of `crossref`, then those of `xdata`
+abbrev pub parents_of : List Named → List (List ℕ)
+parents_of fs = trimmed (field_text (codes "crossref") fs) ++ listed (field_text (codes "xdata") fs)
+
+-- the names of an entry: its key, then those of `ids`
+abbrev pub names_of : Source → List (List ℕ)
+names_of e = e.key ∷ listed (field_text (codes "ids") e.fields)

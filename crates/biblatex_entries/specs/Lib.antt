@@ -1,0 +1,4 @@
+pub mod TypeNames
+pub mod Roles
+pub mod Names
+pub mod Entries

@@ -1,0 +1,119 @@
+//! Entries.
+
+ghost use Rattle.std.specs.Prelude.{◌≡◌, ◌++◌, [], map, IfOk, OnOk, OnErr, string_bytes, codes};
+ghost use Rattle.std.specs.Option.{option_map};
+ghost use Rattle.std.specs.Str.{chars};
+ghost use Rattle.laws.specs.Text.{text as text_of, lowered};
+ghost use Rattle.biblatex_content.specs.Views.{styled};
+ghost use Rattle.biblatex_fields.specs.Fields.{value_named, with_field, without_field};
+ghost use Rattle.biblatex_entries.specs.TypeNames.{type_name};
+ghost use Rattle.biblatex_entries.specs.Names.{trimmed, listed};
+ghost use Rattle.biblatex_entries.specs.Entries.{source, plain, field_text, parents_of, names_of};
+
+use crate::entry_type::EntryType;
+use crate::names::{name_alone, names_listed};
+use biblatex_content::{Chunk, Chunks, ChunksExt, Spanned};
+use biblatex_fields::Fields;
+use std::alloc::{AllocError, Global};
+
+/// An entry: its key, its type, and its fields by their names in lower case.
+#[derive(Drop)]
+pub struct Entry {
+    pub key: String,
+    pub entry_type: EntryType,
+    pub fields: Fields,
+}
+
+impl Entry {
+    /// An entry without fields.
+    pub fn new(alloc: Global, key: String, entry_type: EntryType) -> Entry
+        ensures { source result ≡ record { key = string_bytes key; entry_type = type_name entry_type; fields = [] } }
+    {
+        Entry {
+            key,
+            entry_type,
+            fields: Fields::new(alloc),
+        }
+    }
+
+    /// The value of the field of that name in lower case.
+    pub fn get(&self, name: &str) -> Option<&Chunks>
+        ensures { option_map (λ v. styled v.now.items) result ≡ value_named name.now self.now.fields }
+    {
+        self.fields.get(name)
+    }
+
+    /// Gives the field of that name, in lower ASCII case, the value.
+    pub fn set(&mut self, alloc: Global, name: &str, value: Chunks) -> Result<(), AllocError>
+        ensures ok { OnOk result (source self.new ≡ record { key = string_bytes self.old.key; entry_type = type_name self.old.entry_type; fields = with_field self.old.fields (lowered (chars name.now)) (styled value.items) }) }
+        ensures err { OnErr result (source self.new ≡ source self.old) }
+    {
+        let name = lower_name(alloc, name)?;
+        self.fields.insert(name, value)
+    }
+
+    /// Takes the field of that name in lower case out.
+    pub fn remove(&mut self, name: &str) -> Option<Chunks>
+        ensures value { option_map (λ v. styled v.items) result ≡ value_named name.now self.old.fields }
+        ensures rest { source self.new ≡ record { key = string_bytes self.old.key; entry_type = type_name self.old.entry_type; fields = without_field name.now self.old.fields } }
+    {
+        self.fields.remove(name)
+    }
+
+    /// The names of the entries that it refers to: the one in `crossref`, then those in `xdata`, parted by commas; without
+    /// white space at their ends, and without empty ones.
+    pub fn parents(&self, alloc: Global) -> Result<Vec<String>, AllocError>
+        ensures { IfOk result (λ v. map string_bytes v.items ≡ parents_of self.now.fields) }
+    {
+        let mut names = name_alone(alloc, field_text(alloc, &self.fields, "crossref")?.as_str())?;
+        let more = names_listed(alloc, field_text(alloc, &self.fields, "xdata")?.as_str())?;
+        append(&mut names, more)?;
+        Ok(names)
+    }
+
+    /// Its names: the key, then those in `ids`, parted by commas; without white space at their ends, and without empty ones.
+    pub fn names(&self, alloc: Global) -> Result<Vec<String>, AllocError>
+        ensures { IfOk result (λ v. map string_bytes v.items ≡ names_of (source self.now)) }
+    {
+        let mut names = Vec::new(alloc);
+        names.push(self.key.clone()?)?;
+        let more = names_listed(alloc, field_text(alloc, &self.fields, "ids")?.as_str())?;
+        append(&mut names, more)?;
+        Ok(names)
+    }
+}
+
+/// The name in lower ASCII case.
+fn lower_name(alloc: Global, name: &str) -> Result<String, AllocError>
+    ensures { IfOk result (λ s. string_bytes s ≡ lowered (chars name.now)) }
+{
+    name.to_ascii_lowercase(alloc)
+}
+
+/// The text of a value.
+pub fn value_text(alloc: Global, value: &[Spanned<Chunk>]) -> Result<String, AllocError>
+    ensures { IfOk result (λ s. string_bytes s ≡ text_of (plain (styled value.now))) }
+{
+    value.format_verbatim(alloc)
+}
+
+/// The text of the field of that name; empty where there is none.
+pub fn field_text(alloc: Global, fields: &Fields, name: &str) -> Result<String, AllocError>
+    ensures { IfOk result (λ s. string_bytes s ≡ field_text name.now fields.now) }
+{
+    match fields.get(name) {
+        Some(value) => value_text(alloc, value.as_slice()),
+        None => Ok(String::new(alloc)),
+    }
+}
+
+/// Puts the names of a list behind those of another.
+fn append(names: &mut Vec<String>, more: Vec<String>) -> Result<(), AllocError>
+    ensures { OnOk result (map string_bytes names.new.items ≡ map string_bytes names.old.items ++ map string_bytes more.items) }
+{
+    names.reserve_exact(more.len())?;
+    for name in more {
+        names.push(name)?;
+    }
+    Ok(())
+}

@@ -1,0 +1,104 @@
+//! The types of entries.
+
+ghost use Rattle.std.specs.Prelude.{◌≡◌, IfOk};
+ghost use Rattle.std.specs.Str.{chars};
+ghost use Rattle.laws.specs.Text.{lowered};
+ghost use Rattle.std.specs.Prelude.{false, MatchOption};
+ghost use Rattle.biblatex_entries.specs.TypeNames.{type_of, type_name, read_name};
+
+use std::alloc::{AllocError, Global};
+
+/// The type of an entry, as the kind of its item says.
+#[derive(Debug, PartialEq, Eq, Drop)]
+pub enum EntryType {
+    Article,
+    Book,
+    Booklet,
+    InBook,
+    InCollection,
+    InProceedings,
+    Manual,
+    MastersThesis,
+    PhdThesis,
+    Misc,
+    Proceedings,
+    TechReport,
+    Unpublished,
+    MvBook,
+    BookInBook,
+    SuppBook,
+    Periodical,
+    SuppPeriodical,
+    Collection,
+    MvCollection,
+    SuppCollection,
+    Reference,
+    MvReference,
+    InReference,
+    MvProceedings,
+    Report,
+    Patent,
+    Thesis,
+    Online,
+    Software,
+    Dataset,
+    Set,
+    XData,
+    /// A type of another name, which is kept in lower ASCII case.
+    Unknown(String),
+}
+
+impl EntryType {
+    /// The type of that name in any ASCII case. `conference` is `InProceedings`, `electronic` and `www` are `Online`.
+    pub fn new(alloc: Global, name: &str) -> Result<EntryType, AllocError>
+        ensures { IfOk result (λ t. type_name t ≡ type_of (lowered (chars name.now))) }
+    {
+        let name = name.to_ascii_lowercase(alloc)?;
+        match known(name.as_str()) {
+            Some(entry_type) => Ok(entry_type),
+            None => Ok(EntryType::Unknown(name)),
+        }
+    }
+}
+
+/// The type of a known name in lower case.
+fn known(name: &str) -> Option<EntryType>
+    ensures { MatchOption result (type_of name.now ≡ record { name = name.now; is_known = false }) (λ t. type_name t ≡ type_of name.now) }
+{
+    match name {
+        "article" => Some(EntryType::Article),
+        "book" => Some(EntryType::Book),
+        "booklet" => Some(EntryType::Booklet),
+        "inbook" => Some(EntryType::InBook),
+        "incollection" => Some(EntryType::InCollection),
+        "inproceedings" | "conference" => Some(EntryType::InProceedings),
+        "manual" => Some(EntryType::Manual),
+        "mastersthesis" => Some(EntryType::MastersThesis),
+        "phdthesis" => Some(EntryType::PhdThesis),
+        "misc" => Some(EntryType::Misc),
+        "proceedings" => Some(EntryType::Proceedings),
+        "techreport" => Some(EntryType::TechReport),
+        "unpublished" => Some(EntryType::Unpublished),
+        "mvbook" => Some(EntryType::MvBook),
+        "bookinbook" => Some(EntryType::BookInBook),
+        "suppbook" => Some(EntryType::SuppBook),
+        "periodical" => Some(EntryType::Periodical),
+        "suppperiodical" => Some(EntryType::SuppPeriodical),
+        "collection" => Some(EntryType::Collection),
+        "mvcollection" => Some(EntryType::MvCollection),
+        "suppcollection" => Some(EntryType::SuppCollection),
+        "reference" => Some(EntryType::Reference),
+        "mvreference" => Some(EntryType::MvReference),
+        "inreference" => Some(EntryType::InReference),
+        "mvproceedings" => Some(EntryType::MvProceedings),
+        "report" => Some(EntryType::Report),
+        "patent" => Some(EntryType::Patent),
+        "thesis" => Some(EntryType::Thesis),
+        "online" | "electronic" | "www" => Some(EntryType::Online),
+        "software" => Some(EntryType::Software),
+        "dataset" => Some(EntryType::Dataset),
+        "set" => Some(EntryType::Set),
+        "xdata" => Some(EntryType::XData),
+        _ => None,
+    }
+}

@@ -1,0 +1,14 @@
+//! Entries of bibliographies: their types, their fields and their names.
+#![tactic(auto)]
+
+mod entry;
+mod entry_type;
+mod names;
+mod role;
+#[cfg(test)]
+mod tests;
+
+pub use entry::{Entry, field_text, value_text};
+pub use entry_type::EntryType;
+pub use names::{name_alone, names_listed};
+pub use role::Role;

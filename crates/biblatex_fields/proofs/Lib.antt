@@ -1,0 +1,10 @@
+pub mod Graph
+pub mod Depth
+pub mod Indexes
+pub mod Stack
+pub mod Effort
+pub mod Frames
+pub mod Refused
+pub mod Entries
+pub mod Flags
+pub mod LookUps

@@ -1,0 +1,5 @@
+use Rattle.biblatex_fields.proofs.Entries.{ordered_there}
+use Rattle.biblatex_fields.proofs.fields.Fields.new.Goals as goal
+
+pub invariant_of-result : goal.invariant_of-result
+invariant_of-result c = ordered_there c.new.result.entries c.new.ensures.ordered

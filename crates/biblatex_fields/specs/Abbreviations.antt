@@ -1,0 +1,89 @@
+-- The abbreviations of a text: what their names mean, which of them are circular, and what a piece of a value stands for.
+-- Names are compared in lower case, where only the ASCII letters have one.
+use Rattle.std.specs.Prelude.{◌≡◌, ◌↔◌, ℕ, suc, ◌<◌, Bool, false, IsTrue, List, [], ◌∷◌, map, length, get_or, slice_get, if◌then◌else◌, Option, Some, None, Result, Ok, Err}
+use Rattle.std.specs.Str.{bytes_eq, chars}
+use Rattle.std.specs.List.{flat_map}
+use Rattle.laws.specs.Text.{lowered}
+use Rattle.biblatex_text.specs.Raw.{At, Piece, normal, abbreviation, Field}
+use Rattle.reference_graph.specs.References.{IsCircular}
+use Rattle.reference_graph.specs.Order.{is_marked}
+use Rattle.biblatex_fields.specs.Month.{month}
+
+-- Why a field is refused: a name that means nothing, a circular name, each as it is written at the piece that is opened, or
+-- a malformed command in the piece at these bytes.
+pub data Refusal : Type 0 where
+  unknown : At (List ℕ) → Refusal
+  circular : At (List ℕ) → Refusal
+  malformed : ℕ → ℕ → Refusal
+
+-- a place behind another, or the first one
+abbrev pub later : Option ℕ → Bool → Option ℕ
+later (Some place) is_first = Some (suc place)
+later None is_first = if is_first then Some 0 else None
+
+-- the place of the last definition of a name in lower case, if it has one
+abbrev pub place_of : List ℕ → List Field → Option ℕ
+place_of name [] = None
+place_of name (d ∷ ds) = later (place_of name ds) (bytes_eq name (lowered d.name.v))
+
+-- the pieces of the definition at a place
+abbrev pub pieces_in : Option Field → List (At Piece)
+pieces_in None = []
+pieces_in (Some d) = d.value.v
+
+abbrev pub pieces_at : List Field → ℕ → List (At Piece)
+pieces_at ds place = pieces_in (slice_get ds place)
+
+-- the definition that a piece names, if there is one
+abbrev pub places : Option ℕ → List ℕ
+places None = []
+places (Some place) = place ∷ []
+
+abbrev pub named : List Field → Piece → List ℕ
+named ds (normal cs) = []
+named ds (abbreviation name) = places (place_of (lowered name) ds)
+
+-- of each definition, the definitions that its pieces name
+abbrev pub references_of : List Field → List (At Piece) → List ℕ
+references_of ds ps = flat_map (λ p. named ds p.v) ps
+
+abbrev pub references : List Field → List (List ℕ)
+references ds = map (λ d. references_of ds d.value.v) ds
+
+-- flags that say of each definition whether it reaches itself through the names in its pieces
+pub record AreFlags (flags : List Bool) (ds : List Field) : Type 0 where
+  pub long : length flags ≡ length ds
+  pub exact : (place : ℕ) → place < length ds → IsTrue (get_or flags place false) ↔ IsCircular (references ds) place
+
+-- so many flags, which are the first of the marks
+pub record Copied (flags marks : List Bool) (count : ℕ) : Type 0 where
+  pub long : length flags ≡ count
+  pub same : (i : ℕ) → i < count → get_or flags i false ≡ is_marked marks i
+
+-- the abbreviations of a text in order, and of each whether it is circular
+pub record Glossary : Type 0 where
+  pub definitions : List Field
+  pub flags : List Bool
+
+-- What a piece stands for: a text, or the pieces of a definition.
+pub data Sense : Type 0 where
+  spelled : List ℕ → Sense
+  defined : List (At Piece) → Sense
+
+-- a name without a definition is a month, or means nothing
+abbrev pub month_or_unknown : At (List ℕ) → Option (List ℕ) → Result Sense Refusal
+month_or_unknown name None = Err (unknown name)
+month_or_unknown name (Some text) = Ok (spelled (chars text))
+
+-- a name by the place of its last definition
+abbrev pub sense_of : Glossary → At (List ℕ) → Option ℕ → Result Sense Refusal
+sense_of g name None = month_or_unknown name (month (lowered name.v))
+sense_of g name (Some place) = if get_or g.flags place false then Err (circular name) else Ok (defined (pieces_at g.definitions place))
+
+abbrev pub sense_in : Glossary → ℕ → ℕ → Piece → Result Sense Refusal
+sense_in g start end (normal cs) = Ok (spelled cs)
+sense_in g start end (abbreviation name) = sense_of g (record { v = name; start = start; end = end }) (place_of (lowered name) g.definitions)
+
+-- what a piece stands for
+abbrev pub sense : Glossary → At Piece → Result Sense Refusal
+sense g p = sense_in g p.start p.end p.v

@@ -1,0 +1,54 @@
+-- The fields of an entry: names in lower case, as bytes, in their order, each with its value.
+use Rattle.std.specs.Global.{Global}
+use Rattle.std.specs.Prelude.{ℕ, List, [], ◌∷◌, map, Option, Result, Ok, String, string_bytes, Vec}
+use Rattle.std.specs.Str.{bytes_eq}
+use Rattle.std.specs.List.Sorted.{IsStrictlySortedBy}
+use Rattle.std.specs.Map.{keys_of, lookup, remove_entry}
+use Rattle.std.specs.Ordering.{nat_cmp}
+use Rattle.std.specs.Cmp.Lexicographic.{slice_cmp}
+use Rattle.std.specs.BTreeMap.{insert_entry}
+use Rattle.laws.specs.Results.{◌>>=◌}
+use Rattle.laws.specs.Text.{lowered}
+use Rattle.biblatex_text.specs.Raw.{Field}
+use Rattle.biblatex_text.specs.declared.spanned.Spanned.{Spanned}
+use Rattle.biblatex_content.specs.Styled.{Member}
+use Rattle.biblatex_content.specs.Views.{styled}
+use Rattle.biblatex_content.specs.declared.chunk.Chunk.{Chunk}
+use Rattle.biblatex_fields.specs.Abbreviations.{Refusal, Glossary}
+use Rattle.biblatex_fields.specs.Value.{value_of}
+
+-- a name and the styled text of its value
+abbrev pub Named : Type 0
+Named = List ℕ × List Member
+
+-- fields with one more, which takes the place of an equal name, or its own place in the order of names
+abbrev pub with_field : List Named → List ℕ → List Member → List Named
+with_field fs name value = insert_entry (slice_cmp nat_cmp) fs name value
+
+-- the value of a name
+abbrev pub value_named : List ℕ → List Named → Option (List Member)
+value_named name fs = lookup (bytes_eq name) fs
+
+-- fields without a name
+abbrev pub without_field : List ℕ → List Named → List Named
+without_field name fs = remove_entry (bytes_eq name) fs
+
+-- each name is less than those behind it
+abbrev pub AreInOrder : List Named → Type 0
+AreInOrder fs = IsStrictlySortedBy (slice_cmp nat_cmp) (keys_of fs)
+
+-- written fields behind those that were read: each is read, and the last of equal names stays
+abbrev pub fields_behind : Glossary → List Named → List Field → Result (List Named) Refusal
+fields_behind g done [] = Ok done
+fields_behind g done (f ∷ fs) = value_of g f >>= λ value. fields_behind g (with_field done (lowered f.name.v) value) fs
+
+-- the fields of an entry, or the first fault in the order of its written fields and their pieces
+abbrev pub fields_of : Glossary → List Field → Result (List Named) Refusal
+fields_of g fs = fields_behind g [] fs
+
+-- the fields of a map, as names and styled texts
+abbrev pub named_in : String Global × Vec (Spanned Chunk) Global → Named
+named_in e = (string_bytes e.0, styled e.1.items)
+
+abbrev pub named_of : List (String Global × Vec (Spanned Chunk) Global) → List Named
+named_of es = map named_in es

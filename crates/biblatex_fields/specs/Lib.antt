@@ -1,0 +1,5 @@
+pub mod Month
+pub mod Abbreviations
+pub mod Value
+pub mod Fields
+pub mod Views

@@ -1,0 +1,60 @@
+-- The value of a field: what its pieces give, one behind the other, with abbreviations opened, or the first fault.
+use Rattle.std.specs.Prelude.{◌≡◌, ℕ, zero, suc, Bool, true, false, List, [], ◌∷◌, ◌++◌, length, Result, Ok, Err}
+use Rattle.laws.specs.Results.{◌>>=◌}
+use Rattle.laws.specs.Text.{lowered}
+use Rattle.biblatex_text.specs.Raw.{At, Piece, Field}
+use Rattle.biblatex_content.specs.declared.chunk.Kind.TheVariants.{Verbatim}
+use Rattle.biblatex_content.specs.Styled.{Member, letters}
+use Rattle.biblatex_content.specs.Verbatim.{verbatim_text, is_verbatim_name}
+use Rattle.biblatex_content.specs.Ordinary.{ordinary}
+use Rattle.biblatex_content.specs.Tidy.{tidied}
+use Rattle.biblatex_content.specs.Views.{behind}
+use Rattle.biblatex_fields.specs.Abbreviations.{Refusal, malformed, Glossary, Sense, spelled, defined, sense}
+
+-- What is read behind what was read before.
+abbrev pub Reading : Type 0
+Reading = List Member → Result (List Member) Refusal
+
+-- what was read, or a malformed command, by the piece that it stands in
+abbrev pub placed : {F : Type 0} → ℕ → ℕ → Result (List Member) F → Result (List Member) Refusal
+placed start end (Ok ms) = Ok ms
+placed start end (Err f) = Err (malformed start end)
+
+-- a text, in a verbatim field or an ordinary one
+abbrev pub text_read : Bool → ℕ → ℕ → List ℕ → Reading
+text_read true start end cs done = Ok (done ++ letters Verbatim (verbatim_text cs))
+text_read false start end cs done = placed start end (behind done (ordinary cs))
+
+-- pieces in order, up to the first fault
+abbrev pub in_order : (At Piece → Reading) → List (At Piece) → Reading
+in_order read [] done = Ok done
+in_order read (p ∷ ps) done = read p done >>= λ ms. in_order read ps ms
+
+-- a piece by what it stands for: its text, or the pieces of the definition as `inner` reads them
+abbrev pub by_sense : (At Piece → Reading) → Bool → ℕ → ℕ → Sense → Reading
+by_sense inner is_verbatim start end (spelled cs) done = text_read is_verbatim start end cs done
+by_sense inner is_verbatim start end (defined ps) done = in_order inner ps done
+
+-- Reading a piece, where `inner` reads the pieces that it stands for.
+abbrev pub reading : Glossary → Bool → (At Piece → Reading) → At Piece → Reading
+reading g is_verbatim inner p done = sense g p >>= λ s. by_sense inner is_verbatim p.start p.end s done
+
+-- a rule for pieces, taken so many definitions deep
+abbrev pub deep : {A : Type 0} → ((At Piece → A) → At Piece → A) → A → ℕ → At Piece → A
+deep rule bottom zero p = bottom
+deep rule bottom (suc n) p = rule (λ q. deep rule bottom n q) p
+
+-- A piece as deep as definitions go. On the way inwards no definition comes twice, so one level more than there are
+-- definitions is deep enough.
+unfoldable pub read : Glossary → Bool → At Piece → Reading
+read g is_verbatim p done = deep (reading g is_verbatim) (λ ms. Ok ms) (suc (length g.definitions)) p done
+
+-- each piece is read by the rule, the pieces that it stands for alike
+abbrev pub ReadsByTheRule : Glossary → Type 0
+ReadsByTheRule g = (is_verbatim : Bool) (p : At Piece) → read g is_verbatim p ≡ reading g is_verbatim (read g is_verbatim) p
+
+-- the value of a field, in the kind of the field
+unfoldable pub value_of : Glossary → Field → Result (List Member) Refusal
+value_of g f = do
+  ms ← in_order (read g (is_verbatim_name (lowered f.name.v))) f.value.v []
+  Ok (tidied ms)

@@ -1,0 +1,112 @@
+//! The fields of an entry.
+
+ghost use Rattle.std.specs.Prelude.{◌≡◌, ◌==◌, ℕ, [], List, if◌then◌else◌, Some, None, length, OnOk, OnErr, string_bytes};
+ghost use Rattle.std.specs.Option.{option_map};
+ghost use Rattle.std.specs.Str.{bytes_eq};
+ghost use Rattle.biblatex_text.specs.Views.{fields};
+ghost use Rattle.biblatex_content.specs.Views.{styled};
+ghost use Rattle.biblatex_fields.specs.Fields.{Named, named_of, value_named, with_field, without_field, AreInOrder, fields_of};
+ghost use Rattle.biblatex_fields.specs.Views.{Gives};
+
+use crate::abbreviations::{Abbreviations, lowered};
+use crate::error::FieldError;
+use biblatex_content::Chunks;
+use biblatex_text::RawEntry;
+use std::alloc::{AllocError, Global};
+use std::collections::BTreeMap;
+use std::collections::btree_map::Iter;
+use std::marker::Model;
+
+/// The fields of an entry by their names, in the order of the names' bytes.
+#[derive(Drop)]
+pub struct Fields {
+    values: BTreeMap<String, Chunks>,
+}
+
+impl Model for Fields {
+    ghost Value = { List Named };
+
+    ghost view = { λ f. named_of f.values.entries };
+
+    ghost invariant = { λ f. AreInOrder (named_of f.values.entries) };
+}
+
+impl Fields {
+    /// No field.
+    pub fn new(alloc: Global) -> Fields
+        ensures { result ≡ [] }
+    {
+        Fields {
+            values: BTreeMap::new(alloc),
+        }
+    }
+
+    /// How many fields there are.
+    pub fn len(&self) -> usize
+        ensures { result ≡ length self.now }
+    {
+        self.values.len()
+    }
+
+    /// Whether there is none.
+    pub fn is_empty(&self) -> bool
+        ensures { result ≡ (length self.now == 0) }
+    {
+        self.values.len() == 0
+    }
+
+    /// The value of the field of that name.
+    pub fn get(&self, name: &str) -> Option<&Chunks>
+        ensures { option_map (λ v. styled v.now.items) result ≡ value_named name.now self.now }
+    {
+        self.values.get(name)
+    }
+
+    /// Puts a field in, in place of one of equal name. Fields that are written in a text have names in lower ASCII case.
+    pub fn insert(&mut self, name: String, value: Chunks) -> Result<(), AllocError>
+        ensures ok { OnOk result (self.new ≡ with_field self.old (string_bytes name) (styled value.items)) }
+        ensures found { OnOk result ((q : List ℕ) → value_named q self.new ≡ (if bytes_eq q (string_bytes name) then Some (styled value.items) else value_named q self.old)) }
+        ensures err { OnErr result (self.new ≡ self.old) }
+    {
+        self.values.insert(name, value)?;
+        Ok(())
+    }
+
+    /// Takes the field of that name out.
+    pub fn remove(&mut self, name: &str) -> Option<Chunks>
+        ensures value { option_map (λ v. styled v.items) result ≡ value_named name.now self.old }
+        ensures rest { self.new ≡ without_field name.now self.old }
+        ensures found { (q : List ℕ) → value_named q self.new ≡ (if bytes_eq q name.now then None else value_named q self.old) }
+    {
+        self.values.remove(name)
+    }
+
+    /// The fields in the order of their names.
+    pub fn iter(&self) -> Iter<'_, String, Chunks>
+        ensures rest { named_of result ≡ self.now }
+        ensures ordered { AreInOrder self.now }
+    {
+        self.values.iter()
+    }
+}
+
+/// The fields of an entry: all that are written are read in order, and the last of equal names stays. Names are compared,
+/// and kept, in lower ASCII case.
+///
+/// # Errors
+///
+/// The first fault in the order of fields and their pieces.
+pub fn read_fields<'s>(
+    alloc: Global,
+    abbreviations: &Abbreviations<'_, 's>,
+    entry: &RawEntry<'s>,
+) -> Result<Fields, FieldError<'s>>
+    ensures { Gives (λ fs. fs) result (fields_of abbreviations.now (fields entry.now.fields)) }
+{
+    let mut read = Fields::new(alloc);
+    for pair in entry.fields.iter() {
+        let value = abbreviations.read(alloc, pair)?;
+        read.insert(lowered(alloc, pair.key.v)?, value)?;
+    }
+    Ok(read)
+}

@@ -1,0 +1,16 @@
+//! The fields of BibLaTeX entries: abbreviations are opened, and raw values become chunks of text.
+#![tactic(auto)]
+
+mod abbreviations;
+mod error;
+mod fields;
+mod month;
+mod references;
+#[cfg(test)]
+mod tests;
+mod value;
+
+pub use abbreviations::Abbreviations;
+pub use biblatex_content::{Chunk, Chunks, ChunksExt, Span, Spanned};
+pub use error::{FieldError, FieldFault};
+pub use fields::{Fields, read_fields};

@@ -1,0 +1,34 @@
+use Rattle.std.proofs.Common.{ℕ, Vec, Global, sym, ◌∙◌, arith}
+use Rattle.std.proofs.lemmas.List.{length-map}
+use Rattle.reference_graph.specs.References.{lists}
+use Rattle.reference_graph.proofs.Uses.{none_circular}
+use Rattle.biblatex_entries.specs.Entries.{source, sources}
+use Rattle.biblatex_entries.specs.declared.entry.Entry.{Entry}
+use Rattle.biblatex_inheritance.specs.Solution.{seen}
+use Rattle.biblatex_inheritance.proofs.Solving.{circular_below, not_marked, agree, fault_there}
+use Rattle.biblatex_inheritance.proofs.solution.resolve.Goals as goal
+
+pub returns-in-Some-clause-refused : goal.returns-in-Some-clause-refused
+returns-in-Some-clause-refused c =
+    let R = lists c.args.references.now in
+    let long = length-map c.args.references.now (λ (v : Vec ℕ Global). v.items) in
+    let many = length-map c.args.entries.items (λ (e : Entry). source e) in
+    let is = (c.in_ok-order.ensures.circular c.in-Some.number).0 c.in-Some.ensures.0 in
+    let low = circular_below R c.in-Some.number is in
+    (omega (arith, long, many, low, c.requires), is, λ k less circular. not_marked R c.in_ok-order.order.circular k c.in_ok-order.ensures.circular (c.in-Some.ensures.1 k less) circular)
+
+pub resolve_all-requires-clause-none : goal.resolve_all-requires-clause-none
+resolve_all-requires-clause-none c = none_circular (lists c.args.references.now) c.in_ok-order.order.circular c.in_ok-order.ensures.circular c.in_default.ensures
+
+pub returns-in-Some-first_fault-clause-refused : goal.returns-in-Some-first_fault-clause-refused
+returns-in-Some-first_fault-clause-refused c = (
+  none_circular (lists c.args.references.now) c.in_ok-order.order.circular c.in_ok-order.ensures.circular c.in_default.ensures,
+  fault_there c.args.entries.items c.resolve_all.new.entries.items (lists c.args.references.now) c.in_ok-faults.faults.items c.deref.result.now c.in-Some-first_fault.number c.in-Some-first_fault.kind c.deref.ensures.value c.in_ok-faults.ensures c.in-Some-first_fault.ensures,
+)
+
+pub returns-clause-only : goal.returns-clause-only
+returns-clause-only c other solves i low =
+    let long = length-map c.args.references.now (λ (v : Vec ℕ Global). v.items) in
+    let many = length-map c.args.entries.items (λ (e : Entry). source e) in
+    agree (sources c.args.entries.items) (lists c.args.references.now) c.in_ok-order.order.order (seen c.resolve_all.new.entries.items) other c.in_ok-order.ensures.order
+    (none_circular (lists c.args.references.now) c.in_ok-order.order.circular c.in_ok-order.ensures.circular c.in_default.ensures) (long ∙ (c.requires ∙ sym many)) c.in_ok-faults.ensures.solved solves i low

@@ -1,0 +1,4 @@
+pub mod Table
+pub mod Resolved
+pub mod Views
+pub mod Solution

@@ -1,0 +1,77 @@
+-- Resolved entries as the one solution of an equation.
+use Rattle.std.specs.Prelude.{◌≡◌, ◌<◌, ℕ, List, length, slice_get, get_or, set, Option, Some, None, IfSome, string_bytes}
+use Rattle.reference_graph.specs.References.{references_of, IsCircular}
+use Rattle.biblatex_fields.specs.Fields.{value_named}
+use Rattle.biblatex_entries.specs.TypeNames.{type_name}
+use Rattle.biblatex_entries.specs.Entries.{Source, source, sources}
+use Rattle.biblatex_entries.specs.declared.entry.Entry.{Entry}
+use Rattle.biblatex_dates.specs.declared.error.TypeErrorKind.{TypeErrorKind}
+use Rattle.biblatex_inheritance.specs.declared.error.ResolveError.{ResolveError}
+use Rattle.biblatex_inheritance.specs.declared.error.ResolveError.TheVariants as errors
+use Rattle.biblatex_inheritance.specs.Resolved.{Table, Offer, resolved, date_fault, offers}
+use Rattle.biblatex_inheritance.specs.Views.{IsTable}
+
+-- the fields of each entry are what it resolves to, with its references as they are seen
+abbrev pub Solves : List Source → List (List ℕ) → (ℕ → Table) → Type 0
+Solves es references see = (i : ℕ) → IfSome (slice_get es i) (λ e. (name : List ℕ) → see i name ≡ resolved e (offers es see (references_of references i)) name)
+
+-- the entry is what another one resolves to
+abbrev pub IsResolved : Entry → Entry → List Offer → Type 0
+IsResolved e d os = (string_bytes d.key ≡ string_bytes e.key) × (type_name d.entry_type ≡ type_name e.entry_type) × IsTable d.fields (resolved (source e) os)
+
+-- one entry was resolved, and its fault is that of its references
+abbrev pub IsResolvedAt : List Entry → List Entry → ℕ → List Offer → Option TypeErrorKind → Type 0
+IsResolvedAt old new i os fault = (d : Entry) × (new ≡ set old i d) × IsResolved (get_or old i d) d os × (fault ≡ date_fault (source (get_or old i d)) os)
+
+-- the fields of each entry, as the entries stand
+abbrev pub value_in : Option Entry → Table
+value_in None name = None
+value_in (Some e) name = value_named name e.fields
+
+abbrev pub seen : List Entry → ℕ → Table
+seen es i = value_in (slice_get es i)
+
+-- a place keeps its entry's key and type
+abbrev pub IsKeptAt : Option Entry → Option Entry → Type 0
+IsKeptAt None None = Unit {0}
+IsKeptAt (Some e) (Some d) = (string_bytes d.key ≡ string_bytes e.key) × (type_name d.entry_type ≡ type_name e.entry_type)
+IsKeptAt None (Some d) = ⊥
+IsKeptAt (Some e) None = ⊥
+
+abbrev pub AreKept : List Entry → List Entry → Type 0
+AreKept old new = (i : ℕ) → IsKeptAt (slice_get old i) (slice_get new i)
+
+-- the fault of an entry: its first reference whose date cannot be read, where it needs a date
+abbrev pub fault_in : Option Source → List Offer → Option TypeErrorKind
+fault_in None os = None
+fault_in (Some e) os = date_fault e os
+
+abbrev pub fault_at : List Source → List (List ℕ) → (ℕ → Table) → ℕ → Option TypeErrorKind
+fault_at es references see i = fault_in (slice_get es i) (offers es see (references_of references i))
+
+-- all entries were resolved, and what their faults are
+pub record AreResolved (old new : List Entry) (references : List (List ℕ)) (faults : List (Option TypeErrorKind)) : Type 0 where
+  pub kept : AreKept old new
+  pub solved : Solves (sources old) references (seen new)
+  pub faulted : (i : ℕ) → i < length old → slice_get faults i ≡ Some (fault_at (sources old) references (seen new) i)
+  pub long : length faults ≡ length old
+
+-- the first fault of a list, and its place
+abbrev pub IsFirstFault : List (Option TypeErrorKind) → ℕ × TypeErrorKind → Type 0
+IsFirstFault faults p = (slice_get faults p.0 ≡ Some (Some p.1)) × ((k : ℕ) → k < p.0 → slice_get faults k ≡ Some None)
+
+-- no entry reaches itself
+abbrev pub NoneIsCircular : List (List ℕ) → Type 0
+NoneIsCircular references = (i : ℕ) → IsCircular references i → ⊥
+
+-- Why entries are not resolved: one of them is the first that reaches itself; or none does, and it is the first whose fault there
+-- is, with its references as the solution sees them.
+abbrev pub IsRefusedAs : List Source → List (List ℕ) → ResolveError → Type 0
+IsRefusedAs es references errors.Memory = Unit {0}
+IsRefusedAs es references (errors.ReferenceCycle n) = (n < length es) × IsCircular references n × ((k : ℕ) → k < n → IsCircular references k → ⊥)
+IsRefusedAs es references (errors.UnreadableDate n kind) =
+    NoneIsCircular references × ((see : ℕ → Table) × Solves es references see × (fault_at es references see n ≡ Some kind) × ((k : ℕ) → k < n → fault_at es references see k ≡ None))
+
+-- any other solution agrees
+abbrev pub IsOnly : List Source → List (List ℕ) → (ℕ → Table) → Type 0
+IsOnly es references see = (other : ℕ → Table) → Solves es references other → (i : ℕ) → i < length es → (name : List ℕ) → see i name ≡ other i name

@@ -1,0 +1,55 @@
+-- What the code holds and hands on.
+use Rattle.std.specs.Global.{Global}
+use Rattle.std.specs.Prelude.{◌≡◌, ℕ, List, [], ◌∷◌, slice_get, map, Option, Some, None, String, string_bytes, Vec}
+use Rattle.std.specs.List.{flat_map}
+use Rattle.std.specs.Borrow.{Bor}
+use Rattle.biblatex_text.specs.declared.spanned.Spanned.{Spanned}
+use Rattle.biblatex_content.specs.declared.chunk.Chunk.{Chunk}
+use Rattle.biblatex_content.specs.Views.{styled}
+use Rattle.biblatex_fields.specs.Fields.{Named, value_named}
+use Rattle.biblatex_entries.specs.TypeNames.{type_name}
+use Rattle.biblatex_entries.specs.Roles.{role_of}
+use Rattle.biblatex_entries.specs.declared.entry.Entry.{Entry}
+use Rattle.biblatex_inheritance.specs.Resolved.{Table, Offer, first, last_date, first_fault}
+use Rattle.biblatex_dates.specs.declared.date.Date.{Date}
+use Rattle.biblatex_inheritance.specs.declared.dated.Dated.{Dated}
+
+-- the value under each name
+abbrev pub table : List Named → Table
+table fs name = value_named name fs
+
+-- what an entry has to offer
+abbrev pub offer : Entry → Offer
+offer e = record { role = role_of (type_name e.entry_type); fields = table e.fields }
+
+-- borrowed texts
+abbrev pub texts : List (Bor (List ℕ)) → List (List ℕ)
+texts ts = map (λ t. t.now) ts
+
+-- what is lacking comes where it is offered
+abbrev pub HandsOn : List Named → List Named → Table → Type 0
+HandsOn old new offers = (name : List ℕ) → value_named name new ≡ first (value_named name old) (offers name)
+
+-- fields that are lent one by one
+abbrev pub lent_fields : List (Bor (String Global) × Bor (Vec (Spanned Chunk) Global)) → List Named
+lent_fields es = map (λ e. (string_bytes e.0.now, styled e.1.now.items)) es
+
+-- what references have to offer, as the entries stand
+abbrev pub offer_in : Option Entry → List Offer
+offer_in None = []
+offer_in (Some e) = offer e ∷ []
+
+abbrev pub offer_lent : Option (Bor Entry) → List Offer
+offer_lent None = []
+offer_lent (Some e) = offer e.now ∷ []
+
+abbrev pub offers_in : List Entry → List ℕ → List Offer
+offers_in es rs = flat_map (λ r. offer_in (slice_get es r)) rs
+
+-- what was read of references so far
+abbrev pub IsDated : Dated → Option Date → List Offer → Type 0
+IsDated d so_far rs = (d.date ≡ last_date so_far rs) × (d.fault ≡ first_fault rs)
+
+-- the fields are those of the table
+abbrev pub IsTable : List Named → Table → Type 0
+IsTable fs t = (name : List ℕ) → value_named name fs ≡ t name

@@ -1,0 +1,111 @@
+//! What a reference hands on.
+
+ghost use Rattle.std.specs.Prelude.{◌≡◌, if◌then◌else◌, None, Some, OnOk, ◌||◌};
+ghost use Rattle.std.specs.Str.{bytes_eq};
+ghost use Rattle.biblatex_content.specs.Views.{styled};
+ghost use Rattle.biblatex_fields.specs.Fields.{value_named};
+ghost use Rattle.biblatex_entries.specs.Roles.{role_of};
+ghost use Rattle.biblatex_entries.specs.TypeNames.{type_name};
+ghost use Rattle.biblatex_inheritance.specs.Table.{is_among, never, of_all, source_name};
+ghost use Rattle.biblatex_inheritance.specs.Resolved.{offered};
+ghost use Rattle.biblatex_inheritance.specs.Views.{HandsOn, texts, offer};
+
+use crate::copy::copied;
+use crate::table::{OF_ALL, OF_ARTICLES, OF_PARTS, is_never, source_name};
+use biblatex_content::Chunks;
+use biblatex_entries::{Entry, Role};
+use biblatex_fields::Fields;
+use std::alloc::{AllocError, Global};
+
+/// Gives the fields what they lack and the reference offers to an entry of the role.
+pub(crate) fn hand_on(
+    alloc: Global,
+    to: Role,
+    fields: &mut Fields,
+    from: &Entry,
+) -> Result<(), AllocError>
+    ensures { OnOk result (HandsOn fields.old fields.new (offered to (offer from.now))) }
+{
+    match to {
+        Role::XData => hand_on_all(alloc, fields, &from.fields),
+        Role::Article => hand_on_both(alloc, to, fields, from, &OF_ARTICLES),
+        Role::PartOfBook | Role::PartOfOther => hand_on_both(alloc, to, fields, from, &OF_PARTS),
+        _ => hand_on_named(alloc, to, fields, from, &OF_ALL),
+    }
+}
+
+/// Hands on the fields of every entry and of some.
+fn hand_on_both(
+    alloc: Global,
+    to: Role,
+    fields: &mut Fields,
+    from: &Entry,
+    names: &[&str],
+) -> Result<(), AllocError>
+    ensures { OnOk result (HandsOn fields.old fields.new (λ name. if is_among of_all name || is_among (texts names.now) name then value_named (source_name to (role_of (type_name from.now.entry_type)) name) from.now.fields else None)) }
+{
+    hand_on_named(alloc, to, fields, from, &OF_ALL)?;
+    hand_on_named(alloc, to, fields, from, names)
+}
+
+/// Hands on the fields of these names.
+fn hand_on_named(
+    alloc: Global,
+    to: Role,
+    fields: &mut Fields,
+    from: &Entry,
+    names: &[&str],
+) -> Result<(), AllocError>
+    ensures { OnOk result (HandsOn fields.old fields.new (λ name. if is_among (texts names.now) name then value_named (source_name to (role_of (type_name from.now.entry_type)) name) from.now.fields else None)) }
+{
+    for name in names {
+        hand_on_one(alloc, to, fields, from, name)?;
+    }
+    Ok(())
+}
+
+/// Hands on the field of the name.
+fn hand_on_one(
+    alloc: Global,
+    to: Role,
+    fields: &mut Fields,
+    from: &Entry,
+    wanted: &str,
+) -> Result<(), AllocError>
+    ensures { OnOk result (HandsOn fields.old fields.new (λ name. if bytes_eq name wanted.now then value_named (source_name to (role_of (type_name from.now.entry_type)) wanted.now) from.now.fields else None)) }
+{
+    match from.get(source_name(to, from.entry_type.role(), wanted)) {
+        Some(value) => put_lacking(alloc, fields, wanted, value),
+        None => Ok(()),
+    }
+}
+
+/// Hands on all fields but those that never come.
+fn hand_on_all(alloc: Global, fields: &mut Fields, from: &Fields) -> Result<(), AllocError>
+    ensures { OnOk result (HandsOn fields.old fields.new (λ name. if is_among never name then None else value_named name from.now)) }
+{
+    for (name, value) in from.iter() {
+        if !is_never(name.as_str()) {
+            put_lacking(alloc, fields, name.as_str(), value)?;
+        }
+    }
+    Ok(())
+}
+
+/// Puts a field in, unless there is one of its name.
+fn put_lacking(
+    alloc: Global,
+    fields: &mut Fields,
+    wanted: &str,
+    value: &Chunks,
+) -> Result<(), AllocError>
+    ensures { OnOk result (HandsOn fields.old fields.new (λ name. if bytes_eq name wanted.now then Some (styled value.now.items) else None)) }
+{
+    if fields.get(wanted).is_some() {
+        return Ok(());
+    }
+    fields.insert(
+        String::from_str(alloc, wanted)?,
+        copied(alloc, value.as_slice())?,
+    )
+}

@@ -1,0 +1,118 @@
+//! What an entry is once its references are resolved.
+
+ghost use Rattle.std.specs.Prelude.{◌≡◌, IfOk, OnOk, List, ℕ, None, Some, if◌then◌else◌, ◌||◌, codes};
+ghost use Rattle.std.specs.Str.{bytes_eq};
+ghost use Rattle.biblatex_content.specs.declared.chunk.Kind.TheVariants.{Normal};
+ghost use Rattle.biblatex_content.specs.Styled.{letters};
+ghost use Rattle.biblatex_content.specs.Views.{characters, styled};
+ghost use Rattle.biblatex_dates.specs.Date.{date_without_time};
+ghost use Rattle.biblatex_dates.specs.Written.{date_text};
+ghost use Rattle.biblatex_fields.specs.Fields.{value_named};
+ghost use Rattle.biblatex_inheritance.specs.Resolved.{first, first_offer, with_date, dated, date_for, needs_date, first_fault, without_xdata};
+ghost use Rattle.biblatex_inheritance.specs.Views.{table, HandsOn, IsTable, offer_lent, offers_in};
+
+use crate::dated::{Dated, dates_of, entry_at};
+use crate::hand_on::hand_on;
+use biblatex_content::{Chunk, Chunks, Spanned};
+use biblatex_dates::{Date, TypeErrorKind};
+use biblatex_entries::{Entry, Role};
+use biblatex_fields::Fields;
+use std::alloc::{AllocError, Global};
+
+/// Makes the fields of an entry of the role those that it has once its references are resolved. Answers the fault of the first
+/// reference whose date cannot be read, where the entry needs one.
+pub(crate) fn inherit(
+    alloc: Global,
+    role: Role,
+    fields: &mut Fields,
+    references: &[usize],
+    entries: &[Entry],
+) -> Result<Option<TypeErrorKind>, AllocError>
+    ensures fields { OnOk result (IsTable fields.new (dated (date_for role (offers_in entries.now references.now)) (λ name. first (without_xdata (table fields.old) name) (first_offer role (offers_in entries.now references.now) name)))) }
+    ensures fault { IfOk result (λ f. f ≡ (if needs_date role then first_fault (offers_in entries.now references.now) else None)) }
+{
+    fields.remove("xdata");
+    hand_on_all_of(alloc, role, fields, references, entries)?;
+    if !needs_date(role) {
+        return Ok(None);
+    }
+    let Dated { date, fault } = dates_of(alloc, references, entries)?;
+    if let Some(date) = date {
+        set_date(alloc, fields, date)?;
+    }
+    Ok(fault)
+}
+
+/// Whether an entry of the role needs a date.
+fn needs_date(role: Role) -> bool
+    ensures { result ≡ needs_date role }
+{
+    !matches!(role, Role::XData | Role::Set)
+}
+
+/// Gives the fields what they lack from the first of the references that offers it to an entry of the role.
+fn hand_on_all_of(
+    alloc: Global,
+    role: Role,
+    fields: &mut Fields,
+    references: &[usize],
+    entries: &[Entry],
+) -> Result<(), AllocError>
+    ensures { OnOk result (HandsOn fields.old fields.new (first_offer role (offers_in entries.now references.now))) }
+{
+    for &reference in references {
+        hand_on_where(alloc, role, fields, entry_at(entries, reference))?;
+    }
+    Ok(())
+}
+
+/// The same of one reference, where there is such an entry.
+fn hand_on_where(
+    alloc: Global,
+    role: Role,
+    fields: &mut Fields,
+    from: Option<&Entry>,
+) -> Result<(), AllocError>
+    ensures { OnOk result (HandsOn fields.old fields.new (first_offer role (offer_lent from.entry))) }
+{
+    match from {
+        Some(from) => hand_on(alloc, role, fields, from),
+        None => Ok(()),
+    }
+}
+
+/// Gives the fields a date, without its time, in place of their date, year, month and day.
+fn set_date(alloc: Global, fields: &mut Fields, date: Date) -> Result<(), AllocError>
+    ensures { OnOk result (IsTable fields.new (with_date date (table fields.old))) }
+{
+    fields.remove("year");
+    fields.remove("month");
+    fields.remove("day");
+    fields.insert(String::from_str(alloc, "date")?, date_value(alloc, date)?)
+}
+
+/// The date, without its time, as a value.
+fn date_value(alloc: Global, date: Date) -> Result<Chunks, AllocError>
+    ensures { IfOk result (λ v. styled v.items ≡ letters Normal (date_text (date_without_time date))) }
+{
+    let date = date.without_time();
+    let text = text_of_date(alloc, &date)?;
+    text_value(alloc, text)
+}
+
+/// The date as it is written.
+fn text_of_date(alloc: Global, date: &Date) -> Result<String, AllocError>
+    ensures { IfOk result (λ s. characters s ≡ date_text date.now) }
+{
+    date.to_string(alloc)
+}
+
+/// A value of one normal text.
+fn text_value(alloc: Global, text: String) -> Result<Chunks, AllocError>
+    ensures { IfOk result (λ v. styled v.items ≡ letters Normal (characters text)) }
+{
+    let mut value = Vec::new(alloc);
+    value.reserve_exact(1)?;
+    value.push(Spanned::detached(Chunk::Normal(text)))?;
+    Ok(value)
+}

@@ -1,0 +1,111 @@
+//! Resolving entries, each after those that it refers to.
+
+ghost use Rattle.std.specs.Prelude.{◌≡◌, ◌<◌, ℕ, List, length, slice_get, Contains, Some, None, IfOk, IfErr, MatchOption};
+ghost use Rattle.reference_graph.specs.References.{lists};
+ghost use Rattle.reference_graph.specs.Order.{IsOrder};
+ghost use Rattle.biblatex_entries.specs.Entries.{sources};
+ghost use Rattle.biblatex_inheritance.specs.Views.{offers_in};
+ghost use Rattle.biblatex_inheritance.specs.Solution.{Solves, seen, fault_at, AreKept, AreResolved, IsFirstFault, IsOnly, IsRefusedAs, IsResolvedAt, NoneIsCircular};
+
+use crate::error::ResolveError;
+use crate::inherit::inherit;
+use biblatex_dates::TypeErrorKind;
+use biblatex_entries::Entry;
+use biblatex_fields::Fields;
+use reference_graph::reference_order;
+use std::alloc::{AllocError, Global};
+use std::mem;
+
+/// Resolves entries in place. `references[i]` are the numbers of the entries that the entry `i` refers to, in their order; a
+/// number that is no entry's is passed over.
+///
+/// # Errors
+/// `ReferenceCycle` with the first entry that reaches itself, else `UnreadableDate` with the first entry that needs a date and
+/// has a reference whose date cannot be read; `Memory` where a request for memory was refused.
+pub fn resolve(
+    alloc: Global,
+    entries: Vec<Entry>,
+    references: &[Vec<usize>],
+) -> Result<Vec<Entry>, ResolveError>
+    requires { length references.now ≡ length entries.items }
+    // Each entry keeps its place, its key and its type.
+    ensures kept { IfOk result (λ v. AreKept entries.items v.items) }
+    // The fields of each entry are what it resolves to, with its references as they are resolved.
+    ensures equation { IfOk result (λ v. Solves (sources entries.items) (lists references.now) (seen v.items)) }
+    // Nothing else is a solution of this equation.
+    ensures only { IfOk result (λ v. IsOnly (sources entries.items) (lists references.now) (seen v.items)) }
+    // No entry that needs a date has a reference whose date cannot be read.
+    ensures readable { IfOk result (λ v. (i : ℕ) → i < length entries.items → fault_at (sources entries.items) (lists references.now) (seen v.items) i ≡ None) }
+    // What is refused, and why.
+    ensures refused { IfErr result (IsRefusedAs (sources entries.items) (lists references.now)) }
+{
+    let order = reference_order(alloc, references)?;
+    if let Some(number) = order.first_circular() {
+        return Err(ResolveError::ReferenceCycle(number));
+    }
+    let mut entries = entries;
+    let faults = resolve_all(alloc, &mut entries, references, order.order())?;
+    match first_fault(&faults) {
+        Some((number, kind)) => Err(ResolveError::UnreadableDate(number, kind)),
+        None => Ok(entries),
+    }
+}
+
+/// The first fault, and its place.
+fn first_fault(faults: &[Option<TypeErrorKind>]) -> Option<(usize, TypeErrorKind)>
+    ensures { MatchOption result ((i : ℕ) → i < length faults.now → slice_get faults.now i ≡ Some None) (λ p. IsFirstFault faults.now p) }
+{
+    for (number, fault) in faults.iter().enumerate() {
+        if let Some(kind) = fault {
+            return Some((number, *kind));
+        }
+    }
+    None
+}
+
+/// Resolves all entries in an order in which each stands behind all that it refers to. Answers the fault of each entry.
+fn resolve_all(
+    alloc: Global,
+    entries: &mut Vec<Entry>,
+    references: &[Vec<usize>],
+    order: &[usize],
+) -> Result<Vec<Option<TypeErrorKind>>, AllocError>
+    requires same { length references.now ≡ length entries.old.items }
+    requires order { IsOrder (lists references.now) order.now }
+    requires none { NoneIsCircular (lists references.now) }
+    ensures { IfOk result (λ faults. AreResolved entries.old.items entries.new.items (lists references.now) faults.items) }
+{
+    let mut faults = no_faults(alloc, references.len())?;
+    for &number in order {
+        faults[number] = resolve_one(alloc, entries, number, references[number].as_slice())?;
+    }
+    Ok(faults)
+}
+
+/// No fault at so many places.
+fn no_faults(alloc: Global, count: usize) -> Result<Vec<Option<TypeErrorKind>>, AllocError>
+    ensures { IfOk result (λ v. length v.items ≡ count) }
+{
+    let mut faults = Vec::new(alloc);
+    faults.resize(count, None)?;
+    Ok(faults)
+}
+
+/// Resolves the entry of that number, whose references are resolved. Answers the fault of its first reference whose date
+/// cannot be read, where it needs one.
+pub(crate) fn resolve_one(
+    alloc: Global,
+    entries: &mut Vec<Entry>,
+    number: usize,
+    references: &[usize],
+) -> Result<Option<TypeErrorKind>, AllocError>
+    requires there { number < length entries.old.items }
+    requires other { Contains references.now number → ⊥ }
+    ensures { IfOk result (λ fault. IsResolvedAt entries.old.items entries.new.items number (offers_in entries.old.items references.now) fault) }
+{
+    let role = entries[number].entry_type.role();
+    let mut fields = mem::replace(&mut entries[number].fields, Fields::new(alloc));
+    let fault = inherit(alloc, role, &mut fields, references, entries)?;
+    entries[number].fields = fields;
+    Ok(fault)
+}

@@ -1,0 +1,36 @@
+//! The characters of selectors, and texts cut where a name ends.
+
+ghost use Rattle.std.specs.Prelude.{◌≡◌};
+ghost use Rattle.std.specs.Str.{chars};
+ghost use Rattle.laws.specs.Runs.{front_of, after};
+ghost use Rattle.literature_selectors.specs.Tokens.{is_name_character, is_sign};
+
+/// Whether the character may stand in a name: an ASCII letter, a digit, a hyphen or an underscore.
+pub(crate) fn is_name_character(c: char) -> bool
+    ensures { result ≡ is_name_character c }
+{
+    c.is_ascii_alphanumeric() || c == '-' || c == '_'
+}
+
+/// Whether the character is a sign of the language.
+pub(crate) fn is_sign(c: char) -> bool
+    ensures { result ≡ is_sign c }
+{
+    matches!(
+        c,
+        '*' | '|' | '&' | '>' | '!' | ':' | ',' | '[' | ']' | '(' | ')'
+    )
+}
+
+/// The longest front that is of a name, and what follows it.
+pub(crate) fn split_name(text: &str) -> (&str, &str)
+    ensures front { chars result.0.now ≡ front_of is_name_character (chars text.now) }
+    ensures rest { chars result.1.now ≡ after is_name_character (chars text.now) }
+{
+    for (i, c) in text.char_indices() {
+        if !is_name_character(c) {
+            return text.split_at(i);
+        }
+    }
+    text.split_at(text.len())
+}

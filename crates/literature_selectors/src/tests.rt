@@ -1,0 +1,398 @@
+//! Texts of selectors and what is read of them.
+
+use crate::{EntryType, Selector};
+use std::alloc::{AllocError, Global};
+use std::fmt::Write;
+
+/// What is read of the text, or why it is refused.
+fn described(alloc: Global, text: &str) -> Result<String, AllocError> {
+    let mut out = String::new(alloc);
+    match Selector::parse(alloc, text) {
+        Ok(selector) => write!(out, "{selector:?}")?,
+        Err(error) => write!(out, "{error}")?,
+    }
+    Ok(out)
+}
+
+/// A text so often, another one, and a third one so often.
+fn nested(
+    alloc: Global,
+    count: usize,
+    before: &str,
+    inside: &str,
+    after: &str,
+) -> Result<String, AllocError> {
+    let mut text = String::new(alloc);
+    for _ in 0..count {
+        text.push_str(before)?;
+    }
+    text.push_str(inside)?;
+    for _ in 0..count {
+        text.push_str(after)?;
+    }
+    Ok(text)
+}
+
+#[test]
+fn reads_texts(rt: HostRuntime) {
+    let rows = [
+        ("book web", "Entry(Book)"),
+        ("", "missing value"),
+        ("book >", "missing value"),
+        ("*[]", "malformed attribute"),
+        ("*[title", "missing comma"),
+        ("(book", "unbalanced parentheses"),
+        ("f", "unknown entry type f"),
+        ("fo", "unknown entry type fo"),
+        ("foo", "unknown entry type foo"),
+        (
+            "article & article",
+            "Multi([Entry(Article), Entry(Article)])",
+        ),
+        ("book > !*", "Ancestry(Entry(Book), Not(Any))"),
+        (
+            "a:*[volume] | * > a:[volume]",
+            "Alternatives([Binding(\"a\", Attributes(Any, [\"volume\"])), Ancestry(Any, Binding(\"a\", Attributes(Any, [\"volume\"])))])",
+        ),
+        // Several members, and what binds closer.
+        (
+            "book|web | blog",
+            "Alternatives([Entry(Book), Entry(Web), Entry(Blog)])",
+        ),
+        (
+            "book & !web & a:blog > * | *",
+            "Alternatives([Ancestry(Multi([Entry(Book), Not(Entry(Web)), Binding(\"a\", Entry(Blog))]), Any), Any])",
+        ),
+        (
+            "book > web > blog",
+            "Ancestry(Entry(Book), Ancestry(Entry(Web), Entry(Blog)))",
+        ),
+        ("!a:!*", "Not(Binding(\"a\", Not(Any)))"),
+        // Parentheses alone change nothing, and they group.
+        ("x:((((book))))", "Binding(\"x\", Entry(Book))"),
+        (
+            "(book | web) & (book & web)",
+            "Multi([Alternatives([Entry(Book), Entry(Web)]), Multi([Entry(Book), Entry(Web)])])",
+        ),
+        ("(!*)[title]", "Attributes(Not(Any), [\"title\"])"),
+        ("!*[title]", "Not(Attributes(Any, [\"title\"]))"),
+        // Lists in a row are one, and a list alone stands behind a star.
+        (
+            "book[title, a-1_B][url] [doi]",
+            "Attributes(Entry(Book), [\"title\", \"a-1_B\", \"url\", \"doi\"])",
+        ),
+        ("[title]", "Attributes(Any, [\"title\"])"),
+        // Types are read in any case, other names are told as they are written.
+        ("BOOK", "Entry(Book)"),
+        ("(Foo", "unknown entry type Foo"),
+        ("(foo", "unknown entry type foo"),
+        ("-1", "unknown entry type -1"),
+        // A name before a colon binds, whatever it is.
+        ("book : web", "Binding(\"book\", Entry(Web))"),
+        ("book:", "missing value"),
+        // White space may stand between tokens.
+        (
+            "\u{2003}!\n( book\t)\u{85}[ title ]",
+            "Not(Attributes(Entry(Book), [\"title\"]))",
+        ),
+        // What follows the longest expression is passed over.
+        ("book )", "Entry(Book)"),
+        ("book ]", "Entry(Book)"),
+        ("* : x", "Any"),
+        ("book foo", "Entry(Book)"),
+        ("book é & (", "Entry(Book)"),
+        ("boöok", "unknown entry type bo"),
+        ("book & é", "missing value"),
+        // Faults, as they are met from the left.
+        ("*[title foo]", "missing comma"),
+        ("*[title,]", "malformed attribute"),
+        ("*[,", "malformed attribute"),
+        ("*[", "malformed attribute"),
+        ("*[title][", "malformed attribute"),
+        ("(book web)", "unbalanced parentheses"),
+        ("()", "missing value"),
+        ("!", "missing value"),
+        ("book |", "missing value"),
+        ("book & | web", "missing value"),
+        ("(foo) & *[", "unknown entry type foo"),
+    ];
+    for (text, wanted) in rows {
+        let found = described(rt.alloc(), text).expect(&rt, "memory");
+        assert_eq!(rt; found.as_str(), wanted, "{text}");
+    }
+}
+
+/// Whether such a nested text is read, or why it is refused.
+fn verdict(
+    alloc: Global,
+    count: usize,
+    before: &str,
+    inside: &str,
+    after: &str,
+) -> Result<String, AllocError> {
+    let text = nested(alloc, count, before, inside, after)?;
+    let mut out = String::new(alloc);
+    match Selector::parse(alloc, text.as_str()) {
+        Ok(_) => out.push_str("read")?,
+        Err(error) => write!(out, "{error}")?,
+    }
+    Ok(out)
+}
+
+#[test]
+fn counts_levels(rt: HostRuntime) {
+    let rows = [
+        (128, "(", "*", ")", "read"),
+        (128, "!", "*", "", "read"),
+        (128, "a:", "*", "", "read"),
+        (128, "*>", "*", "", "read"),
+        (129, "(", "*", ")", "too deep"),
+        (129, "!", "*", "", "too deep"),
+        (129, "a:", "*", "", "too deep"),
+        (129, "*>", "*", "", "too deep"),
+        // The level is counted before any fault behind it.
+        (129, "(", "foo", "", "too deep"),
+        (129, "!", "foo", "", "too deep"),
+        (129, "a:", "foo", "", "too deep"),
+        (129, "*>", "foo", "", "too deep"),
+        // Levels that were closed are no longer open.
+        (129, "!*&a:(*)&", "*", "", "read"),
+        (129, "*>*|", "*", "", "read"),
+        // Lists and members in a row are no levels.
+        (1000, "", "*", "[a]", "read"),
+        (1000, "*&", "*", "|*", "read"),
+    ];
+    for (count, before, inside, after, wanted) in rows {
+        let found = verdict(rt.alloc(), count, before, inside, after).expect(&rt, "memory");
+        assert_eq!(rt; found.as_str(), wanted, "{before}");
+    }
+}
+
+/// Reads the beginning of each length, and says at which length another answer than the wanted one came.
+fn first_other(alloc: Global, text: &str, wanted: &[&str]) -> Result<Option<usize>, AllocError> {
+    if text.len() + 1 != wanted.len() {
+        return Ok(Some(wanted.len()));
+    }
+    for (end, answer) in wanted.iter().enumerate() {
+        let found = match text.get(..end) {
+            Some(beginning) => described(alloc, beginning)?,
+            None => return Ok(Some(end)),
+        };
+        if found.as_str() != *answer {
+            return Ok(Some(end));
+        }
+    }
+    Ok(None)
+}
+
+#[test]
+fn reads_each_beginning_of_words(rt: HostRuntime) {
+    let wanted = [
+        "missing value",
+        "unknown entry type b",
+        "unknown entry type bo",
+        "unknown entry type boo",
+        "Entry(Book)",
+        "Entry(Book)",
+        "Entry(Book)",
+        "Entry(Book)",
+        "Entry(Book)",
+    ];
+    let other = first_other(rt.alloc(), "book web", &wanted).expect(&rt, "memory");
+    assert_eq!(rt; other, None);
+}
+
+#[test]
+fn reads_each_beginning_of_parents(rt: HostRuntime) {
+    let wanted = [
+        "missing value",
+        "unknown entry type b",
+        "unknown entry type bo",
+        "unknown entry type boo",
+        "Entry(Book)",
+        "Entry(Book)",
+        "missing value",
+        "missing value",
+        "missing value",
+        "Ancestry(Entry(Book), Not(Any))",
+    ];
+    let other = first_other(rt.alloc(), "book > !*", &wanted).expect(&rt, "memory");
+    assert_eq!(rt; other, None);
+}
+
+#[test]
+fn reads_each_beginning_of_lists(rt: HostRuntime) {
+    let wanted = [
+        "missing value",
+        "Any",
+        "malformed attribute",
+        "missing comma",
+        "missing comma",
+        "missing comma",
+        "missing comma",
+        "missing comma",
+        "Attributes(Any, [\"title\"])",
+    ];
+    let other = first_other(rt.alloc(), "*[title]", &wanted).expect(&rt, "memory");
+    assert_eq!(rt; other, None);
+}
+
+#[test]
+fn reads_each_beginning_of_a_parenthesis(rt: HostRuntime) {
+    let wanted = [
+        "missing value",
+        "missing value",
+        "unknown entry type b",
+        "unknown entry type bo",
+        "unknown entry type boo",
+        "unbalanced parentheses",
+    ];
+    let other = first_other(rt.alloc(), "(book", &wanted).expect(&rt, "memory");
+    assert_eq!(rt; other, None);
+}
+
+#[test]
+fn reads_each_beginning_of_bindings(rt: HostRuntime) {
+    let wanted = [
+        "missing value",
+        "unknown entry type a",
+        "missing value",
+        "Binding(\"a\", Any)",
+        "malformed attribute",
+        "missing comma",
+        "missing comma",
+        "missing comma",
+        "missing comma",
+        "missing comma",
+        "missing comma",
+        "Binding(\"a\", Attributes(Any, [\"volume\"]))",
+        "Binding(\"a\", Attributes(Any, [\"volume\"]))",
+        "missing value",
+        "missing value",
+        "Alternatives([Binding(\"a\", Attributes(Any, [\"volume\"])), Any])",
+        "Alternatives([Binding(\"a\", Attributes(Any, [\"volume\"])), Any])",
+        "missing value",
+        "missing value",
+        "unknown entry type a",
+        "missing value",
+        "malformed attribute",
+        "missing comma",
+        "missing comma",
+        "missing comma",
+        "missing comma",
+        "missing comma",
+        "missing comma",
+        "Alternatives([Binding(\"a\", Attributes(Any, [\"volume\"])), Ancestry(Any, Binding(\"a\", Attributes(Any, [\"volume\"])))])",
+    ];
+    let other = first_other(rt.alloc(), "a:*[volume] | * > a:[volume]", &wanted).expect(
+        &rt, "memory",
+    );
+    assert_eq!(rt; other, None);
+}
+
+#[test]
+fn reads_each_beginning_of_members(rt: HostRuntime) {
+    let wanted = [
+        "missing value",
+        "unknown entry type a",
+        "unknown entry type ar",
+        "unknown entry type art",
+        "unknown entry type arti",
+        "unknown entry type artic",
+        "unknown entry type articl",
+        "Entry(Article)",
+        "Entry(Article)",
+        "missing value",
+        "missing value",
+        "unknown entry type a",
+        "unknown entry type ar",
+        "unknown entry type art",
+        "unknown entry type arti",
+        "unknown entry type artic",
+        "unknown entry type articl",
+        "Multi([Entry(Article), Entry(Article)])",
+    ];
+    let other = first_other(rt.alloc(), "article & article", &wanted).expect(&rt, "memory");
+    assert_eq!(rt; other, None);
+}
+
+/// Reads the beginning of each length of so many parentheses round a star, but the whole, and says at which length
+/// another answer came than a missing value up to the opening ones, and the fault after them.
+fn first_other_in_parentheses(
+    alloc: Global,
+    count: usize,
+    fault: &str,
+) -> Result<Option<usize>, AllocError> {
+    let text = nested(alloc, count, "(", "*", ")")?;
+    for (end, _) in text.as_str().char_indices() {
+        let beginning = text.as_str().get(..end).unwrap_or("");
+        let found = described(alloc, beginning)?;
+        let wanted = if end <= 128 { "missing value" } else { fault };
+        if found.as_str() != wanted {
+            return Ok(Some(end));
+        }
+    }
+    Ok(None)
+}
+
+#[test]
+fn reads_beginnings_of_parentheses(rt: HostRuntime) {
+    let rows = [(128, "unbalanced parentheses"), (129, "too deep")];
+    for (count, fault) in rows {
+        let other = first_other_in_parentheses(rt.alloc(), count, fault).expect(&rt, "memory");
+        assert_eq!(rt; other, None, "{fault}");
+    }
+}
+
+/// Whether the type of each name prints as it.
+fn is_written_again(alloc: Global, name: &str) -> Result<bool, AllocError> {
+    let mut written = String::new(alloc);
+    if let Some(entry_type) = EntryType::read(name) {
+        write!(written, "{entry_type}")?;
+    }
+    Ok(written.as_str() == name)
+}
+
+#[test]
+fn reads_and_writes_types(rt: HostRuntime) {
+    let names = [
+        "article",
+        "chapter",
+        "entry",
+        "anthos",
+        "report",
+        "thesis",
+        "web",
+        "scene",
+        "artwork",
+        "patent",
+        "case",
+        "newspaper",
+        "legislation",
+        "manuscript",
+        "original",
+        "post",
+        "misc",
+        "performance",
+        "periodical",
+        "proceedings",
+        "book",
+        "blog",
+        "reference",
+        "conference",
+        "anthology",
+        "repository",
+        "thread",
+        "video",
+        "audio",
+        "exhibition",
+    ];
+    for name in names {
+        let is_again = is_written_again(rt.alloc(), name).expect(&rt, "memory");
+        assert!(rt; is_again, "{name}");
+    }
+    assert_eq!(rt; EntryType::read("Newspaper"), Some(EntryType::Newspaper));
+    assert_eq!(rt; EntryType::read("THESI\u{17f}"), Some(EntryType::Thesis));
+    assert_eq!(rt; EntryType::read("books"), None);
+    assert_eq!(rt; EntryType::read(""), None);
+}

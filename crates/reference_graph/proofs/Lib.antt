@@ -1,0 +1,15 @@
+pub mod Lists
+pub mod Walks
+pub mod Places
+pub mod Taking
+pub mod Entering
+pub mod Merging
+pub mod Leaving
+pub mod Finishing
+pub mod Weighing
+pub mod Beginning
+pub mod Ending
+pub mod Vectors
+pub mod Following
+pub mod Stepping
+pub mod Uses

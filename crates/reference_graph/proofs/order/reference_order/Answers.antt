@@ -1,0 +1,20 @@
+use Rattle.std.proofs.Common.{arith}
+use Rattle.reference_graph.specs.References.{lists}
+use Rattle.reference_graph.specs.Search.{seen}
+use Rattle.reference_graph.proofs.Ending.{ends_marked, ends_ordered}
+use Rattle.reference_graph.proofs.Vectors.{lists_long}
+use Rattle.reference_graph.proofs.order.reference_order.Goals as goal
+
+pub returns-clause-circular : goal.returns-clause-circular
+returns-clause-circular c =
+    let inv = c.loop-number.invariant in
+    let n = lists_long c.args.references.now in
+    let past = c.loop-number-test.false in
+    ends_marked (lists c.args.references.now) (seen c.loop-number.search) inv.kept (λ v h. inv.met v (omega arith)) inv.free
+
+pub returns-clause-order : goal.returns-clause-order
+returns-clause-order c =
+    let inv = c.loop-number.invariant in
+    let n = lists_long c.args.references.now in
+    let past = c.loop-number-test.false in
+    ends_ordered (lists c.args.references.now) (seen c.loop-number.search) inv.kept (λ v h. inv.met v (omega arith)) inv.free

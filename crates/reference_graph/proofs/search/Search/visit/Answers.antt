@@ -1,0 +1,21 @@
+use Rattle.std.proofs.Common.{◌≡◌, ℕ, List, length, sym, ap, subst, ◌∙◌}
+use Rattle.reference_graph.specs.References.{lists}
+use Rattle.reference_graph.specs.declared.search.Place.TheVariants.{New}
+use Rattle.reference_graph.specs.Search.{State, seen, place_of}
+use Rattle.reference_graph.proofs.Entering.{entered_first, IsEntered}
+use Rattle.reference_graph.proofs.Ending.{path_empty}
+use Rattle.reference_graph.proofs.Weighing.{new_told}
+use Rattle.reference_graph.proofs.search.Search.visit.Goals as goal
+
+pub loop-place-init : goal.loop-place-init
+loop-place-init c =
+    let R = lists c.args.references.now in
+    let s = seen c.args.self.now in
+    let v = c.args.number in
+    let new : place_of s v ≡ New = new_told (place_of s v) (sym c.if-not-is_new.ensures) in
+    let e = subst (λ (x : State). IsEntered R s x v) (sym c.in_ok-enter.ensures) (entered_first R s c.requires.kept v new c.requires.free) in
+    record { kept = e.kept; met = e.met; itself = e.itself }
+
+pub returns-clause-free : goal.returns-clause-free
+returns-clause-free c =
+    path_empty (lists c.args.references.now) (seen c.loop-place.self) c.loop-place.invariant.kept (ap (λ (xs : List ℕ). length xs) (sym c.deref.ensures.value) ∙ c.in_default.ensures)

@@ -1,0 +1,4 @@
+pub mod References
+pub mod Order
+pub mod Search
+pub mod Kept
