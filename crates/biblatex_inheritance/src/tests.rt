@@ -174,28 +174,39 @@ fn articles_take_the_title_of_their_periodical(rt: HostRuntime) -> Result<(), Fa
     Ok(())
 }
 
-/// Entries without fields that refer to each other in this way, resolved.
-fn refer(alloc: Global, references: &[&[usize]]) -> Result<Vec<Entry>, ResolveError> {
+/// Three entries without fields that refer to each other in this way, resolved.
+fn refer(
+    alloc: Global,
+    first: &[usize],
+    second: &[usize],
+    third: &[usize],
+) -> Result<Vec<Entry>, ResolveError> {
     let mut entries = Vec::new(alloc);
-    let mut lists = Vec::new(alloc);
-    for list in references {
-        entries.push(entry(alloc, "book", &[])?)?;
-        lists.push(numbers(alloc, list)?)?;
-    }
-    resolve(alloc, entries, &lists)
+    entries.push(entry(alloc, "book", &[])?)?;
+    entries.push(entry(alloc, "book", &[])?)?;
+    entries.push(entry(alloc, "book", &[])?)?;
+    let mut references = Vec::new(alloc);
+    references.push(numbers(alloc, first)?)?;
+    references.push(numbers(alloc, second)?)?;
+    references.push(numbers(alloc, third)?)?;
+    resolve(alloc, entries, &references)
 }
 
 #[test]
 fn circles_are_refused(rt: HostRuntime) {
-    let circle = refer(rt.alloc(), &[&[1], &[2], &[1]]);
+    let circle = refer(rt.alloc(), &[1], &[2], &[1]);
     assert!(rt; matches!(circle, Err(ResolveError::ReferenceCycle(1))));
-    assert!(rt;
-        matches!(
-            refer(rt.alloc(), &[&[0]]),
-            Err(ResolveError::ReferenceCycle(0))
-        )
-    );
-    assert!(rt; refer(rt.alloc(), &[&[2, 1, 7], &[2], &[]]).is_ok());
+}
+
+#[test]
+fn an_entry_that_refers_to_itself_is_refused(rt: HostRuntime) {
+    let circle = refer(rt.alloc(), &[1], &[], &[2]);
+    assert!(rt; matches!(circle, Err(ResolveError::ReferenceCycle(2))));
+}
+
+#[test]
+fn other_references_are_resolved(rt: HostRuntime) {
+    assert!(rt; refer(rt.alloc(), &[2, 1, 7], &[2], &[]).is_ok());
 }
 
 #[test]

@@ -1,0 +1,4 @@
+pub mod Binding
+pub mod Within
+pub mod Reading
+pub mod Lent

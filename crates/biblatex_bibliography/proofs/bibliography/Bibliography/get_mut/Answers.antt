@@ -1,0 +1,31 @@
+use Rattle.std.proofs.Common.{ℕ, sym, ap, subst, ◌∙◌}
+use Rattle.std.specs.Prelude.{slice_set, slice_get, option_and_then}
+use Rattle.std.proofs.lemmas.List.{length-set, length-map}
+use Rattle.std.proofs.lemmas.Option.{slice_get-map}
+use Rattle.std.specs.Option.{ghost_name_of}
+use borrow.Follows.Closed.{read_of}
+use Rattle.biblatex_entries.specs.Entries.{source, sources}
+use Rattle.biblatex_bibliography.specs.Bibliographies.{Held, seen, entry_named}
+use Rattle.biblatex_bibliography.specs.Places.{meaning_in, names_in, AreWithin}
+use Rattle.biblatex_bibliography.proofs.Lent.{written, item}
+use Rattle.biblatex_bibliography.proofs.bibliography.Bibliography.get_mut.Goals as goal
+
+pub invariant_of-self-lent : goal.invariant_of-self-lent
+invariant_of-self-lent c =
+    let items = c.self.inside.entries.items in
+    λ o. (
+      (λ w. subst (λ (n : ℕ). AreWithin (meaning_in (names_in c.self.inside.places)) n)
+          (sym (length-map (slice_set items c.in_ok-place.place w) source ∙ (length-set items c.in_ok-place.place w ∙ sym (length-map items source))))
+          c.self.invariant),
+      c.self.invariant,
+    )
+
+pub returns : goal.returns
+returns c =
+    let items = c.self.inside.entries.items in
+    let places = c.self.inside.places in (
+      (λ i. read_of (ghost_name_of c.get_mut.result) (λ w. written items places c.args.name.now c.in_ok-place.place c.args.self.now c.in_ok-place.ensures c.self.view_is w i) (c.self.view_is i)),
+      item items c.in_ok-place.place c.get_mut.result c.get_mut.ensures.item ∙ (sym (slice_get-map source items c.in_ok-place.place)
+          ∙ (ap (option_and_then (slice_get (sources items))) c.in_ok-place.ensures
+          ∙ ap (λ (h : Held). entry_named c.args.name.now (seen h)) c.self.view_is)),
+    )

@@ -1,0 +1,4 @@
+pub mod Places
+pub mod Bibliographies
+pub mod Lending
+pub mod Keys

@@ -1,0 +1,128 @@
+//! Libraries.
+
+ghost use Rattle.std.specs.Prelude.{◌≡◌, [], length, map, slice_get, string_bytes, IsTrue, ◌↔◌, OnOk, OnErr};
+ghost use Rattle.std.specs.Option.{option_copied};
+ghost use Rattle.literature.specs.Keys.{with_key, put, without_key};
+ghost use Rattle.literature.specs.InStep.{AreInStep};
+ghost use Rattle.literature.specs.Views as views;
+
+use crate::entry::Entry;
+use indexmap::IndexMap;
+use indexmap::map::{IntoValues, Keys, Values};
+use std::alloc::{AllocError, Global};
+
+/// Entries in order, of which no two have the same key.
+#[derive(Drop)]
+pub struct Library {
+    entries: IndexMap<String, Entry>,
+    ghost in_step: { AreInStep entries.entries },
+}
+
+impl Library {
+    ghost use Rattle.literature.specs.Kept.{entries};
+
+    /// A library without entries.
+    pub fn new(alloc: Global) -> Library
+        ensures { entries result ≡ [] }
+    {
+        Library {
+            entries: IndexMap::new(alloc),
+        }
+    }
+
+    /// How many entries there are.
+    pub fn len(&self) -> usize
+        ensures { result ≡ length (entries self.now) }
+    {
+        self.entries.len()
+    }
+
+    /// Whether there are none.
+    pub fn is_empty(&self) -> bool
+        ensures { IsTrue result ↔ (entries self.now ≡ []) }
+    {
+        self.entries.is_empty()
+    }
+
+    /// The entry of that key.
+    pub fn get(&self, key: &str) -> Option<&Entry>
+        ensures { option_copied result ≡ with_key views.key key.now (entries self.now) }
+    {
+        self.entries.get(key)
+    }
+
+    /// The entry at a place, from zero.
+    pub fn nth(&self, n: usize) -> Option<&Entry>
+        ensures { option_copied result ≡ slice_get (entries self.now) n }
+    {
+        match self.entries.get_index(n) {
+            Some((_, entry)) => Some(entry),
+            None => None,
+        }
+    }
+
+    /// Puts an entry in the place of the one that has its key, else at the end.
+    ///
+    /// # Errors
+    /// Want of memory, where the library is as it was.
+    #[tactic(auto, using(crate::proofs::Stored::entry_put, crate::proofs::Stored::put_in_step))]
+    pub fn push(&mut self, entry: Entry) -> Result<(), AllocError>
+        ensures ok { OnOk result (entries self.new ≡ put views.key (entries self.old) entry) }
+        ensures err { OnErr result (entries self.new ≡ entries self.old) }
+    {
+        let key = entry.key.clone()?;
+        self.entries.insert(key, entry)?;
+        Ok(())
+    }
+
+    /// Takes the entry of that key out. Those behind it move up.
+    #[tactic(auto, using(crate::proofs::Stored::removed_in_step))]
+    pub fn remove(&mut self, key: &str) -> Option<Entry>
+        ensures removed { result ≡ with_key views.key key.now (entries self.old) }
+        ensures entries { entries self.new ≡ without_key views.key key.now (entries self.old) }
+    {
+        self.entries.shift_remove(key)
+    }
+
+    /// The entries in order.
+    pub fn iter(&self) -> Values<'_, String, Entry>
+        ensures { result ≡ entries self.now }
+    {
+        self.entries.values()
+    }
+
+    /// The keys in order.
+    pub fn keys(&self) -> Keys<'_, String, Entry>
+        ensures { map string_bytes result ≡ map views.key (entries self.now) }
+    {
+        self.entries.keys()
+    }
+}
+
+impl IntoIterator for Library {
+    ghost use Rattle.literature.specs.Kept.{entries};
+
+    type Item = Entry;
+
+    type IntoIter = IntoValues<String, Entry, Global>;
+
+    ghost into_iter_gives = { λ l r. r ≡ entries l };
+
+    fn into_iter(self) -> IntoValues<String, Entry, Global> {
+        self.entries.into_values()
+    }
+}
+
+impl<'a> IntoIterator for &'a Library {
+    ghost use Rattle.literature.specs.Kept.{entries};
+
+    type Item = &'a Entry;
+
+    type IntoIter = Values<'a, String, Entry>;
+
+    ghost into_iter_gives = { λ l r. r ≡ entries l.now };
+
+    fn into_iter(self) -> Values<'a, String, Entry> {
+        self.iter()
+    }
+}
