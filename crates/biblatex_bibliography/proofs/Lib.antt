@@ -1,4 +1,6 @@
 pub mod Binding
 pub mod Within
-pub mod Reading
+pub mod Names
 pub mod Lent
+pub mod Resolving
+pub mod Loading

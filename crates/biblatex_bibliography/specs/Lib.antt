@@ -2,3 +2,6 @@ pub mod Places
 pub mod Bibliographies
 pub mod Lending
 pub mod Keys
+pub mod Reading
+pub mod Resolved
+pub mod Errors

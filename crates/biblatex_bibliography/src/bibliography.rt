@@ -1,10 +1,12 @@
 //! Bibliographies.
 
-ghost use Rattle.std.specs.Prelude.{◌≡◌, ◌==◌, ◌<◌, length, map, string_bytes, IfOk, IfSome, OnOk, OnErr, Some, slice_get};
+ghost use Rattle.std.specs.Prelude.{◌≡◌, ◌==◌, ◌<◌, length, map, string_bytes, IfOk, IfErr, IfSome, OnOk, OnErr, Some, slice_get};
 ghost use Rattle.std.specs.Option.{option_map};
 ghost use Rattle.std.specs.Borrow.{sem};
 ghost use Rattle.std.specs.Slice.Iter.{iter_rest};
+ghost use Rattle.biblatex_inheritance.specs.Solution.{IsRefusedAs};
 ghost use Rattle.biblatex_bibliography.specs.Keys.{keys_left};
+ghost use Rattle.biblatex_bibliography.specs.Resolved.{IsResolved};
 ghost use Rattle.biblatex_bibliography.specs.Lending.{LendsEntry};
 ghost use Rattle.biblatex_entries.specs.Entries.{source, sources};
 ghost use Rattle.biblatex_bibliography.specs.Bibliographies.{seen, IsAsRead, nothing, entry_named, pushed, inserted, removed, aliased, references};
@@ -13,6 +15,7 @@ use crate::held::{key_alone, put_last, replace, take};
 use crate::keys::Keys;
 use crate::places::{bind, place_in, places_meant};
 use biblatex_entries::Entry;
+use biblatex_inheritance::{Resolution, ResolveError, resolve};
 use std::alloc::{AllocError, Global};
 use std::collections::HashMap;
 use std::marker::Model;
@@ -175,6 +178,23 @@ impl Bibliography {
             rest = others;
         }
         Ok(references)
+    }
+
+    /// The entries with their references resolved, under the same names, and how many entries were made.
+    pub(crate) fn resolved(self, alloc: Global) -> Result<(Bibliography, usize), ResolveError>
+        ensures ok { IfOk result (λ r. IsResolved (seen self) (seen r.0)) }
+        ensures count { IfOk result (λ r. r.1 ≡ length self.entries) }
+        ensures err { IfErr result (IsRefusedAs self.entries (references (seen self))) }
+    {
+        let references = self.references(alloc)?;
+        let Resolution { entries, count } = resolve(alloc, self.entries, &references)?;
+        Ok((
+            Bibliography {
+                entries,
+                places: self.places,
+            },
+            count,
+        ))
     }
 
     /// The entries in their order.

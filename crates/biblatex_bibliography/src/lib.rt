@@ -2,12 +2,17 @@
 #![tactic(auto)]
 
 mod bibliography;
+mod error;
 mod held;
 mod iterators;
 mod keys;
+mod parsing;
 mod places;
+mod reading;
 #[cfg(test)]
 mod tests;
 
 pub use bibliography::Bibliography;
+pub use error::{ParseError, ParseErrorKind};
 pub use keys::Keys;
+pub use parsing::Counted;

@@ -8,3 +8,4 @@ pub mod Refused
 pub mod Entries
 pub mod Flags
 pub mod LookUps
+pub mod Sorted

@@ -53,8 +53,12 @@ read g is_verbatim p done = deep (reading g is_verbatim) (λ ms. Ok ms) (suc (le
 abbrev pub ReadsByTheRule : Glossary → Type 0
 ReadsByTheRule g = (is_verbatim : Bool) (p : At Piece) → read g is_verbatim p ≡ reading g is_verbatim (read g is_verbatim) p
 
--- the value of a field, in the kind of the field
-unfoldable pub value_of : Glossary → Field → Result (List Member) Refusal
-value_of g f = do
-  ms ← in_order (read g (is_verbatim_name (lowered f.name.v))) f.value.v []
+-- what pieces give as the value of a field of that name, in the kind of the field
+unfoldable pub content_of : Glossary → List ℕ → List (At Piece) → Result (List Member) Refusal
+content_of g name ps = do
+  ms ← in_order (read g (is_verbatim_name (lowered name))) ps []
   Ok (tidied ms)
+
+-- the value of a field
+abbrev pub value_of : Glossary → Field → Result (List Member) Refusal
+value_of g f = content_of g f.name.v f.value.v

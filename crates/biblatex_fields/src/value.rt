@@ -5,7 +5,7 @@ ghost use Rattle.std.specs.Str.{chars};
 ghost use Rattle.biblatex_text.specs.Views.{field, piece};
 ghost use Rattle.biblatex_content.specs.Parted.{are_parted};
 ghost use Rattle.biblatex_content.specs.Views.{so_far, styled};
-ghost use Rattle.biblatex_fields.specs.Value.{text_read, in_order, read, value_of};
+ghost use Rattle.biblatex_fields.specs.Value.{text_read, in_order, read, content_of, value_of};
 ghost use Rattle.biblatex_fields.specs.Views.{Gives};
 
 use crate::abbreviations::{Abbreviations, Sense, lowered};
@@ -63,20 +63,37 @@ impl<'r, 's> Abbreviations<'r, 's> {
         Ok(contents)
     }
 
-    /// The value of the field: what its pieces give, one behind the other, tidied. A verbatim field reads all of them as
-    /// verbatim, the pieces of abbreviations too.
+    /// The value of a field of that name: what its pieces give, one behind the other, tidied. A verbatim field reads all of
+    /// them as verbatim, the pieces of abbreviations too.
     ///
     /// # Errors
     ///
     /// The first fault in the order of pieces. A name is found to be circular before its pieces are read.
-    #[tactic(auto, unfolding(crate::specs::Value::value_of))]
+    #[tactic(auto, unfolding(crate::specs::Value::content_of))]
+    pub fn parse_field(
+        &self,
+        alloc: Global,
+        key: &str,
+        field: &[Spanned<RawChunk<'s>>],
+    ) -> Result<Chunks, FieldError<'s>>
+        ensures value { Gives (λ cs. styled cs.items) result (content_of self.now (chars key.now) (map piece field.now)) }
+        ensures parted { IfOk result (λ cs. are_parted cs.items ≡ true) }
+    {
+        let name = lowered(alloc, key)?;
+        let is_verbatim = is_verbatim_field(name.as_str());
+        let contents = self.contents(alloc, is_verbatim, field)?;
+        Ok(contents.finish()?)
+    }
+
+    /// The value of the field, as `parse_field` gives it.
+    ///
+    /// # Errors
+    ///
+    /// Those of `parse_field`.
     pub fn read(&self, alloc: Global, pair: &Pair<'s>) -> Result<Chunks, FieldError<'s>>
         ensures value { Gives (λ cs. styled cs.items) result (value_of self.now (field pair.now)) }
         ensures parted { IfOk result (λ cs. are_parted cs.items ≡ true) }
     {
-        let name = lowered(alloc, pair.key.v)?;
-        let is_verbatim = is_verbatim_field(name.as_str());
-        let contents = self.contents(alloc, is_verbatim, pair.value.v.as_slice())?;
-        Ok(contents.finish()?)
+        self.parse_field(alloc, pair.key.v, pair.value.v.as_slice())
     }
 }

@@ -1,9 +1,10 @@
 -- What an order gives to those who go along it.
-use Rattle.std.proofs.Common.{◌≡◌, ℕ, zero, suc, ◌+◌, ◌<◌, List, [], ◌∷◌, ◌++◌, Bool, true, false, true≢false, cond, eqb, eqb-true, length, get_or, take, drop, Contains, count_by, ◌⊎◌, inl, inr, refl, sym, ap, subst, ◌∙◌, arith}
+use Rattle.std.proofs.Common.{◌≡◌, ℕ, zero, suc, ◌+◌, ◌<◌, ◌≤◌, List, All, [], ◌∷◌, ◌++◌, Bool, true, false, true≢false, cond, eqb, eqb-true, eq-or-lt_of_le, length, get_or, take, drop, Contains, count_by, ◌⊎◌, inl, inr, refl, sym, ap, subst, ◌∙◌, arith}
 use Rattle.std.proofs.Math.Seq.{take-suc, drop-cons}
 use Rattle.std.proofs.lemmas.List.{take-append-drop}
 use Rattle.std.proofs.lemmas.List.Sums.{sum_by-cons, sum_by-append}
-use Rattle.std.proofs.lemmas.List.Elements.{All-get_or, Contains-push_cases}
+use Rattle.std.proofs.lemmas.Bool.Decides.{eqb_tells}
+use Rattle.std.proofs.lemmas.List.Elements.{All-get_or, All-head, All-tail, Contains-push_cases}
 use Rattle.reference_graph.specs.References.{references_of}
 use Rattle.reference_graph.specs.Order.{IsOrder}
 use Rattle.reference_graph.proofs.Lists.{take_has, in_take}
@@ -70,3 +71,55 @@ number_is i n = by_test (eqb i n) refl
     by_test : (b : Bool) → eqb i n ≡ b → (i ≡ n) ⊎ (i ≡ n → ⊥)
     by_test true e = inl (eqb-true i n e)
     by_test false e = inr (λ is. true≢false (sym (eqb_same n) ∙ (ap (λ (x : ℕ). eqb x n) (sym is) ∙ e)))
+
+-- how often numbers below a bound stand in a list
+abbrev counted_below : ℕ → List ℕ → ℕ
+counted_below zero xs = 0
+counted_below (suc n) xs = count_by (λ y. eqb y n) xs + counted_below n xs
+
+none_counted : (n : ℕ) → counted_below n [] ≡ 0
+none_counted zero = refl
+none_counted (suc n) = let more = none_counted n in omega (arith, more)
+
+not_counted : (n x : ℕ) (xs : List ℕ) → n ≤ x → counted_below n (x ∷ xs) ≡ counted_below n xs
+not_counted zero x xs above = refl
+not_counted (suc n) x xs above =
+    let p = sum_by-cons (λ (y : ℕ). cond {A = ℕ} (eqb y n) 1 0) x xs in
+    let more = not_counted n x xs (omega (arith, above)) in
+    elim (eqb_tells x n) [
+      | inl same ↦ absurd (omega (arith, same.1, above))
+      | inr other ↦ let z : cond {A = ℕ} (eqb x n) 1 0 ≡ 0 = ap (λ (b : Bool). cond {A = ℕ} b 1 0) other.0 in omega (arith, p, z, more)
+    ]
+
+counted_once : (n x : ℕ) (xs : List ℕ) → x < n → counted_below n (x ∷ xs) ≡ 1 + counted_below n xs
+counted_once zero x xs below = absurd (omega (arith, below))
+counted_once (suc n) x xs below =
+    let p = sum_by-cons (λ (y : ℕ). cond {A = ℕ} (eqb y n) 1 0) x xs in
+    elim (eqb_tells x n) [
+      | inl same ↦ let z : cond {A = ℕ} (eqb x n) 1 0 ≡ 1 = ap (λ (b : Bool). cond {A = ℕ} b 1 0) same.0 in let more = not_counted n x xs (omega (arith, same.1)) in omega (arith, p, z, more)
+      | inr other ↦ let z : cond {A = ℕ} (eqb x n) 1 0 ≡ 0 = ap (λ (b : Bool). cond {A = ℕ} b 1 0) other.0 in let more = counted_once n x xs (nat_lt_of x n below other.1) in omega (arith, p, z, more)
+    ]
+  where
+    nat_lt_of : (x n : ℕ) → x < suc n → (x ≡ n → ⊥) → x < n
+    nat_lt_of x n low apart = elim (eq-or-lt_of_le (omega (arith, low))) [
+      | inl at ↦ absurd (apart at)
+      | inr less ↦ less
+    ]
+
+all_counted : (n : ℕ) (xs : List ℕ) → All (λ i. i < n) xs → counted_below n xs ≡ length xs
+all_counted n [] all = none_counted n
+all_counted n (x ∷ xs) all =
+    let here = counted_once n x xs (All-head (λ i. i < n) x xs all) in
+    let more = all_counted n xs (All-tail (λ i. i < n) x xs all) in
+    omega (arith, here, more)
+
+each_once : (n : ℕ) (xs : List ℕ) → ((i : ℕ) → i < n → count_by (λ y. eqb y i) xs ≡ 1) → counted_below n xs ≡ n
+each_once zero xs once = refl
+each_once (suc n) xs once =
+    let here = once n (omega arith) in
+    let more = each_once n xs (λ i low. once i (omega (arith, low))) in
+    omega (arith, here, more)
+
+-- an order has as many numbers as there are
+pub order_long : (R : List (List ℕ)) (order : List ℕ) → IsOrder R order → length order ≡ length R
+order_long R order o = sym (all_counted (length R) order o.below) ∙ each_once (length R) order o.once

@@ -2,7 +2,7 @@
 use Rattle.std.proofs.Common.{◌≡◌, ℕ, zero, suc, ◌<◌, List, [], ◌∷◌, length, get_or, slice_get, set, Contains, Option, Some, None, string_bytes, refl, sym, ap, subst, ◌∙◌, arith}
 use Rattle.std.specs.Prelude.{if◌then◌else◌}
 use Rattle.std.proofs.lemmas.List.{get_or-set_same, get_or_default}
-use Rattle.biblatex_fields.specs.Fields.{Named}
+use Rattle.biblatex_fields.specs.Fields.{AreInOrder, Named}
 use Rattle.biblatex_entries.specs.TypeNames.{type_name}
 use Rattle.biblatex_entries.specs.Roles.{role_of}
 use Rattle.biblatex_entries.specs.declared.entry.Entry.{Entry}
@@ -49,9 +49,9 @@ pub put_back : (old mid : List Entry) (n : ℕ) (e m m2 : Entry) (role : Role) (
     → mid ≡ set old n (record { key = m.key; entry_type = m.entry_type; fields = emptied })
     → taken ≡ m.fields → role ≡ role_of (type_name e.entry_type)
     → IsTable fs (dated (date_for role (offers_in mid rs)) (λ name. first (without_xdata (table taken) name) (first_offer role (offers_in mid rs) name)))
-    → fault ≡ (if needs_date role then first_fault (offers_in mid rs) else None)
+    → fault ≡ (if needs_date role then first_fault (offers_in mid rs) else None) → AreInOrder fs
     → IsResolvedAt old (set (set old n (record { key = m.key; entry_type = m.entry_type; fields = emptied })) n (record { key = m2.key; entry_type = m2.entry_type; fields = fs })) n (offers_in old rs) fault
-put_back old mid n e m m2 role emptied taken fs rs fault low apart e_is m_is m2_is mid_is taken_is role_is resolved_is fault_is =
+put_back old mid n e m m2 role emptied taken fs rs fault low apart e_is m_is m2_is mid_is taken_is role_is resolved_is fault_is ordered =
     let w : Entry = record { key = m.key; entry_type = m.entry_type; fields = emptied } in
     let d : Entry = record { key = m2.key; entry_type = m2.entry_type; fields = fs } in
     let m2_w : m2 ≡ w = m2_is ∙ get_or-set_same old n w m2 low in
@@ -66,4 +66,4 @@ put_back old mid n e m m2 role emptied taken fs rs fault low apart e_is m_is m2_
     let fault_m : fault ≡ (if needs_date (role_of (type_name m.entry_type)) then first_fault (offers_in old rs) else None) =
     subst (λ (os : List Offer). fault ≡ (if needs_date (role_of (type_name m.entry_type)) then first_fault os else None)) os
     (subst (λ (r : Role). fault ≡ (if needs_date r then first_fault (offers_in mid rs) else None)) role_m fault_is) in
-    (d, set_twice old n w d, rw there (ap (λ (x : Entry). string_bytes x.key) m2_w, ap (λ (x : Entry). type_name x.entry_type) m2_w, fields_m), rw there fault_m)
+    (d, set_twice old n w d, rw there (ap (λ (x : Entry). string_bytes x.key) m2_w, ap (λ (x : Entry). type_name x.entry_type) m2_w, fields_m, ordered), rw there fault_m)

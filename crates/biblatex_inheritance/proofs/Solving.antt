@@ -5,6 +5,7 @@ use Rattle.std.proofs.Math.Path.{fun_ext}
 use Rattle.std.proofs.Math.Nat.{le_refl}
 use Rattle.std.proofs.lemmas.List.{length-set, take_all}
 use Rattle.std.proofs.lemmas.Option.{slice_get-map, slice_get-get_or, slice_get_within}
+use Rattle.biblatex_fields.specs.Fields.{AreInOrder}
 use Rattle.biblatex_entries.specs.TypeNames.{type_name}
 use Rattle.biblatex_entries.specs.Entries.{Source, source, sources}
 use Rattle.biblatex_entries.specs.declared.entry.Entry.{Entry}
@@ -14,7 +15,7 @@ use Rattle.reference_graph.specs.Order.{is_marked, MarksCircular, IsOrder}
 use Rattle.reference_graph.proofs.Uses.{all_behind, stands_in_order}
 use Rattle.biblatex_inheritance.specs.Resolved.{Table, Offer, resolved, offers, offer_seen}
 use Rattle.biblatex_inheritance.specs.Views.{offer_in, offers_in}
-use Rattle.biblatex_inheritance.specs.Solution.{Solves, seen, value_in, IsKeptAt, AreKept, fault_in, fault_at, IsFirstFault, IsResolvedAt, AreResolved, NoneIsCircular}
+use Rattle.biblatex_inheritance.specs.Solution.{Solves, seen, value_in, IsKeptAt, AreKept, IsOnly, fault_in, fault_at, IsFirstFault, IsResolvedAt, AreResolved, NoneIsCircular}
 use Rattle.biblatex_inheritance.proofs.Resolving.{slice_get-set_other, slice_get-set_same, offers_apart}
 use Rattle.biblatex_inheritance.proofs.Ordered.{not_before, below_order, not_itself, not_from_before, up_to, last_in, one_more, number_is}
 
@@ -25,6 +26,7 @@ pub record IsKept (old cur : List Entry) (R : List (List ℕ)) (done : List ℕ)
   pub kept : AreKept old cur
   pub fresh : (i : ℕ) → (Contains done i → ⊥) → slice_get cur i ≡ slice_get old i
   pub equation : (i : ℕ) → Contains done i → IfSome (slice_get old i) (λ e. (q : List ℕ) → seen cur i q ≡ resolved (source e) (offers_in cur (references_of R i)) q)
+  pub ordered : (i : ℕ) → Contains done i → IfSome (slice_get cur i) (λ e. AreInOrder e.fields)
   pub faulted : (i : ℕ) → Contains done i → slice_get faults i ≡ Some (fault_in (option_map source (slice_get old i)) (offers_in cur (references_of R i)))
 
 kept_same : (o : Option Entry) → IsKeptAt o o
@@ -38,6 +40,7 @@ kept_first old R faults many = record {
   kept = λ i. kept_same (slice_get old i);
   fresh = λ i _. refl;
   equation = λ i c. absurd (omega (arith, c.1));
+  ordered = λ i c. absurd (omega (arith, c.1));
   faulted = λ i c. absurd (omega (arith, c.1));
 }
 
@@ -50,7 +53,7 @@ pub kept_more : (old cur new : List Entry) (R : List (List ℕ)) (order : List �
     → IsOrder R order → NoneIsCircular R → length R ≡ length old → k < length order
     → IsKept old cur R (take k order) faults → IsResolvedAt cur new (get_or order k 0) (offers_in cur (references_of R (get_or order k 0))) fault
     → IsKept old new R (take (k + 1) order) (set faults (get_or order k 0) fault)
-kept_more old cur new R order k faults fault o none same low h (d, new_is, (key, kind, table_is), fault_is) =
+kept_more old cur new R order k faults fault o none same low h (d, new_is, (key, kind, table_is, in_order), fault_is) =
     let n = get_or order k 0 in
     let n_low : n < length R = below_order R order k o low in
     let n_cur : n < length cur = omega (arith, n_low, same, h.long) in
@@ -70,6 +73,10 @@ kept_more old cur new R order k faults fault o none same low h (d, new_is, (key,
         | inl before ↦ if_some (slice_get old i) (λ x q before_q. ap (λ (o : Option Entry). value_in o q) (other i (done_apart i before)) ∙ (before_q ∙ ap (λ (os : List Offer). resolved (source x) os q) (sym (stay i (not_from_before R order k i o none low before))))) (h.equation i before)
         | inr is ↦ subst (λ (x : ℕ). IfSome (slice_get old x) (λ e. (q : List ℕ) → seen new x q ≡ resolved (source e) (offers_in new (references_of R x)) q)) is
             (rw old_n (λ q. ap (λ (o : Option Entry). value_in o q) new_n ∙ (table_is q ∙ ap (λ (os : List Offer). resolved (source e) os q) (sym (stay n (not_itself R n none))))))
+      ];
+      ordered = λ i c. elim (up_to order k i low c) [
+        | inl before ↦ subst (λ (x : Option Entry). IfSome x (λ e. AreInOrder e.fields)) (sym (other i (done_apart i before))) (h.ordered i before)
+        | inr is ↦ subst (λ (x : ℕ). IfSome (slice_get new x) (λ e. AreInOrder e.fields)) is (subst (λ (x : Option Entry). IfSome x (λ e. AreInOrder e.fields)) (sym new_n) in_order)
       ];
       faulted = λ i c. elim (up_to order k i low c) [
         | inl before ↦ slice_get-set_other faults n i fault (done_apart i before) ∙ (h.faulted i before ∙ ap (λ (os : List Offer). Some (fault_in (option_map source (slice_get old i)) os)) (sym (stay i (not_from_before R order k i o none low before))))
@@ -103,11 +110,16 @@ pub all_resolved : (old cur : List Entry) (R : List (List ℕ)) (order : List �
 all_resolved old cur R order faults o same h = record {
   kept = h.kept;
   long = h.many;
+  ordered = λ i. where_there (slice_get cur i) (λ e is. h.ordered i (stands_in_order R order o i (let low = slice_get_within cur i e is in omega (arith, low, same, h.long))));
   solved = λ i. subst (λ (x : Option Source). IfSome x (λ e. (q : List ℕ) → seen cur i q ≡ resolved e (offers (sources old) (seen cur) (references_of R i)) q)) (sym (slice_get-map source old i))
       (there i (slice_get old i) (λ low. rw (sym (offers_same old cur h.kept (references_of R i))) (h.equation i (stands_in_order R order o i (omega (arith, low, same))))) (λ e is. slice_get_within old i e is));
   faulted = λ i low. h.faulted i (stands_in_order R order o i (omega (arith, low, same))) ∙ rw (slice_get-map source old i, offers_same old cur h.kept (references_of R i)) refl;
 }
   where
+    where_there : (o : Option Entry) → ((e : Entry) → o ≡ Some e → IfSome o (λ x. AreInOrder x.fields)) → IfSome o (λ x. AreInOrder x.fields)
+    where_there None f = tt
+    where_there (Some e) f = f e refl
+
     there : (i : ℕ) (o : Option Entry) → (i < length old → IfSome o (λ e. (q : List ℕ) → seen cur i q ≡ resolved (source e) (offers (sources old) (seen cur) (references_of R i)) q)) → ((e : Entry) → o ≡ Some e → i < length old)
         → IfSome (option_map source o) (λ e. (q : List ℕ) → seen cur i q ≡ resolved e (offers (sources old) (seen cur) (references_of R i)) q)
     there i None f low = tt
@@ -183,13 +195,14 @@ inner d None = d
 inner d (Some x) = x
 
 -- the first fault is that of an entry, and there is none before it
-pub fault_there : (old new : List Entry) (R : List (List ℕ)) (faults seen_faults : List (Option TypeErrorKind)) (n : ℕ) (kind : TypeErrorKind) → seen_faults ≡ faults → AreResolved old new R faults → IsFirstFault seen_faults (n, kind)
-    → (see : ℕ → Table) × Solves (sources old) R see × (fault_at (sources old) R see n ≡ Some kind) × ((k : ℕ) → k < n → fault_at (sources old) R see k ≡ None)
-fault_there old new R faults seen_faults n kind same h (is, before) =
+pub fault_there : (old new : List Entry) (R : List (List ℕ)) (faults seen_faults : List (Option TypeErrorKind)) (n : ℕ) (kind : TypeErrorKind) → seen_faults ≡ faults → AreResolved old new R faults → IsOnly (sources old) R (seen new) → IsFirstFault seen_faults (n, kind)
+    → (see : ℕ → Table) × Solves (sources old) R see × IsOnly (sources old) R see × (fault_at (sources old) R see n ≡ Some kind) × ((k : ℕ) → k < n → fault_at (sources old) R see k ≡ None)
+fault_there old new R faults seen_faults n kind same h only (is, before) =
     let at : slice_get faults n ≡ Some (Some kind) = ap (λ (fs : List (Option TypeErrorKind)). slice_get fs n) (sym same) ∙ is in
     let low = slice_get_within faults n (Some kind) at in (
       seen new,
       h.solved,
+      only,
       inside (sym (h.faulted n (omega (arith, low, h.long))) ∙ at),
       λ k less. inside (sym (h.faulted k (omega (arith, low, less, h.long))) ∙ (ap (λ (fs : List (Option TypeErrorKind)). slice_get fs k) (sym same) ∙ before k less)),
     )

@@ -1,7 +1,7 @@
 -- Resolved entries as the one solution of an equation.
 use Rattle.std.specs.Prelude.{◌≡◌, ◌<◌, ℕ, List, length, slice_get, get_or, set, Option, Some, None, IfSome, string_bytes}
 use Rattle.reference_graph.specs.References.{references_of, IsCircular}
-use Rattle.biblatex_fields.specs.Fields.{value_named}
+use Rattle.biblatex_fields.specs.Fields.{value_named, AreInOrder}
 use Rattle.biblatex_entries.specs.TypeNames.{type_name}
 use Rattle.biblatex_entries.specs.Entries.{Source, source, sources}
 use Rattle.biblatex_entries.specs.declared.entry.Entry.{Entry}
@@ -17,7 +17,8 @@ Solves es references see = (i : ℕ) → IfSome (slice_get es i) (λ e. (name : 
 
 -- the entry is what another one resolves to
 abbrev pub IsResolved : Entry → Entry → List Offer → Type 0
-IsResolved e d os = (string_bytes d.key ≡ string_bytes e.key) × (type_name d.entry_type ≡ type_name e.entry_type) × IsTable d.fields (resolved (source e) os)
+IsResolved e d os =
+    (string_bytes d.key ≡ string_bytes e.key) × (type_name d.entry_type ≡ type_name e.entry_type) × IsTable d.fields (resolved (source e) os) × AreInOrder d.fields
 
 -- one entry was resolved, and its fault is that of its references
 abbrev pub IsResolvedAt : List Entry → List Entry → ℕ → List Offer → Option TypeErrorKind → Type 0
@@ -49,12 +50,17 @@ fault_in (Some e) os = date_fault e os
 abbrev pub fault_at : List Source → List (List ℕ) → (ℕ → Table) → ℕ → Option TypeErrorKind
 fault_at es references see i = fault_in (slice_get es i) (offers es see (references_of references i))
 
+-- the fields of each entry stand in the order of their names
+abbrev pub AreOrdered : List Entry → Type 0
+AreOrdered es = (i : ℕ) → IfSome (slice_get es i) (λ e. AreInOrder e.fields)
+
 -- all entries were resolved, and what their faults are
 pub record AreResolved (old new : List Entry) (references : List (List ℕ)) (faults : List (Option TypeErrorKind)) : Type 0 where
   pub kept : AreKept old new
   pub solved : Solves (sources old) references (seen new)
   pub faulted : (i : ℕ) → i < length old → slice_get faults i ≡ Some (fault_at (sources old) references (seen new) i)
   pub long : length faults ≡ length old
+  pub ordered : AreOrdered new
 
 -- the first fault of a list, and its place
 abbrev pub IsFirstFault : List (Option TypeErrorKind) → ℕ × TypeErrorKind → Type 0
@@ -64,14 +70,14 @@ IsFirstFault faults p = (slice_get faults p.0 ≡ Some (Some p.1)) × ((k : ℕ)
 abbrev pub NoneIsCircular : List (List ℕ) → Type 0
 NoneIsCircular references = (i : ℕ) → IsCircular references i → ⊥
 
+-- any other solution agrees
+abbrev pub IsOnly : List Source → List (List ℕ) → (ℕ → Table) → Type 0
+IsOnly es references see = (other : ℕ → Table) → Solves es references other → (i : ℕ) → i < length es → (name : List ℕ) → see i name ≡ other i name
+
 -- Why entries are not resolved: one of them is the first that reaches itself; or none does, and it is the first whose fault there
--- is, with its references as the solution sees them.
+-- is, with its references as the one solution sees them; of want of memory nothing is said.
 abbrev pub IsRefusedAs : List Source → List (List ℕ) → ResolveError → Type 0
 IsRefusedAs es references errors.Memory = Unit {0}
 IsRefusedAs es references (errors.ReferenceCycle n) = (n < length es) × IsCircular references n × ((k : ℕ) → k < n → IsCircular references k → ⊥)
 IsRefusedAs es references (errors.UnreadableDate n kind) =
-    NoneIsCircular references × ((see : ℕ → Table) × Solves es references see × (fault_at es references see n ≡ Some kind) × ((k : ℕ) → k < n → fault_at es references see k ≡ None))
-
--- any other solution agrees
-abbrev pub IsOnly : List Source → List (List ℕ) → (ℕ → Table) → Type 0
-IsOnly es references see = (other : ℕ → Table) → Solves es references other → (i : ℕ) → i < length es → (name : List ℕ) → see i name ≡ other i name
+    NoneIsCircular references × ((see : ℕ → Table) × Solves es references see × IsOnly es references see × (fault_at es references see n ≡ Some kind) × ((k : ℕ) → k < n → fault_at es references see k ≡ None))

@@ -12,4 +12,4 @@ mod table;
 mod tests;
 
 pub use error::ResolveError;
-pub use solution::resolve;
+pub use solution::{Resolution, resolve};

@@ -5,7 +5,7 @@ ghost use Rattle.reference_graph.specs.References.{lists};
 ghost use Rattle.reference_graph.specs.Order.{IsOrder};
 ghost use Rattle.biblatex_entries.specs.Entries.{sources};
 ghost use Rattle.biblatex_inheritance.specs.Views.{offers_in};
-ghost use Rattle.biblatex_inheritance.specs.Solution.{Solves, seen, fault_at, AreKept, AreResolved, IsFirstFault, IsOnly, IsRefusedAs, IsResolvedAt, NoneIsCircular};
+ghost use Rattle.biblatex_inheritance.specs.Solution.{Solves, seen, fault_at, AreKept, AreOrdered, AreResolved, IsFirstFault, IsOnly, IsRefusedAs, IsResolvedAt, NoneIsCircular};
 
 use crate::error::ResolveError;
 use crate::inherit::inherit;
@@ -15,6 +15,22 @@ use biblatex_fields::Fields;
 use reference_graph::reference_order;
 use std::alloc::{AllocError, Global};
 use std::mem;
+
+/// Entries with their references resolved.
+#[derive(Drop)]
+pub struct Resolution {
+    /// The entries, each in its place.
+    pub entries: Vec<Entry>,
+    /// How many times an entry was made from its fields and its references.
+    pub count: usize,
+}
+
+/// The fault of each entry, and how many entries were made.
+#[derive(Drop)]
+struct Faults {
+    faults: Vec<Option<TypeErrorKind>>,
+    count: usize,
+}
 
 /// Resolves entries in place. `references[i]` are the numbers of the entries that the entry `i` refers to, in their order; a
 /// number that is no entry's is passed over.
@@ -26,16 +42,22 @@ pub fn resolve(
     alloc: Global,
     entries: Vec<Entry>,
     references: &[Vec<usize>],
-) -> Result<Vec<Entry>, ResolveError>
+) -> Result<Resolution, ResolveError>
     requires { length references.now ≡ length entries.items }
     // Each entry keeps its place, its key and its type.
-    ensures kept { IfOk result (λ v. AreKept entries.items v.items) }
+    ensures kept { IfOk result (λ r. AreKept entries.items r.entries.items) }
     // The fields of each entry are what it resolves to, with its references as they are resolved.
-    ensures equation { IfOk result (λ v. Solves (sources entries.items) (lists references.now) (seen v.items)) }
+    ensures equation { IfOk result (λ r. Solves (sources entries.items) (lists references.now) (seen r.entries.items)) }
     // Nothing else is a solution of this equation.
-    ensures only { IfOk result (λ v. IsOnly (sources entries.items) (lists references.now) (seen v.items)) }
+    ensures only { IfOk result (λ r. IsOnly (sources entries.items) (lists references.now) (seen r.entries.items)) }
     // No entry that needs a date has a reference whose date cannot be read.
-    ensures readable { IfOk result (λ v. (i : ℕ) → i < length entries.items → fault_at (sources entries.items) (lists references.now) (seen v.items) i ≡ None) }
+    ensures readable { IfOk result (λ r. (i : ℕ) → i < length entries.items → fault_at (sources entries.items) (lists references.now) (seen r.entries.items) i ≡ None) }
+    // The fields of each entry stand in the order of their names.
+    ensures ordered { IfOk result (λ r. AreOrdered r.entries.items) }
+    // No entry reaches itself.
+    ensures acyclic { IfOk result (λ r. NoneIsCircular (lists references.now)) }
+    // Each entry was made once.
+    ensures count { IfOk result (λ r. r.count ≡ length entries.items) }
     // What is refused, and why.
     ensures refused { IfErr result (IsRefusedAs (sources entries.items) (lists references.now)) }
 {
@@ -44,10 +66,10 @@ pub fn resolve(
         return Err(ResolveError::ReferenceCycle(number));
     }
     let mut entries = entries;
-    let faults = resolve_all(alloc, &mut entries, references, order.order())?;
+    let Faults { faults, count } = resolve_all(alloc, &mut entries, references, order.order())?;
     match first_fault(&faults) {
         Some((number, kind)) => Err(ResolveError::UnreadableDate(number, kind)),
-        None => Ok(entries),
+        None => Ok(Resolution { entries, count }),
     }
 }
 
@@ -69,17 +91,20 @@ fn resolve_all(
     entries: &mut Vec<Entry>,
     references: &[Vec<usize>],
     order: &[usize],
-) -> Result<Vec<Option<TypeErrorKind>>, AllocError>
+) -> Result<Faults, AllocError>
     requires same { length references.now ≡ length entries.old.items }
     requires order { IsOrder (lists references.now) order.now }
     requires none { NoneIsCircular (lists references.now) }
-    ensures { IfOk result (λ faults. AreResolved entries.old.items entries.new.items (lists references.now) faults.items) }
+    ensures resolved { IfOk result (λ f. AreResolved entries.old.items entries.new.items (lists references.now) f.faults.items) }
+    ensures count { IfOk result (λ f. f.count ≡ length order.now) }
 {
     let mut faults = no_faults(alloc, references.len())?;
+    let mut count = 0;
     for &number in order {
         faults[number] = resolve_one(alloc, entries, number, references[number].as_slice())?;
+        count += 1;
     }
-    Ok(faults)
+    Ok(Faults { faults, count })
 }
 
 /// No fault at so many places.

@@ -2,7 +2,7 @@ use Rattle.std.proofs.Common.{ℕ, List, sym, ap, subst, ◌∙◌}
 use Rattle.biblatex_entries.specs.Entries.{source}
 use Rattle.biblatex_bibliography.specs.Bibliographies.{Held, seen, held, IsAsRead, put_last}
 use Rattle.biblatex_bibliography.proofs.Within.{then_ok}
-use Rattle.biblatex_bibliography.proofs.Reading.{pushed-read}
+use Rattle.biblatex_bibliography.proofs.Names.{pushed-read}
 use Rattle.biblatex_bibliography.proofs.bibliography.Bibliography.push.Goals as goal
 
 pub returns-clause-read : goal.returns-clause-read

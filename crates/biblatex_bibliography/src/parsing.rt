@@ -1,0 +1,128 @@
+//! Reading texts.
+
+ghost use Rattle.std.specs.Prelude.{◌≡◌, ◌<◌, map, IfOk, IfSome, Some, length};
+ghost use Rattle.std.specs.Str.{chars};
+ghost use Rattle.laws.specs.Text.{text as text_of};
+ghost use Rattle.biblatex_text.specs.Views.{part, raw as written};
+ghost use Rattle.biblatex_bibliography.specs.Reading.{raw, refused_at, reference_cycle, unreadable_date};
+ghost use Rattle.biblatex_bibliography.specs.Resolved.{IsMeaningOf, TextMeans, unresolved_at, number_of};
+ghost use Rattle.biblatex_bibliography.specs.Errors.{Answers, reason, refusal_of};
+
+use crate::Bibliography;
+use crate::error::{ParseError, ParseErrorKind};
+use crate::reading::{load, owned};
+use biblatex_dates::TypeErrorKind;
+use biblatex_fields::{Abbreviations, Spanned};
+use biblatex_inheritance::ResolveError;
+use biblatex_text::{Fault, RawBibliography, RawError};
+use std::alloc::{AllocError, Global};
+
+/// What a text holds once its references are resolved, and how many times an entry was made from its fields and its references.
+#[derive(Drop)]
+pub struct Counted {
+    /// The entries, found by their names.
+    pub bibliography: Bibliography,
+    /// How many entries were made: one for each entry of the text.
+    pub count: usize,
+}
+
+/// The kind of a fault of the raw grammar.
+fn kind_of(fault: Fault) -> ParseErrorKind
+    ensures { reason result ≡ raw fault }
+{
+    match fault {
+        Fault::UnexpectedEof => ParseErrorKind::UnexpectedEof,
+        Fault::Unexpected(token) => ParseErrorKind::Unexpected(token),
+        Fault::Expected(token) => ParseErrorKind::Expected(token),
+    }
+}
+
+/// Why entries are not resolved, at the key of the entry that is refused.
+fn unresolved(
+    alloc: Global,
+    keys: &[Spanned<&str>],
+    error: ResolveError,
+) -> Result<ParseError, AllocError>
+    requires { IfSome (number_of error) (λ n. n < length keys.now) }
+    ensures { IfOk result (λ e. refusal_of e ≡ unresolved_at (map part keys.now) error) }
+{
+    match error {
+        ResolveError::Memory => Ok(ParseError::Memory),
+        ResolveError::ReferenceCycle(number) => circular(alloc, &keys[number]),
+        ResolveError::UnreadableDate(number, kind) => Ok(unreadable(&keys[number], kind)),
+    }
+}
+
+/// The entry of this key reaches itself.
+fn circular(alloc: Global, key: &Spanned<&str>) -> Result<ParseError, AllocError>
+    ensures { IfOk result (λ e. refusal_of e ≡ Some (refused_at (part key.now) (reference_cycle (text_of (chars key.now.v.now))))) }
+{
+    Ok(ParseError::Refused {
+        kind: ParseErrorKind::ReferenceCycle(owned(alloc, key.v)?),
+        span: key.span.start..key.span.end,
+    })
+}
+
+/// The entry of this key would inherit a date that cannot be read.
+fn unreadable(key: &Spanned<&str>, kind: TypeErrorKind) -> ParseError
+    ensures { refusal_of result ≡ Some (refused_at (part key.now) (unreadable_date kind)) }
+{
+    ParseError::Refused {
+        kind: ParseErrorKind::ResolutionError(kind),
+        span: key.span.start..key.span.end,
+    }
+}
+
+impl Bibliography {
+    /// Reads the entries of a text, in its order, and resolves their references.
+    ///
+    /// # Errors
+    /// `Refused` with the first fault: the first one of the raw grammar from the left; else, entry by entry, that of its fields
+    /// and their pieces in order, then a key that has a meaning already; else the first entry that reaches itself; else the
+    /// first that needs a date and refers to one whose date cannot be read. `Memory` where a request for memory was refused.
+    pub fn parse(alloc: Global, source: &str) -> Result<Bibliography, ParseError>
+        ensures { Answers (λ b. b) result (TextMeans (chars source.now)) }
+    {
+        match RawBibliography::parse(alloc, source) {
+            Ok(raw) => Bibliography::from_raw(alloc, raw),
+            Err(RawError::Memory) => Err(ParseError::Memory),
+            Err(RawError::Refused { fault, at }) => Err(ParseError::Refused {
+                kind: kind_of(fault),
+                span: at..at,
+            }),
+        }
+    }
+
+    /// Reads the entries of a raw text, and resolves their references.
+    ///
+    /// # Errors
+    /// As those of `parse`, but for faults of the raw grammar.
+    pub fn from_raw(alloc: Global, raw: RawBibliography) -> Result<Bibliography, ParseError>
+        ensures { Answers (λ b. b) result (IsMeaningOf (written raw.entry)) }
+    {
+        Ok(Bibliography::from_raw_counted(alloc, raw)?.bibliography)
+    }
+
+    /// As `from_raw`, with the number of entries that were made by resolving: one for each entry of the text.
+    ///
+    /// # Errors
+    /// Those of `from_raw`.
+    pub fn from_raw_counted(alloc: Global, raw: RawBibliography) -> Result<Counted, ParseError>
+        ensures meaning { Answers (λ c. c.bibliography) result (IsMeaningOf (written raw.entry)) }
+        ensures count { IfOk result (λ c. c.count ≡ length raw.entry.entries.items) }
+    {
+        let RawBibliography {
+            entries,
+            abbreviations,
+        } = raw;
+        let abbreviations = Abbreviations::new(alloc, abbreviations.as_slice())?;
+        let loaded = load(alloc, &abbreviations, entries)?;
+        match loaded.bibliography.resolved(alloc) {
+            Ok((bibliography, count)) => Ok(Counted {
+                bibliography,
+                count,
+            }),
+            Err(error) => Err(unresolved(alloc, loaded.keys.as_slice(), error)?),
+        }
+    }
+}

@@ -1,0 +1,120 @@
+//! Reading the entries of a text, before their references are resolved.
+
+ghost use Rattle.std.specs.Prelude.{◌≡◌, Some, IfOk, map, length, string_bytes};
+ghost use Rattle.std.specs.Str.{chars};
+ghost use Rattle.laws.specs.Text.{text as text_of, lowered};
+ghost use Rattle.biblatex_text.specs.Views.{entry, fields, part, raw_entry};
+ghost use Rattle.biblatex_fields.specs.Fields.{fields_of};
+ghost use Rattle.biblatex_fields.specs.Views.{refusal};
+ghost use Rattle.biblatex_entries.specs.Entries.{source};
+ghost use Rattle.biblatex_bibliography.specs.Reading as specs;
+ghost use Rattle.biblatex_bibliography.specs.Reading.{field_refusal, fields_or_refusal, source_of, refused_at, duplicate_key};
+ghost use Rattle.biblatex_bibliography.specs.Errors.{Gives, loaded_of, loaded_in, refusal_of, Steps};
+
+use crate::Bibliography;
+use crate::error::{ParseError, ParseErrorKind};
+use biblatex_entries::{Entry, EntryType};
+use biblatex_fields::{Abbreviations, FieldError, FieldFault, Fields, Spanned, read_fields};
+use biblatex_text::RawEntry;
+use std::alloc::{AllocError, Global};
+
+/// The entries of a text, found by their names, and of each its written key.
+#[derive(Drop)]
+pub(crate) struct Loaded<'s> {
+    pub(crate) bibliography: Bibliography,
+    pub(crate) keys: Vec<Spanned<&'s str>>,
+}
+
+/// The text in memory of its own.
+pub(crate) fn owned(alloc: Global, text: &str) -> Result<String, AllocError>
+    ensures { IfOk result (λ s. string_bytes s ≡ text_of (chars text.now)) }
+{
+    String::from_str(alloc, text)
+}
+
+/// The fault of a field, as an error of the text.
+fn refused(alloc: Global, fault: FieldFault) -> Result<ParseError, AllocError>
+    ensures { IfOk result (λ e. refusal_of e ≡ Some (field_refusal (refusal fault.entry))) }
+{
+    match fault {
+        FieldFault::UnknownAbbreviation(name) => Ok(ParseError::Refused {
+            kind: ParseErrorKind::UnknownAbbreviation(owned(alloc, name.v)?),
+            span: name.span,
+        }),
+        FieldFault::AbbreviationCycle(name) => Ok(ParseError::Refused {
+            kind: ParseErrorKind::AbbreviationCycle(owned(alloc, name.v)?),
+            span: name.span,
+        }),
+        FieldFault::MalformedCommand(span) => Ok(ParseError::Refused {
+            kind: ParseErrorKind::MalformedCommand,
+            span,
+        }),
+    }
+}
+
+/// The fields of an entry.
+fn fields_of(
+    alloc: Global,
+    abbreviations: &Abbreviations,
+    raw: &RawEntry,
+) -> Result<Fields, ParseError>
+    ensures { Gives (λ fs. fs) result (fields_or_refusal (fields_of abbreviations.now (fields raw.now.fields))) }
+{
+    match read_fields(alloc, abbreviations, raw) {
+        Ok(fields) => Ok(fields),
+        Err(FieldError::Memory) => Err(ParseError::Memory),
+        Err(FieldError::Fault(fault)) => Err(refused(alloc, fault)?),
+    }
+}
+
+/// The entry of these fields.
+fn entry_of(alloc: Global, raw: &RawEntry, fields: Fields) -> Result<Entry, AllocError>
+    ensures { IfOk result (λ e. source e ≡ source_of (raw_entry raw.now) fields) }
+{
+    let key = owned(alloc, raw.key.v)?;
+    let entry_type = EntryType::new(alloc, raw.kind.v)?;
+    Ok(Entry {
+        key,
+        entry_type,
+        fields,
+    })
+}
+
+/// Reads one more entry behind those that were read.
+fn load_entry<'s>(
+    alloc: Global,
+    abbreviations: &Abbreviations<'_, 's>,
+    bibliography: &mut Bibliography,
+    keys: &mut Vec<Spanned<&'s str>>,
+    raw: RawEntry<'s>,
+) -> Result<(), ParseError>
+    ensures { Steps result (loaded_of bibliography.new keys.new.items) (specs.entry_behind abbreviations.now (loaded_of bibliography.old keys.old.items) (raw_entry raw.entry)) }
+{
+    let fields = fields_of(alloc, abbreviations, &raw)?;
+    let entry = entry_of(alloc, &raw, fields)?;
+    if bibliography.place(entry.key.as_str()).is_some() {
+        return Err(ParseError::Refused {
+            kind: ParseErrorKind::DuplicateKey(entry.key),
+            span: raw.key.span,
+        });
+    }
+    bibliography.push(entry)?;
+    keys.push(raw.key)?;
+    Ok(())
+}
+
+/// Reads all entries of a text.
+pub(crate) fn load<'s>(
+    alloc: Global,
+    abbreviations: &Abbreviations<'_, 's>,
+    entries: Vec<Spanned<RawEntry<'s>>>,
+) -> Result<Loaded<'s>, ParseError>
+    ensures { Gives loaded_in result (specs.loaded abbreviations.now (map entry entries.entry.items)) }
+{
+    let mut bibliography = Bibliography::new(alloc);
+    let mut keys = Vec::with_capacity(alloc, entries.len())?;
+    for raw in entries {
+        load_entry(alloc, abbreviations, &mut bibliography, &mut keys, raw.v)?;
+    }
+    Ok(Loaded { bibliography, keys })
+}
