@@ -9,26 +9,15 @@ evenly. Both come of a fixed seed. For N = 1,000, 10,000 and 100,000 it prints t
 Then, from the smaller two: the instructions for each byte of input (the difference over the difference) and the growth
 exponent of the instructions.
 """
-import math
 import os
 import random
-import subprocess
 import sys
 import tempfile
-import time
+
+from measuring import WORDS, Table, title
 
 here = os.path.dirname(os.path.abspath(__file__))
 program = os.path.abspath(sys.argv[1] if len(sys.argv) > 1 else os.path.join(here, "../crates/cite_program/out/cite_program"))
-WORDS = "of the art light field winter river letters house memory early stone public measure sea on time form".split()
-
-
-def title(chance):
-    """A title of 40 to 60 characters."""
-    wanted = chance.randint(40, 60)
-    text = "A"
-    while len(text) < wanted:
-        text += " " + chance.choice(WORDS)
-    return text[:wanted].rstrip().ljust(40, "s")
 
 
 def book(chance, key):
@@ -58,37 +47,11 @@ def document(chance, keys, count):
     return "".join(parts)
 
 
-def peak_and_seconds(words):
-    """The peak memory in bytes and the seconds of one run."""
-    started = time.perf_counter()
-    running = subprocess.Popen(words, stdout=subprocess.DEVNULL)
-    _, status, usage = os.wait4(running.pid, 0)
-    seconds = time.perf_counter() - started
-    if status != 0:
-        sys.exit(f"{words} ended with status {status}")
-    return usage.ru_maxrss * 1024, seconds
-
-
-def instructions(words, folder):
-    """The instructions of one run."""
-    out = os.path.join(folder, "callgrind.out")
-    command = ["valgrind", "--tool=callgrind", "--callgrind-out-file=" + out] + words
-    subprocess.run(command, check=True, stdout=subprocess.DEVNULL, stderr=subprocess.DEVNULL)
-    with open(out) as lines:
-        for line in lines:
-            if line.startswith(("summary:", "totals:")):
-                return int(line.split()[1])
-    sys.exit("callgrind gave no summary")
-
-
 with tempfile.TemporaryDirectory() as folder:
     bib, text = os.path.join(folder, "b.bib"), os.path.join(folder, "d.txt")
-    words = [program, "num", "plain", bib, text]
     for path in (bib, text):
         open(path, "w").close()
-    empty, _ = peak_and_seconds(words)
-    counted = []
-    print(f"{'N':>7} {'bytes':>10} {'instructions':>14} {'seconds':>8} {'memory':>11} {'times input':>11}")
+    table = Table([program, "num", "plain", bib, text], folder)
     for count in (1_000, 10_000, 100_000):
         chance = random.Random(count)
         keys = [f"k{place}" for place in range(count)]
@@ -96,12 +59,5 @@ with tempfile.TemporaryDirectory() as folder:
             out.write("".join(book(chance, key) for key in keys))
         with open(text, "w") as out:
             out.write(document(chance, keys, count))
-        size = os.path.getsize(bib) + os.path.getsize(text)
-        peak, seconds = peak_and_seconds(words)
-        ran = instructions(words, folder) if count < 100_000 else None
-        if ran:
-            counted.append((size, ran))
-        print(f"{count:>7} {size:>10} {ran or '-':>14} {seconds:>8.3f} {peak - empty:>11} {(peak - empty) / size:>11.2f}")
-    (small, few), (large, many) = counted
-    print(f"instructions a byte: {(many - few) / (large - small):.1f}")
-    print(f"growth exponent: {math.log(many / few) / math.log(large / small):.3f}")
+        table.line(count, os.path.getsize(bib) + os.path.getsize(text))
+    table.growth()

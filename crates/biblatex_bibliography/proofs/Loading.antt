@@ -16,7 +16,7 @@ use Rattle.biblatex_inheritance.specs.Solution.{IsRefusedAs, fault_in}
 use Rattle.biblatex_inheritance.specs.declared.error.ResolveError.{ResolveError}
 use Rattle.biblatex_inheritance.specs.declared.error.ResolveError.TheVariants as errors
 use Rattle.biblatex_bibliography.specs.Bibliographies.{Listed, Held, seen, nothing, pushed, IsAsRead, references}
-use Rattle.biblatex_bibliography.specs.Reading.{Refusal, Loaded, nothing_loaded, refused_at, duplicate_key, fields_or_refusal, source_of, unless_known, entry_behind, entries_behind, loaded}
+use Rattle.biblatex_bibliography.specs.Reading.{Refusal, Loaded, nothing_loaded, refused_at, duplicate_key, or_refusal, source_of, unless_known, entry_behind, entries_behind, loaded}
 use Rattle.biblatex_bibliography.specs.Resolved.{number_of, unresolved_at, ComesTo, Means, IsMeaningOf}
 use Rattle.biblatex_bibliography.specs.Errors.{loaded_of}
 use Rattle.biblatex_bibliography.proofs.Within.{length_last}
@@ -34,12 +34,12 @@ ok_same : (l m : Loaded) → Same (Ok l) (Ok m) → l ≡ m
 ok_same l m e = ap (inner l) e
 
 -- an entry whose key has a meaning already
-pub entry_known : (g : Glossary) (l : Loaded) (e : Entry) (fs : List Named) (key : List ℕ) → fields_or_refusal (fields_of g e.fields) ≡ Ok fs → key ≡ text e.key.v → is_some (l.listed.place key) ≡ true
+pub entry_known : (g : Glossary) (l : Loaded) (e : Entry) (fs : List Named) (key : List ℕ) → or_refusal (fields_of g e.fields) ≡ Ok fs → key ≡ text e.key.v → is_some (l.listed.place key) ≡ true
     → entry_behind g l e ≡ Err (refused_at e.key (duplicate_key key))
 entry_known g l e fs key read is known = rw (read, ← is, known) refl
 
 -- an entry whose key has none
-pub entry_fresh : (g : Glossary) (l : Loaded) (e : Entry) (fs : List Named) (key : List ℕ) → fields_or_refusal (fields_of g e.fields) ≡ Ok fs → key ≡ text e.key.v → is_some (l.listed.place key) ≡ false
+pub entry_fresh : (g : Glossary) (l : Loaded) (e : Entry) (fs : List Named) (key : List ℕ) → or_refusal (fields_of g e.fields) ≡ Ok fs → key ≡ text e.key.v → is_some (l.listed.place key) ≡ false
     → entry_behind g l e ≡ Ok (record { listed = pushed (source_of e fs) l.listed; keys = l.keys ++ e.key ∷ [] })
 entry_fresh g l e fs key read is fresh = rw (read, ← is, fresh) refl
 
@@ -65,7 +65,7 @@ pub record More (l m : Loaded) (n : ℕ) : Type 0 where
   pub keys : length m.keys ≡ length l.keys + n
 
 one_more : (g : Glossary) (l m : Loaded) (e : Entry) → entry_behind g l e ≡ Ok m → More l m 1
-one_more g l m e is = by_fields (fields_or_refusal (fields_of g e.fields)) is
+one_more g l m e is = by_fields (or_refusal (fields_of g e.fields)) is
   where
     added : (s : Source) → More l (record { listed = pushed s l.listed; keys = l.keys ++ e.key ∷ [] }) 1
     added s = let a = length_last l.listed.entries s in let b = length_last l.keys e.key in record { entries = omega (arith, a); keys = omega (arith, b) }
@@ -101,7 +101,7 @@ number_within es R (errors.UnreadableDate n kind) (none, (see, solves, only, fau
     there (Some e) is fault = slice_get_within es n e is
 
 one_as_read : (g : Glossary) (l m : Loaded) (e : Entry) → entry_behind g l e ≡ Ok m → IsAsRead l.listed → IsAsRead m.listed
-one_as_read g l m e is read = by_fields (fields_or_refusal (fields_of g e.fields)) is
+one_as_read g l m e is read = by_fields (or_refusal (fields_of g e.fields)) is
   where
     by_key : (fs : List Named) (b : Bool) → unless_known b l e.key (source_of e fs) ≡ Ok m → IsAsRead m.listed
     by_key fs true is = absurd cc

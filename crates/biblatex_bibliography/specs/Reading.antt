@@ -41,9 +41,9 @@ field_refusal (abbreviations.unknown name) = refused_at name (unknown_abbreviati
 field_refusal (abbreviations.circular name) = refused_at name (abbreviation_cycle (text name.v))
 field_refusal (abbreviations.malformed start end) = record { reason = malformed_command; start = start; end = end }
 
-abbrev pub fields_or_refusal : Result (List Named) abbreviations.Refusal → Result (List Named) Refusal
-fields_or_refusal (Ok fs) = Ok fs
-fields_or_refusal (Err r) = Err (field_refusal r)
+abbrev pub or_refusal : {X : Type 0} → Result X abbreviations.Refusal → Result X Refusal
+or_refusal (Ok x) = Ok x
+or_refusal (Err r) = Err (field_refusal r)
 
 -- what was read: the entries with what names mean, and of each entry its written key
 pub record Loaded : Type 0 where
@@ -64,7 +64,7 @@ unless_known false l key e = Ok (record { listed = pushed e l.listed; keys = l.k
 
 -- one more entry: its fields are read, then its key is looked at
 abbrev pub entry_behind : Glossary → Loaded → Entry → Result Loaded Refusal
-entry_behind g l e = fields_or_refusal (fields_of g e.fields) >>= λ fs. unless_known (is_some (l.listed.place (text e.key.v))) l e.key (source_of e fs)
+entry_behind g l e = or_refusal (fields_of g e.fields) >>= λ fs. unless_known (is_some (l.listed.place (text e.key.v))) l e.key (source_of e fs)
 
 -- entries in the order of the text, behind those that were read
 abbrev pub entries_behind : Glossary → Loaded → List (At Entry) → Result Loaded Refusal

@@ -16,3 +16,4 @@ pub use bibliography::Bibliography;
 pub use error::{ParseError, ParseErrorKind};
 pub use keys::Keys;
 pub use parsing::Counted;
+pub use reading::parse_field;

@@ -3,19 +3,23 @@
 ghost use Rattle.std.specs.Prelude.{◌≡◌, Some, IfOk, map, length, string_bytes};
 ghost use Rattle.std.specs.Str.{chars};
 ghost use Rattle.laws.specs.Text.{text as text_of, lowered};
-ghost use Rattle.biblatex_text.specs.Views.{entry, fields, part, raw_entry};
+ghost use Rattle.biblatex_text.specs.Views.{entry, fields, piece, raw_entry};
+ghost use Rattle.biblatex_content.specs.Views.{styled};
+ghost use Rattle.biblatex_fields.specs.Value.{content_of};
 ghost use Rattle.biblatex_fields.specs.Fields.{fields_of};
 ghost use Rattle.biblatex_fields.specs.Views.{refusal};
 ghost use Rattle.biblatex_entries.specs.Entries.{source};
 ghost use Rattle.biblatex_bibliography.specs.Reading as specs;
-ghost use Rattle.biblatex_bibliography.specs.Reading.{field_refusal, fields_or_refusal, source_of, refused_at, duplicate_key};
+ghost use Rattle.biblatex_bibliography.specs.Reading.{field_refusal, or_refusal, source_of, refused_at, duplicate_key};
 ghost use Rattle.biblatex_bibliography.specs.Errors.{Gives, loaded_of, loaded_in, refusal_of, Steps};
 
 use crate::Bibliography;
 use crate::error::{ParseError, ParseErrorKind};
 use biblatex_entries::{Entry, EntryType};
-use biblatex_fields::{Abbreviations, FieldError, FieldFault, Fields, Spanned, read_fields};
-use biblatex_text::RawEntry;
+use biblatex_fields::{
+    Abbreviations, Chunks, FieldError, FieldFault, Fields, Spanned, read_fields,
+};
+use biblatex_text::{RawChunk, RawEntry};
 use std::alloc::{AllocError, Global};
 
 /// The entries of a text, found by their names, and of each its written key.
@@ -52,13 +56,33 @@ fn refused(alloc: Global, fault: FieldFault) -> Result<ParseError, AllocError>
     }
 }
 
+/// The value of a field of that name, with abbreviations opened: what its pieces give, one behind the other, tidied. A verbatim
+/// field reads all of them as verbatim.
+///
+/// # Errors
+/// `Refused` with the first fault in the order of pieces; `Memory` where a request for memory was refused.
+pub fn parse_field<'s>(
+    alloc: Global,
+    key: &str,
+    field: &[Spanned<RawChunk<'s>>],
+    abbreviations: &Abbreviations<'_, 's>,
+) -> Result<Chunks, ParseError>
+    ensures { Gives (λ v. styled v.items) result (or_refusal (content_of abbreviations.now (chars key.now) (map piece field.now))) }
+{
+    match abbreviations.parse_field(alloc, key, field) {
+        Ok(value) => Ok(value),
+        Err(FieldError::Memory) => Err(ParseError::Memory),
+        Err(FieldError::Fault(fault)) => Err(refused(alloc, fault)?),
+    }
+}
+
 /// The fields of an entry.
 fn fields_of(
     alloc: Global,
     abbreviations: &Abbreviations,
     raw: &RawEntry,
 ) -> Result<Fields, ParseError>
-    ensures { Gives (λ fs. fs) result (fields_or_refusal (fields_of abbreviations.now (fields raw.now.fields))) }
+    ensures { Gives (λ fs. fs) result (or_refusal (fields_of abbreviations.now (fields raw.now.fields))) }
 {
     match read_fields(alloc, abbreviations, raw) {
         Ok(fields) => Ok(fields),

@@ -1,51 +1,9 @@
--- How great a number of a few digits may be.
-use Rattle.std.proofs.Common.{◌≡◌, ℕ, ◌<◌, ◌≤◌, ◌^◌, true, ◌&&◌, List, [], ◌∷◌, length, Result, Ok, Err, refl, arith, leb, eqb, ap, false}
-use Rattle.std.specs.Prelude.{IfOk}
-use Rattle.std.specs.Char.{is_ascii_digit}
-use Rattle.std.specs.Str.Parse.{digits_value}
-use Rattle.std.specs.Str.{all_ascii_digits}
-use Rattle.std.proofs.lemmas.Bool.{leb-true, and_parts}
+-- Four digits, or another number of them.
+use Rattle.std.proofs.Common.{◌≡◌, ℕ, ◌&&◌, true, false, arith, leb, eqb, refl}
 use Rattle.std.proofs.lemmas.Bool.Decides.{nat_tests}
-use Rattle.std.proofs.lemmas.Str.Parse.{digits_value_short}
-use Rattle.laws.specs.Results.{Reads}
-use Rattle.laws.specs.Runs.{front_of, after, AllPassTest}
-use Rattle.laws.proofs.Results.{test_ok, ok_is}
-use Rattle.laws.proofs.Runs.{all-front}
-use Rattle.text_reader.specs.Character.{passes}
-use Rattle.text_reader.specs.Reading.{digits_at}
-use Rattle.text_reader.specs.declared.character.Class.TheVariants.{Digit}
-use Rattle.text_reader.specs.declared.reader.Unreadable.{Unreadable}
-use Rattle.text_reader.specs.declared.reader.Unreadable.TheVariants.{NotThere}
-use Rattle.text_reader.proofs.Digits.{own}
-
-digits_all : (ds : List ℕ) → AllPassTest (passes Digit) ds → all_ascii_digits ds ≡ true
-unfolding passes
-digits_all [] all = refl
-digits_all (d ∷ ds) all =
-    let p : is_ascii_digit d ≡ true = all.0 in
-    rw p (digits_all ds all.1)
-
--- digits of a run are below the power of ten that is their number
-pub run_below : (cs : List ℕ) (most : ℕ) → length (front_of (passes Digit) cs) ≤ most → digits_value 10 (front_of (passes Digit) cs) < 10 ^ most
-run_below cs most few = digits_value_short own (front_of (passes Digit) cs) most (digits_all (front_of (passes Digit) cs) (all-front (passes Digit) cs)) few
-
--- so is the number that they give
-pub digits_below : (least most n : ℕ) (cs rest : List ℕ) → digits_at least most cs ≡ Ok (n, rest) → n < 10 ^ most
-digits_below least most n cs rest read =
-    let ds : List ℕ = front_of (passes Digit) cs in
-    let t = test_ok (leb least (length ds) && leb (length ds) most) (Ok (digits_value 10 ds, after (passes Digit) cs)) NotThere (n, rest) read in
-    let few : length ds ≤ most = leb-true _ _ (and_parts (leb least (length ds)) (leb (length ds) most) t.0).1 in
-    let same = ap (λ (p : ℕ × List ℕ). p.0) (ok_is _ _ t.1) in
-    let below = run_below cs most few in
-    rw same at below
 
 pub is_four : (n : ℕ) → n ≡ 4 → leb 4 n && leb n 4 ≡ true
 is_four n e = rw e refl
 
 pub is_other : (n : ℕ) → (n ≡ 4 → ⊥) → eqb n 4 ≡ false
 is_other n e = grind (arith, nat_tests)
-
--- what a call that reads digits answers is below it too
-pub answer_below : (least most : ℕ) (cs rest : List ℕ) (r : Result ℕ Unreadable) → Reads (λ n. n) r rest (digits_at least most cs) → IfOk r (λ n. n < 10 ^ most)
-answer_below least most cs rest (Ok n) read = digits_below least most n cs rest read
-answer_below least most cs rest (Err e) read = tt

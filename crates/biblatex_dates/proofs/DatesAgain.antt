@@ -1,26 +1,29 @@
 -- Dates that were written are read back.
-use Rattle.std.proofs.Common.{◌≡◌, ℕ, zero, suc, ◌+◌, ◌-◌, ◌^◌, ◌<◌, ◌≤◌, Bool, true, false, cond, ◌&&◌, ◌||◌, List, [], ◌∷◌, ◌++◌, length, replicate, Option, Some, None, Ok, ℤ, pos, negsuc, refl, sym, ap, ◌∙◌, subst, arith, leb, eqb, append_assoc, append-nil, length-append, lit<, lit≤}
+use Rattle.std.proofs.Common.{◌≡◌, ℕ, suc, ◌+◌, ◌-◌, ◌<◌, ◌≤◌, Bool, true, false, List, [], ◌∷◌, ◌++◌, length, Option, Some, None, Result, Ok, ℤ, pos, negsuc, refl, sym, ap, ◌∙◌, subst, arith, eqb, append_assoc, append-nil, lit<, lit≤}
 use Rattle.std.specs.Prelude.{unsigned_abs, codes}
 use Rattle.std.specs.Fmt.{decimal, sign_text}
-use Rattle.std.specs.Int.{is_in_range, is_negative}
+use Rattle.std.specs.Int.{is_negative}
 use Rattle.std.specs.Str.Parse.{digits_value}
-use Rattle.std.proofs.lemmas.Bool.{le-leb, and_from}
 use Rattle.std.proofs.lemmas.Bool.Decides.{nat_tests}
-use Rattle.std.proofs.lemmas.Fmt.{digits_value-decimal, length-decimal-le}
-use Rattle.std.proofs.lemmas.List.{length-replicate}
-use Rattle.jiff.specs.Words.{days_in_month, is_leap_year}
+use Rattle.std.proofs.lemmas.Fmt.{digits_value-decimal}
 use Rattle.laws.specs.Results.{◌>>=◌}
-use Rattle.laws.specs.Runs.{AllPassTest, Bars}
+use Rattle.laws.specs.Runs.{Bars}
 use Rattle.laws.proofs.Runs.{cuts}
 use Rattle.text_reader.specs.Character.{passes}
 use Rattle.text_reader.specs.Reading.{digits_at, taken}
 use Rattle.text_reader.specs.declared.character.Class.TheVariants.{Digit}
-use Rattle.text_reader.proofs.Digits.{own, digits_at-ok}
-use Rattle.text_reader.proofs.Starts.{Starts, starts, decimal_digits}
+use Rattle.text_reader.proofs.Digits.{own}
+use Rattle.text_reader.proofs.Starts.{starts}
+use Rattle.std.specs.Option.{option_map}
+use Rattle.text_reader.specs.declared.reader.Unreadable.{Unreadable}
+use Rattle.date_parts.specs.Parts.{part_at, signed}
+use Rattle.date_parts.specs.Written.{padded, year_text, counted_text}
+use Rattle.date_parts.proofs.WrittenAgain.{not_negative, zeros_value, padded_length, padded_digits, digits_again, part_again, year_sign, signed_again}
+use Rattle.date_parts.proofs.Days.{few_days, no_season, of_twelve, day_within}
 use Rattle.biblatex_dates.specs.Datetime.{datetime_of}
-use Rattle.biblatex_dates.specs.Shape.{opening_at, last_at, second_at, shape_of, date_of}
-use Rattle.biblatex_dates.specs.Side.{four, four_at, year_at, part_at, minutes_at, offset_at, clock_at, time_at, no_mark, mark_at, side_at}
-use Rattle.biblatex_dates.specs.Written.{padded, year_text, behind, counted, offset_text, time_text, day_text, month_text, datetime_text, sides_text, end_text, mark_text, date_text, SidesExist, IsOffset, IsTime, HasMonth, Exists}
+use Rattle.biblatex_dates.specs.Shape.{opening_at, last_at, slash_behind, shape_of, date_of}
+use Rattle.biblatex_dates.specs.Side.{four, four_at, year_at, minutes_at, offset_at, clock_at, time_at, no_mark, mark_at, side_at}
+use Rattle.biblatex_dates.specs.Written.{behind, offset_text, time_text, day_text, month_text, datetime_text, sides_text, end_text, mark_text, date_text, SidesExist, IsOffset, IsTime, HasMonth, Exists}
 use Rattle.biblatex_dates.specs.declared.date.Date.{Date}
 use Rattle.biblatex_dates.specs.declared.date.DateValue.{DateValue}
 use Rattle.biblatex_dates.specs.declared.date.DateValue.TheVariants.{At, After, Before, Between}
@@ -31,57 +34,9 @@ use Rattle.biblatex_dates.specs.declared.datetime.TimeOffset.{TimeOffset}
 use Rattle.biblatex_dates.specs.declared.datetime.TimeOffset.TheVariants.{Utc, Offset}
 use Rattle.biblatex_dates.specs.declared.side.Side.{Side}
 
--- zeros in front change no number
-zeros_value : (k : ℕ) (ds : List ℕ) → digits_value 10 (replicate k 48 ++ ds) ≡ digits_value 10 ds
-zeros_value zero ds = refl
-zeros_value (suc k) ds = zeros_value k ds
-
-zeros_pass : (k : ℕ) (ds : List ℕ) → AllPassTest (passes Digit) ds → AllPassTest (passes Digit) (replicate k 48 ++ ds)
-unfolding passes
-zeros_pass zero ds all = all
-zeros_pass (suc k) ds all = (refl, zeros_pass k ds all)
-
--- a padded number has as many digits as are wanted
-padded_length : (width n : ℕ) → 0 < width → n < 10 ^ width → n < 2 ^ 31 → length (padded width n) ≡ width
-padded_length width n long small fits =
-    let few : length (decimal n) ≤ width = length-decimal-le width n long small (omega arith) in
-    omega (arith, length-append (replicate (width - length (decimal n)) 48) (decimal n), length-replicate {A = ℕ} (width - length (decimal n)) 48)
-
-padded_digits : (width n : ℕ) → n < 2 ^ 31 → AllPassTest (passes Digit) (padded width n)
-padded_digits width n fits = zeros_pass (width - length (decimal n)) (decimal n) (decimal_digits n fits)
-
--- a padded number that was written is read back
-digits_again : (least most n : ℕ) (rest : List ℕ) → least ≤ most → 0 < most → n < 10 ^ most → n < 2 ^ 31 → Bars (passes Digit) rest → digits_at least most (padded most n ++ rest) ≡ Ok (n, rest)
-digits_again least most n rest low long small fits bars =
-    let c = cuts (passes Digit) (padded most n) rest (padded_digits most n fits) bars in
-    let many : length (padded most n) ≡ most = padded_length most n long small fits in
-    let some : least ≤ length (padded most n) = omega arith in
-    let few : length (padded most n) ≤ most = omega arith in
-    let within : leb least (length (padded most n)) && leb (length (padded most n)) most ≡ true = and_from _ _ (le-leb _ _ some) (le-leb _ _ few) in
-    let value : digits_value 10 (padded most n) ≡ n = zeros_value (most - length (decimal n)) (decimal n) ∙ digits_value-decimal own n (omega arith) in
-    digits_at-ok (padded most n) (padded most n ++ rest) least most (sym c.front) within ∙ (λ i. Ok ((ap (digits_value 10) c.front ∙ value) i, c.after i))
-
 -- two digits that were written are read back
 two_again : (n : ℕ) (rest : List ℕ) → n < 100 → Bars (passes Digit) rest → digits_at 2 2 (padded 2 n ++ rest) ≡ Ok (n, rest)
 two_again n rest small bars = digits_again 2 2 n rest (lit≤ tt) (lit< tt) (omega arith) (omega arith) bars
-
--- a part that was written is read back
-part_again : (n : ℕ) (rest : List ℕ) → n < 99 → Bars (passes Digit) rest → part_at (counted n ++ rest) ≡ Ok (Some (n + 1), rest)
-unfolding part_at
-part_again n rest small bars =
-    let d = digits_again 1 2 (n + 1) rest (lit≤ tt) (lit< tt) (omega arith) (omega arith) bars in
-    rw d refl
-
-not_hyphen : (c : ℕ) → passes Digit c ≡ true → eqb c 45 ≡ false
-unfolding passes
-not_hyphen c d = grind (arith, nat_tests)
-
--- no sign stands before a digit
-no_sign : (cs : List ℕ) → Starts (passes Digit) cs → taken 45 cs ≡ (false, cs)
-no_sign cs s = subst (λ (t : List ℕ). taken 45 t ≡ (false, t)) (sym s.is) (let other = not_hyphen s.first s.passes in rw other refl)
-
-not_negative : (n : ℕ) → is_negative (pos n) ≡ false
-not_negative n = grind (arith, nat_tests)
 
 -- the digits of a year that were written are read back
 four_again : (n : ℕ) (rest : List ℕ) → n ≤ 9999 → Bars (passes Digit) rest → four_at (padded 4 n ++ rest) ≡ Ok (Some n, rest)
@@ -95,17 +50,10 @@ four_again n rest small bars =
 
 -- a year that was written is read back
 year_again : (y : ℤ) (rest : List ℕ) → unsigned_abs y ≤ 9999 → Bars (passes Digit) rest → year_at (taken 45 (year_text y ++ rest)).0 (taken 45 (year_text y ++ rest)).1 ≡ Ok (Some y, rest)
-year_again (pos n) rest small bars =
-    let text : List ℕ = padded 4 n ++ rest in
-    let long : 0 < length (padded 4 n) = omega (arith, padded_length 4 n (lit< tt) (omega arith) (omega arith)) in
-    let sign : taken 45 text ≡ (false, text) = no_sign text (starts (passes Digit) (padded 4 n) rest (padded_digits 4 n (omega arith)) long) in
-    let plain : year_text (pos n) ++ rest ≡ text = (λ i. (sign_text (not_negative n i) ++ padded 4 n) ++ rest) in
-    let digits = four_again n rest small bars in
-    let whole : taken 45 (year_text (pos n) ++ rest) ≡ (false, text) = ap (taken 45) plain ∙ sign in
-    (λ i. year_at (whole i).0 (whole i).1) ∙ rw digits refl
-year_again (negsuc n) rest small bars =
-    let digits = four_again (suc n) rest small bars in
-    rw digits refl
+year_again y rest small bars =
+    ap (λ (p : Bool × List ℕ). year_at p.0 p.1) (year_sign y rest small)
+    ∙ ap (λ (r : Result (Option ℕ × List ℕ) Unreadable). r >>= λ n. Ok (option_map (signed (is_negative y)) n.0, n.1)) (four_again (unsigned_abs y) rest small bars)
+    ∙ (λ i. Ok (Some (signed_again y i), rest))
 
 -- what may follow a side: nothing that its parts would take
 record EndsSide (rest : List ℕ) : Type 0 where
@@ -181,15 +129,6 @@ time_again d (Some t) rest is ends =
     ap (time_at (Some d)) (clock_parts (behind 84 t.hour) (behind 58 t.minute) (behind 58 t.second) (offset_text t.offset) rest)
     ∙ (let clock = clock_again t rest is ends in rw clock refl)
 
-few_days : (y : ℤ) (m : ℕ) → days_in_month y m ≤ 31
-few_days y m = by_tests (eqb m 2) (is_leap_year y) (eqb m 4 || eqb m 6 || eqb m 9 || eqb m 11)
-  where
-    by_tests : (a b c : Bool) → cond a (cond b 29 28) (cond c 30 31) ≤ 31
-    by_tests true true c = lit≤ tt
-    by_tests true false c = lit≤ tt
-    by_tests false b true = lit≤ tt
-    by_tests false b false = lit≤ tt
-
 time_bars : (time : Option Time) (rest : List ℕ) → EndsSide rest → Bars (passes Digit) (time_text time ++ rest)
 unfolding passes
 time_bars None rest ends = ends.bars
@@ -224,27 +163,18 @@ side_again y None None None rest small has ends =
 side_again y None None (Some t) rest small has ends = absurd has
 side_again y None (Some d) time rest small has ends = absurd has
 side_again y (Some m) None None rest small has ends =
-    let year = year_again y ((counted m ++ []) ++ rest) small (hyphen_bars ((padded 2 (m + 1) ++ []) ++ rest)) in
-    let same : (counted m ++ []) ++ rest ≡ counted m ++ rest = ap (λ (x : List ℕ). x ++ rest) (append-nil (counted m)) in
+    let year = year_again y ((counted_text m ++ []) ++ rest) small (hyphen_bars ((padded 2 (m + 1) ++ []) ++ rest)) in
+    let same : (counted_text m ++ []) ++ rest ≡ counted_text m ++ rest = ap (λ (x : List ℕ). x ++ rest) (append-nil (counted_text m)) in
     let month = ap part_at same ∙ part_again m rest (omega (arith, has.0)) ends.bars in
     let part = ends.no_part in
     rw (year, month, part) refl
 side_again y (Some m) None (Some t) rest small has ends = absurd has.1
 side_again y (Some m) (Some d) time rest small has ends =
-    let year = year_again y ((counted m ++ day_text (Some d) time) ++ rest) small (hyphen_bars ((padded 2 (m + 1) ++ day_text (Some d) time) ++ rest)) in
-    let month = ap part_at (append_assoc (counted m) (day_text (Some d) time) rest) ∙ part_again m (day_text (Some d) time ++ rest) (omega (arith, has.0)) (day_bars (Some d) time rest ends) in
-    let day = ap part_at (append_assoc (counted d) (time_text time) rest) ∙ part_again d (time_text time ++ rest) (omega (arith, has.1.0, few_days y (m + 1))) (time_bars time rest ends) in
+    let year = year_again y ((counted_text m ++ day_text (Some d) time) ++ rest) small (hyphen_bars ((padded 2 (m + 1) ++ day_text (Some d) time) ++ rest)) in
+    let month = ap part_at (append_assoc (counted_text m) (day_text (Some d) time) rest) ∙ part_again m (day_text (Some d) time ++ rest) (omega (arith, has.0)) (day_bars (Some d) time rest ends) in
+    let day = ap part_at (append_assoc (counted_text d) (time_text time) rest) ∙ part_again d (time_text time ++ rest) (omega (arith, has.1.0, few_days y (m + 1))) (time_bars time rest ends) in
     let clock = time_again (d + 1) time rest has.1.1 ends in
     rw (year, month, day, clock) refl
-
-no_season : (m : ℕ) → m < 12 → is_in_range 21 24 (m + 1) ≡ false
-no_season m small = grind (arith, nat_tests)
-
-of_twelve : (m : ℕ) → m < 12 → is_in_range 1 12 (m + 1) ≡ true
-of_twelve m small = grind (arith, nat_tests)
-
-within : (d n : ℕ) → d < n → is_in_range 1 n (d + 1) ≡ true
-within d n small = grind (arith, nat_tests)
 
 one_less : (n : ℕ) → n + 1 - 1 ≡ n
 one_less n = omega arith
@@ -263,7 +193,7 @@ meant_again y (Some m) None (Some t) has = absurd has.1
 meant_again y (Some m) (Some d) time has =
     let season = no_season m has.0 in
     let month = of_twelve m has.0 in
-    let day = within d (days_in_month y (m + 1)) has.1.0 in
+    let day = day_within y m d has.1.0 in
     let less = one_less m in
     let less_day = one_less d in
     rw (season, month, day, less, less_day) refl
@@ -310,9 +240,9 @@ not_open : (cs : List ℕ) → Opens cs → opening_at cs ≡ Ok (false, cs)
 not_open cs o =
     subst (λ (t : List ℕ). opening_at t ≡ Ok (false, t)) (sym o.is) (let slash = o.not_slash in let point = o.not_point in rw (slash, point) refl)
 
-goes_on : (a : Side) (cs : List ℕ) → Opens cs → second_at a cs ≡ (last_at cs >>= λ b. Ok (Range a b))
+goes_on : (a : Side) (cs : List ℕ) → Opens cs → slash_behind a cs ≡ (last_at cs >>= λ b. Ok (Range a b))
 goes_on a cs o =
-    subst (λ (t : List ℕ). second_at a t ≡ (last_at t >>= λ b. Ok (Range a b))) (sym o.is) (let point = o.not_point in rw point refl)
+    subst (λ (t : List ℕ). slash_behind a t ≡ (last_at t >>= λ b. Ok (Range a b))) (sym o.is) (let point = o.not_point in rw point refl)
 
 mark_again : (u a : Bool) (rest : List ℕ) → mark_at rest ≡ (no_mark, rest) → mark_at (mark_text u a ++ rest) ≡ (record { uncertain = u; approximate = a }, rest)
 mark_again false false rest none = none

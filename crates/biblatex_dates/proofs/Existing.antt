@@ -15,10 +15,11 @@ use Rattle.text_reader.specs.Reading.{digits_at, token_at, end_at, taken}
 use Rattle.text_reader.specs.declared.character.Class.TheVariants.{Digit}
 use Rattle.text_reader.specs.declared.reader.Unreadable.{Unreadable}
 use Rattle.text_reader.specs.declared.reader.Unreadable.TheVariants.{NotThere}
-use Rattle.biblatex_dates.specs.Calendar.{has_day}
+use Rattle.date_parts.specs.Calendar.{has_day}
 use Rattle.biblatex_dates.specs.Datetime.{of_month, of_year, datetime_of, in_month, on_day, year_alone}
-use Rattle.biblatex_dates.specs.Shape.{opening_at, last_at, second_at, first_behind, opening_behind, shape_of, value_of, date_of}
-use Rattle.biblatex_dates.specs.Side.{four, four_at, signed, year_at, part_at, minutes_at, second_behind, signed_offset_at, offset_at, clock_at, clock_behind, time_at, side_at}
+use Rattle.biblatex_dates.specs.Shape.{opening_at, last_at, slash_behind, first_behind, opening_behind, shape_of, value_of, date_of}
+use Rattle.date_parts.specs.Parts.{part_at, signed}
+use Rattle.biblatex_dates.specs.Side.{four, four_at, year_at, minutes_at, seconds_behind, signed_offset_at, offset_at, clock_at, clock_behind, time_at, side_at}
 use Rattle.biblatex_dates.specs.Written.{IsOffset, IsTime, Exists, SidesExist}
 use Rattle.biblatex_dates.specs.declared.date.Date.{Date}
 use Rattle.biblatex_dates.specs.declared.datetime.Time.{Time}
@@ -28,7 +29,7 @@ use Rattle.biblatex_dates.specs.declared.error.TypeErrorKind.TheVariants.{DayOut
 use Rattle.biblatex_dates.specs.declared.shape.Shape.{Shape}
 use Rattle.biblatex_dates.specs.declared.shape.Shape.TheVariants.{One, Since, Until, Range}
 use Rattle.biblatex_dates.specs.declared.side.Side.{Side}
-use Rattle.biblatex_dates.proofs.Bounds.{run_below}
+use Rattle.text_reader.proofs.Bounds.{run_below}
 
 -- a year that is one of four digits
 abbrev pub IsYear : ℤ → Type 0
@@ -85,9 +86,9 @@ minutes_small cs =
     bind_if_ok (λ (c : List ℕ). Unit {0}) AreTwo (token_at 58 h.1) _ (any_ok (token_at 58 h.1)) (λ c u.
     bind_if_ok (λ (m : ℕ × List ℕ). m.0 < 100) AreTwo (digits_at 2 2 c) _ (digits_small 2 2 c) (λ m m_small. (h_small, m_small))))
 
-second_small : (p : Bool × List ℕ) → IfOk (second_behind p) (λ q. q.0 < 100)
-second_small (false, rest) = omega arith
-second_small (true, rest) = digits_small 2 2 rest
+seconds_small : (p : Bool × List ℕ) → IfOk (seconds_behind p) (λ q. q.0 < 100)
+seconds_small (false, rest) = omega arith
+seconds_small (true, rest) = digits_small 2 2 rest
 
 signed_offset_small : (positive : Bool) (cs : List ℕ) → IfOk (signed_offset_at positive cs) (λ p. IsOffset p.0)
 signed_offset_small positive cs =
@@ -107,7 +108,7 @@ clock_small : (cs : List ℕ) → IfOk (clock_at cs) (λ p. IsTime (Some p.0))
 unfolding clock_at
 clock_small cs =
     bind_if_ok AreTwo (λ (p : Time × List ℕ). IsTime (Some p.0)) (minutes_at cs) _ (minutes_small cs) (λ m m_small.
-    bind_if_ok (λ (q : ℕ × List ℕ). q.0 < 100) (λ (p : Time × List ℕ). IsTime (Some p.0)) (second_behind (taken 58 m.1)) _ (second_small (taken 58 m.1)) (λ s s_small.
+    bind_if_ok (λ (q : ℕ × List ℕ). q.0 < 100) (λ (p : Time × List ℕ). IsTime (Some p.0)) (seconds_behind (taken 58 m.1)) _ (seconds_small (taken 58 m.1)) (λ s s_small.
     bind_if_ok (λ (p : Option TimeOffset × List ℕ). IsOffset p.0) (λ (p : Time × List ℕ). IsTime (Some p.0)) (offset_at s.1) _ (offset_small s.1) (λ o o_small. (m_small.0, m_small.1, s_small, o_small))))
 
 clock_behind_small : (p : Bool × List ℕ) → IfOk (clock_behind p) (λ q. IsTime q.0)
@@ -181,9 +182,9 @@ IsShape (Since a) = IsSide a
 IsShape (Until b) = IsSide b
 IsShape (Range a b) = IsSide a × IsSide b
 
-second_exists : (a : Side) (cs : List ℕ) → IsSide a → IfOk (second_at a cs) IsShape
-second_exists a [] is = is
-second_exists a (c ∷ cs) is = by_test (eqb c 46)
+slash_exists : (a : Side) (cs : List ℕ) → IsSide a → IfOk (slash_behind a cs) IsShape
+slash_exists a [] is = is
+slash_exists a (c ∷ cs) is = by_test (eqb c 46)
   where
     by_test : (b : Bool) → IfOk (cond b (token_at 46 cs >>= λ points. end_at points >>= λ rest. Ok (Since a)) (last_at (c ∷ cs) >>= λ s. Ok (Range a s))) IsShape
     by_test true =
@@ -193,7 +194,7 @@ second_exists a (c ∷ cs) is = by_test (eqb c 46)
 
 first_exists : (a : Side) (p : Bool × List ℕ) → IsSide a → IfOk (first_behind a p) IsShape
 first_exists a (false, rest) is = bind_if_ok (λ (r : List ℕ). Unit {0}) IsShape (end_at rest) _ (any_ok (end_at rest)) (λ r u. is)
-first_exists a (true, rest) is = second_exists a rest is
+first_exists a (true, rest) is = slash_exists a rest is
 
 opening_exists : (p : Bool × List ℕ) → IfOk (opening_behind p) IsShape
 opening_exists (true, rest) = bind_if_ok IsSide IsShape (last_at rest) _ (last_exists rest) (λ b is. is)

@@ -1,5 +1,4 @@
 pub mod Bounds
-pub mod Padded
 pub mod Months
 pub mod DatesAgain
 pub mod Existing

@@ -6,10 +6,10 @@ use Rattle.std.proofs.lemmas.Bool.Decides.{nat_tests}
 use Rattle.laws.proofs.Results.{bind_if_ok}
 use Rattle.text_reader.specs.Reading.{digits_at, end_at, taken}
 use Rattle.text_reader.specs.declared.reader.Unreadable.{Unreadable}
-use Rattle.biblatex_dates.specs.Calendar.{has_day}
+use Rattle.date_parts.specs.Calendar.{has_day}
 use Rattle.biblatex_dates.specs.Date.{value_without_time}
 use Rattle.biblatex_dates.specs.Datetime.{in_month, on_day, without_time}
-use Rattle.biblatex_dates.specs.Parts.{year_part, number_part, first_of, month_named, is_month, month_numbered, month_part, day_numbered, of_month, month_read, of_year, of_year_read, of_parts}
+use Rattle.biblatex_dates.specs.Parts.{year_part, number_part, first_of, month_named, is_month, month_numbered, month_part, day_numbered, day_read, month_read, parts_read, year_read, of_parts}
 use Rattle.biblatex_dates.specs.Written.{Exists, HasMonth, SidesExist}
 use Rattle.biblatex_dates.specs.declared.date.DateValue.{DateValue}
 use Rattle.biblatex_dates.specs.declared.date.DateValue.TheVariants.{At, After, Before, Between}
@@ -58,24 +58,24 @@ day_numbered_exists y m (Ok d) small e = by_test (has_day y m d) refl
     by_test false has = month_exists y m small e
 day_numbered_exists y m (Err f) small e = month_exists y m small e
 
-of_month_exists : (y : ℤ) (m : ℕ) (day : Option (List ℕ)) → IsYear y → IsMonth m → Exists (of_month y m day)
-of_month_exists y m None small e = month_exists y m small e
-of_month_exists y m (Some day) small e = day_numbered_exists y m (number_part day) small e
+day_read_exists : (y : ℤ) (m : ℕ) (day : Option (List ℕ)) → IsYear y → IsMonth m → Exists (day_read y m day)
+day_read_exists y m None small e = month_exists y m small e
+day_read_exists y m (Some day) small e = day_numbered_exists y m (number_part day) small e
 
 month_read_exists : (y : ℤ) (o : Option ℕ) (day : Option (List ℕ)) → IsYear y → IfSome o IsMonth → Exists (month_read y o day)
 month_read_exists y None day small is = (small, tt)
-month_read_exists y (Some m) day small is = of_month_exists y m day small is
+month_read_exists y (Some m) day small is = day_read_exists y m day small is
 
-of_year_exists : (y : ℤ) (month day : Option (List ℕ)) → IsYear y → Exists (of_year y month day)
-of_year_exists y None day small = (small, tt)
-of_year_exists y (Some month) day small = month_read_exists y (month_part month) day small (numbered_within (number_part month) month)
+parts_read_exists : (y : ℤ) (month day : Option (List ℕ)) → IsYear y → Exists (parts_read y month day)
+parts_read_exists y None day small = (small, tt)
+parts_read_exists y (Some month) day small = month_read_exists y (month_part month) day small (numbered_within (number_part month) month)
 
-of_year_read_exists : (r : Result ℤ Unreadable) (month day : Option (List ℕ)) → IfOk r IsYear → IfSome (of_year_read r month day) IsDate
-of_year_read_exists (Ok y) month day small = of_year_exists y month day small
-of_year_read_exists (Err e) month day small = tt
+year_read_exists : (r : Result ℤ Unreadable) (month day : Option (List ℕ)) → IfOk r IsYear → IfSome (year_read r month day) IsDate
+year_read_exists (Ok y) month day small = parts_read_exists y month day small
+year_read_exists (Err e) month day small = tt
 
 pub parts_exist : (year : List ℕ) (month day : Option (List ℕ)) → IfSome (of_parts year month day) IsDate
-parts_exist year month day = of_year_read_exists (year_part year) month day (year_part_small year)
+parts_exist year month day = year_read_exists (year_part year) month day (year_part_small year)
 
 timeless_month : (y : ℤ) (month day : Option ℕ) (time : Option Time) → HasMonth y month day time → HasMonth y month day None
 timeless_month y None None None has = tt

@@ -2,7 +2,7 @@
 -- from zero as kept.
 use Rattle.std.specs.Prelude.{ℕ, ◌-◌, if◌then◌else◌, Option, Some, None, Result, Ok, Err, ℤ}
 use Rattle.std.specs.Int.{is_in_range}
-use Rattle.biblatex_dates.specs.Calendar.{has_day}
+use Rattle.date_parts.specs.Calendar.{has_day}
 use Rattle.biblatex_dates.specs.declared.datetime.Datetime.{Datetime}
 use Rattle.biblatex_dates.specs.declared.datetime.Time.{Time}
 use Rattle.biblatex_dates.specs.declared.error.TypeErrorKind.{TypeErrorKind}

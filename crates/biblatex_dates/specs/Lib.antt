@@ -1,4 +1,3 @@
-pub mod Calendar
 pub mod Date
 pub mod Datetime
 pub mod Parts

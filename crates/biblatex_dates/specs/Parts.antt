@@ -6,9 +6,9 @@ use Rattle.caseless.specs.Caseless.{default_case_fold}
 use Rattle.laws.specs.Results.{◌>>=◌}
 use Rattle.text_reader.specs.Reading.{digits_at, end_at, taken}
 use Rattle.text_reader.specs.declared.reader.Unreadable.{Unreadable}
-use Rattle.biblatex_dates.specs.Calendar.{has_day}
+use Rattle.date_parts.specs.Calendar.{has_day}
 use Rattle.biblatex_dates.specs.Datetime.{year_alone, in_month, on_day}
-use Rattle.biblatex_dates.specs.Side.{signed}
+use Rattle.date_parts.specs.Parts.{signed}
 use Rattle.biblatex_dates.specs.declared.date.Date.{Date}
 use Rattle.biblatex_dates.specs.declared.date.DateValue.TheVariants.{At}
 use Rattle.biblatex_dates.specs.declared.datetime.Datetime.{Datetime}
@@ -77,23 +77,25 @@ abbrev pub day_numbered : ℤ → ℕ → Result ℕ Unreadable → Datetime
 day_numbered y m (Ok d) = if has_day y m d then on_day y m d None else in_month y m
 day_numbered y m (Err e) = in_month y m
 
-abbrev pub of_month : ℤ → ℕ → Option (List ℕ) → Datetime
-of_month y m None = in_month y m
-of_month y m (Some day) = day_numbered y m (number_part day)
+-- the month, and the day of it that can be read
+abbrev pub day_read : ℤ → ℕ → Option (List ℕ) → Datetime
+day_read y m None = in_month y m
+day_read y m (Some day) = day_numbered y m (number_part day)
 
 -- the month, where it can be read
 abbrev pub month_read : ℤ → Option ℕ → Option (List ℕ) → Datetime
 month_read y None day = year_alone y
-month_read y (Some m) day = of_month y m day
+month_read y (Some m) day = day_read y m day
 
-abbrev pub of_year : ℤ → Option (List ℕ) → Option (List ℕ) → Datetime
-of_year y None day = year_alone y
-of_year y (Some month) day = month_read y (month_part month) day
+-- the year, and the month and the day of it that can be read
+abbrev pub parts_read : ℤ → Option (List ℕ) → Option (List ℕ) → Datetime
+parts_read y None day = year_alone y
+parts_read y (Some month) day = month_read y (month_part month) day
 
 -- the date, where the year can be read, as far as its parts can be; it is sure
-abbrev pub of_year_read : Result ℤ Unreadable → Option (List ℕ) → Option (List ℕ) → Option Date
-of_year_read (Ok y) month day = Some (record { value = At (of_year y month day); uncertain = false; approximate = false })
-of_year_read (Err e) month day = None
+abbrev pub year_read : Result ℤ Unreadable → Option (List ℕ) → Option (List ℕ) → Option Date
+year_read (Ok y) month day = Some (record { value = At (parts_read y month day); uncertain = false; approximate = false })
+year_read (Err e) month day = None
 
 abbrev pub of_parts : List ℕ → Option (List ℕ) → Option (List ℕ) → Option Date
-of_parts year month day = of_year_read (year_part year) month day
+of_parts year month day = year_read (year_part year) month day

@@ -24,14 +24,14 @@ abbrev pub last_at : List ℕ → Result Side Unreadable
 last_at cs = side_at cs >>= λ s. end_at s.1 >>= λ rest. Ok s.0
 
 -- behind the slash: an open end, as two points or nothing say, or another side
-abbrev pub second_at : Side → List ℕ → Result Shape Unreadable
-second_at a [] = Ok (Since a)
-second_at a (c ∷ cs) = if c == 46 then (token_at 46 cs >>= λ points. end_at points >>= λ rest. Ok (Since a)) else (last_at (c ∷ cs) >>= λ b. Ok (Range a b))
+abbrev pub slash_behind : Side → List ℕ → Result Shape Unreadable
+slash_behind a [] = Ok (Since a)
+slash_behind a (c ∷ cs) = if c == 46 then (token_at 46 cs >>= λ points. end_at points >>= λ rest. Ok (Since a)) else (last_at (c ∷ cs) >>= λ b. Ok (Range a b))
 
 -- behind the first side: the end, or a slash
 abbrev pub first_behind : Side → Bool × List ℕ → Result Shape Unreadable
 first_behind a (false, rest) = end_at rest >>= λ rest. Ok (One a)
-first_behind a (true, rest) = second_at a rest
+first_behind a (true, rest) = slash_behind a rest
 
 -- behind the beginning, which may be open
 abbrev pub opening_behind : Bool × List ℕ → Result Shape Unreadable

@@ -1,5 +1,5 @@
 -- One side of a date, read from the left. Characters are numbers.
-use Rattle.std.specs.Prelude.{ℕ, Bool, true, false, ◌==◌, ◌||◌, List, [], ◌∷◌, length, if◌then◌else◌, Option, Some, None, Result, Ok, Err, ℤ, pos, neg_ℤ}
+use Rattle.std.specs.Prelude.{ℕ, Bool, true, false, ◌==◌, ◌||◌, List, [], ◌∷◌, length, if◌then◌else◌, Option, Some, None, Result, Ok, Err, ℤ}
 use Rattle.std.specs.Option.{option_map}
 use Rattle.std.specs.Str.Parse.{digits_value}
 use Rattle.laws.specs.Results.{◌>>=◌}
@@ -9,6 +9,7 @@ use Rattle.text_reader.specs.Reading.{digits_at, token_at, taken}
 use Rattle.text_reader.specs.declared.character.Class.TheVariants.{Digit}
 use Rattle.text_reader.specs.declared.reader.Unreadable.{Unreadable}
 use Rattle.text_reader.specs.declared.reader.Unreadable.TheVariants.{NotThere}
+use Rattle.date_parts.specs.Parts.{part_at, signed}
 use Rattle.biblatex_dates.specs.Datetime.{datetime_of}
 use Rattle.biblatex_dates.specs.declared.datetime.Time.{Time}
 use Rattle.biblatex_dates.specs.declared.datetime.TimeOffset.{TimeOffset}
@@ -24,23 +25,9 @@ four digits = if length digits == 4 then Some (digits_value 10 digits) else None
 abbrev pub four_at : List ℕ → Result (Option ℕ × List ℕ) Unreadable
 four_at cs = if length (front_of (passes Digit) cs) == 0 then Err NotThere else Ok (four (front_of (passes Digit) cs), after (passes Digit) cs)
 
--- the year, negative behind a hyphen
-abbrev pub signed : Bool → ℕ → ℤ
-signed false n = pos n
-signed true n = neg_ℤ (pos n)
-
 -- the digits of a year
 abbrev pub year_at : Bool → List ℕ → Result (Option ℤ × List ℕ) Unreadable
 year_at is_negative cs = four_at cs >>= λ y. Ok (option_map (signed is_negative) y.0, y.1)
-
--- behind a hyphen one or two digits are wanted
-abbrev pub part_behind : Bool × List ℕ → Result (Option ℕ × List ℕ) Unreadable
-part_behind (false, rest) = Ok (None, rest)
-part_behind (true, rest) = digits_at 1 2 rest >>= λ d. Ok (Some d.0, d.1)
-
--- a hyphen and one or two digits, or nothing
-unfoldable pub part_at : List ℕ → Result (Option ℕ × List ℕ) Unreadable
-part_at cs = part_behind (taken 45 cs)
 
 -- two digits, a colon, two digits
 unfoldable pub minutes_at : List ℕ → Result ((ℕ × ℕ) × List ℕ) Unreadable
@@ -51,9 +38,9 @@ minutes_at cs = do
   Ok ((hour.0, minute.0), minute.1)
 
 -- behind a colon two digits are wanted; else no second has passed
-abbrev pub second_behind : Bool × List ℕ → Result (ℕ × List ℕ) Unreadable
-second_behind (false, rest) = Ok (0, rest)
-second_behind (true, rest) = digits_at 2 2 rest
+abbrev pub seconds_behind : Bool × List ℕ → Result (ℕ × List ℕ) Unreadable
+seconds_behind (false, rest) = Ok (0, rest)
+seconds_behind (true, rest) = digits_at 2 2 rest
 
 -- the hours and minutes behind a sign
 abbrev pub signed_offset_at : Bool → List ℕ → Result (Option TimeOffset × List ℕ) Unreadable
@@ -68,7 +55,7 @@ offset_at (c ∷ cs) = if c == 90 then Ok (Some Utc, cs) else (if c == 43 then s
 unfoldable pub clock_at : List ℕ → Result (Time × List ℕ) Unreadable
 clock_at cs = do
   minutes ← minutes_at cs
-  second ← second_behind (taken 58 minutes.1)
+  second ← seconds_behind (taken 58 minutes.1)
   offset ← offset_at second.1
   Ok (record { hour = minutes.0.0; minute = minutes.0.1; second = second.0; offset = offset.0 }, offset.1)
 

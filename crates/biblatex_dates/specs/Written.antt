@@ -1,8 +1,7 @@
 -- How dates are written, and which of them are read back. Characters are numbers.
-use Rattle.std.specs.Prelude.{ℕ, ◌+◌, ◌-◌, ◌<◌, ◌≤◌, Bool, true, false, List, [], ◌∷◌, ◌++◌, length, replicate, Option, Some, None, ℤ, unsigned_abs, codes}
-use Rattle.std.specs.Fmt.{decimal, sign_text}
-use Rattle.std.specs.Int.{is_negative}
+use Rattle.std.specs.Prelude.{ℕ, ◌+◌, ◌<◌, ◌≤◌, Bool, true, false, List, [], ◌∷◌, ◌++◌, Option, Some, None, ℤ, unsigned_abs, codes}
 use Rattle.jiff.specs.Words.{days_in_month}
+use Rattle.date_parts.specs.Written.{padded, year_text, counted_text}
 use Rattle.biblatex_dates.specs.declared.date.Date.{Date}
 use Rattle.biblatex_dates.specs.declared.date.DateValue.{DateValue}
 use Rattle.biblatex_dates.specs.declared.date.DateValue.TheVariants.{At, After, Before, Between}
@@ -11,21 +10,9 @@ use Rattle.biblatex_dates.specs.declared.datetime.Time.{Time}
 use Rattle.biblatex_dates.specs.declared.datetime.TimeOffset.{TimeOffset}
 use Rattle.biblatex_dates.specs.declared.datetime.TimeOffset.TheVariants.{Utc, Offset}
 
--- a number with zeros before it, up to so many digits
-abbrev pub padded : ℕ → ℕ → List ℕ
-padded width n = replicate (width - length (decimal n)) 48 ++ decimal n
-
--- four digits or more, behind a hyphen where the year is negative
-abbrev pub year_text : ℤ → List ℕ
-year_text y = sign_text (is_negative y) ++ padded 4 (unsigned_abs y)
-
 -- a character, and two digits or more behind it
 abbrev pub behind : ℕ → ℕ → List ℕ
 behind c n = c ∷ padded 2 n
-
--- a hyphen and a number that counts from zero, written as it counts from one
-abbrev pub counted : ℕ → List ℕ
-counted n = behind 45 (n + 1)
 
 -- a plus or a hyphen
 abbrev pub sign : Bool → ℕ
@@ -53,12 +40,12 @@ time_text (Some t) = clock_text t
 -- a time is written behind a day alone
 abbrev pub day_text : Option ℕ → Option Time → List ℕ
 day_text None time = []
-day_text (Some d) time = counted d ++ time_text time
+day_text (Some d) time = counted_text d ++ time_text time
 
 -- a day is written behind a month alone
 abbrev pub month_text : Option ℕ → Option ℕ → Option Time → List ℕ
 month_text None day time = []
-month_text (Some m) day time = counted m ++ day_text day time
+month_text (Some m) day time = counted_text m ++ day_text day time
 
 -- the year, the month, the day and the time
 abbrev pub datetime_text : Datetime → List ℕ

@@ -3,8 +3,8 @@
 ghost use Rattle.std.specs.Prelude.{◌≡◌, ◌≤◌, unsigned_abs, IfSome};
 ghost use Rattle.biblatex_dates.specs.Datetime.{without_time, year_alone, in_month, on_day, of_month, of_year, datetime_of};
 
-use crate::calendar::has_day;
 use crate::error::TypeErrorKind;
+use date_parts::has_day;
 
 /// A year, or a month, a day or a time of it. Months and days count from zero. The year before 1 is 0.
 #[derive(Clone, Copy, Debug, PartialEq, Eq)]

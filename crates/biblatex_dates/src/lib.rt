@@ -1,7 +1,6 @@
 //! Dates of bibliographic entries: read from one text or from year, month and day, and written.
 #![tactic(auto)]
 
-mod calendar;
 mod date;
 mod datetime;
 mod error;

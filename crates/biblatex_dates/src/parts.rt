@@ -6,13 +6,12 @@ ghost use Rattle.std.specs.Str.{chars, IsAscii};
 ghost use Rattle.laws.specs.Results.{Reads};
 ghost use Rattle.text_reader.specs.Reading.{digits_at};
 ghost use Rattle.text_reader.specs.Views.{left};
-ghost use Rattle.biblatex_dates.specs.Parts.{year_part, number_part, is_same, is_month, month_named, month_part, of_month, of_year, of_parts};
+ghost use Rattle.biblatex_dates.specs.Parts.{year_part, number_part, is_same, is_month, month_named, month_part, day_read, parts_read, of_parts};
 
-use crate::calendar::has_day;
 use crate::date::{Date, DateValue};
 use crate::datetime::{Datetime, in_month, on_day, year_alone};
-use crate::side::signed;
 use caseless::default_caseless_match_str;
+use date_parts::{has_day, signed_year};
 use text_reader::{Reader, Unreadable};
 
 /// The date, as far as its parts can be read.
@@ -22,7 +21,7 @@ pub(crate) fn dated_by_parts(year: &str, month: Option<&str>, day: Option<&str>)
     match read_year(year) {
         Err(_) => None,
         Ok(year) => Some(Date {
-            value: DateValue::At(of_year(year, month, day)),
+            value: DateValue::At(parts_read(year, month, day)),
             uncertain: false,
             approximate: false,
         }),
@@ -30,25 +29,25 @@ pub(crate) fn dated_by_parts(year: &str, month: Option<&str>, day: Option<&str>)
 }
 
 /// The year, and the month and the day of it that can be read.
-fn of_year(year: i32, month: Option<&str>, day: Option<&str>) -> Datetime
+fn parts_read(year: i32, month: Option<&str>, day: Option<&str>) -> Datetime
     requires years { unsigned_abs year ≤ 9999 }
-    ensures { result ≡ of_year year (option_map (λ m. chars m.now) month.entry) (option_map (λ d. chars d.now) day.entry) }
+    ensures { result ≡ parts_read year (option_map (λ m. chars m.now) month.entry) (option_map (λ d. chars d.now) day.entry) }
 {
     let Some(month) = month else {
         return year_alone(year);
     };
     match read_month(month) {
         None => year_alone(year),
-        Some(month) => of_month(year, month, day),
+        Some(month) => day_read(year, month, day),
     }
 }
 
 /// The month, and the day of it that can be read.
-fn of_month(year: i32, month: u16, day: Option<&str>) -> Datetime
+fn day_read(year: i32, month: u16, day: Option<&str>) -> Datetime
     requires years { unsigned_abs year ≤ 9999 }
     requires first { 1 ≤ month }
     requires last { month ≤ 12 }
-    ensures { result ≡ of_month year month (option_map (λ d. chars d.now) day.entry) }
+    ensures { result ≡ day_read year month (option_map (λ d. chars d.now) day.entry) }
 {
     let Some(day) = day else {
         return in_month(year, month);
@@ -67,17 +66,9 @@ fn read_year(text: &str) -> Result<i32, Unreadable>
 {
     let mut reader = Reader::new(text);
     let is_negative = reader.take('-');
-    let year = read_digits(&mut reader)?;
+    let year = reader.digits(1, 4)?;
     reader.end()?;
-    Ok(signed(is_negative, year))
-}
-
-/// The number of one to four digits that stand here.
-fn read_digits(reader: &mut Reader) -> Result<u16, Unreadable>
-    ensures reads { Reads (λ n. n) result (left reader.new) (digits_at 1 4 (left reader.old)) }
-    ensures few { IfOk result (λ n. n < 10000) }
-{
-    reader.digits(1, 4)
+    Ok(signed_year(is_negative, year))
 }
 
 /// The number of one or two digits.

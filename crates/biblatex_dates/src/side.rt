@@ -4,11 +4,12 @@ ghost use Rattle.std.specs.Prelude.{◌≡◌, ◌≤◌, ◌<◌, unsigned_abs,
 ghost use Rattle.laws.specs.Results.{Reads};
 ghost use Rattle.text_reader.specs.Reading.{digits_at};
 ghost use Rattle.text_reader.specs.Views.{left};
-ghost use Rattle.biblatex_dates.specs.Side.{four_at, signed, year_at, part_at, minutes_at, second_behind, offset_at, signed_offset_at, clock_at, time_at, mark_at, side_at};
+ghost use Rattle.biblatex_dates.specs.Side.{four_at, year_at, minutes_at, seconds_behind, offset_at, signed_offset_at, clock_at, time_at, mark_at, side_at};
 ghost use Rattle.text_reader.specs.Reading.{taken};
 
 use crate::datetime::{Datetime, Time, TimeOffset, dated};
 use crate::error::TypeErrorKind;
+use date_parts::{read_part, signed_year};
 use text_reader::{Class, Reader, Unreadable};
 
 /// How sure a date is.
@@ -49,20 +50,8 @@ fn read_year(reader: &mut Reader, is_negative: bool) -> Result<Option<i32>, Unre
 {
     match read_four(reader)? {
         None => Ok(None),
-        Some(year) => Ok(Some(signed(is_negative, year))),
+        Some(year) => Ok(Some(signed_year(is_negative, year))),
     }
-}
-
-/// The year before or after the year 0.
-pub(crate) fn signed(is_negative: bool, year: u16) -> i32
-    requires few { year < 10000 }
-    ensures is { result ≡ signed is_negative year }
-    ensures years { unsigned_abs result ≤ 9999 }
-{
-    if is_negative {
-        return -i32::from(year);
-    }
-    i32::from(year)
 }
 
 /// The number of four digits, or none where fewer or more stand here.
@@ -78,17 +67,6 @@ fn read_four(reader: &mut Reader) -> Result<Option<u16>, Unreadable>
         return Ok(None);
     }
     Ok(Some(digits.parse::<u16>().unwrap()))
-}
-
-/// A hyphen and one or two digits, or nothing.
-#[tactic(auto, unfolding(crate::specs::Side::part_at))]
-fn read_part(reader: &mut Reader) -> Result<Option<u16>, Unreadable>
-    ensures { Reads (λ p. p) result (left reader.new) (part_at (left reader.old)) }
-{
-    if reader.take('-') {
-        return Ok(Some(reader.digits(1, 2)?));
-    }
-    Ok(None)
 }
 
 /// Behind a day, `T` and a time, or nothing.
@@ -107,7 +85,7 @@ fn read_clock(reader: &mut Reader) -> Result<Time, Unreadable>
     ensures { Reads (λ t. t) result (left reader.new) (clock_at (left reader.old)) }
 {
     let (hour, minute) = read_minutes(reader)?;
-    let second = read_second(reader)?;
+    let second = read_seconds(reader)?;
     let offset = read_offset(reader)?;
     Ok(Time {
         hour,
@@ -129,8 +107,8 @@ fn read_minutes(reader: &mut Reader) -> Result<(u8, u8), Unreadable>
 }
 
 /// Behind a colon seconds, else 0.
-fn read_second(reader: &mut Reader) -> Result<u8, Unreadable>
-    ensures { Reads (λ n. n) result (left reader.new) (second_behind (taken 58 (left reader.old))) }
+fn read_seconds(reader: &mut Reader) -> Result<u8, Unreadable>
+    ensures { Reads (λ n. n) result (left reader.new) (seconds_behind (taken 58 (left reader.old))) }
 {
     if reader.take(':') {
         return read_two(reader);

@@ -1,14 +1,14 @@
 //! How dates are written.
 
 ghost use Rattle.std.specs.Prelude.{◌≡◌, Some};
-ghost use Rattle.std.specs.Fmt.{DisplaysOnOk, sign_text};
-ghost use Rattle.std.specs.Int.{is_negative};
+ghost use Rattle.std.specs.Fmt.{DisplaysOnOk};
 ghost use Rattle.laws.specs.Text.{text as text_of};
-ghost use Rattle.biblatex_dates.specs.Written.{padded, year_text, behind, counted, sign, signed_offset_text, offset_text, clock_text, time_text, day_text, month_text, datetime_text, sides_text, end_text, mark_text, date_text};
+ghost use Rattle.biblatex_dates.specs.Written.{behind, sign, signed_offset_text, offset_text, clock_text, time_text, day_text, month_text, datetime_text, sides_text, end_text, mark_text, date_text};
 ghost use Rattle.biblatex_dates.specs.declared.date.DateValue.TheVariants.{Between};
 
 use crate::date::{Date, DateValue};
 use crate::datetime::{Datetime, Time, TimeOffset};
+use date_parts::{write_counted, write_padded, write_year};
 use std::fmt::{self, Display};
 
 /// The year in four digits or more, behind a hyphen where it is negative; a hyphen and the month; a hyphen and the day;
@@ -89,45 +89,12 @@ fn write_mark<W: fmt::Write>(
     }
 }
 
-/// Writes the year.
-fn write_year<W: fmt::Write>(year: i32, f: &mut fmt::Formatter<W>) -> fmt::Result
-    ensures { DisplaysOnOk W.write_str_gives f.old result (Some (text_of (year_text year))) f.new }
-{
-    write_sign(year, f)?;
-    write_padded(year.unsigned_abs(), 4, f)
-}
-
-/// Writes a hyphen before a negative year.
-fn write_sign<W: fmt::Write>(year: i32, f: &mut fmt::Formatter<W>) -> fmt::Result
-    ensures { DisplaysOnOk W.write_str_gives f.old result (Some (text_of (sign_text (is_negative year)))) f.new }
-{
-    if year < 0 {
-        return f.write_str("-");
-    }
-    Ok(())
-}
-
-/// Writes a number in so many digits or more.
-fn write_padded<W: fmt::Write>(number: u32, width: usize, f: &mut fmt::Formatter<W>) -> fmt::Result
-    ensures { DisplaysOnOk W.write_str_gives f.old result (Some (text_of (padded width number))) f.new }
-{
-    write!(f, "{number:0width$}")
-}
-
 /// Writes a character, and behind it a number in two digits or more.
 fn write_behind<W: fmt::Write>(mark: char, number: u8, f: &mut fmt::Formatter<W>) -> fmt::Result
     ensures { DisplaysOnOk W.write_str_gives f.old result (Some (text_of (behind mark number))) f.new }
 {
     f.write_char(mark)?;
     write_padded(u32::from(number), 2, f)
-}
-
-/// Writes a number that counts from zero: a hyphen, and the number that counts from one in two digits or more.
-fn write_counted<W: fmt::Write>(number: u8, f: &mut fmt::Formatter<W>) -> fmt::Result
-    ensures { DisplaysOnOk W.write_str_gives f.old result (Some (text_of (counted number))) f.new }
-{
-    f.write_char('-')?;
-    write_padded(u32::from(number) + 1, 2, f)
 }
 
 /// Writes the month, and the day and the time behind it.

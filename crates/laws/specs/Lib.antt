@@ -1,3 +1,4 @@
+pub mod Equality
 pub mod Results
 pub mod Runs
 pub mod Steps

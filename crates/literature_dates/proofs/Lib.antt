@@ -1,2 +1,2 @@
-pub mod Padded
 pub mod DatesAgain
+pub mod Equality

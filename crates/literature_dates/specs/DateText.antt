@@ -1,21 +1,8 @@
 -- How dates are written, and which of them are read back.
-use Rattle.std.specs.Prelude.{ℕ, ◌+◌, ◌-◌, ◌<◌, ◌≤◌, Bool, true, false, List, [], ◌∷◌, ◌++◌, length, replicate, Option, Some, None, ℤ, unsigned_abs}
-use Rattle.std.specs.Fmt.{decimal, sign_text}
-use Rattle.std.specs.Int.{is_negative}
-use Rattle.literature_dates.specs.Dates.{days_in_month}
+use Rattle.std.specs.Prelude.{ℕ, ◌+◌, ◌<◌, ◌≤◌, Bool, true, false, List, [], ◌∷◌, ◌++◌, Option, Some, None, ℤ, unsigned_abs}
+use Rattle.jiff.specs.Words.{days_in_month}
+use Rattle.date_parts.specs.Written.{year_text, counted_text}
 use Rattle.literature_dates.specs.declared.date.Date.{Date}
-
--- a number with zeros before it, up to so many digits
-abbrev pub padded : ℕ → ℕ → List ℕ
-padded width n = replicate (width - length (decimal n)) 48 ++ decimal n
-
--- four digits or more, behind a hyphen where the year is negative
-abbrev pub year_text : ℤ → List ℕ
-year_text y = sign_text (is_negative y) ++ padded 4 (unsigned_abs y)
-
--- a hyphen and two digits or more, counted from one
-abbrev pub counted_text : ℕ → List ℕ
-counted_text n = 45 ∷ padded 2 (n + 1)
 
 -- the day, where there is one
 abbrev pub day_text : Option ℕ → List ℕ

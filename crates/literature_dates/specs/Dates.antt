@@ -1,30 +1,15 @@
 -- Dates: the one that a text spells, which dates exist, and how they are written. Characters are numbers.
-use Rattle.std.specs.Prelude.{ℕ, ◌-◌, ◌%◌, Bool, true, false, not, ◌==◌, ◌&&◌, ◌||◌, List, [], ◌∷◌, if◌then◌else◌, Option, Some, None, Result, Ok, Err, ℤ, pos, neg_ℤ, unsigned_abs}
+use Rattle.std.specs.Prelude.{ℕ, ◌-◌, Bool, true, false, ◌==◌, ◌||◌, List, [], ◌∷◌, if◌then◌else◌, Option, Some, None, Result, Ok, Err, ℤ}
 use Rattle.std.specs.Int.{is_in_range}
 use Rattle.laws.specs.Results.{◌>>=◌}
 use Rattle.text_reader.specs.Reading.{end_at, digits_at, token_at, taken, mark_at}
+use Rattle.date_parts.specs.Calendar.{has_day}
+use Rattle.date_parts.specs.Parts.{part_at, signed}
 use Rattle.literature_dates.specs.declared.date.Date.{Date}
 use Rattle.literature_dates.specs.declared.date.Side.{Side}
 use Rattle.literature_dates.specs.declared.date.DateError.{DateError}
 use Rattle.literature_dates.specs.declared.date.DateError.TheVariants.{UnknownFormat, MonthOutOfBounds, DayOutOfBounds}
 use Rattle.text_reader.specs.declared.reader.Unreadable.{Unreadable}
-
--- the year before 1 is 0; every fourth year is a leap year, but of the centuries only every fourth
-abbrev pub is_leap_year : ℤ → Bool
-is_leap_year y = unsigned_abs y % 4 == 0 && (not (unsigned_abs y % 100 == 0) || unsigned_abs y % 400 == 0)
-
--- thirty days have September, April, June and November
-abbrev pub days_in_month : ℤ → ℕ → ℕ
-days_in_month y m = if m == 2 then (if is_leap_year y then 29 else 28) else (if m == 4 || m == 6 || m == 9 || m == 11 then 30 else 31)
-
--- behind a hyphen one or two digits are wanted
-abbrev pub part_behind : Bool × List ℕ → Result (Option ℕ × List ℕ) Unreadable
-part_behind (false, rest) = Ok (None, rest)
-part_behind (true, rest) = digits_at 1 2 rest >>= λ d. Ok (Some d.0, d.1)
-
--- a hyphen and one or two digits, or nothing
-unfoldable pub part_at : List ℕ → Result (Option ℕ × List ℕ) Unreadable
-part_at cs = part_behind (taken 45 cs)
 
 -- two digits, a colon, two digits
 unfoldable pub minutes_at : List ℕ → Result (List ℕ) Unreadable
@@ -61,11 +46,6 @@ abbrev pub time_at : Option ℕ → List ℕ → Result (List ℕ) Unreadable
 time_at None cs = Ok cs
 time_at (Some d) cs = clock_behind (taken 84 cs)
 
--- the year, negative behind a hyphen
-abbrev pub signed : Bool → ℕ → ℤ
-signed false n = pos n
-signed true n = neg_ℤ (pos n)
-
 -- four digits
 abbrev pub year_at : Bool → List ℕ → Result (ℤ × List ℕ) Unreadable
 year_at is_negative cs = digits_at 4 4 cs >>= λ y. Ok (signed is_negative y.0, y.1)
@@ -91,7 +71,7 @@ in_month s m day = record { year = s.year; month = Some (m - 1); day = day; appr
 -- a day, where the month has it
 abbrev pub day_of : Side → ℕ → Option ℕ → Result Date DateError
 day_of s m None = Ok (in_month s m None)
-day_of s m (Some d) = if is_in_range 1 (days_in_month s.year m) d then Ok (in_month s m (Some (d - 1))) else Err DayOutOfBounds
+day_of s m (Some d) = if has_day s.year m d then Ok (in_month s m (Some (d - 1))) else Err DayOutOfBounds
 
 -- The months 21 to 24 are seasons, which leave the year alone. Another month is one of twelve.
 abbrev pub month_of : Side → Option ℕ → Result Date DateError

@@ -1,17 +1,17 @@
 //! Dates.
 
-ghost use Rattle.std.specs.Prelude.{◌≡◌, ◌≤◌, Some, Ok};
-ghost use Rattle.std.specs.Fmt.{DisplaysOnOk, sign_text};
-ghost use Rattle.std.specs.Int.{is_negative};
+ghost use Rattle.std.specs.Prelude.{◌≡◌, ◌≤◌, Some, Ok, IfOk, unsigned_abs};
+ghost use Rattle.std.specs.Fmt.{DisplaysOnOk};
 ghost use Rattle.std.specs.Str.{chars};
 ghost use Rattle.laws.specs.Results.{Reads, Passes};
-ghost use Rattle.literature_dates.specs.Dates.{is_leap_year, days_in_month, part_at, minutes_at, offset_at, clock_at, time_at, year_at, side_of, year_alone, in_month, day_of, month_of, date_of};
+ghost use Rattle.literature_dates.specs.Dates.{minutes_at, offset_at, clock_at, time_at, year_at, side_of, year_alone, in_month, day_of, month_of, date_of};
 ghost use Rattle.laws.specs.Text.{text as text_of};
-ghost use Rattle.literature_dates.specs.DateText.{padded, year_text, counted_text, month_text, mark_text, date_text, Exists};
+ghost use Rattle.literature_dates.specs.DateText.{month_text, mark_text, date_text, Exists};
 ghost use Rattle.text_reader.specs.Views.{left};
 ghost use Rattle.literature_dates.specs.declared.date.DateError.TheVariants.{UnknownFormat};
 ghost use Rattle.literature_dates.specs.declared.date.Date.{Date};
 
+use date_parts::{has_day, read_part, signed_year, write_counted, write_year};
 use std::fmt;
 use text_reader::{Reader, Unreadable};
 use thiserror::Error;
@@ -77,7 +77,8 @@ fn read_date(text: &str) -> Result<Date, DateError>
 /// The date as written.
 #[tactic(auto, unfolding(crate::specs::Dates::side_of))]
 fn read_side(text: &str) -> Result<Side, Unreadable>
-    ensures { result ≡ side_of (chars text.now) }
+    ensures reads { result ≡ side_of (chars text.now) }
+    ensures years { IfOk result (λ s. unsigned_abs s.year ≤ 9999) }
 {
     let mut reader = Reader::new(text);
     let is_negative = reader.take('-');
@@ -97,24 +98,11 @@ fn read_side(text: &str) -> Result<Side, Unreadable>
 
 /// Four digits, as a year before or after the year 0.
 fn read_year(reader: &mut Reader, is_negative: bool) -> Result<i32, Unreadable>
-    ensures { Reads (λ y. y) result (left reader.new) (year_at is_negative (left reader.old)) }
+    ensures reads { Reads (λ y. y) result (left reader.new) (year_at is_negative (left reader.old)) }
+    ensures years { IfOk result (λ y. unsigned_abs y ≤ 9999) }
 {
-    let year = i32::from(reader.digits(4, 4)?);
-    if is_negative {
-        return Ok(-year);
-    }
-    Ok(year)
-}
-
-/// A hyphen and one or two digits, or nothing.
-#[tactic(auto, unfolding(crate::specs::Dates::part_at))]
-fn read_part(reader: &mut Reader) -> Result<Option<u16>, Unreadable>
-    ensures { Reads (λ p. p) result (left reader.new) (part_at (left reader.old)) }
-{
-    if reader.take('-') {
-        return Ok(Some(reader.digits(1, 2)?));
-    }
-    Ok(None)
+    let year = reader.digits(4, 4)?;
+    Ok(signed_year(is_negative, year))
 }
 
 /// Behind a day, `T` and a time, or nothing.
@@ -166,6 +154,7 @@ fn read_offset(reader: &mut Reader) -> Result<(), Unreadable>
 
 /// The date that a text of the shape means.
 fn dated(side: Side) -> Result<Date, DateError>
+    requires { unsigned_abs side.year ≤ 9999 }
     ensures { result ≡ month_of side side.month }
 {
     let Some(month) = side.month else {
@@ -194,17 +183,18 @@ fn year_alone(side: Side) -> Date
 
 /// The month, and the day where there is one, which the month must have.
 fn dated_in_month(side: Side, month: u16) -> Result<Date, DateError>
+    requires years { unsigned_abs side.year ≤ 9999 }
     requires first { 1 ≤ month }
     requires last { month ≤ 12 }
     ensures { result ≡ day_of side month side.day }
 {
-    let Some(day) = side.day else {
-        return Ok(in_month(side, month, None));
-    };
-    if day < 1 || day > days_in_month(side.year, month) {
-        return Err(DateError::DayOutOfBounds);
+    match side.day {
+        None => Ok(in_month(side, month, None)),
+        Some(day) if has_day(side.year, month, day) => {
+            Ok(in_month(side, month, Some((day - 1) as u8)))
+        }
+        Some(_) => Err(DateError::DayOutOfBounds),
     }
-    Ok(in_month(side, month, Some((day - 1) as u8)))
 }
 
 /// The date of a month that counts from one, and of a day that counts from zero.
@@ -219,27 +209,6 @@ fn in_month(side: Side, month: u16, day: Option<u8>) -> Date
         day,
         approximate: side.is_marked,
     }
-}
-
-/// How many days the month of the year has.
-fn days_in_month(year: i32, month: u16) -> u16
-    ensures days { result ≡ days_in_month year month }
-    ensures few { result ≤ 31 }
-{
-    match month {
-        2 if is_leap_year(year) => 29,
-        2 => 28,
-        4 | 6 | 9 | 11 => 30,
-        _ => 31,
-    }
-}
-
-/// Whether the year is a leap year: every fourth year, but of the centuries only every fourth.
-fn is_leap_year(year: i32) -> bool
-    ensures { result ≡ is_leap_year year }
-{
-    let year = year.unsigned_abs();
-    year % 4 == 0 && (year % 100 != 0 || year % 400 == 0)
 }
 
 impl From<Unreadable> for DateError {
@@ -262,31 +231,6 @@ impl fmt::Display for Date {
     }
 }
 
-/// Writes the year.
-fn write_year<W: fmt::Write>(year: i32, f: &mut fmt::Formatter<W>) -> fmt::Result
-    ensures { DisplaysOnOk W.write_str_gives f.old result (Some (text_of (year_text year))) f.new }
-{
-    write_sign(year, f)?;
-    write_padded(year.unsigned_abs(), 4, f)
-}
-
-/// Writes a hyphen before a negative year.
-fn write_sign<W: fmt::Write>(year: i32, f: &mut fmt::Formatter<W>) -> fmt::Result
-    ensures { DisplaysOnOk W.write_str_gives f.old result (Some (text_of (sign_text (is_negative year)))) f.new }
-{
-    if year < 0 {
-        return f.write_str("-");
-    }
-    Ok(())
-}
-
-/// Writes a number in so many digits or more.
-fn write_padded<W: fmt::Write>(number: u32, width: usize, f: &mut fmt::Formatter<W>) -> fmt::Result
-    ensures { DisplaysOnOk W.write_str_gives f.old result (Some (text_of (padded width number))) f.new }
-{
-    write!(f, "{number:0width$}")
-}
-
 /// Writes the month, and the day behind it.
 fn write_month<W: fmt::Write>(
     month: Option<u8>,
@@ -303,14 +247,6 @@ fn write_month<W: fmt::Write>(
         Some(day) => write_counted(day, f),
         None => Ok(()),
     }
-}
-
-/// Writes a number that counts from zero, in two digits or more that count from one.
-fn write_counted<W: fmt::Write>(number: u8, f: &mut fmt::Formatter<W>) -> fmt::Result
-    ensures { DisplaysOnOk W.write_str_gives f.old result (Some (text_of (counted_text number))) f.new }
-{
-    f.write_str("-")?;
-    write_padded(u32::from(number) + 1, 2, f)
 }
 
 /// Writes the mark of an approximate date.

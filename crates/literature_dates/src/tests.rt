@@ -1,5 +1,7 @@
 //! Rows that no clause says: what texts from outside mean.
 
+ghost use Rattle.std.specs.Prelude.{◌≡◌, ◌↔◌, IsTrue};
+
 use crate::{Date, DateError};
 use std::test::Fail;
 
@@ -19,6 +21,22 @@ fn is_refused(text: &str, wanted: DateError) -> bool {
         Ok(_) => false,
         Err(fault) => fault == wanted,
     }
+}
+
+/// Whether two dates are equal, which is where they are one.
+fn are_equal(a: &Date, b: &Date) -> bool
+    ensures { IsTrue result ↔ (a.now ≡ b.now) }
+{
+    *a == *b
+}
+
+#[test]
+fn compares(rt: HostRuntime) -> Result<(), Fail> {
+    let day = Date::read("2001-01-02")?;
+    assert!(rt; are_equal(&day, &date(2001, Some(0), Some(1))));
+    assert!(rt; !are_equal(&day, &date(2001, Some(0), None)));
+    assert!(rt; !are_equal(&day, &Date::read("2001-01-02~")?));
+    Ok(())
 }
 
 #[test]

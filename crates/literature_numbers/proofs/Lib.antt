@@ -5,3 +5,4 @@ pub mod NumbersAgain
 pub mod NumeralAgain
 pub mod PageSteps
 pub mod PagesAgain
+pub mod Equality

@@ -1,5 +1,5 @@
 -- Numbers with letters before and after: the value that a text spells.
-use Rattle.std.specs.Prelude.{ℕ, List, [], ◌∷◌, Option, Some, None, Result, Ok, ℤ}
+use Rattle.std.specs.Prelude.{ℕ, List, [], ◌∷◌, map, Option, Some, None, Result, Ok, ℤ}
 use Rattle.laws.specs.Results.{◌>>=◌}
 use Rattle.laws.specs.Steps.{each}
 use Rattle.laws.specs.Runs.{front_of, after}
@@ -24,6 +24,17 @@ pub record Numeral : Type 0 where
   pub value : Value
   pub prefix : Option (List ℕ)
   pub suffix : Option (List ℕ)
+
+-- the numbers in order
+abbrev pub numbers_in : Value → List ℤ
+numbers_in (Number n) = n ∷ []
+numbers_in (Set ns) = map (λ n. n.0) ns
+
+-- the first number, where no other one follows
+abbrev pub only_one : List ℤ → Option ℤ
+only_one [] = None
+only_one (n ∷ []) = Some n
+only_one (n ∷ m ∷ ns) = None
 
 -- one number, without letters
 abbrev pub plain : ℤ → Numeral

@@ -77,6 +77,14 @@ has_more seen (CommaPart ∷ ps) = has_more seen ps
 has_more seen (SinglePage n ∷ ps) = seen || (is_plural n.value || has_more true ps)
 has_more seen (Range m n ∷ ps) = true
 
+-- the first number that stands there
+abbrev pub first_number : List Part → Option Numeral
+first_number [] = None
+first_number (AmpersandPart ∷ ps) = first_number ps
+first_number (CommaPart ∷ ps) = first_number ps
+first_number (SinglePage n ∷ ps) = Some n
+first_number (Range m n ∷ ps) = Some m
+
 -- counts without letters
 abbrev pub IsPlainCount : Numeral → Type 0
 IsPlainCount n = (z : ℤ) × IsCount z × (n ≡ plain z)

@@ -1,11 +1,11 @@
 //! Numbers with letters before and after.
 
-ghost use Rattle.std.specs.Prelude.{◌≡◌, IfOk, Some};
+ghost use Rattle.std.specs.Prelude.{◌≡◌, IfOk, Some, slice_get};
 ghost use Rattle.std.specs.Fmt.{DisplaysOnOk, signed_decimal};
 ghost use Rattle.std.specs.List.{flat_map};
 ghost use Rattle.std.specs.Option.{option_map};
 ghost use Rattle.std.specs.Str.{chars};
-ghost use Rattle.literature_numbers.specs.Numerics.{Numeral, plain, numeral_of, numbers_at, value_of, affix};
+ghost use Rattle.literature_numbers.specs.Numerics.{Numeral, plain, numeral_of, numbers_at, numbers_in, only_one, value_of, affix};
 ghost use Rattle.laws.specs.Text.{text as text_of};
 ghost use Rattle.literature_numbers.specs.NumericText.{delimiter_text, linked_text, value_text, affix_text, numeral_text, is_plural, IsReadable};
 ghost use Rattle.text_reader.specs.Views.{left};
@@ -61,6 +61,28 @@ impl Numeric {
         ensures { result ≡ is_plural (numeral self.now).value }
     {
         self.value.is_plural()
+    }
+
+    /// The number, where there is just one.
+    pub fn single_number(&self) -> Option<i32>
+        ensures { result ≡ only_one (numbers_in (numeral self.now).value) }
+    {
+        match &self.value {
+            NumericValue::Number(number) => Some(*number),
+            NumericValue::Set(numbers) if numbers.len() == 1 => Some(numbers[0].0),
+            NumericValue::Set(_) => None,
+        }
+    }
+
+    /// The number at the place, where there are so many. Places count from zero.
+    pub fn nth(&self, place: usize) -> Option<i32>
+        ensures { result ≡ slice_get (numbers_in (numeral self.now).value) place }
+    {
+        match &self.value {
+            NumericValue::Number(number) if place == 0 => Some(*number),
+            NumericValue::Number(_) => None,
+            NumericValue::Set(numbers) => Some(numbers.get(place)?.0),
+        }
     }
 
     /// Reads numbers: ASCII letters or none, a number, further numbers after commas, ampersands or dashes with spaces round

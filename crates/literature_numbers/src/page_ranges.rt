@@ -2,9 +2,10 @@
 
 ghost use Rattle.std.specs.Prelude.{◌≡◌, ◌++◌, List, map, OnOk, Some, None, false};
 ghost use Rattle.std.specs.Fmt.{DisplaysOnOk};
+ghost use Rattle.std.specs.Option.{option_map};
 ghost use Rattle.std.specs.Str.{chars};
 ghost use Rattle.laws.specs.Text.{text as text_of};
-ghost use Rattle.literature_numbers.specs.Pages.{pages_of, pages_from, page, opened, closed, is_hyphen, part_text, pages_text, has_more, Part, Range, AreReadable};
+ghost use Rattle.literature_numbers.specs.Pages.{pages_of, pages_from, page, opened, closed, is_hyphen, part_text, pages_text, has_more, first_number, Part, Range, AreReadable};
 ghost use Rattle.literature_numbers.specs.Views.{numeral};
 ghost use Rattle.literature_numbers.specs.PageViews.{part, pages, MeansPages, ReadsBackPages, OpensRange, pages_refusal};
 ghost use Rattle.literature_numbers.specs.declared.page_ranges.PageRangesError.TheVariants.{Memory, Malformed};
@@ -55,6 +56,21 @@ impl PageRanges {
         ensures back { (ps : List Part) → AreReadable ps → chars text.now ≡ pages_text ps → ReadsBackPages result ps }
     {
         read_pages(alloc, text)
+    }
+
+    /// The first number: the first page, or the one that the first range begins with. Separators are passed over.
+    pub fn first(&self) -> Option<&Numeric>
+        ensures { option_map (λ n. numeral n.now) result ≡ first_number (pages self.now) }
+    {
+        for part in &self.ranges {
+            match part {
+                PageRangesPart::Ampersand | PageRangesPart::Comma => {}
+                PageRangesPart::SinglePage(first) | PageRangesPart::Range(first, _) => {
+                    return Some(first);
+                }
+            }
+        }
+        None
     }
 
     /// Whether there is more than one number: a range, or two pages.

@@ -1,1 +1,2 @@
 pub mod InitialSteps
+pub mod Equality

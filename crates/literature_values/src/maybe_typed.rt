@@ -1,19 +1,33 @@
 //! Values that may have been written in a form that is not read.
 
 ghost use Rattle.std.specs.Prelude.{◌≡◌, IfOk};
+ghost use Rattle.std.specs.Option.{option_copied};
 ghost use Rattle.std.specs.Str.{chars};
 ghost use Rattle.literature_numbers.specs.Numerics.{numeral_of};
 ghost use Rattle.literature_numbers.specs.Pages.{pages_of};
-ghost use Rattle.literature_values.specs.TypedViews.{KeepsNumeric, KeepsPages};
+ghost use Rattle.literature_values.specs.TypedViews.{KeepsNumeric, KeepsPages, printed, typed_value};
 
 use literature_numbers::{Numeric, NumericError, PageRanges, PageRangesError};
 use std::alloc::{AllocError, Global};
+use std::fmt;
 
 /// A value of a type, or the text that could not be read as one.
 #[derive(Clone, Debug, PartialEq, Eq, Drop)]
 pub enum MaybeTyped<T> {
     Typed(T),
     String(String),
+}
+
+impl<T> MaybeTyped<T> {
+    /// The value, where there is one.
+    pub fn as_typed(&self) -> Option<&T>
+        ensures { option_copied result ≡ typed_value self.now }
+    {
+        match self {
+            MaybeTyped::Typed(value) => Some(value),
+            MaybeTyped::String(_) => None,
+        }
+    }
 }
 
 impl MaybeTyped<Numeric> {
@@ -46,6 +60,18 @@ impl MaybeTyped<PageRanges> {
                 alloc, text,
             )?)),
             Err(PageRangesError::Memory) => Err(AllocError),
+        }
+    }
+}
+
+/// The value as it prints, or the text.
+impl<T: fmt::Display> fmt::Display for MaybeTyped<T> {
+    ghost output = { printed T.output };
+
+    fn fmt<W: fmt::Write>(&self, f: &mut fmt::Formatter<W>) -> fmt::Result {
+        match self {
+            MaybeTyped::Typed(value) => fmt::Display::fmt(value, f),
+            MaybeTyped::String(text) => fmt::Display::fmt(text, f),
         }
     }
 }

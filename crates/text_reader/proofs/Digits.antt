@@ -21,7 +21,8 @@ use Rattle.text_reader.specs.declared.reader.Unreadable.TheVariants.{NotThere}
 pub own : IsNumeralModel (λ ds. all_ascii_digits ds ≡ true) (digits_value 10)
 own = numerals_by_value _ tells_all_ascii_digits
 
-digits_all : (ds : List ℕ) → AllPassTest (passes Digit) ds → all_ascii_digits ds ≡ true
+-- a run of digits is one as std tells them
+pub digits_all : (ds : List ℕ) → AllPassTest (passes Digit) ds → all_ascii_digits ds ≡ true
 unfolding passes
 digits_all [] all = refl
 digits_all (d ∷ ds) all =

@@ -1,6 +1,6 @@
 //! Reads a text from the left, and borrows what it finds.
 
-ghost use Rattle.std.specs.Prelude.{◌≡◌, ◌<◌, ◌≤◌, ◌&&◌, nat_le};
+ghost use Rattle.std.specs.Prelude.{◌≡◌, ◌<◌, ◌≤◌, ◌^◌, ◌&&◌, nat_le, IfOk};
 ghost use Rattle.std.specs.Str.{chars};
 ghost use Rattle.laws.specs.Results.{Reads, Passes};
 ghost use Rattle.laws.specs.Runs.{front_of, after};
@@ -55,7 +55,8 @@ impl<'s> Reader<'s> {
     pub fn digits(&mut self, least: usize, most: usize) -> Result<u16, Unreadable>
         requires some { 0 < least }
         requires few { most ≤ 4 }
-        ensures { Reads (λ n. n) result (left self.new) (digits_at least most (left self.old)) }
+        ensures reads { Reads (λ n. n) result (left self.new) (digits_at least most (left self.old)) }
+        ensures below { IfOk result (λ n. n < 10 ^ most) }
     {
         let digits = self.run(Class::Digit);
         if !is_within(least, most, digits.len()) {

@@ -103,6 +103,13 @@ fn fields_are_inherited_under_their_names(rt: HostRuntime) {
 }
 
 #[test]
+fn a_reference_named_twice_counts_at_each_place(rt: HostRuntime) {
+    let text = "@misc{a, crossref={b}, xdata={c,b}} @misc{b, date={1990}} @misc{c, date={2000}}";
+    let found = read(rt.alloc(), text).expect(&rt, "memory");
+    assert_eq!(rt; found.as_str(), "a: crossref=b date=1990\nb: date=1990\nc: date=2000\n");
+}
+
+#[test]
 fn the_first_entry_that_reaches_itself_is_refused(rt: HostRuntime) {
     let text = "@book{a, crossref={b}} @book{b, crossref={c}} @book{c, crossref={b}}";
     let found = read(rt.alloc(), text).expect(&rt, "memory");

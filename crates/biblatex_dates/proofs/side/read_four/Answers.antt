@@ -6,7 +6,8 @@ use Rattle.text_reader.specs.Character.{passes}
 use Rattle.text_reader.specs.declared.character.Class.TheVariants.{Digit}
 use Rattle.text_reader.specs.Views.{left}
 use Rattle.text_reader.proofs.Digits.{run_bytes, digits_parsed}
-use Rattle.biblatex_dates.proofs.Bounds.{run_below, is_four, is_other}
+use Rattle.text_reader.proofs.Bounds.{run_below}
+use Rattle.biblatex_dates.proofs.Bounds.{is_four, is_other}
 use Rattle.biblatex_dates.proofs.side.read_four.Goals as goal
 
 pub returns-then-is_empty-clause-reads : goal.returns-then-is_empty-clause-reads

@@ -2,7 +2,8 @@ use Rattle.std.proofs.Common.{refl, true, sym, ◌∙◌}
 use Rattle.std.proofs.Output.{has_written_of_eq, has_written_append}
 use Rattle.laws.specs.Text.{text}
 use Rattle.laws.proofs.Text.{text-append}
-use Rattle.literature_dates.specs.DateText.{counted_text, month_text}
+use Rattle.date_parts.specs.Written.{counted_text}
+use Rattle.literature_dates.specs.DateText.{month_text}
 use Rattle.literature_dates.proofs.date.write_month.Goals as goal
 
 pub returns-in-Some-day : goal.returns-in-Some-day

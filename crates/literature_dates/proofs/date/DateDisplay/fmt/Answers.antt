@@ -3,7 +3,8 @@ use Rattle.std.proofs.lemmas.Int.{to_z-of_z}
 use Rattle.std.proofs.Output.{has_written_of_eq, has_written_append}
 use Rattle.laws.specs.Text.{text}
 use Rattle.laws.proofs.Text.{text-append}
-use Rattle.literature_dates.specs.DateText.{year_text, month_text, mark_text}
+use Rattle.date_parts.specs.Written.{year_text}
+use Rattle.literature_dates.specs.DateText.{month_text, mark_text}
 use Rattle.literature_dates.proofs.date.DateDisplay.fmt.Goals as goal
 
 pub returns-clause-writes : goal.returns-clause-writes

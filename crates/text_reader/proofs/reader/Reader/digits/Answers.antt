@@ -2,10 +2,11 @@ use Rattle.std.proofs.Common.{rules, sym, ◌∙◌, Ok}
 use Rattle.laws.proofs.Results.{ok_is}
 use Rattle.text_reader.specs.Views.{left}
 use Rattle.text_reader.proofs.Digits.{run_bytes, digits_parsed, digits_at-ok, digits_at-err}
+use Rattle.text_reader.proofs.Bounds.{digits_below}
 use Rattle.text_reader.proofs.reader.Reader.digits.Goals as goal
 
-pub returns-then-not-is_within : goal.returns-then-not-is_within
-returns-then-not-is_within c =
+pub returns-then-not-is_within-clause-reads : goal.returns-then-not-is_within-clause-reads
+returns-then-not-is_within-clause-reads c =
     let digits = c.run-digits.result.now in
     let text = left c.args.self.now in
     digits_at-err digits text c.args.least c.args.most (run_bytes digits text c.run-digits.utf8 c.run-digits.ensures.front) (sym c.is_within.ensures ∙ c.if-not-is_within.true)
@@ -18,8 +19,8 @@ unwrap-requires c =
     (sym c.is_within.ensures ∙ c.if-not-is_within.false) in
     search (rules, p)
 
-pub returns : goal.returns
-returns c =
+pub returns-clause-reads : goal.returns-clause-reads
+returns-clause-reads c =
     let digits = c.run-digits.result.now in
     let text = left c.args.self.now in
     let test = sym c.is_within.ensures ∙ c.if-not-is_within.false in
@@ -27,3 +28,6 @@ returns c =
     let same = ok_is _ _ (sym p ∙ c.unwrap.ensures) in
     digits_at-ok digits text c.args.least c.args.most (run_bytes digits text c.run-digits.utf8 c.run-digits.ensures.front) test
     ∙ (λ i. Ok (same i, sym c.run-digits.ensures.rest i))
+
+pub returns-clause-below : goal.returns-clause-below
+returns-clause-below c = digits_below c.args.least c.args.most c.unwrap.result (left c.args.self.now) (left c.run-digits.new.self) (returns-clause-reads c)

@@ -1,0 +1,64 @@
+"""What the measuring scripts share: words, and runs of a program that are timed, weighed and counted."""
+import math
+import os
+import subprocess
+import sys
+import time
+
+WORDS = "of the art light field winter river letters house memory early stone public measure sea on time form".split()
+
+
+def title(chance):
+    """A title of 40 to 60 characters."""
+    wanted = chance.randint(40, 60)
+    text = "A"
+    while len(text) < wanted:
+        text += " " + chance.choice(WORDS)
+    return text[:wanted].rstrip().ljust(40, "s")
+
+
+def peak_and_seconds(words):
+    """The peak memory in bytes and the seconds of one run."""
+    started = time.perf_counter()
+    running = subprocess.Popen(words, stdout=subprocess.DEVNULL)
+    _, status, usage = os.wait4(running.pid, 0)
+    seconds = time.perf_counter() - started
+    if status != 0:
+        sys.exit(f"{words} ended with status {status}")
+    return usage.ru_maxrss * 1024, seconds
+
+
+def instructions(words, folder):
+    """The instructions of one run."""
+    out = os.path.join(folder, "callgrind.out")
+    command = ["valgrind", "--tool=callgrind", "--callgrind-out-file=" + out] + words
+    subprocess.run(command, check=True, stdout=subprocess.DEVNULL, stderr=subprocess.DEVNULL)
+    with open(out) as lines:
+        for line in lines:
+            if line.startswith(("summary:", "totals:")):
+                return int(line.split()[1])
+    sys.exit("callgrind gave no summary")
+
+
+class Table:
+    """Measures a program at several sizes, prints a line for each, and at last the growth between the smaller two."""
+
+    def __init__(self, words, folder):
+        self.words, self.folder, self.counted = words, folder, []
+        self.empty, _ = peak_and_seconds(words)
+        print(f"{'N':>7} {'bytes':>10} {'instructions':>14} {'seconds':>8} {'memory':>11} {'times input':>11}")
+
+    def line(self, count, size):
+        """One size: the instructions of the smaller ones, the seconds, and the memory less that of the empty run."""
+        peak, seconds = peak_and_seconds(self.words)
+        ran = instructions(self.words, self.folder) if count < 100_000 else None
+        if ran:
+            self.counted.append((size, ran))
+        more = peak - self.empty
+        print(f"{count:>7} {size:>10} {ran or '-':>14} {seconds:>8.3f} {more:>11} {more / size:>11.2f}")
+
+    def growth(self):
+        """Instructions for each byte, and the growth exponent."""
+        (small, few), (large, many) = self.counted
+        print(f"instructions a byte: {(many - few) / (large - small):.1f}")
+        print(f"growth exponent: {math.log(many / few) / math.log(large / small):.3f}")

@@ -1,0 +1,7 @@
+use Rattle.std.proofs.Common.{◌≡◌, take}
+use Rattle.biblatex_content.specs.Views.{characters}
+use Rattle.biblatex_lists.specs.StyledChars.{plain}
+use Rattle.biblatex_lists.proofs.styled_char.plain_text.Given as goal
+
+abbrev pub invariant-loop-styled : goal.invariant-loop-styled
+invariant-loop-styled l = characters l.text ≡ plain (take l.styled-index l.part)

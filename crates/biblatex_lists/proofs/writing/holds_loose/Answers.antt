@@ -1,0 +1,10 @@
+use Rattle.std.proofs.Common.{◌≡◌, ℕ, false, drop, sym, ap, ◌∙◌, add-one}
+use Rattle.biblatex_lists.specs.Writing.{holds, is_loose}
+use Rattle.biblatex_lists.proofs.Cutting.{slice_to_end}
+use Rattle.biblatex_lists.proofs.Tested.{holds_later}
+use Rattle.biblatex_lists.proofs.writing.holds_loose.Goals as goal
+
+pub loop-i-preserved : goal.loop-i-preserved
+loop-i-preserved c =
+    let none : is_loose (drop c.loop-i.i c.args.text.now) ≡ false = ap is_loose (sym (slice_to_end c.args.text.now c.loop-i.i)) ∙ (sym c.is_loose.ensures ∙ c.if-is_loose.false) in
+    c.loop-i.invariant ∙ (holds_later is_loose c.args.text.now c.loop-i.i c.loop-i-test.true none ∙ ap (λ (k : ℕ). holds is_loose (drop k c.args.text.now)) (sym (add-one c.loop-i.i)))

@@ -1,0 +1,5 @@
+pub mod StyledChars
+pub mod Parts
+pub mod Texts
+pub mod Writing
+pub mod Laws

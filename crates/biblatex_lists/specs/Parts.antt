@@ -1,0 +1,57 @@
+-- A value is parted at each word `and` that stands between white space; parts have no white space at their ends.
+use Rattle.std.specs.Prelude.{ℕ, zero, suc, Bool, false, ◌&&◌, List, [], ◌∷◌, ◌++◌, map, if◌then◌else◌}
+use Rattle.std.specs.Borrow.{Bor}
+use Rattle.biblatex_lists.specs.declared.styled_char.StyledChar.{StyledChar}
+use Rattle.biblatex_lists.specs.StyledChars.{is_gap, spells}
+
+-- white space, the word `and` in any case, and white space again stand at the front
+abbrev pub begins_and : List StyledChar → Bool
+begins_and [] = false
+begins_and (s ∷ []) = false
+begins_and (s ∷ a ∷ []) = false
+begins_and (s ∷ a ∷ n ∷ []) = false
+begins_and (s ∷ a ∷ n ∷ d ∷ []) = false
+begins_and (s ∷ a ∷ n ∷ d ∷ t ∷ ss) = is_gap s && spells 97 a && spells 110 n && spells 100 d && is_gap t
+
+-- characters put before the first part
+abbrev pub before_first : List StyledChar → List (List StyledChar) → List (List StyledChar)
+before_first ss [] = ss ∷ []
+before_first ss (p ∷ ps) = (ss ++ p) ∷ ps
+
+-- the text cut at each word `and` between white space, once so many characters have been passed over; the white space
+-- behind one word may stand before the next
+abbrev pub cut_behind : ℕ → List StyledChar → List (List StyledChar)
+cut_behind n [] = [] ∷ []
+cut_behind (suc n) (s ∷ ss) = cut_behind n ss
+cut_behind zero (s ∷ ss) = if begins_and (s ∷ ss) then [] ∷ cut_behind 3 ss else before_first (s ∷ []) (cut_behind 0 ss)
+
+-- the text cut at each word `and`
+abbrev pub cut : List StyledChar → List (List StyledChar)
+cut ss = cut_behind 0 ss
+
+-- without the white space at the front
+abbrev pub without_first_gaps : List StyledChar → List StyledChar
+without_first_gaps [] = []
+without_first_gaps (s ∷ ss) = if is_gap s then without_first_gaps ss else s ∷ ss
+
+-- a character before others; white space before nothing goes
+abbrev pub held_before : StyledChar → List StyledChar → List StyledChar
+held_before s [] = if is_gap s then [] else s ∷ []
+held_before s (t ∷ ts) = s ∷ t ∷ ts
+
+-- without the white space at the end
+abbrev pub without_last_gaps : List StyledChar → List StyledChar
+without_last_gaps [] = []
+without_last_gaps (s ∷ ss) = held_before s (without_last_gaps ss)
+
+-- without the white space at both ends
+abbrev pub trimmed : List StyledChar → List StyledChar
+trimmed ss = without_last_gaps (without_first_gaps ss)
+
+-- the parts of a value; a part may be empty
+abbrev pub parts : List StyledChar → List (List StyledChar)
+parts ss = map trimmed (cut ss)
+
+-- what is borrowed of a value, as lists
+abbrev pub lent : List (Bor (List StyledChar)) → List (List StyledChar)
+lent ps = map (λ p. p.now) ps

@@ -1,0 +1,5 @@
+pub mod Words
+pub mod Reading
+pub mod Views
+pub mod Writing
+pub mod Laws

@@ -1,0 +1,109 @@
+//! One person's name.
+
+ghost use Rattle.std.specs.Prelude.{◌≡◌, IfOk};
+ghost use Rattle.biblatex_lists.specs.Parts.{lent};
+ghost use Rattle.biblatex_people.specs.Reading.{by_parts, by_last_word, by_small_words, person_in, with_commas, without_commas};
+ghost use Rattle.biblatex_people.specs.Views.{named};
+
+use crate::pairs::{are_pairs, person_of_pairs};
+use crate::person::Person;
+use crate::words::{Mark, cut_at, empty_text, joined, lead_count, small_at, words_in, words_of};
+use biblatex_lists::StyledChar;
+use std::alloc::{AllocError, Global};
+
+/// A name without commas and without small words before its last word.
+#[tactic(auto, using(crate::proofs::Lists::lent_take, crate::proofs::Lists::lent_drop, crate::proofs::Lists::lent_length))]
+fn by_last_word(alloc: Global, words: &[&[StyledChar]]) -> Result<Person, AllocError>
+    ensures { IfOk result (λ p. named p ≡ by_last_word (lent words.now)) }
+{
+    let (given, name) = words.split_at(words.len().saturating_sub(1));
+    Ok(Person {
+        name: joined(alloc, name)?,
+        given_name: joined(alloc, given)?,
+        prefix: empty_text(alloc),
+        suffix: empty_text(alloc),
+    })
+}
+
+/// A name without commas, whose small words end the front.
+#[tactic(auto, using(crate::proofs::Lists::lent_take, crate::proofs::Lists::lent_drop, crate::proofs::Lists::lent_length))]
+fn by_small_words(
+    alloc: Global,
+    front: &[&[StyledChar]],
+    name: &[&[StyledChar]],
+) -> Result<Person, AllocError>
+    ensures { IfOk result (λ p. named p ≡ by_small_words (lent front.now) (lent name.now)) }
+{
+    let (given, prefix) = front.split_at(small_at(front));
+    Ok(Person {
+        name: joined(alloc, name)?,
+        given_name: joined(alloc, given)?,
+        prefix: joined(alloc, prefix)?,
+        suffix: empty_text(alloc),
+    })
+}
+
+/// A name without commas.
+#[tactic(auto, using(crate::proofs::Lists::lent_take, crate::proofs::Lists::lent_drop, crate::proofs::Lists::lent_length))]
+fn without_commas(alloc: Global, words: &[&[StyledChar]]) -> Result<Person, AllocError>
+    ensures { IfOk result (λ p. named p ≡ without_commas (lent words.now)) }
+{
+    let end = lead_count(words);
+    if end == 0 {
+        return by_last_word(alloc, words);
+    }
+    let (front, name) = words.split_at(end);
+    by_small_words(alloc, front, name)
+}
+
+/// A name with commas: the words of its first part, of the suffix, and of what is given.
+#[tactic(auto, using(crate::proofs::Lists::lent_take, crate::proofs::Lists::lent_drop, crate::proofs::Lists::lent_length))]
+fn with_commas(
+    alloc: Global,
+    words: &[&[StyledChar]],
+    suffix: &[&[StyledChar]],
+    given: &[&[StyledChar]],
+) -> Result<Person, AllocError>
+    ensures { IfOk result (λ p. named p ≡ with_commas (lent words.now) (lent suffix.now) (lent given.now)) }
+{
+    let (prefix, name) = words.split_at(lead_count(words));
+    Ok(Person {
+        name: joined(alloc, name)?,
+        given_name: joined(alloc, given)?,
+        prefix: joined(alloc, prefix)?,
+        suffix: joined(alloc, suffix)?,
+    })
+}
+
+/// A person, from the parts between commas.
+#[tactic(auto, using(crate::proofs::Lists::by_three_parts))]
+fn by_parts(alloc: Global, parts: &[&[StyledChar]]) -> Result<Person, AllocError>
+    ensures { IfOk result (λ p. named p ≡ by_parts (lent parts.now)) }
+{
+    match parts {
+        [] => Ok(Person::nobody(alloc)),
+        [name] => without_commas(alloc, &words_in(alloc, name)?),
+        [name, given] => {
+            let words = words_in(alloc, name)?;
+            with_commas(alloc, &words, &[], &words_in(alloc, given)?)
+        }
+        [name, suffix, _, ..] => {
+            let words = words_in(alloc, name)?;
+            let suffix = words_in(alloc, suffix)?;
+            let (_, given) = parts.split_at(2);
+            with_commas(alloc, &words, &suffix, &words_of(alloc, given)?)
+        }
+    }
+}
+
+/// A person.
+pub(crate) fn read_person(alloc: Global, text: &[StyledChar]) -> Result<Person, AllocError>
+    ensures { IfOk result (λ p. named p ≡ person_in text.now) }
+{
+    let parts = cut_at(alloc, text, Mark::Comma)?;
+    if are_pairs(&parts) {
+        person_of_pairs(alloc, &parts)
+    } else {
+        by_parts(alloc, &parts)
+    }
+}

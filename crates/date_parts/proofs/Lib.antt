@@ -1,0 +1,3 @@
+pub mod Padded
+pub mod WrittenAgain
+pub mod Days
