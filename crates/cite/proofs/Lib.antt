@@ -1,4 +1,3 @@
-pub mod Writing
 pub mod Opening
 pub mod Citing
 pub mod Documents

@@ -6,7 +6,7 @@ use Rattle.std.specs.Borrow.{Bor}
 use Rattle.cite.specs.Verdict.{verdict}
 use Rattle.cite.specs.Answers.{Writes}
 use Rattle.std.specs.Io.KnownBytes.{Appends}
-use Rattle.cite.specs.Sinks.{HasFailed}
+use Rattle.sinks.specs.Sinks.{HasFailed}
 use Rattle.cite.specs.Program.{Serves, ServesFiles, Says, IsLine, IsReason, IsSaid, Explains}
 use Rattle.cite.specs.declared.program.RunFault.{RunFault}
 use Rattle.cite.specs.declared.format.BufWriteFormat.{BufWriteFormat}

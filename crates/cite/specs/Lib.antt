@@ -2,7 +2,6 @@ pub mod Marker
 pub mod Order
 pub mod Output
 pub mod Verdict
-pub mod Sinks
 pub mod Views
 pub mod Orders
 pub mod Answers

@@ -4,15 +4,13 @@ use Rattle.std.specs.Str.{bytes_eq}
 use Rattle.std.specs.Borrow.{Bor}
 use Rattle.std.specs.Io.KnownBytes.{Appends}
 use lib.Chars.{codes}
-use Rattle.cite.specs.Sinks.{HasFailed}
+use Rattle.sinks.specs.Sinks.{HasFailed}
 use Rattle.cite.specs.Verdict.{Refusal, verdict}
 use Rattle.cite.specs.Answers.{Writes}
 use Rattle.cite.specs.declared.format.BufWriteFormat.{BufWriteFormat}
 use Rattle.cite.specs.declared.format.BufWriteFormat.TheVariants.{Plain, Html}
 use Rattle.cite.specs.declared.error.CiteError.{CiteError}
 use Rattle.cite.specs.declared.error.CiteError.TheVariants as errors
-use Rattle.cite.specs.declared.program.ReadFault.{ReadFault}
-use Rattle.cite.specs.declared.program.ReadFault.TheVariants as reads
 use Rattle.cite.specs.declared.program.RunFault.{RunFault}
 use Rattle.cite.specs.declared.program.RunFault.TheVariants as faults
 
@@ -98,11 +96,6 @@ fault_of other = faults.Refused other
 -- whatever is said of the fault is a reason
 abbrev pub Explains : RunFault → (List ℕ → Type 0) → Type 0
 Explains fault Reasons = (said : List ℕ) → IsSaid fault said → Reasons said
-
--- the fact, where the fault is not want of memory
-abbrev pub UnlessMemory : ReadFault → Type 0 → Type 0
-UnlessMemory reads.Memory P = Unit {0}
-UnlessMemory reads.Unreadable P = P
 
 -- `cite: `, what is said, a line feed
 abbrev pub line : List ℕ → List ℕ

@@ -7,7 +7,7 @@ ghost use Rattle.biblatex.specs.Works.{Work};
 ghost use Rattle.cite.specs.Order.{names_of};
 ghost use Rattle.cite.specs.Orders.{cited_works};
 ghost use Rattle.std.specs.Io.KnownBytes.{Appends};
-ghost use Rattle.cite.specs.Sinks.{HasFailed, AppendsFront};
+ghost use Rattle.sinks.specs.Sinks.{HasFailed, AppendsFront};
 ghost use Rattle.cite.specs.Verdict.{document_stage, supported_stage, output_stage, verdict};
 ghost use Rattle.cite.specs.Views.{parsed};
 ghost use Rattle.cite.specs.Answers.{Answers, Writes, IsRefusalUnlessWrite, UnlessWrite, OnWrite};
@@ -16,9 +16,9 @@ use crate::document::Document;
 use crate::error::{BibTextError, CiteError, DocumentTextError};
 use crate::format::BufWriteFormat;
 use crate::numbers::numbered_document;
-use crate::sink::{Sink, write_all};
 use crate::style::{Locale, Style};
 use biblatex::{Bibliography, ParseError, is_first_profile};
+use sinks::{Sink, write_all};
 use std::alloc::Global;
 
 /// The greatest number of an entry.

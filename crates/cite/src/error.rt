@@ -3,8 +3,8 @@
 ghost use Rattle.std.specs.Prelude.{◌≡◌};
 ghost use Rattle.cite.specs.declared.error.CiteError.TheVariants.{Memory};
 
-use crate::sink::SinkFault;
 use biblatex::ParseError;
+use sinks::SinkFault;
 use std::alloc::{AllocError, AllocFailed};
 use thiserror::Error;
 

@@ -10,12 +10,11 @@ mod numbers;
 mod order;
 mod output;
 mod program;
-mod sink;
 mod style;
 
 pub use engine::cite;
 pub use error::{BibTextError, CiteError, DocumentTextError};
 pub use format::BufWriteFormat;
-pub use program::{ReadFault, ReadPath, run};
-pub use sink::{Sink, SinkFault, Tap};
+pub use program::run;
+pub use sinks::{ReadFault, ReadPath, Sink, SinkFault, Tap};
 pub use style::{Locale, Style, english, num};

@@ -5,39 +5,18 @@ ghost use Rattle.std.specs.Str.{bytes_eq};
 ghost use Rattle.std.specs.Io.KnownBytes.{Appends};
 ghost use lib.Chars.{codes};
 ghost use Rattle.cite.specs.Answers.{IsRefusalUnlessWrite};
-ghost use Rattle.cite.specs.Program.{Serves, ServesFiles, IsUntouched, UnlessMemory, CannotRead, IsFileFault, IsFault, IsReason, Explains, IsSaid, IsLine, Says, said_of, fault_of, format_of};
+ghost use Rattle.cite.specs.Program.{Serves, ServesFiles, IsUntouched, CannotRead, IsFileFault, IsFault, IsReason, Explains, IsSaid, IsLine, Says, said_of, fault_of, format_of};
 
 use crate::engine::cite;
 use crate::error::CiteError;
 use crate::format::BufWriteFormat;
-use crate::sink::{Sink, write_all};
 use crate::style::{Style, english, num};
+use sinks::{ReadFault, ReadPath, Sink, write_all};
 use std::alloc::{AllocError, Global};
 use std::fmt;
 
 /// The line where there is no memory to say more.
 const NO_MEMORY: &str = "cite: out of memory\n";
-
-/// Files by their paths.
-pub trait ReadPath {
-    /// The bytes at a path, where they are known.
-    ghost holds: { Self → List ℕ → Option (List ℕ) };
-
-    /// The bytes of the file at the path.
-    fn read(&self, alloc: Global, path: &str) -> Result<Vec<u8>, ReadFault>
-        ensures bytes { IfOk result (λ bytes. IfSome (holds self.now path.now) (λ known. bytes.items ≡ known)) }
-        // Known bytes can be read.
-        ensures fault { IfErr result (λ e. UnlessMemory e (holds self.now path.now ≡ None)) };
-}
-
-/// Why a file was not read.
-#[derive(Clone, Copy, Debug, PartialEq, Eq)]
-pub enum ReadFault {
-    /// A request for memory was refused.
-    Memory,
-    /// The file can't be read.
-    Unreadable,
-}
 
 /// Why the program ends with status 1.
 #[derive(Debug, Drop)]

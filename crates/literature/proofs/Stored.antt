@@ -1,13 +1,14 @@
 -- Entries under their keys, by the bytes of these.
 use Rattle.std.specs.Global.{Global}
 use Rattle.std.proofs.Common.{◌≡◌, ℕ, List, [], ◌∷◌, refl, sym, ap, ◌∙◌, Some, Bool, true, false, cond, String, string_bytes, string_eq, bytes_eq, get_or, drop}
+use Rattle.std.specs.List.{list_any, IsDistinct, AllByRecursion}
 use Rattle.std.specs.Cmp.Lexicographic.{bytes_decides}
-use Rattle.std.specs.Map.{lookup, values_of, remove_entry}
+use Rattle.std.specs.Map.{lookup, keys_of, values_of, remove_entry}
 use Rattle.indexmap.specs.IndexMap.{insert_entry}
-use Rattle.literature.specs.Keys.{with_key, put, without_key}
+use Rattle.literature.specs.Keys.{with_key, put, without_key, AreDistinct}
 use Rattle.literature.specs.InStep.{AreInStep as Meet}
-use Rattle.literature.specs.Views.{key}
-use Rattle.literature.specs.declared.entry.Entry.{Entry}
+use Rattle.literature_entries.specs.Views.{key}
+use Rattle.literature_entries.specs.declared.entry.Entry.{Entry}
 
 abbrev Under : Type 0
 Under = List (String Global × Entry)
@@ -98,3 +99,21 @@ entry_removed name es h = taken name es (one_by_one es h)
 
 pub removed_in_step : (test : String Global → Bool) (es : Under) → Meet es → Meet (remove_entry test es)
 removed_in_step test es h = keys_seen _ (taken_in_step test es (one_by_one es h))
+
+-- strings that none of the others is equal to, by their bytes
+other_keys : (name : String Global) (own : List ℕ) (es : Under) → string_bytes name ≡ own → AreInStep es → AllByRecursion (λ k. string_eq name k ≡ false) (keys_of es) → list_any (λ y. bytes_eq own (key y)) (values_of es) ≡ false
+other_keys name own [] k h d = refl
+other_keys name own (e ∷ es) k h d =
+    let here : bytes_eq own (key e.1) ≡ false = (λ i. bytes_eq (sym k i) (sym h.0 i)) ∙ d.0 in
+    rw here (other_keys name own es k h.1 d.1)
+
+apart : (es : Under) → AreInStep es → IsDistinct string_eq (keys_of es) → AreDistinct key (values_of es)
+unfolding IsDistinct
+apart [] h d = refl
+apart (e ∷ es) h d =
+    let others = other_keys e.0 (key e.1) es h.0 h.1 d.0 in
+    rw others (apart es h.1 d.1)
+
+-- no two entries have one key
+pub unique_keys : (es : Under) → Meet es → IsDistinct string_eq (keys_of es) → AreDistinct key (values_of es)
+unique_keys es h d = apart es (one_by_one es h) d

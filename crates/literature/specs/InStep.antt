@@ -2,8 +2,8 @@
 use Rattle.std.specs.Global.{Global}
 use Rattle.std.specs.Prelude.{◌≡◌, List, map, String, string_bytes}
 use Rattle.std.specs.Map.{keys_of, values_of}
-use Rattle.literature.specs.Views.{key}
-use Rattle.literature.specs.declared.entry.Entry.{Entry}
+use Rattle.literature_entries.specs.Views.{key}
+use Rattle.literature_entries.specs.declared.entry.Entry.{Entry}
 
 -- each key that is looked up is that of its entry
 abbrev pub AreInStep : List (String Global × Entry) → Type 0

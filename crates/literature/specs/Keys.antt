@@ -1,5 +1,5 @@
 -- Lists of things with keys, as a library holds its entries. Keys are bytes.
-use Rattle.std.specs.Prelude.{◌≡◌, ℕ, false, List, [], ◌∷◌, if◌then◌else◌, Option, find}
+use Rattle.std.specs.Prelude.{◌≡◌, ℕ, Bool, true, not, ◌&&◌, List, [], ◌∷◌, if◌then◌else◌, Option, find}
 use Rattle.std.specs.List.{list_any}
 use Rattle.std.specs.Str.{bytes_eq}
 
@@ -17,7 +17,11 @@ abbrev pub without_key : {X : Type 0} → (X → List ℕ) → List ℕ → List
 without_key key name [] = []
 without_key key name (y ∷ ys) = if bytes_eq name (key y) then ys else y ∷ without_key key name ys
 
+-- whether no key stands twice
+abbrev pub are_distinct : {X : Type 0} → (X → List ℕ) → List X → Bool
+are_distinct key [] = true
+are_distinct key (x ∷ xs) = not (list_any (λ y. bytes_eq (key x) (key y)) xs) && are_distinct key xs
+
 -- no key stands twice
 abbrev pub AreDistinct : {X : Type 0} → (X → List ℕ) → List X → Type 0
-AreDistinct key [] = Unit {0}
-AreDistinct key (x ∷ xs) = (list_any (λ y. bytes_eq (key x) (key y)) xs ≡ false) × AreDistinct key xs
+AreDistinct key xs = are_distinct key xs ≡ true

@@ -1,7 +1,4 @@
-pub mod Fields
-pub mod Views
-pub mod Names
 pub mod Keys
 pub mod InStep
 pub mod Kept
-pub mod Ancestors
+pub mod Answers

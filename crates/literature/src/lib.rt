@@ -1,20 +1,20 @@
-//! Entries of a library with the works that they are part of, and libraries.
+//! Libraries of entries, with what entries are made of and the selectors that choose among them.
 #![tactic(auto)]
 
-mod ancestors;
-mod details;
-mod entry;
-mod fields;
 mod library;
-mod serials;
+mod query;
+#[cfg(test)]
+mod selecting;
 #[cfg(test)]
 mod tests;
 
-pub use entry::Entry;
 pub use library::Library;
-pub use literature_selectors::EntryType;
+pub use literature_entries::Entry;
+pub use literature_selectors::{Bindings, BoundSelect, Selector, SelectorError};
+pub use literature_types::EntryType;
 pub use literature_values::{
     ChunkKind, ChunkedString, Date, DateError, FormatString, MaybeTyped, Numeric, NumericDelimiter,
     NumericError, NumericValue, PageRanges, PageRangesError, PageRangesPart, Person, Publisher,
     QualifiedUrl, SerialNumber, StringChunk,
 };
+pub use query::Selected;

@@ -2,13 +2,14 @@
 
 ghost use Rattle.std.specs.Prelude.{◌≡◌, [], length, map, slice_get, string_bytes, IsTrue, ◌↔◌, OnOk, OnErr};
 ghost use Rattle.std.specs.Option.{option_copied};
-ghost use Rattle.literature.specs.Keys.{with_key, put, without_key};
+ghost use Rattle.std.specs.Map.{values_of};
+ghost use Rattle.literature.specs.Keys.{with_key, put, without_key, AreDistinct};
 ghost use Rattle.literature.specs.InStep.{AreInStep};
-ghost use Rattle.literature.specs.Views as views;
+ghost use Rattle.literature_entries.specs.Views as views;
 
-use crate::entry::Entry;
 use indexmap::IndexMap;
 use indexmap::map::{IntoValues, Keys, Values};
+use literature_entries::Entry;
 use std::alloc::{AllocError, Global};
 
 /// Entries in order, of which no two have the same key.
@@ -16,6 +17,7 @@ use std::alloc::{AllocError, Global};
 pub struct Library {
     entries: IndexMap<String, Entry>,
     ghost in_step: { AreInStep entries.entries },
+    ghost distinct: { AreDistinct views.key (values_of entries.entries) },
 }
 
 impl Library {
@@ -65,35 +67,39 @@ impl Library {
     ///
     /// # Errors
     /// Want of memory, where the library is as it was.
-    #[tactic(auto, using(crate::proofs::Stored::entry_put, crate::proofs::Stored::put_in_step))]
+    #[tactic(auto, using(crate::proofs::Stored::entry_put, crate::proofs::Stored::put_in_step, crate::proofs::Stored::unique_keys))]
     pub fn push(&mut self, entry: Entry) -> Result<(), AllocError>
         ensures ok { OnOk result (entries self.new ≡ put views.key (entries self.old) entry) }
         ensures err { OnErr result (entries self.new ≡ entries self.old) }
+        ensures distinct { AreDistinct views.key (entries self.new) }
     {
-        let key = entry.key.clone()?;
+        let key = String::from_str(*self.entries.allocator(), entry.key())?;
         self.entries.insert(key, entry)?;
         Ok(())
     }
 
     /// Takes the entry of that key out. Those behind it move up.
-    #[tactic(auto, using(crate::proofs::Stored::removed_in_step))]
+    #[tactic(auto, using(crate::proofs::Stored::removed_in_step, crate::proofs::Stored::unique_keys))]
     pub fn remove(&mut self, key: &str) -> Option<Entry>
         ensures removed { result ≡ with_key views.key key.now (entries self.old) }
         ensures entries { entries self.new ≡ without_key views.key key.now (entries self.old) }
+        ensures distinct { AreDistinct views.key (entries self.new) }
     {
         self.entries.shift_remove(key)
     }
 
     /// The entries in order.
     pub fn iter(&self) -> Values<'_, String, Entry>
-        ensures { result ≡ entries self.now }
+        ensures order { result ≡ entries self.now }
+        ensures distinct { AreDistinct views.key (entries self.now) }
     {
         self.entries.values()
     }
 
     /// The keys in order.
     pub fn keys(&self) -> Keys<'_, String, Entry>
-        ensures { map string_bytes result ≡ map views.key (entries self.now) }
+        ensures order { map string_bytes result ≡ map views.key (entries self.now) }
+        ensures distinct { AreDistinct views.key (entries self.now) }
     {
         self.entries.keys()
     }

@@ -5,3 +5,9 @@ pub mod Levels
 pub mod Again
 pub mod Takes
 pub mod Outcome
+pub mod Members
+pub mod Weights
+pub mod Places
+pub mod Adding
+pub mod Turns
+pub mod Names

@@ -4,11 +4,11 @@ use Rattle.std.proofs.lemmas.Bool.{eqb-true}
 use Rattle.std.specs.List.{flat_map}
 use Rattle.laws.specs.Results.{◌>>=◌}
 use Rattle.laws.proofs.Results.{bind_ok, ok_is, if_ok_at}
-use Rattle.literature_selectors.specs.EntryTypes.{type_called}
+use Rattle.literature_types.specs.EntryTypes.{type_called}
 use Rattle.literature_selectors.specs.Tokens.{Token, Name, Sign, tokens}
 use Rattle.literature_selectors.specs.Trees.{Tree, Any, Entry, Not, Binding, Ancestry, one_or_alternatives, one_or_multi, with_attributes}
 use Rattle.literature_selectors.specs.Reading.{Fault, MissingValue, Reading, taken, one_more, each_below, each_behind, name_at, list_end, names_at, lists_at, listed_at, parted, alternatives_of, multi_of, Level, typed, named, closed, parenthesised, signed, unary_in, above, ancestry_in, level, selector_at, selector_of}
-use Rattle.literature_selectors.specs.declared.entry_type.EntryType.{EntryType}
+use Rattle.literature_types.specs.declared.entry_type.EntryType.{EntryType}
 use Rattle.literature_selectors.specs.Grammar.{Spells, Bars, AreBehind, IsName, AreNames, AreLists, AreParted, Within, IsPrimary, IsUnaryWith, IsAboveWith, IsAncestryWith, within, IsSelector}
 use Rattle.literature_selectors.proofs.Repeats.{Leaves, AtMost, taken_less, name_leaves, put}
 use Rattle.literature_selectors.proofs.Levels.{names_leaves, LevelLeaves, level_leaves, unary_leaves}

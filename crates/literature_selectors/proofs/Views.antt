@@ -5,8 +5,8 @@ use Rattle.std.specs.Prelude.{String, Box, map}
 use Rattle.literature_selectors.specs.Trees.{trees_of}
 use Rattle.literature_selectors.specs.Trees as trees
 use Rattle.literature_selectors.specs.Views.{tree, characters}
-use Rattle.literature_selectors.specs.declared.entry_type.EntryType.{EntryType}
-use Rattle.literature_selectors.specs.declared.selector.Selector.{Selector, Any, Entry, Not, Binding, Attributes, Alternatives, Multi, Ancestry, the_lemmas}
+use Rattle.literature_types.specs.declared.entry_type.EntryType.{EntryType}
+use Rattle.literature_selectors.specs.declared.node.Node.{Node, Any, Entry, Not, Binding, Attributes, Alternatives, Multi, Ancestry, the_lemmas}
 
 pub view_any : tree Any ≡ trees.Any
 view_any = search (rules, the_lemmas)
@@ -14,20 +14,20 @@ view_any = search (rules, the_lemmas)
 pub view_entry : (t : EntryType) → tree (Entry t) ≡ trees.Entry t
 view_entry t = search (rules, the_lemmas)
 
-pub view_not : (x : Box Selector Global) → tree (Not x) ≡ trees.Not (tree x.value)
+pub view_not : (x : Box Node Global) → tree (Not x) ≡ trees.Not (tree x.value)
 view_not x = search (rules, the_lemmas)
 
-pub view_binding : (n : String Global) (x : Box Selector Global) → tree (Binding n x) ≡ trees.Binding (characters n) (tree x.value)
+pub view_binding : (n : String Global) (x : Box Node Global) → tree (Binding n x) ≡ trees.Binding (characters n) (tree x.value)
 view_binding n x = search (rules, the_lemmas)
 
-pub view_attributes : (x : Box Selector Global) (ns : Vec (String Global) Global) → tree (Attributes x ns) ≡ trees.Attributes (tree x.value) (map characters ns.items)
+pub view_attributes : (x : Box Node Global) (ns : Vec (String Global) Global) → tree (Attributes x ns) ≡ trees.Attributes (tree x.value) (map characters ns.items)
 view_attributes x ns = search (rules, the_lemmas)
 
-pub view_alternatives : (xs : Vec Selector Global) → tree (Alternatives xs) ≡ trees.Alternatives (trees_of (map tree xs.items))
+pub view_alternatives : (xs : Vec Node Global) → tree (Alternatives xs) ≡ trees.Alternatives (trees_of (map tree xs.items))
 view_alternatives xs = search (rules, the_lemmas)
 
-pub view_multi : (xs : Vec Selector Global) → tree (Multi xs) ≡ trees.Multi (trees_of (map tree xs.items))
+pub view_multi : (xs : Vec Node Global) → tree (Multi xs) ≡ trees.Multi (trees_of (map tree xs.items))
 view_multi xs = search (rules, the_lemmas)
 
-pub view_ancestry : (x y : Box Selector Global) → tree (Ancestry x y) ≡ trees.Ancestry (tree x.value) (tree y.value)
+pub view_ancestry : (x y : Box Node Global) → tree (Ancestry x y) ≡ trees.Ancestry (tree x.value) (tree y.value)
 view_ancestry x y = search (rules, the_lemmas)

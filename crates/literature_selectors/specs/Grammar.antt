@@ -3,10 +3,10 @@
 -- comma 44, the colon 58, > 62, [ 91, ] 93, | 124.
 use Rattle.std.specs.Prelude.{◌≡◌, ℕ, zero, suc, false, ◌==◌, List, [], ◌∷◌, Some, ◌⊎◌}
 use Rattle.std.specs.List.{flat_map}
-use Rattle.literature_selectors.specs.EntryTypes.{type_called}
+use Rattle.literature_types.specs.EntryTypes.{type_called}
 use Rattle.literature_selectors.specs.Tokens.{Token, Name, Sign, tokens}
 use Rattle.literature_selectors.specs.Trees.{Tree, Any, Entry, Not, Binding, Ancestry, one_or_alternatives, one_or_multi, with_attributes}
-use Rattle.literature_selectors.specs.declared.entry_type.EntryType.{EntryType}
+use Rattle.literature_types.specs.declared.entry_type.EntryType.{EntryType}
 
 -- tokens, what they spell, and the tokens that follow
 abbrev pub Spells : Type 0 → Type 1

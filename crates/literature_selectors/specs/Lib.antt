@@ -1,7 +1,11 @@
-pub mod EntryTypes
 pub mod Tokens
 pub mod TokenViews
 pub mod Trees
 pub mod Reading
 pub mod Grammar
 pub mod Views
+pub mod Holding
+pub mod Left
+pub mod Bindings
+pub mod Found
+pub mod Pairs

@@ -4,10 +4,10 @@
 use Rattle.std.specs.Prelude.{ℕ, zero, suc, Bool, true, false, ◌==◌, List, [], ◌∷◌, length, if◌then◌else◌, Option, Some, None, Result, Ok, Err}
 use Rattle.std.specs.List.{flat_map}
 use Rattle.laws.specs.Results.{◌>>=◌}
-use Rattle.literature_selectors.specs.EntryTypes.{type_called}
+use Rattle.literature_types.specs.EntryTypes.{type_called}
 use Rattle.literature_selectors.specs.Tokens.{Token, Name, Sign, tokens}
 use Rattle.literature_selectors.specs.Trees.{Tree, Any, Entry, Not, Binding, Ancestry, one_or_alternatives, one_or_multi, with_attributes}
-use Rattle.literature_selectors.specs.declared.entry_type.EntryType.{EntryType}
+use Rattle.literature_types.specs.declared.entry_type.EntryType.{EntryType}
 
 -- An operand is missing; a name is missing in a list; a name of a list is followed by neither a comma nor the end; a
 -- parenthesis is not closed; a name is no type's; a 129th level would be open.

@@ -6,8 +6,9 @@ use Rattle.literature_selectors.specs.Tokens.{Token, tokens}
 use Rattle.literature_selectors.specs.Trees.{Tree, Any, Entry, Not, Binding, Attributes, Alternatives, Multi, Ancestry, trees_of}
 use Rattle.literature_selectors.specs.Reading.{Fault, MissingValue, MalformedAttribute, MissingComma, UnbalancedParens, UnknownEntryType, TooDeep}
 use Rattle.literature_selectors.specs.declared.reader.Reader.{Reader}
-use Rattle.literature_selectors.specs.declared.selector.Selector.{Selector, fold-Selector}
-use Rattle.literature_selectors.specs.declared.selector.Selector.TheOpen.{Selector-F}
+use Rattle.literature_selectors.specs.declared.node.Node.{Node, fold-Node}
+use Rattle.literature_selectors.specs.declared.node.Node.TheOpen.{Node-F}
+use Rattle.literature_selectors.specs.declared.selector.Selector.{Selector}
 use Rattle.literature_selectors.specs.declared.error.SelectorError.{SelectorError}
 use Rattle.literature_selectors.specs.declared.error.SelectorError.TheVariants as errors
 
@@ -20,19 +21,23 @@ abbrev pub characters : String Global → List ℕ
 characters s = chars (string_bytes s)
 
 -- one node, with each selector in it already seen
-abbrev pub view_step : Selector-F Tree → Tree
-view_step Selector-F.Any = Any
-view_step (Selector-F.Entry t) = Entry t
-view_step (Selector-F.Not x) = Not x.value
-view_step (Selector-F.Binding n x) = Binding (characters n) x.value
-view_step (Selector-F.Attributes x ns) = Attributes x.value (map characters ns.items)
-view_step (Selector-F.Alternatives xs) = Alternatives (trees_of xs.items)
-view_step (Selector-F.Multi xs) = Multi (trees_of xs.items)
-view_step (Selector-F.Ancestry x y) = Ancestry x.value y.value
+abbrev pub view_step : Node-F Tree → Tree
+view_step Node-F.Any = Any
+view_step (Node-F.Entry t) = Entry t
+view_step (Node-F.Not x) = Not x.value
+view_step (Node-F.Binding n x) = Binding (characters n) x.value
+view_step (Node-F.Attributes x ns) = Attributes x.value (map characters ns.items)
+view_step (Node-F.Alternatives xs) = Alternatives (trees_of xs.items)
+view_step (Node-F.Multi xs) = Multi (trees_of xs.items)
+view_step (Node-F.Ancestry x y) = Ancestry x.value y.value
+
+-- a node with what it holds as plain data
+abbrev pub tree : Node → Tree
+tree = fold-Node Tree view_step
 
 -- a selector as plain data
-abbrev pub tree : Selector → Tree
-tree = fold-Selector Tree view_step
+abbrev pub meant : Selector → Tree
+meant s = tree s.root
 
 -- the fault that an error tells, or none for want of memory
 abbrev pub fault : SelectorError → Option Fault
@@ -58,9 +63,9 @@ Gives view (Ok x) rest read = read ≡ Ok (view x, rest)
 Gives view (Err e) rest read = Fails e read
 
 -- the same of what a text spells, without a rest
-abbrev pub Means : Result Selector SelectorError → Result Tree Fault → Type 0
-Means (Ok s) meant = meant ≡ Ok (tree s)
-Means (Err e) meant = Fails e meant
+abbrev pub Means : {X Y : Type 0} → (X → Y) → Result X SelectorError → Result Y Fault → Type 0
+Means view (Ok x) read = read ≡ Ok (view x)
+Means view (Err e) read = Fails e read
 
 -- the error tells that the name is no type's; or memory ran out
 abbrev pub TellsUnknown : Option Fault → List ℕ → Type 0
@@ -72,5 +77,5 @@ IsUnknown e name = TellsUnknown (fault e) name
 
 -- What is answered is that tree; or memory ran out.
 abbrev pub ReadsAs : Result Selector SelectorError → Tree → Type 0
-ReadsAs (Ok s) x = tree s ≡ x
+ReadsAs (Ok s) x = meant s ≡ x
 ReadsAs (Err e) x = fault e ≡ None

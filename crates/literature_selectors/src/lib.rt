@@ -1,16 +1,22 @@
-//! The types of entries, and the texts of the selector language with the trees that they spell.
+//! The texts of the selector language, the trees that they spell, and the entries at which these hold.
 #![tactic(auto)]
 
+mod binding;
+mod bindings;
 mod character;
-mod entry_type;
 mod error;
+mod holding;
+mod node;
 mod parser;
 mod reader;
+mod select;
 mod selector;
 #[cfg(test)]
 mod tests;
 mod token;
 
-pub use entry_type::EntryType;
+pub use bindings::Bindings;
 pub use error::SelectorError;
+pub use literature_types::EntryType;
+pub use select::BoundSelect;
 pub use selector::Selector;

@@ -1,48 +1,26 @@
 //! Reading selectors. Functions that open a level count the levels that are left.
 
-ghost use Rattle.std.specs.Prelude.{◌≡◌, IfOk, map};
+ghost use Rattle.std.specs.Prelude.{◌≡◌, map};
 ghost use Rattle.std.specs.Str.{chars};
-ghost use Rattle.literature_selectors.specs.Grammar.{IsSelector};
-ghost use Rattle.literature_selectors.specs.Trees.{Tree};
 ghost use Rattle.literature_selectors.specs.Reading.{taken, name_at, names_at, lists_at, listed_at, alternatives_of, multi_of, parenthesised, named, unary_in, ancestry_in, level, selector_of};
-ghost use Rattle.literature_selectors.specs.Views.{left, characters, tree, fault, Gives, Means, ReadsAs, IsUnknown};
+ghost use Rattle.literature_selectors.specs.Views.{left, characters, tree, fault, Gives, Means, IsUnknown};
 
-use crate::entry_type::EntryType;
 use crate::error::SelectorError;
-use crate::reader::Reader;
-use crate::selector::{
-    Selector, ancestry, binding, not, one_or_alternatives, one_or_multi, with_attributes,
+use crate::node::{
+    Node, ancestry, binding, not, one_or_alternatives, one_or_multi, with_attributes,
 };
+use crate::reader::Reader;
 use crate::token::Token;
+use literature_types::EntryType;
 use std::alloc::Global;
 
 /// How many levels may be open in a text. Each `(`, `!`, `name:` and `>` opens one.
 const MAX_LEVELS: usize = 128;
 
-impl Selector {
-    /// The selector that the longest expression at the text's beginning spells.
-    ///
-    /// # Errors
-    /// The first fault from the left: `MissingValue` where an operand is missing, `MalformedAttribute` where a list wants a
-    /// name, `MissingComma` where neither `,` nor `]` follows one, `UnbalancedParens` where `)` is missing,
-    /// `UnknownEntryType` for the name of no type, `TooDeep` at the token that opens a 129th level. `Memory` where a
-    /// request for memory was refused.
-    pub fn parse(alloc: Global, text: &str) -> Result<Selector, SelectorError>
-        // What is read is spelled by the longest expression at the text's beginning.
-        ensures found { IfOk result (λ s. IsSelector (chars text.now) (tree s)) }
-        // What is spelled there is read, unless memory runs out.
-        ensures only { (x : Tree) → IsSelector (chars text.now) x → ReadsAs result x }
-        // The tree, or the first fault from the left.
-        ensures reading { Means result (selector_of (chars text.now)) }
-    {
-        read_selector(alloc, text)
-    }
-}
-
 /// The selector that the longest expression at the text's beginning spells.
 #[tactic(auto, unfolding(crate::specs::Reading::selector_of, crate::specs::Reading::selector_at))]
-fn read_selector(alloc: Global, text: &str) -> Result<Selector, SelectorError>
-    ensures { Means result (selector_of (chars text.now)) }
+pub(crate) fn read_selector(alloc: Global, text: &str) -> Result<Node, SelectorError>
+    ensures { Means tree result (selector_of (chars text.now)) }
 {
     Reader::new(text).alternatives(alloc, MAX_LEVELS + 1)
 }
@@ -102,7 +80,7 @@ impl<'s> Reader<'s> {
 
     /// The selector with the lists that stand here.
     #[tactic(auto, unfolding(crate::specs::Reading::listed_at))]
-    fn listed(&mut self, alloc: Global, selector: Selector) -> Result<Selector, SelectorError>
+    fn listed(&mut self, alloc: Global, selector: Node) -> Result<Node, SelectorError>
         ensures { Gives tree result (left self.new) (listed_at (tree selector) (left self.old)) }
     {
         let names = self.lists(alloc)?;
@@ -111,12 +89,7 @@ impl<'s> Reader<'s> {
 
     /// What the name that was taken begins: a binding before a colon, else a type.
     #[cycle(selector)]
-    fn named(
-        &mut self,
-        alloc: Global,
-        levels: usize,
-        name: &'s str,
-    ) -> Result<Selector, SelectorError>
+    fn named(&mut self, alloc: Global, levels: usize, name: &'s str) -> Result<Node, SelectorError>
         ensures { Gives tree result (left self.new) (named (level levels) (chars name.now) (taken 58 (left self.old))) }
     {
         if self.take(':') {
@@ -124,7 +97,7 @@ impl<'s> Reader<'s> {
             return Ok(binding(alloc, name, bound)?);
         }
         match EntryType::read(name) {
-            Some(entry_type) => self.listed(alloc, Selector::Entry(entry_type)),
+            Some(entry_type) => self.listed(alloc, Node::Entry(entry_type)),
             None => Err(unknown(alloc, name)),
         }
     }
@@ -132,7 +105,7 @@ impl<'s> Reader<'s> {
     /// What stands behind the opening parenthesis that was taken.
     #[cycle(selector)]
     #[tactic(auto, unfolding(crate::specs::Reading::parenthesised))]
-    fn parenthesised(&mut self, alloc: Global, levels: usize) -> Result<Selector, SelectorError>
+    fn parenthesised(&mut self, alloc: Global, levels: usize) -> Result<Node, SelectorError>
         ensures { Gives tree result (left self.new) (parenthesised (level levels) (left self.old)) }
     {
         let inside = self.alternatives(alloc, levels)?;
@@ -145,7 +118,7 @@ impl<'s> Reader<'s> {
     /// A unary expression, with so many levels left in it.
     #[cycle(selector)]
     #[tactic(auto, unfolding(crate::specs::Reading::unary_in))]
-    fn unary_in(&mut self, alloc: Global, levels: usize) -> Result<Selector, SelectorError>
+    fn unary_in(&mut self, alloc: Global, levels: usize) -> Result<Node, SelectorError>
         ensures { Gives tree result (left self.new) (unary_in (level levels) (left self.old)) }
     {
         match self.first() {
@@ -161,9 +134,9 @@ impl<'s> Reader<'s> {
             }
             Some((Token::Sign('*'), next)) => {
                 *self = next;
-                self.listed(alloc, Selector::Any)
+                self.listed(alloc, Node::Any)
             }
-            Some((Token::Sign('['), _)) => self.listed(alloc, Selector::Any),
+            Some((Token::Sign('['), _)) => self.listed(alloc, Node::Any),
             Some((Token::Sign('('), next)) => {
                 *self = next;
                 self.parenthesised(alloc, levels)
@@ -174,7 +147,7 @@ impl<'s> Reader<'s> {
 
     /// A unary expression one level further in.
     #[cycle(selector)]
-    fn unary(&mut self, alloc: Global, levels: usize) -> Result<Selector, SelectorError>
+    fn unary(&mut self, alloc: Global, levels: usize) -> Result<Node, SelectorError>
         ensures { Gives tree result (left self.new) ((level levels).unary (left self.old)) }
     {
         if levels == 0 {
@@ -186,7 +159,7 @@ impl<'s> Reader<'s> {
     /// Unary expressions parted by ampersands, with so many levels left in each.
     #[cycle(selector)]
     #[tactic(auto, unfolding(crate::specs::Reading::parted))]
-    fn multi(&mut self, alloc: Global, levels: usize) -> Result<Selector, SelectorError>
+    fn multi(&mut self, alloc: Global, levels: usize) -> Result<Node, SelectorError>
         ensures { Gives tree result (left self.new) (multi_of (unary_in (level levels)) (left self.old)) }
     {
         let first = self.unary_in(alloc, levels)?;
@@ -200,7 +173,7 @@ impl<'s> Reader<'s> {
     /// An expression and what is asked of parents, with so many levels left in it.
     #[cycle(selector)]
     #[tactic(auto, unfolding(crate::specs::Reading::ancestry_in))]
-    fn ancestry_in(&mut self, alloc: Global, levels: usize) -> Result<Selector, SelectorError>
+    fn ancestry_in(&mut self, alloc: Global, levels: usize) -> Result<Node, SelectorError>
         ensures { Gives tree result (left self.new) (ancestry_in (level levels) (left self.old)) }
     {
         let of = self.multi(alloc, levels)?;
@@ -213,7 +186,7 @@ impl<'s> Reader<'s> {
 
     /// The same one level further in.
     #[cycle(selector)]
-    fn ancestry(&mut self, alloc: Global, levels: usize) -> Result<Selector, SelectorError>
+    fn ancestry(&mut self, alloc: Global, levels: usize) -> Result<Node, SelectorError>
         ensures { Gives tree result (left self.new) ((level levels).ancestry (left self.old)) }
     {
         if levels == 0 {
@@ -225,7 +198,7 @@ impl<'s> Reader<'s> {
     /// Expressions parted by bars, one level further in.
     #[cycle(selector)]
     #[tactic(auto, unfolding(crate::specs::Reading::parted))]
-    fn alternatives(&mut self, alloc: Global, levels: usize) -> Result<Selector, SelectorError>
+    fn alternatives(&mut self, alloc: Global, levels: usize) -> Result<Node, SelectorError>
         ensures { Gives tree result (left self.new) (alternatives_of (level levels).ancestry (left self.old)) }
     {
         let first = self.ancestry(alloc, levels)?;

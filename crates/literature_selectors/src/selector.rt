@@ -1,102 +1,112 @@
-//! Selectors as trees.
+//! Selectors.
 
-ghost use Rattle.std.specs.Prelude.{◌≡◌, IfOk, map};
+ghost use Rattle.std.specs.Prelude.{◌≡◌, ℕ, List, is_some, IfOk, IfSome};
+ghost use Rattle.std.specs.Option.{option_copied};
 ghost use Rattle.std.specs.Str.{chars};
-ghost use Rattle.literature_selectors.specs.Trees.{Tree, one_or_alternatives, one_or_multi, with_attributes};
-ghost use Rattle.literature_selectors.specs.Trees as trees;
-ghost use Rattle.literature_selectors.specs.Views.{tree, characters};
+ghost use Rattle.literature_selectors.specs.Bindings.{bindings, last_bound, bound_to, settled};
+ghost use Rattle.literature_selectors.specs.Grammar.{IsSelector};
+ghost use Rattle.literature_selectors.specs.Holding.{holds};
+ghost use Rattle.literature_selectors.specs.Pairs.{pairs, named_in};
+ghost use Rattle.literature_selectors.specs.Reading.{selector_of};
+ghost use Rattle.literature_selectors.specs.Trees.{Tree};
+ghost use Rattle.literature_selectors.specs.Views.{meant, Means, ReadsAs};
 
-use crate::entry_type::EntryType;
+use crate::bindings::Bindings;
+use crate::error::SelectorError;
+use crate::node::Node;
+use crate::parser::read_selector;
+use literature_entries::Entry;
 use std::alloc::{AllocError, Global};
+use std::fmt;
 
-/// What is asked of an entry and of its parents.
-#[derive(Debug, PartialEq, Eq, Drop)]
-pub enum Selector {
-    /// `*`: every entry.
-    Any,
-    /// An entry of the type.
-    Entry(EntryType),
-    /// `!x`: what `x` does not ask.
-    Not(Box<Selector>),
-    /// `name:x`: as `x`, and what it holds at gets the name.
-    Binding(String, Box<Selector>),
-    /// `x[name, name]`: as `x`, and the entry has each of the one or more fields. Several lists in a row are one.
-    Attributes(Box<Selector>, Vec<String>),
-    /// `x | y`: one of the two or more.
-    Alternatives(Vec<Selector>),
-    /// `x & y`: of two or more each at a parent of its own.
-    Multi(Vec<Selector>),
-    /// `x > y`: `x` of the entry and `y` of its parents.
-    Ancestry(Box<Selector>, Box<Selector>),
+/// What is asked of an entry and of its parents. A selector is read of a text, so it is at most 128 levels deep.
+#[derive(PartialEq, Eq, Drop)]
+pub struct Selector {
+    root: Node,
 }
 
-/// `!x`.
-#[tactic(auto, using(crate::proofs::Views::view_not))]
-pub(crate) fn not(alloc: Global, negated: Selector) -> Result<Selector, AllocError>
-    ensures { IfOk result (λ s. tree s ≡ trees.Not (tree negated)) }
-{
-    Ok(Selector::Not(Box::new(alloc, negated)?))
-}
-
-/// `name:x`.
-#[tactic(auto, using(crate::proofs::Views::view_binding))]
-pub(crate) fn binding(alloc: Global, name: &str, bound: Selector) -> Result<Selector, AllocError>
-    ensures { IfOk result (λ s. tree s ≡ trees.Binding (chars name.now) (tree bound)) }
-{
-    let name = String::from_str(alloc, name)?;
-    Ok(Selector::Binding(name, Box::new(alloc, bound)?))
-}
-
-/// `x > y`.
-#[tactic(auto, using(crate::proofs::Views::view_ancestry))]
-pub(crate) fn ancestry(alloc: Global, of: Selector, above: Selector) -> Result<Selector, AllocError>
-    ensures { IfOk result (λ s. tree s ≡ trees.Ancestry (tree of) (tree above)) }
-{
-    let of = Box::new(alloc, of)?;
-    Ok(Selector::Ancestry(of, Box::new(alloc, above)?))
-}
-
-/// `x[names]`, or `x` where there are no names.
-#[tactic(auto, using(crate::proofs::Views::view_attributes))]
-pub(crate) fn with_attributes(
-    alloc: Global,
-    selector: Selector,
-    names: Vec<String>,
-) -> Result<Selector, AllocError>
-    ensures { IfOk result (λ s. tree s ≡ with_attributes (tree selector) (map characters names.items)) }
-{
-    if names.is_empty() {
-        return Ok(selector);
+impl Selector {
+    /// The selector that the longest expression at the text's beginning spells.
+    ///
+    /// # Errors
+    /// The first fault from the left: `MissingValue` where an operand is missing, `MalformedAttribute` where a list wants a
+    /// name, `MissingComma` where neither `,` nor `]` follows one, `UnbalancedParens` where `)` is missing,
+    /// `UnknownEntryType` for the name of no type, `TooDeep` at the token that opens a 129th level. `Memory` where a
+    /// request for memory was refused.
+    pub fn parse(alloc: Global, text: &str) -> Result<Selector, SelectorError>
+        // What is read is spelled by the longest expression at the text's beginning.
+        ensures found { IfOk result (λ s. IsSelector (chars text.now) (meant s)) }
+        // What is spelled there is read, unless memory runs out.
+        ensures only { (x : Tree) → IsSelector (chars text.now) x → ReadsAs result x }
+        // The tree, or the first fault from the left.
+        ensures reading { Means meant result (selector_of (chars text.now)) }
+    {
+        rooted(alloc, text)
     }
-    Ok(Selector::Attributes(Box::new(alloc, selector)?, names))
+
+    /// Whether it holds at the entry. This takes no memory. No part of the selector is asked of an entry twice. Calls stand
+    /// in one another no deeper than the selector's levels, but where `&` asks several of an entry's parents: there up to as
+    /// many more as the entry has parents.
+    pub fn matches(&self, entry: &Entry) -> bool
+        ensures { result ≡ holds (meant self.now) entry.now }
+    {
+        self.root.holds(entry)
+    }
+
+    /// The names with the entries that they are bound to, where the selector holds at the entry, else none. Of equal names
+    /// the last one of the text counts.
+    ///
+    /// # Errors
+    /// Want of memory.
+    #[tactic(auto, using(crate::proofs::Names::last_is_found))]
+    pub fn apply<'e>(
+        &self,
+        alloc: Global,
+        entry: &'e Entry,
+    ) -> Result<Option<Bindings<'e>>, AllocError>
+        // There is an answer exactly where the selector holds.
+        ensures holds { IfOk result (λ o. is_some o ≡ holds (meant self.now) entry.now) }
+        // Each name is told once, at its first place.
+        ensures bound { IfOk result (λ o. IfSome o (λ b. pairs b ≡ settled (bindings (meant self.now) entry.now))) }
+        // A name means the last entry that is bound to it.
+        ensures last { IfOk result (λ o. IfSome o (λ b. (name : List ℕ) → named_in b name ≡ last_bound name (bindings (meant self.now) entry.now))) }
+    {
+        let mut found = Vec::new(alloc);
+        if !self.root.bind(entry, &mut found)? {
+            return Ok(None);
+        }
+        Ok(Some(Bindings::settled(alloc, found.as_slice())?))
+    }
+
+    /// The entry that is bound to the name, where the selector holds at the entry.
+    ///
+    /// # Errors
+    /// Want of memory.
+    pub fn bound<'e>(
+        &self,
+        alloc: Global,
+        entry: &'e Entry,
+        name: &str,
+    ) -> Result<Option<&'e Entry>, AllocError>
+        ensures { IfOk result (λ e. option_copied e ≡ bound_to (meant self.now) entry.now name.now) }
+    {
+        match self.apply(alloc, entry)? {
+            Some(bindings) => Ok(bindings.get(name)),
+            None => Ok(None),
+        }
+    }
 }
 
-/// `x | y` of the first and the others, or the first alone.
-#[tactic(auto, using(crate::proofs::Views::view_alternatives))]
-pub(crate) fn one_or_alternatives(
-    first: Selector,
-    mut others: Vec<Selector>,
-) -> Result<Selector, AllocError>
-    ensures { IfOk result (λ s. tree s ≡ one_or_alternatives (tree first) (map tree others.items)) }
+/// The selector of the tree that the text spells.
+fn rooted(alloc: Global, text: &str) -> Result<Selector, SelectorError>
+    ensures { Means meant result (selector_of (chars text.now)) }
 {
-    if others.is_empty() {
-        return Ok(first);
-    }
-    others.insert(0, first)?;
-    Ok(Selector::Alternatives(others))
+    let root = read_selector(alloc, text)?;
+    Ok(Selector { root })
 }
 
-/// `x & y` of the first and the others, or the first alone.
-#[tactic(auto, using(crate::proofs::Views::view_multi))]
-pub(crate) fn one_or_multi(
-    first: Selector,
-    mut others: Vec<Selector>,
-) -> Result<Selector, AllocError>
-    ensures { IfOk result (λ s. tree s ≡ one_or_multi (tree first) (map tree others.items)) }
-{
-    if others.is_empty() {
-        return Ok(first);
+impl fmt::Debug for Selector {
+    fn fmt<W: fmt::Write>(&self, f: &mut fmt::Formatter<W>) -> fmt::Result {
+        fmt::Debug::fmt(&self.root, f)
     }
-    others.insert(0, first)?;
-    Ok(Selector::Multi(others))
 }

@@ -1,6 +1,6 @@
 //! Texts of selectors and what is read of them.
 
-use crate::{EntryType, Selector};
+use crate::Selector;
 use std::alloc::{AllocError, Global};
 use std::fmt::Write;
 
@@ -342,57 +342,4 @@ fn reads_beginnings_of_parentheses(rt: HostRuntime) {
         let other = first_other_in_parentheses(rt.alloc(), count, fault).expect(&rt, "memory");
         assert_eq!(rt; other, None, "{fault}");
     }
-}
-
-/// Whether the type of each name prints as it.
-fn is_written_again(alloc: Global, name: &str) -> Result<bool, AllocError> {
-    let mut written = String::new(alloc);
-    if let Some(entry_type) = EntryType::read(name) {
-        write!(written, "{entry_type}")?;
-    }
-    Ok(written.as_str() == name)
-}
-
-#[test]
-fn reads_and_writes_types(rt: HostRuntime) {
-    let names = [
-        "article",
-        "chapter",
-        "entry",
-        "anthos",
-        "report",
-        "thesis",
-        "web",
-        "scene",
-        "artwork",
-        "patent",
-        "case",
-        "newspaper",
-        "legislation",
-        "manuscript",
-        "original",
-        "post",
-        "misc",
-        "performance",
-        "periodical",
-        "proceedings",
-        "book",
-        "blog",
-        "reference",
-        "conference",
-        "anthology",
-        "repository",
-        "thread",
-        "video",
-        "audio",
-        "exhibition",
-    ];
-    for name in names {
-        let is_again = is_written_again(rt.alloc(), name).expect(&rt, "memory");
-        assert!(rt; is_again, "{name}");
-    }
-    assert_eq!(rt; EntryType::read("Newspaper"), Some(EntryType::Newspaper));
-    assert_eq!(rt; EntryType::read("THESI\u{17f}"), Some(EntryType::Thesis));
-    assert_eq!(rt; EntryType::read("books"), None);
-    assert_eq!(rt; EntryType::read(""), None);
 }

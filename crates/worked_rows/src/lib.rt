@@ -14,6 +14,4 @@ mod refusals;
 #[cfg(test)]
 mod rows;
 #[cfg(test)]
-mod texts;
-#[cfg(test)]
 mod writers;

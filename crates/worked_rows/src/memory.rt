@@ -4,7 +4,10 @@
 use crate::calls::ONE_BOOK;
 use crate::programs::Files;
 use biblatex::{Bibliography, EntryType, ParseError, is_first_profile};
+use biblatex_bibliography as whole;
+use biblatex_entries as entries;
 use cite::{BufWriteFormat, CiteError, Tap, cite, english, num, run};
+use std::alloc::Global;
 use std::io;
 use std::io::{ErrorKind, Write};
 
@@ -110,4 +113,73 @@ fn run_answers_memory(rt: HostRuntime) {
         (wanted, b"".as_slice())
     };
     assert_eq!(rt; (out.rest, err.rest), left);
+}
+
+/// An abbreviation, an alias, a reference, a title with an accent and a date that is inherited.
+pub(crate) const SMALL_TEXT: &str =
+    "@string{j={J}}@book{a,ids={b},crossref={c}}@book{c,title=j#{\\'e},date={2001}}";
+
+#[test]
+fn whole_texts_answer_memory(rt: HostRuntime) {
+    match whole::Bibliography::parse(rt.alloc(), SMALL_TEXT) {
+        Ok(found) => assert!(rt; found.len() == 2 && found.place("b") == Some(0)),
+        Err(error) => assert!(rt; matches!(error, whole::ParseError::Memory)),
+    }
+}
+
+#[test]
+fn refused_texts_answer_memory(rt: HostRuntime) {
+    let text = "@book{a, crossref={b}} @book{b, crossref={a}}";
+    match whole::Bibliography::parse(rt.alloc(), text) {
+        Err(whole::ParseError::Refused { span, .. }) => assert!(rt; span == (6..7)),
+        other => assert!(rt; matches!(other, Err(whole::ParseError::Memory))),
+    }
+}
+
+/// Two books, or none for want of memory.
+fn two_books(alloc: Global) -> Option<whole::Bibliography> {
+    whole::Bibliography::parse(alloc, "@book{a, title={A}} @book{b, ids={x}}").ok()
+}
+
+#[test]
+fn an_alias_that_finds_no_memory_changes_nothing(rt: HostRuntime) {
+    let Some(mut books) = two_books(rt.alloc()) else {
+        return;
+    };
+    match books.alias(rt.alloc(), "b", "a") {
+        Ok(()) => assert_eq!(rt; books.place("a"), Some(1)),
+        Err(_) => assert_eq!(rt; books.place("a"), Some(0)),
+    }
+    assert_eq!(rt; books.len(), 2);
+}
+
+/// A book without fields, or none for want of memory.
+fn book(alloc: Global, key: &str) -> Option<entries::Entry> {
+    let key = String::from_str(alloc, key).ok()?;
+    Some(entries::Entry::new(alloc, key, entries::EntryType::Book))
+}
+
+#[test]
+fn an_entry_that_finds_no_memory_changes_nothing(rt: HostRuntime) {
+    let Some(mut books) = two_books(rt.alloc()) else {
+        return;
+    };
+    let Some(new) = book(rt.alloc(), "c") else {
+        return;
+    };
+    let (len, place) = match books.insert(new) {
+        Ok(_) => (3, Some(2)),
+        Err(_) => (2, None),
+    };
+    assert_eq!(rt; books.len(), len);
+    assert_eq!(rt; books.place("c"), place);
+}
+
+#[test]
+fn a_field_that_finds_no_memory_changes_nothing(rt: HostRuntime) {
+    let Some(mut new) = book(rt.alloc(), "c") else {
+        return;
+    };
+    let answer = new.set(rt.alloc(), "Title", Vec::new(rt.alloc()));
+    assert_eq!(rt; new.get("title").is_some(), answer.is_ok());
 }

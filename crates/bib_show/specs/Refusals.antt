@@ -1,0 +1,46 @@
+-- What is said of a source that is refused.
+use Rattle.std.specs.Prelude.{◌≡◌, ℕ, true, false, List, [], ◌∷◌, ◌++◌, codes, ◌⊎◌, Err}
+use Rattle.std.specs.Str.{chars, is_utf8}
+use Rattle.std.specs.Str.Lossy.{utf8_valid_len}
+use Rattle.std.specs.Fmt.{decimal}
+use Rattle.biblatex_text.specs.Token.{token_name}
+use Rattle.biblatex_text.specs.declared.token.Fault.{Fault}
+use Rattle.biblatex_text.specs.declared.token.Fault.TheVariants as faults
+use Rattle.biblatex_bibliography.specs.Reading.{Reason, Refusal, raw, unknown_abbreviation, abbreviation_cycle, malformed_command, duplicate_key, reference_cycle, unreadable_date}
+use Rattle.biblatex_bibliography.specs.Resolved.{TextMeans}
+use Rattle.bib_show.specs.Place.{line_at, mark_at, line_number, column_number}
+
+-- why a text is not of the raw grammar
+abbrev pub fault_text : Fault → List ℕ
+fault_text faults.UnexpectedEof = codes "unexpected end of file"
+fault_text (faults.Unexpected token) = codes "unexpected " ++ token_name token
+fault_text (faults.Expected token) = codes "expected " ++ token_name token
+
+-- why a text is refused
+abbrev pub reason_text : Reason → List ℕ
+reason_text (raw fault) = fault_text fault
+reason_text (unknown_abbreviation name) = codes "unknown abbreviation " ++ name
+reason_text (abbreviation_cycle name) = codes "circular abbreviation " ++ name
+reason_text malformed_command = codes "malformed command"
+reason_text (duplicate_key key) = codes "duplicate key " ++ key
+reason_text (reference_cycle key) = codes "circular reference " ++ key
+reason_text (unreadable_date kind) = codes "unreadable date"
+
+-- FILE:LINE:COLUMN: and why, then the line, then the mark below the place
+abbrev pub refusal_lines : List ℕ → List ℕ → ℕ → List ℕ → List ℕ
+refusal_lines path source at why =
+    path ++ (58 ∷ (decimal (line_number source at) ++ (58 ∷ (decimal (column_number source at) ++ (codes ": " ++ (why ++ (10 ∷ (line_at source at ++ (10 ∷ (mark_at source at ++ 10 ∷ []))))))))))
+
+-- bytes that are no text, at the first one that is not of a character
+abbrev pub IsNoText : List ℕ → List ℕ → List ℕ → Type 0
+IsNoText path source said = (is_utf8 source ≡ false) × (said ≡ refusal_lines path source (utf8_valid_len source) (codes "not UTF-8"))
+
+-- a text that means no entries, at the beginning of what is refused
+pub record IsTextFault (path source said : List ℕ) : Type 0 where
+  pub refusal : Refusal
+  pub is_text : is_utf8 source ≡ true
+  pub means : TextMeans (chars source) (Err refusal)
+  pub lines : said ≡ refusal_lines path source refusal.start (reason_text refusal.reason)
+
+abbrev pub IsSourceFault : List ℕ → List ℕ → List ℕ → Type 0
+IsSourceFault path source said = IsNoText path source said ⊎ IsTextFault path source said

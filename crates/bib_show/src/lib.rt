@@ -1,0 +1,15 @@
+//! Shows what a BibLaTeX file says once its references are resolved, or where its first mistake stands. `show` is the library's
+//! call, `run` is the program over any files and writers.
+#![tactic(auto)]
+
+mod member;
+mod place;
+mod program;
+mod refusal;
+mod shown;
+#[cfg(test)]
+mod tests;
+mod type_name;
+
+pub use program::run;
+pub use shown::show;

@@ -1,0 +1,124 @@
+//! How the texts of fields are shown.
+
+ghost use Rattle.std.specs.Prelude.{◌≡◌, ◌++◌, ◌∷◌, [], false, IfOk, OnOk, string_bytes, Bool, List, ℕ};
+ghost use Rattle.std.specs.Str.{chars};
+ghost use Rattle.std.specs.Char.Escape.{escape_unicode};
+ghost use Rattle.laws.specs.Text.{text as text_of};
+ghost use Rattle.biblatex_content.specs.Views.{members, styled};
+ghost use Rattle.biblatex_content.specs.Parted.{is_filled};
+ghost use Rattle.biblatex_content.specs.Styled.{Member, Math, letters};
+ghost use Rattle.bib_show.specs.Shown.{is_marked, kind_of, shown_character, shown_characters, turning, shown_from};
+
+use biblatex_content::{Chunk, Spanned};
+use std::alloc::AllocError;
+use text_reader::split_first;
+
+/// Shows a value: normal text as it is, verbatim text in braces, math between dollar signs.
+pub(crate) fn push_value(out: &mut String, value: &[Spanned<Chunk>]) -> Result<(), AllocError>
+    ensures { OnOk result (string_bytes out.new ≡ string_bytes out.old ++ shown_from false (styled value.now)) }
+{
+    let mut is_open = false;
+    let mut rest = value;
+    while let Some((chunk, more)) = rest.split_first() {
+        is_open = push_chunk(out, is_open, &chunk.v)?;
+        rest = more;
+    }
+    turn(out, is_open, false)
+}
+
+/// Shows one more chunk, where verbatim text may stand before it, and says whether such stands at its end.
+fn push_chunk(out: &mut String, is_open: bool, chunk: &Chunk) -> Result<bool, AllocError>
+    ensures { IfOk result (λ ends_open. (more : List Member) → string_bytes out.new ++ shown_from ends_open more ≡ string_bytes out.old ++ shown_from is_open (members chunk.now ++ more)) }
+{
+    match chunk {
+        Chunk::Normal(text) => push_text(out, is_open, false, text.as_str()),
+        Chunk::Verbatim(text) => push_text(out, is_open, true, text.as_str()),
+        Chunk::Math(text) => push_math(out, is_open, text.as_str()),
+    }
+}
+
+/// Shows normal or verbatim text.
+fn push_text(
+    out: &mut String,
+    is_open: bool,
+    is_verbatim: bool,
+    text: &str,
+) -> Result<bool, AllocError>
+    ensures { IfOk result (λ ends_open. (more : List Member) → string_bytes out.new ++ shown_from ends_open more ≡ string_bytes out.old ++ shown_from is_open (letters (kind_of is_verbatim) (chars text.now) ++ more)) }
+{
+    if !has_text(text) {
+        return Ok(is_open);
+    }
+    turn(out, is_open, is_verbatim)?;
+    push_characters(out, text)?;
+    Ok(is_verbatim)
+}
+
+/// Whether there is a character.
+fn has_text(text: &str) -> bool
+    ensures { result ≡ is_filled (chars text.now) }
+{
+    split_first(text).is_some()
+}
+
+/// Shows math.
+fn push_math(out: &mut String, is_open: bool, text: &str) -> Result<bool, AllocError>
+    ensures { IfOk result (λ ends_open. (more : List Member) → string_bytes out.new ++ shown_from ends_open more ≡ string_bytes out.old ++ shown_from is_open (Math (chars text.now) ∷ more)) }
+{
+    turn(out, is_open, false)?;
+    out.push('$')?;
+    push_characters(out, text)?;
+    out.push('$')?;
+    Ok(false)
+}
+
+/// The brace between verbatim text and other text.
+fn turn(out: &mut String, is_open: bool, is_verbatim: bool) -> Result<(), AllocError>
+    ensures { OnOk result (string_bytes out.new ≡ string_bytes out.old ++ turning is_open is_verbatim) }
+{
+    match (is_open, is_verbatim) {
+        (true, false) => out.push('}'),
+        (false, true) => out.push('{'),
+        _ => Ok(()),
+    }
+}
+
+/// Shows characters.
+fn push_characters(out: &mut String, text: &str) -> Result<(), AllocError>
+    ensures { OnOk result (string_bytes out.new ≡ string_bytes out.old ++ shown_characters (chars text.now)) }
+{
+    let mut rest = text;
+    while let Some((c, more)) = split_first(rest) {
+        push_character(out, c)?;
+        rest = more;
+    }
+    Ok(())
+}
+
+/// Shows a character.
+fn push_character(out: &mut String, c: char) -> Result<(), AllocError>
+    ensures { OnOk result (string_bytes out.new ≡ string_bytes out.old ++ shown_character c) }
+{
+    if is_marked(c) {
+        push_escape(out, c)
+    } else {
+        out.push(c)
+    }
+}
+
+/// Whether the character is a backslash, a dollar sign, a brace or a control character.
+fn is_marked(c: char) -> bool
+    ensures { result ≡ is_marked c }
+{
+    c.is_control() || matches!(c, '\\' | '$' | '{' | '}')
+}
+
+/// Shows the number of a character.
+fn push_escape(out: &mut String, c: char) -> Result<(), AllocError>
+    ensures { OnOk result (string_bytes out.new ≡ string_bytes out.old ++ text_of (escape_unicode c)) }
+{
+    for mark in c.escape_unicode() {
+        out.push(mark)?;
+    }
+    Ok(())
+}

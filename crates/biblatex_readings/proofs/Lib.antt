@@ -1,0 +1,11 @@
+pub mod Plain
+pub mod Integers
+pub mod IntegersAgain
+pub mod Genders
+pub mod Editors
+pub mod Texts
+pub mod Ranges
+pub mod RangesAgain
+pub mod DatesBack
+pub mod TextsBack
+pub mod PermissiveBack

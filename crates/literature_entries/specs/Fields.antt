@@ -1,0 +1,65 @@
+-- What an entry says of itself, as callers see it. Texts without pieces are bytes.
+use Rattle.std.specs.Prelude.{ℕ, List, Option, None, Result}
+use Rattle.literature_numbers.specs.Numerics.{Numeral}
+use Rattle.literature_numbers.specs.Pages.{Part}
+use Rattle.literature_values.specs.PersonViews.{Named}
+use Rattle.literature_values.specs.TextViews.{Format, Publishing}
+use Rattle.literature_dates.specs.declared.date.Date.{Date}
+use Rattle.literature_types.specs.declared.entry_type.EntryType.{EntryType}
+
+-- a value, or the text that was not read as one
+abbrev pub Kept : Type 0 → Type 0
+Kept V = Result V (List ℕ)
+
+-- an address by its text, and the day of the last visit
+pub record Address : Type 0 where
+  pub value : Kept (List ℕ)
+  pub visit_date : Option Date
+
+-- numbers by the names of their schemes, in order of the names
+abbrev pub Serials : Type 0
+Serials = List (List ℕ × List ℕ)
+
+-- the type and the fields of an entry, its key and its parents aside
+pub record Fields : Type 0 where
+  pub entry_type : EntryType
+  pub title : Option Format
+  pub author : Option (List Named)
+  pub editor : Option (List Named)
+  pub translator : Option (List Named)
+  pub date : Option Date
+  pub publisher : Option Publishing
+  pub volume : Option (Kept Numeral)
+  pub volume_total : Option Numeral
+  pub issue : Option (Kept Numeral)
+  pub chapter : Option (Kept Numeral)
+  pub edition : Option (Kept Numeral)
+  pub page_range : Option (Kept (List Part))
+  pub page_total : Option Numeral
+  pub url : Option Address
+  pub serial_number : Option Serials
+  pub note : Option Format
+  pub language : Option (List ℕ)
+
+-- a type without fields
+abbrev pub nothing_but : EntryType → Fields
+nothing_but t = record {
+  entry_type = t;
+  title = None;
+  author = None;
+  editor = None;
+  translator = None;
+  date = None;
+  publisher = None;
+  volume = None;
+  volume_total = None;
+  issue = None;
+  chapter = None;
+  edition = None;
+  page_range = None;
+  page_total = None;
+  url = None;
+  serial_number = None;
+  note = None;
+  language = None;
+}

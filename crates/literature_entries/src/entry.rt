@@ -1,0 +1,102 @@
+//! Entries.
+
+ghost use Rattle.std.specs.Prelude.{◌≡◌, [], string_bytes};
+ghost use Rattle.literature_entries.specs.Fields.{nothing_but};
+ghost use Rattle.literature_entries.specs.Names.{has, are_some};
+ghost use Rattle.literature_entries.specs.Views as views;
+
+use crate::details::Details;
+use literature_types::EntryType;
+
+/// An entry of a library: its type and fields, and the works that it is part of. Two entries are equal where all of this
+/// is; their hash is that of the key.
+#[derive(Debug, PartialEq, Eq, Drop)]
+#[derive_where(Hash)]
+pub struct Entry {
+    pub(crate) key: String,
+    #[derive_where(skip(Hash))]
+    pub(crate) details: Details,
+    #[derive_where(skip(Hash))]
+    pub(crate) parents: Vec<Entry>,
+}
+
+impl Entry {
+    /// An entry of that key and type, without fields and parents.
+    pub fn new(key: String, entry_type: EntryType) -> Entry
+        ensures key { views.key result ≡ string_bytes key }
+        ensures fields { views.fields result ≡ nothing_but entry_type }
+        ensures parents { views.parents result ≡ [] }
+    {
+        let parents = Vec::new(*key.allocator());
+        Entry {
+            key,
+            details: Details::new(entry_type),
+            parents,
+        }
+    }
+
+    /// The key.
+    pub fn key(&self) -> &str
+        ensures { result.now ≡ views.key self.now }
+    {
+        self.key.as_str()
+    }
+
+    /// What the entry is.
+    pub fn entry_type(&self) -> &EntryType
+        ensures { result.now ≡ (views.fields self.now).entry_type }
+    {
+        &self.details.entry_type
+    }
+
+    /// The works that the entry is part of.
+    pub fn parents(&self) -> &[Entry]
+        ensures { result.now ≡ views.parents self.now }
+    {
+        self.parents.as_slice()
+    }
+
+    /// Sets the works that the entry is part of.
+    pub fn set_parents(&mut self, parents: Vec<Entry>)
+        ensures key { views.key self.new ≡ views.key self.old }
+        ensures fields { views.fields self.new ≡ views.fields self.old }
+        ensures parents { views.parents self.new ≡ parents.items }
+    {
+        self.parents = parents;
+    }
+
+    /// Whether a field is set, by its name as in `page-range`, a serial number by that of its scheme, which is `doi`,
+    /// `isbn`, `issn`, `pmid`, `pmcid` or `arxiv`, or parents by `parent`. No other name is a field's.
+    pub fn has(&self, name: &str) -> bool
+        ensures { result ≡ has name.now (views.fields self.now) (are_some (views.parents self.now)) }
+    {
+        let details = &self.details;
+        match name {
+            "title" => details.title.is_some(),
+            "author" => details.author.is_some(),
+            "editor" => details.editor.is_some(),
+            "translator" => details.translator.is_some(),
+            "date" => details.date.is_some(),
+            "publisher" => details.publisher.is_some(),
+            "volume" => details.volume.is_some(),
+            "volume-total" => details.volume_total.is_some(),
+            "issue" => details.issue.is_some(),
+            "chapter" => details.chapter.is_some(),
+            "edition" => details.edition.is_some(),
+            "page-range" => details.page_range.is_some(),
+            "page-total" => details.page_total.is_some(),
+            "url" => details.url.is_some(),
+            "serial-number" => details.serial_number.is_some(),
+            "note" => details.note.is_some(),
+            "language" => details.language.is_some(),
+            "doi" => self.doi().is_some(),
+            "isbn" => self.isbn().is_some(),
+            "issn" => self.issn().is_some(),
+            "pmid" => self.pmid().is_some(),
+            "pmcid" => self.pmcid().is_some(),
+            "arxiv" => self.arxiv().is_some(),
+            "parent" => !self.parents.is_empty(),
+            _ => false,
+        }
+    }
+}

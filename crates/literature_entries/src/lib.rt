@@ -1,0 +1,12 @@
+//! Entries of a library with the works that they are part of.
+#![tactic(auto)]
+
+mod ancestors;
+mod details;
+mod entry;
+mod fields;
+mod serials;
+#[cfg(test)]
+mod tests;
+
+pub use entry::Entry;

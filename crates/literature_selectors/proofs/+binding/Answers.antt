@@ -1,0 +1,64 @@
+use Rattle.std.proofs.Common.{◌∙◌, sym, ap, arith}
+use Rattle.literature_selectors.specs.Holding.{meaning}
+use Rattle.literature_selectors.specs.Bindings.{binds}
+use Rattle.literature_selectors.specs.Found.{borrowed}
+use Rattle.literature_selectors.specs.Views.{tree}
+use Rattle.literature_selectors.proofs.Adding.{choice_adds, choice_adds_above, members_add, name_adds, name_withdrawn, ancestry_withdrawn}
+use Rattle.literature_selectors.proofs.Turns.{tries_find, tries_add, tries_go_on, lent_at, within, turns_withdrawn, turns_taken}
+use Rattle.literature_selectors.proofs.+binding.Goals as goal
+
+pub node::Node::bind-returns-in-Binding : goal.node::Node::bind-returns-in-Binding
+node::Node::bind-returns-in-Binding t c =
+    name_adds c.args.self.now c.in-Binding.name c.in-Binding.bound _ c.args.entry.now c.as_str.result.now c.bind_name.result c.args.found.now.items c.bind_name.new.found.items c.in-Binding.is c.deref-in-Binding.ensures c.as_str.ensures.value c.bind_name.ensures
+
+pub node::Node::bind-returns-in-Alternatives : goal.node::Node::bind-returns-in-Alternatives
+node::Node::bind-returns-in-Alternatives t c =
+    choice_adds c.args.self.now c.in-Alternatives.sides c.args.entry.now _ c.bind_first_side.result c.args.found.now.items c.bind_first_side.new.found.items c.in-Alternatives.is c.as_slice-in-Alternatives.ensures.value c.bind_first_side.ensures
+
+pub node::Node::bind_above-returns-in-Alternatives : goal.node::Node::bind_above-returns-in-Alternatives
+node::Node::bind_above-returns-in-Alternatives t c =
+    choice_adds_above c.args.self.now c.in-Alternatives.sides c.args.parents.now _ c.bind_first_side_above.result c.args.found.now.items c.bind_first_side_above.new.found.items c.in-Alternatives.is c.as_slice.ensures.value c.bind_first_side_above.ensures
+
+pub node::Node::bind_above-returns-in-Multi : goal.node::Node::bind_above-returns-in-Multi
+node::Node::bind_above-returns-in-Multi t c =
+    members_add c.args.self.now c.in-Multi.members c.args.parents.now _ c.bind_each.result c.args.found.now.items c.bind_each.new.found.items c.in-Multi.is c.as_slice-in-Multi.ensures.value c.bind_each.ensures
+
+pub binding::bind_ancestry-returns-then-not-holds : goal.binding::bind_ancestry-returns-then-not-holds
+binding::bind_ancestry-returns-then-not-holds t c =
+    ancestry_withdrawn _ _ _ _ _ _ c.args.found.now.items c.bind.new.found.items c.bind_above.new.found.items c.truncate.new.self.items c.len-before.result c.in_ok-bind.field-0 c.in_ok-holds.holds
+    (omega (arith, c.len-before.ensures, c.args.found.now.ok.0)) c.in_ok-bind.ensures c.if-not-branch.false c.in_ok-holds.ensures (ap (meaning (tree c.args.above.now)).above c.parents.ensures) c.truncate.ensures.items c.if-not-holds.true
+
+pub binding::bind_each-returns-in-None : goal.binding::bind_each-returns-in-None
+binding::bind_each-returns-in-None t c =
+    turns_withdrawn c.args.members.now c.loop-member.member-index c.member-item.result c.args.parents.now c.as_slice.result.now c.loop-member.left.items c.in_ok-place.field-0
+    c.args.found.now.items c.loop-member.found.items c.bind_first.new.found.items c.truncate.new.self.items c.len-before.result c.loop-member.invariant c.loop-member-test.true c.member-item.is
+    c.as_slice.ensures.value c.in_ok-place.ensures.taken c.in-None.is c.in_ok-place.ensures.added (omega (arith, c.len-before.ensures, c.args.found.now.ok.0)) c.truncate.ensures.items
+
+pub binding::bind_each-loop-member-preserved : goal.binding::bind_each-loop-member-preserved
+binding::bind_each-loop-member-preserved t c =
+    turns_taken c.args.members.now c.loop-member.member-index c.member-item.result c.args.parents.now c.as_slice.result.now c.loop-member.left.items c.remove.new.self.items c.in_ok-place.field-0 c.in-Some.place
+    c.args.found.now.items c.loop-member.found.items c.bind_first.new.found.items c.loop-member.invariant c.loop-member-test.true c.member-item.is
+    c.as_slice.ensures.value c.in_ok-place.ensures.taken c.in-Some.is c.in_ok-place.ensures.added c.remove.ensures.items
+
+pub node::Node::bind_first-returns-then-branch-clause-taken : goal.node::Node::bind_first-returns-then-branch-clause-taken
+node::Node::bind_first-returns-then-branch-clause-taken t c =
+    tries_find (meaning (tree c.args.self.now)).at (binds (tree c.args.self.now)).at (borrowed c.args.entries.now) c.loop-place.place c.index-entries-place.result.now c.args.found.now.items c.loop-place.found.items c.loop-place.invariant
+    (within c.args.entries.now c.loop-place.place c.loop-place-test.true) (lent_at c.args.entries.now c.loop-place.place c.index-entries-place.result c.index-entries-place.is c.loop-place-test.true)
+    (sym c.in_ok-bind.ensures.answered ∙ c.if-branch.true)
+
+pub node::Node::bind_first-returns-then-branch-clause-added : goal.node::Node::bind_first-returns-then-branch-clause-added
+node::Node::bind_first-returns-then-branch-clause-added t c =
+    tries_add (meaning (tree c.args.self.now)).at (binds (tree c.args.self.now)).at (borrowed c.args.entries.now) c.loop-place.place c.index-entries-place.result.now c.args.found.now.items c.loop-place.found.items c.bind.new.found.items c.in_ok-bind.field-0 c.loop-place.invariant
+    (within c.args.entries.now c.loop-place.place c.loop-place-test.true) (lent_at c.args.entries.now c.loop-place.place c.index-entries-place.result c.index-entries-place.is c.loop-place-test.true)
+    c.in_ok-bind.ensures (sym c.in_ok-bind.ensures.answered ∙ c.if-branch.true)
+
+pub node::Node::bind_first-loop-place-preserved : goal.node::Node::bind_first-loop-place-preserved
+node::Node::bind_first-loop-place-preserved t c =
+    tries_go_on (meaning (tree c.args.self.now)).at (binds (tree c.args.self.now)).at (borrowed c.args.entries.now) c.loop-place.place c.index-entries-place.result.now c.args.found.now.items c.loop-place.found.items c.bind.new.found.items c.in_ok-bind.field-0 c.loop-place.invariant
+    (within c.args.entries.now c.loop-place.place c.loop-place-test.true) (lent_at c.args.entries.now c.loop-place.place c.index-entries-place.result c.index-entries-place.is c.loop-place-test.true)
+    c.in_ok-bind.ensures (sym c.in_ok-bind.ensures.answered ∙ c.if-branch.false)
+
+pub node::Node::bind_name-returns-then-not-holds : goal.node::Node::bind_name-returns-then-not-holds
+node::Node::bind_name-returns-then-not-holds t c =
+    name_withdrawn _ _ _ c.args.found.now.items c.push.new.self.items c.bind.new.found.items c.truncate.new.self.items _ c.len-before.result c.in_ok-holds.holds
+    (omega (arith, c.len-before.ensures, c.args.found.now.ok.0)) c.in_ok-push.ensures.items c.in_ok-holds.ensures c.truncate.ensures.items c.if-not-holds.true

@@ -1,0 +1,55 @@
+//! Names with the entries that they are bound to.
+
+ghost use Rattle.std.specs.Prelude.{◌≡◌, IfOk, length, IsTrue, ◌↔◌, []};
+ghost use Rattle.std.specs.Option.{option_copied};
+ghost use Rattle.literature_selectors.specs.Bindings.{settled};
+ghost use Rattle.literature_selectors.specs.Found.{all_named};
+ghost use Rattle.literature_selectors.specs.Pairs.{pairs, named_in};
+
+use crate::binding::Named;
+use indexmap::IndexMap;
+use literature_entries::Entry;
+use std::alloc::{AllocError, Global};
+
+/// The names of a selector that holds, each with the entry that it is bound to, in the order of the text.
+#[derive(Drop)]
+pub struct Bindings<'e> {
+    entries: IndexMap<String, &'e Entry>,
+}
+
+impl<'e> Bindings<'e> {
+    /// Each name with the last entry that was found for it.
+    pub(crate) fn settled(
+        alloc: Global,
+        found: &[Named<'_, 'e>],
+    ) -> Result<Bindings<'e>, AllocError>
+        ensures { IfOk result (λ b. pairs b ≡ settled (all_named found.now)) }
+    {
+        let mut entries = IndexMap::new(alloc);
+        for named in found {
+            entries.insert(String::from_str(alloc, named.name)?, named.entry)?;
+        }
+        Ok(Bindings { entries })
+    }
+
+    /// The entry that is bound to the name.
+    pub fn get(&self, name: &str) -> Option<&'e Entry>
+        ensures { option_copied result ≡ named_in self.now name.now }
+    {
+        self.entries.get(name).copied()
+    }
+
+    /// How many names there are.
+    pub fn len(&self) -> usize
+        ensures { result ≡ length (pairs self.now) }
+    {
+        self.entries.len()
+    }
+
+    /// Whether there are none.
+    pub fn is_empty(&self) -> bool
+        ensures { IsTrue result ↔ (pairs self.now ≡ []) }
+    {
+        self.entries.is_empty()
+    }
+}

@@ -1,0 +1,92 @@
+//! Where output goes: sinks, and the loop that writes to them.
+
+ghost use Rattle.std.specs.Prelude.{◌≡◌, List, Option, ℕ, length, OnOk, OnErr, IfErr};
+ghost use Rattle.std.specs.Io.{WritesAtMost};
+ghost use Rattle.std.specs.Io.KnownBytes.{Appends, WriteAppends};
+ghost use Rattle.sinks.specs.Sinks.{CountsFailure, HasFailed, AppendsFront};
+
+use std::io;
+use std::io::Write;
+
+/// What takes output. It counts the calls of `write` that failed, or took 0 bytes of some.
+pub trait Sink {
+    /// The bytes that it has taken, where they are known.
+    ghost contents: { Self → Option (List ℕ) };
+    /// How many calls failed or took 0 bytes of some; the last value of a `u64` stays.
+    ghost failures: { Self → ℕ };
+
+    /// Takes a front of the bytes, and says how many it took.
+    fn write(&mut self, bytes: &[u8]) -> io::Result<usize>
+        ensures bound { WritesAtMost result bytes.now }
+        ensures bytes { WriteAppends (contents self.old) (contents self.new) result bytes.now }
+        ensures count { CountsFailure (failures self.old) (failures self.new) result bytes.now };
+
+    /// How many calls failed or took 0 bytes of some; the last value stays.
+    fn failures(&self) -> u64
+        ensures { result ≡ failures self.now };
+}
+
+/// Why a sink did not take all of an output.
+#[derive(Clone, Copy, Debug, PartialEq, Eq)]
+pub enum SinkFault {
+    /// A call of `write` answered an error.
+    Failed,
+    /// A call of `write` took 0 bytes of some.
+    TookNothing,
+}
+
+/// A sink over any writer, with the count.
+#[derive(Debug, Drop)]
+pub struct Tap<W> {
+    writer: W,
+    failures: u64,
+}
+
+impl<W: Write> Tap<W> {
+    /// A sink over the writer that has not failed yet.
+    pub fn new(writer: W) -> Tap<W>
+        ensures contents { W.contents result.writer ≡ W.contents writer }
+        ensures count { result.failures ≡ 0 }
+    {
+        Tap {
+            writer,
+            failures: 0,
+        }
+    }
+}
+
+impl<W: Write> Sink for Tap<W> {
+    ghost contents = { λ t. W.contents t.writer };
+
+    ghost failures = { λ t. t.failures };
+
+    fn write(&mut self, bytes: &[u8]) -> io::Result<usize> {
+        let taken = self.writer.write(bytes);
+        if matches!(taken, Err(_)) || (matches!(taken, Ok(0)) && !bytes.is_empty()) {
+            self.failures = self.failures.saturating_add(1);
+        }
+        taken
+    }
+
+    fn failures(&self) -> u64 {
+        self.failures
+    }
+}
+
+/// Writes all of the bytes. A call of `write` that fails or takes nothing ends it and is not tried again: the sink has then
+/// taken a beginning of them.
+pub fn write_all<W: Sink>(sink: &mut W, bytes: &[u8]) -> Result<(), SinkFault>
+    ensures ok { OnOk result (Appends (W.contents sink.old) (W.contents sink.new) bytes.now) }
+    ensures err { OnErr result (AppendsFront (W.contents sink.old) (W.contents sink.new) bytes.now) }
+    ensures cause { OnErr result (HasFailed (W.failures sink.old) (W.failures sink.new)) }
+{
+    let mut rest = bytes;
+    while !rest.is_empty() {
+        match sink.write(rest) {
+            Err(_) => return Err(SinkFault::Failed),
+            Ok(0) => return Err(SinkFault::TookNothing),
+            Ok(taken) => rest = &rest[taken..],
+        }
+    }
+    Ok(())
+}
