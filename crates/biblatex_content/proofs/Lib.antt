@@ -9,3 +9,4 @@ pub mod Neighbours
 pub mod PlainPieces
 pub mod TidyTexts
 pub mod WritingRows
+pub mod Written

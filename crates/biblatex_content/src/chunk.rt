@@ -6,9 +6,11 @@ ghost use Rattle.biblatex_text.specs.declared.spanned.Spanned.{Spanned};
 ghost use Rattle.biblatex_content.specs.declared.chunk.Chunk.{Chunk};
 ghost use Rattle.std.specs.Borrow.{sem};
 ghost use Rattle.biblatex_content.specs.Lending.{LendsText};
-ghost use Rattle.biblatex_content.specs.Views.{chunk_text, characters, plain_text, span_start, span_end};
+ghost use Rattle.biblatex_content.specs.Writing.{written_content};
+ghost use Rattle.biblatex_content.specs.Views.{chunk_text, characters, plain_text, styled, span_start, span_end};
 
 use crate::contents::{empty_text, push_text};
+use crate::writing::push_biblatex;
 use biblatex_text::Spanned;
 use std::alloc::{AllocError, Global};
 use std::ops::Range;
@@ -66,6 +68,13 @@ pub trait ChunksExt {
     fn format_verbatim(&self, alloc: Global) -> Result<String, AllocError>
         ensures { IfOk result (λ s. characters s ≡ plain_text (chunks self.now)) };
 
+    /// The text that they are written as, where they are the content of a field, verbatim or ordinary. In an ordinary field
+    /// `{ } # & % $ _` stand behind a backslash, `\`, `~` and `^` are written as commands and a no-break space as `~`; verbatim
+    /// text stands in braces, math between dollar signs. In a verbatim field all is text, in which `{ } \` stand behind a
+    /// backslash. No braces stand round the whole.
+    fn to_biblatex_string(&self, alloc: Global, is_verbatim: bool) -> Result<String, AllocError>
+        ensures { IfOk result (λ s. characters s ≡ written_content is_verbatim (styled (chunks self.now))) };
+
     /// From where the first chunk begins to where the last one ends; `0..0` where there is none.
     fn span(&self) -> Span
         ensures start { result.start ≡ span_start (chunks self.now) }
@@ -80,6 +89,12 @@ impl ChunksExt for &[Spanned<Chunk>] {
         for chunk in self.iter() {
             push_text(&mut text, chunk.v.get())?;
         }
+        Ok(text)
+    }
+
+    fn to_biblatex_string(&self, alloc: Global, is_verbatim: bool) -> Result<String, AllocError> {
+        let mut text = empty_text(alloc);
+        push_biblatex(&mut text, self, is_verbatim)?;
         Ok(text)
     }
 

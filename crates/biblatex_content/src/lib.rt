@@ -13,9 +13,11 @@ mod tests;
 mod tidy;
 mod token;
 mod verbatim;
+mod writing;
 
 pub use biblatex_text::Spanned;
 pub use chunk::{Chunk, Chunks, ChunksExt, Span};
 pub use contents::Contents;
 pub use error::ContentError;
 pub use verbatim::{is_escapable, is_verbatim_field};
+pub use writing::push_biblatex;

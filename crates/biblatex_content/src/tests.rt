@@ -1,7 +1,10 @@
 //! The rows that the reading is held against: what is written, and what it gives. Verbatim text stands between « and »,
 //! math between ⟨ and ⟩.
 
-use crate::{Chunk, Chunks, ChunksExt, ContentError, Contents, is_escapable, is_verbatim_field};
+use crate::{
+    Chunk, Chunks, ChunksExt, ContentError, Contents, Spanned, is_escapable, is_verbatim_field,
+    push_biblatex,
+};
 use std::alloc::Global;
 use std::test::Fail;
 
@@ -286,5 +289,105 @@ fn names_and_escapes(rt: HostRuntime) -> Result<(), Fail> {
     assert!(rt; is_escapable('~', true, true));
     assert!(rt; !is_escapable('~', true, false));
     assert!(rt; is_escapable('\\', true, false));
+    Ok(())
+}
+
+/// What a piece of an ordinary field is written as.
+fn ordinary_again(alloc: Global, piece: &str) -> Result<String, Fail> {
+    match Contents::new(alloc).push_ordinary(piece) {
+        Ok(contents) => {
+            let chunks = contents.finish()?;
+            Ok(chunks.as_slice().to_biblatex_string(alloc, false)?)
+        }
+        Err(ContentError::MalformedCommand) => Ok(String::from_str(alloc, "malformed")?),
+        Err(ContentError::Memory) => Ok(String::from_str(alloc, "out of memory")?),
+    }
+}
+
+/// What a piece of a verbatim field is written as.
+fn verbatim_again(alloc: Global, piece: &str) -> Result<String, Fail> {
+    let chunks = Contents::new(alloc).push_verbatim(piece)?.finish()?;
+    Ok(chunks.as_slice().to_biblatex_string(alloc, true)?)
+}
+
+#[test]
+fn ordinary_fields_are_written(rt: HostRuntime) -> Result<(), Fail> {
+    let rows = [
+        ("{TIMES} R\\&D~x", "{TIMES} R\\&D~x"),
+        ("X \\& Y", "X \\& Y"),
+        ("\\{\\}\\#\\&\\%\\$\\_", "\\{\\}\\#\\&\\%\\$\\_"),
+        (
+            "\\textbackslash\\textasciitilde\\textasciicircum",
+            "\\textbackslash{}\\textasciitilde{}\\textasciicircum{}",
+        ),
+        ("{{}\\&x}", "{{}\\&x}"),
+        ("{{}\\textbackslash{}x&}", "{{}\\textbackslash{}x\\&}"),
+        ("{x\\&}", "{x\\&}"),
+        ("{~}a", "{~}a"),
+        ("{a}{b}", "{ab}"),
+        ("a {B}$x^2$ c", "a {B}$x^2$ c"),
+        ("{A}$x${B}", "{A}$x${B}"),
+        ("{$a$}", "$a$"),
+        ("{\\$a}", "\\$a"),
+        ("$", "\\$"),
+        ("a---b \\'e", "a—b é"),
+        ("{}", ""),
+    ];
+    for (read, written) in rows.iter() {
+        let given = ordinary_again(rt.alloc(), read)?;
+        assert_eq!(rt; given.as_str(), *written, "of {read}");
+    }
+    Ok(())
+}
+
+#[test]
+fn verbatim_fields_are_written(rt: HostRuntime) -> Result<(), Fail> {
+    let rows = [
+        ("a\\{b\\}c\\\\d", "a\\{b\\}c\\\\d"),
+        ("https://e.org/\\~a\\_b", "https://e.org/~a_b"),
+        ("a~b$c$^&#%", "a~b$c$^&#%"),
+        ("a\u{a0}b", "a\u{a0}b"),
+        ("a\\", "a\\\\"),
+        ("{}", ""),
+    ];
+    for (read, written) in rows.iter() {
+        let given = verbatim_again(rt.alloc(), read)?;
+        assert_eq!(rt; given.as_str(), *written, "of {read}");
+    }
+    Ok(())
+}
+
+#[test]
+fn chunks_are_written_alone(rt: HostRuntime) -> Result<(), Fail> {
+    let alloc = rt.alloc();
+    let normal = Chunk::Normal(String::from_str(alloc, "{\u{a0}^")?);
+    let verbatim = Chunk::Verbatim(String::from_str(alloc, "&x")?);
+    let math = Chunk::Math(String::from_str(alloc, "x_{1}")?);
+    let rows = [
+        (&normal, "\\{~\\textasciicircum{}", "\\{\u{a0}^"),
+        (&verbatim, "{{}\\&x}", "&x"),
+        (&math, "$x_{1}$", "x_\\{1\\}"),
+    ];
+    for (chunk, ordinary, verbatim) in rows.iter() {
+        let given = chunk.to_biblatex_string(alloc, false)?;
+        assert_eq!(rt; given.as_str(), *ordinary);
+        let given = chunk.to_biblatex_string(alloc, true)?;
+        assert_eq!(rt; given.as_str(), *verbatim);
+    }
+    Ok(())
+}
+
+#[test]
+fn neighbours_of_one_kind_share_a_group(rt: HostRuntime) -> Result<(), Fail> {
+    let alloc = rt.alloc();
+    let mut chunks = Vec::new(alloc);
+    chunks.push(Spanned::detached(Chunk::Verbatim(String::from_str(alloc, "A")?)))?;
+    chunks.push(Spanned::detached(Chunk::Verbatim(String::from_str(alloc, "")?)))?;
+    chunks.push(Spanned::detached(Chunk::Normal(String::from_str(alloc, "")?)))?;
+    chunks.push(Spanned::detached(Chunk::Verbatim(String::from_str(alloc, "B")?)))?;
+    chunks.push(Spanned::detached(Chunk::Normal(String::from_str(alloc, "c")?)))?;
+    let mut text = String::from_str(alloc, "title = {")?;
+    push_biblatex(&mut text, chunks.as_slice(), false)?;
+    assert_eq!(rt; text.as_str(), "title = {{AB}c");
     Ok(())
 }

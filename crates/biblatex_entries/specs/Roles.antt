@@ -1,14 +1,8 @@
 -- What an entry's type means for the fields that it inherits and hands on.
-use Rattle.std.specs.Prelude.{ℕ, Bool, true, false, ◌&&◌, List, [], ◌∷◌, if◌then◌else◌, codes}
-use Rattle.std.specs.List.{list_any}
-use Rattle.std.specs.Str.{bytes_eq}
-use Rattle.biblatex_entries.specs.TypeNames.{TypeName}
+use Rattle.std.specs.Prelude.{Bool, true, false, [], ◌∷◌, if◌then◌else◌, codes}
+use Rattle.biblatex_entries.specs.TypeNames.{TypeName, is_one_of}
 use Rattle.biblatex_entries.specs.declared.role.Role.{Role}
 use Rattle.biblatex_entries.specs.declared.role.Role.TheVariants.{Article, Periodical, PartOfBook, PartOfOther, Book, MultiVolumeBook, Volume, MultiVolume, XData, Set, Other}
-
--- a known type of one of these names
-abbrev pub is_one_of : List (List ℕ) → TypeName → Bool
-is_one_of names t = t.is_known && list_any (bytes_eq t.name) names
 
 abbrev pub role_of : TypeName → Role
 role_of t =

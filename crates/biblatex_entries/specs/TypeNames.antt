@@ -1,5 +1,5 @@
 -- The types of entries by their names.
-use Rattle.std.specs.Prelude.{ℕ, Bool, true, false, ◌||◌, List, [], ◌∷◌, if◌then◌else◌, codes}
+use Rattle.std.specs.Prelude.{ℕ, Bool, true, false, ◌&&◌, ◌||◌, List, [], ◌∷◌, if◌then◌else◌, codes}
 use Rattle.std.specs.List.{list_any}
 use Rattle.std.specs.Str.{bytes_eq}
 use Rattle.std.specs.Prelude.{string_bytes}
@@ -10,6 +10,10 @@ use Rattle.biblatex_entries.specs.declared.entry_type.EntryType.TheVariants as t
 pub record TypeName : Type 0 where
   pub name : List ℕ
   pub is_known : Bool
+
+-- a known type of one of these names
+abbrev pub is_one_of : List (List ℕ) → TypeName → Bool
+is_one_of names t = t.is_known && list_any (bytes_eq t.name) names
 
 -- the types that have a variant of their own
 abbrev pub known_names : List (List ℕ)
@@ -33,6 +37,11 @@ type_of name = record { name = read_name name; is_known = list_any (bytes_eq (re
 
 abbrev pub known : List ℕ → TypeName
 known name = record { name = name; is_known = true }
+
+-- the type that stands for a known one where entries are written: those of theses are one, and a technical report is a report
+abbrev pub written_type : TypeName → TypeName
+written_type t = if is_one_of (codes "mastersthesis" ∷ codes "phdthesis" ∷ []) t then known (codes "thesis")
+    else (if is_one_of (codes "techreport" ∷ []) t then known (codes "report") else t)
 
 -- the name of a type
 abbrev pub type_name : EntryType → TypeName

@@ -4,12 +4,12 @@ ghost use Rattle.std.specs.Prelude.{◌≡◌, IfOk};
 ghost use Rattle.std.specs.Str.{chars};
 ghost use Rattle.laws.specs.Text.{lowered};
 ghost use Rattle.std.specs.Prelude.{false, MatchOption};
-ghost use Rattle.biblatex_entries.specs.TypeNames.{type_of, type_name, read_name};
+ghost use Rattle.biblatex_entries.specs.TypeNames.{type_of, type_name, read_name, written_type};
 
 use std::alloc::{AllocError, Global};
 
 /// The type of an entry, as the kind of its item says.
-#[derive(Debug, PartialEq, Eq, Drop)]
+#[derive(Clone, Debug, PartialEq, Eq, Drop)]
 pub enum EntryType {
     Article,
     Book,
@@ -57,6 +57,71 @@ impl EntryType {
         match known(name.as_str()) {
             Some(entry_type) => Ok(entry_type),
             None => Ok(EntryType::Unknown(name)),
+        }
+    }
+
+    /// The type that stands for it where entries are written: `Thesis` for `MastersThesis` and `PhdThesis`, `Report` for
+    /// `TechReport`, and else the type itself.
+    pub fn to_biblatex(&self) -> Result<EntryType, AllocError>
+        ensures { IfOk result (λ t. type_name t ≡ written_type (type_name self.now)) }
+    {
+        match self {
+            EntryType::MastersThesis | EntryType::PhdThesis => Ok(EntryType::Thesis),
+            EntryType::TechReport => Ok(EntryType::Report),
+            _ => self.clone(),
+        }
+    }
+
+    /// The name of the type, in lower ASCII case where it is a known one.
+    pub fn name(&self) -> &str
+        ensures { result.now ≡ (type_name self.now).name }
+    {
+        match self {
+            EntryType::Article => "article",
+            EntryType::Book => "book",
+            EntryType::Booklet => "booklet",
+            EntryType::InBook => "inbook",
+            EntryType::InCollection => "incollection",
+            EntryType::InProceedings => "inproceedings",
+            EntryType::Manual => "manual",
+            EntryType::MastersThesis => "mastersthesis",
+            EntryType::PhdThesis => "phdthesis",
+            EntryType::Misc => "misc",
+            EntryType::Proceedings => "proceedings",
+            EntryType::TechReport => "techreport",
+            EntryType::Unpublished => "unpublished",
+            EntryType::MvBook => "mvbook",
+            EntryType::BookInBook => "bookinbook",
+            EntryType::SuppBook => "suppbook",
+            EntryType::Periodical => "periodical",
+            EntryType::SuppPeriodical => "suppperiodical",
+            EntryType::Collection => "collection",
+            EntryType::MvCollection => "mvcollection",
+            EntryType::SuppCollection => "suppcollection",
+            EntryType::Reference => "reference",
+            EntryType::MvReference => "mvreference",
+            EntryType::InReference => "inreference",
+            EntryType::MvProceedings => "mvproceedings",
+            EntryType::Report => "report",
+            EntryType::Patent => "patent",
+            EntryType::Thesis => "thesis",
+            EntryType::Online => "online",
+            EntryType::Software => "software",
+            EntryType::Dataset => "dataset",
+            EntryType::Set => "set",
+            EntryType::XData => "xdata",
+            EntryType::Unknown(name) => name.as_str(),
+        }
+    }
+
+    /// The name that stands for the type where entries are written.
+    pub fn written_name(&self) -> &str
+        ensures { result.now ≡ (written_type (type_name self.now)).name }
+    {
+        match self {
+            EntryType::MastersThesis | EntryType::PhdThesis => "thesis",
+            EntryType::TechReport => "report",
+            _ => self.name(),
         }
     }
 }

@@ -64,3 +64,30 @@ fn types_have_roles(rt: HostRuntime) -> Result<(), Fail> {
     assert!(rt; EntryType::new(rt.alloc(), "proceedings")?.is_collection());
     Ok(())
 }
+
+#[test]
+fn older_types_are_written_as_newer_ones(rt: HostRuntime) -> Result<(), Fail> {
+    let rows = [
+        ("mastersthesis", EntryType::Thesis),
+        ("PhDThesis", EntryType::Thesis),
+        ("techreport", EntryType::Report),
+        ("thesis", EntryType::Thesis),
+        ("report", EntryType::Report),
+        ("conference", EntryType::InProceedings),
+        ("book", EntryType::Book),
+        ("www", EntryType::Online),
+        ("xdata", EntryType::XData),
+    ];
+    for (name, wanted) in rows.iter() {
+        let entry_type = EntryType::new(rt.alloc(), name)?;
+        assert_eq!(rt; &entry_type.to_biblatex()?, wanted, "of {name}");
+        assert_eq!(rt; entry_type.written_name(), wanted.name(), "of {name}");
+    }
+    let unknown = EntryType::new(rt.alloc(), "Website")?;
+    assert_eq!(rt; unknown.to_biblatex()?, unknown);
+    assert_eq!(rt; unknown.written_name(), "website");
+    assert_eq!(rt; EntryType::PhdThesis.name(), "phdthesis");
+    assert_eq!(rt; EntryType::PhdThesis.written_name(), "thesis");
+    assert_eq!(rt; EntryType::TechReport.written_name(), "report");
+    Ok(())
+}

@@ -1,0 +1,7 @@
+use Rattle.std.proofs.Common.{◌≡◌, ◌++◌, drop}
+use Rattle.biblatex_content.specs.Views.{characters, styled}
+use Rattle.biblatex_content.specs.Writing.{written_verbatim}
+use Rattle.biblatex_content.proofs.writing.push_verbatim.Given as goal
+
+abbrev pub invariant-loop-chunk : goal.invariant-loop-chunk
+invariant-loop-chunk l = characters l.text ++ written_verbatim (styled (drop l.chunk-index l.chunks)) ≡ characters l.fn.text ++ written_verbatim (styled l.chunks)
