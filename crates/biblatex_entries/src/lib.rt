@@ -3,12 +3,15 @@
 
 mod entry;
 mod entry_type;
+mod error;
 mod names;
 mod role;
 #[cfg(test)]
 mod tests;
+mod typed;
 
 pub use entry::{Entry, field_text, value_text};
 pub use entry_type::EntryType;
+pub use error::RetrievalError;
 pub use names::{name_alone, names_listed};
 pub use role::Role;

@@ -6,6 +6,7 @@ mod dates;
 mod error;
 mod field_type;
 mod lists;
+mod parsing;
 mod people;
 mod permissive;
 #[cfg(test)]
@@ -23,4 +24,5 @@ pub use classes::{
 };
 pub use error::{FieldTypeError, TypeError};
 pub use field_type::{FieldType, reread};
+pub use parsing::ChunksParse;
 pub use permissive::PermissiveType;

@@ -1,7 +1,8 @@
 //! Rows that the readings are held against: what a field holds, and what it is as a value; and how values are written.
 
 use crate::{
-    EditorType, FieldType, FieldTypeError, Gender, PermissiveType, Person, TypeErrorKind, reread,
+    ChunksParse, EditorType, FieldType, FieldTypeError, Gender, PermissiveType, Person,
+    TypeErrorKind, reread,
 };
 use biblatex_content::{Chunk, Chunks, ChunksExt, Contents, Spanned};
 use biblatex_dates::Date;
@@ -406,5 +407,21 @@ fn people_are_read(rt: HostRuntime) -> Result<(), Fail> {
     let text = "Ann Roe and van den Berg, Jr., Ida and others";
     assert!(rt; is_read(rt.alloc(), text, &people)?);
     assert!(rt; reread(rt.alloc(), &people)? == people);
+    Ok(())
+}
+
+#[test]
+fn chunks_are_parsed(rt: HostRuntime) -> Result<(), Fail> {
+    let pages = field(rt.alloc(), "34,37--39")?;
+    let ranges: Vec<Range<u32>> = pages.as_slice().parse(rt.alloc())?;
+    assert!(rt; ranges == two_ranges(rt.alloc(), 34..34, 37..39)?);
+    let text = normal(rt.alloc(), "xii")?;
+    match text.as_slice().parse::<i64>(rt.alloc()) {
+        Err(FieldTypeError::TypeError(error)) => {
+            assert_eq!(rt; error.kind, TypeErrorKind::Unreadable);
+            assert!(rt; error.span.start == 3 && error.span.end == 7);
+        }
+        _ => assert!(rt; false),
+    }
     Ok(())
 }

@@ -1,0 +1,207 @@
+//! The fields of an entry as values of types.
+
+ghost use Rattle.std.specs.Prelude.{◌≡◌, [], map, Some, IfOk, OnOk, OnErr, string_bytes, codes};
+ghost use Rattle.std.specs.Option.{option_map};
+ghost use Rattle.std.specs.Str.{chars};
+ghost use Rattle.laws.specs.Text.{lowered};
+ghost use Rattle.biblatex_content.specs.Views.{characters, styled};
+ghost use Rattle.biblatex_fields.specs.Fields.{value_named, with_field};
+ghost use Rattle.biblatex_people.specs.Views.{named};
+ghost use Rattle.biblatex_readings.specs.Dates.{reads_date};
+ghost use Rattle.biblatex_readings.specs.EditorType.{editor_name};
+ghost use Rattle.biblatex_readings.specs.Permissive.{reads_permissive};
+ghost use Rattle.biblatex_types.specs.Views.{permitted, reads_people};
+ghost use Rattle.biblatex_entries.specs.TypeNames.{type_name};
+ghost use Rattle.biblatex_entries.specs.Entries.{source};
+ghost use Rattle.biblatex_entries.specs.Typed.{Retrieves, IsAt, IsLent, read_as, sure, field_characters, date_of_parts, date_in_fields, type_or_editor, editors_in, people_and_type};
+
+use crate::entry::Entry;
+use crate::error::RetrievalError;
+use biblatex_content::{Chunk, Chunks, Spanned};
+use biblatex_dates::Date;
+use biblatex_fields::Fields;
+use biblatex_people::{Person, read_people};
+use biblatex_readings::{EditorType, plain_text};
+use biblatex_types::{ChunksParse, FieldType, PermissiveType};
+use std::alloc::{AllocError, Global};
+use text_reader::split_first;
+
+impl Entry {
+    /// The field of that name in lower case, as a value of the type.
+    ///
+    /// # Errors
+    /// `Missing` where there is no such field; `TypeError` with the span of its chunks where they are no value of the type;
+    /// `Memory` where a request for memory was refused.
+    pub fn get_as<T: FieldType>(&self, alloc: Global, name: &str) -> Result<T, RetrievalError>
+        ensures { Retrieves T.view result (read_as T.reads name.now self.now.fields) }
+    {
+        match self.fields.get(name) {
+            Some(value) => read_value(alloc, value.as_slice()),
+            None => Err(RetrievalError::Missing),
+        }
+    }
+
+    /// Gives the field of that name, in lower ASCII case, what is written of the value.
+    pub fn set_as<T: FieldType>(
+        &mut self,
+        alloc: Global,
+        name: &str,
+        value: &T,
+    ) -> Result<(), AllocError>
+        ensures ok { OnOk result (source self.new ≡ record { key = string_bytes self.old.key; entry_type = type_name self.old.entry_type; fields = with_field self.old.fields (lowered (chars name.now)) (T.writes (T.view value.now)) }) }
+        ensures err { OnErr result (source self.new ≡ source self.old) }
+    {
+        let chunks = value.to_chunks(alloc)?;
+        self.set(alloc, name, chunks)
+    }
+
+    /// The chunks of the title.
+    ///
+    /// # Errors
+    /// `Missing` where there is no field `title`. Takes no memory.
+    pub fn title(&self) -> Result<&[Spanned<Chunk>], RetrievalError>
+        ensures { IsLent result (value_named (codes "title") self.now.fields) }
+    {
+        match self.fields.get("title") {
+            Some(value) => Ok(value.as_slice()),
+            None => Err(RetrievalError::Missing),
+        }
+    }
+
+    /// The people in `author`. No text is refused.
+    ///
+    /// # Errors
+    /// `Missing` where there is no such field; `Memory` where a request for memory was refused.
+    pub fn author(&self, alloc: Global) -> Result<Vec<Person>, RetrievalError>
+        ensures { Retrieves (λ v. map named v.items) result (read_as reads_people (codes "author") self.now.fields) }
+    {
+        self.get_as(alloc, "author")
+    }
+
+    /// The people in `translator`. No text is refused.
+    ///
+    /// # Errors
+    /// `Missing` where there is no such field; `Memory` where a request for memory was refused.
+    pub fn translator(&self, alloc: Global) -> Result<Vec<Person>, RetrievalError>
+        ensures { Retrieves (λ v. map named v.items) result (read_as reads_people (codes "translator") self.now.fields) }
+    {
+        self.get_as(alloc, "translator")
+    }
+
+    /// The people in `editor` with what they did, as `editortype` says; they are editors where there is none. No list where
+    /// there is no `editor`. No text is refused.
+    pub fn editors(&self, alloc: Global) -> Result<Vec<(Vec<Person>, EditorType)>, AllocError>
+        ensures { IfOk result (λ v. map people_and_type v.items ≡ editors_in self.now.fields) }
+    {
+        let mut editors = Vec::new(alloc);
+        if let Some(value) = self.fields.get("editor") {
+            let people = read_people(alloc, value.as_slice())?;
+            editors.push((people, editor_type(alloc, self.fields.get("editortype"))?))?;
+        }
+        Ok(editors)
+    }
+
+    /// The date in `date`, or its chunks where they are no date. Where `date` is missing or empty, the date of `year`, `month`
+    /// and `day`: a year of one to four digits, negative behind a hyphen; a month by number, English name or its first three
+    /// letters; parts that cannot be read, and all finer ones, are passed over.
+    ///
+    /// # Errors
+    /// `Missing` where `date` is missing or empty and `year` is no year; `Memory` where a request for memory was refused.
+    pub fn date(&self, alloc: Global) -> Result<PermissiveType<Date>, RetrievalError>
+        ensures { Retrieves (permitted (λ d. d)) result (date_in_fields self.now.fields) }
+    {
+        let date = text_of(alloc, &self.fields, "date")?;
+        if split_first(date.as_str()).is_some() {
+            return self.get_as(alloc, "date");
+        }
+        or_missing(date_of_parts(alloc, &self.fields)?)
+    }
+
+    /// The date in `eventdate`, or its chunks where they are no date.
+    ///
+    /// # Errors
+    /// `Missing` where there is no such field; `Memory` where a request for memory was refused.
+    pub fn event_date(&self, alloc: Global) -> Result<PermissiveType<Date>, RetrievalError>
+        ensures { Retrieves (permitted (λ d. d)) result (read_as (reads_permissive reads_date) (codes "eventdate") self.now.fields) }
+    {
+        self.get_as(alloc, "eventdate")
+    }
+
+    /// The date in `origdate`, or its chunks where they are no date.
+    ///
+    /// # Errors
+    /// `Missing` where there is no such field; `Memory` where a request for memory was refused.
+    pub fn orig_date(&self, alloc: Global) -> Result<PermissiveType<Date>, RetrievalError>
+        ensures { Retrieves (permitted (λ d. d)) result (read_as (reads_permissive reads_date) (codes "origdate") self.now.fields) }
+    {
+        self.get_as(alloc, "origdate")
+    }
+
+    /// The date in `urldate`, or its chunks where they are no date.
+    ///
+    /// # Errors
+    /// `Missing` where there is no such field; `Memory` where a request for memory was refused.
+    pub fn url_date(&self, alloc: Global) -> Result<PermissiveType<Date>, RetrievalError>
+        ensures { Retrieves (permitted (λ d. d)) result (read_as (reads_permissive reads_date) (codes "urldate") self.now.fields) }
+    {
+        self.get_as(alloc, "urldate")
+    }
+}
+
+/// The value that the chunks of a field are read as.
+fn read_value<T: FieldType>(alloc: Global, value: &[Spanned<Chunk>]) -> Result<T, RetrievalError>
+    ensures reading { Retrieves T.view result (Some (T.reads (styled value.now))) }
+    ensures place { IsAt result value.now }
+{
+    match value.parse(alloc) {
+        Ok(read) => Ok(read),
+        Err(error) => Err(RetrievalError::from(error)),
+    }
+}
+
+/// What the people in an `editor` field did: what the field names, or editors where there is none.
+fn editor_type(alloc: Global, value: Option<&Chunks>) -> Result<EditorType, AllocError>
+    ensures { IfOk result (λ t. editor_name t ≡ type_or_editor (option_map (λ v. styled v.now.items) value.entry)) }
+{
+    match value {
+        Some(value) => EditorType::new(alloc, plain_text(alloc, value.as_slice())?.as_str()),
+        None => Ok(EditorType::Editor),
+    }
+}
+
+/// The text of the field of that name; empty where there is none.
+fn text_of(alloc: Global, fields: &Fields, name: &str) -> Result<String, AllocError>
+    ensures { IfOk result (λ s. characters s ≡ field_characters name.now fields.now) }
+{
+    match fields.get(name) {
+        Some(value) => plain_text(alloc, value.as_slice()),
+        None => Ok(empty_text(alloc)),
+    }
+}
+
+/// A text without characters.
+fn empty_text(alloc: Global) -> String
+    ensures { characters result ≡ [] }
+{
+    String::new(alloc)
+}
+
+/// The date of year, month and day, as far as they can be read.
+fn date_of_parts(alloc: Global, fields: &Fields) -> Result<Option<Date>, AllocError>
+    ensures { IfOk result (λ d. d ≡ date_of_parts fields.now) }
+{
+    let year = text_of(alloc, fields, "year")?;
+    let month = text_of(alloc, fields, "month")?;
+    let day = text_of(alloc, fields, "day")?;
+    Ok(Date::from_parts(year.as_str(), Some(month.as_str()), Some(day.as_str())))
+}
+
+/// The date, if there is one.
+fn or_missing(date: Option<Date>) -> Result<PermissiveType<Date>, RetrievalError>
+    ensures { Retrieves (permitted (λ d. d)) result (option_map sure date) }
+{
+    match date {
+        Some(date) => Ok(PermissiveType::Typed(date)),
+        None => Err(RetrievalError::Missing),
+    }
+}
