@@ -94,6 +94,9 @@ fn older_types_are_written_as_newer_ones(rt: HostRuntime) -> Result<(), Fail> {
     assert_eq!(rt; EntryType::PhdThesis.name(), "phdthesis");
     assert_eq!(rt; EntryType::PhdThesis.written_name(), "thesis");
     assert_eq!(rt; EntryType::TechReport.written_name(), "report");
+    Ok(())
+}
+
 /// The content of an ordinary field, as it is written in a file.
 fn field(alloc: Global, written: &str) -> Result<Chunks, Fail> {
     Ok(Contents::new(alloc).push_ordinary(written)?.finish()?)

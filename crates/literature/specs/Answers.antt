@@ -1,5 +1,5 @@
 -- What a query finds.
-use Rattle.std.specs.Prelude.{ℕ, List, [], ◌∷◌, if◌then◌else◌, Result, Ok, Err}
+use Rattle.std.specs.Prelude.{List, [], ◌∷◌, if◌then◌else◌, Result, Ok, Err}
 use Rattle.literature_entries.specs.declared.entry.Entry.{Entry}
 use Rattle.literature_selectors.specs.Bindings.{Bound, bindings, settled}
 use Rattle.literature_selectors.specs.Holding.{holds}

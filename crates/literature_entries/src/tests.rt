@@ -2,7 +2,7 @@
 
 use crate::Entry;
 use literature_types::EntryType;
-use literature_values::Date;
+use literature_values::{Date, MaybeTyped, QualifiedUrl};
 use std::alloc::{AllocError, Global};
 use std::test::Fail;
 
@@ -59,6 +59,55 @@ fn asks_by_depth_and_path(rt: HostRuntime) -> Result<(), Fail> {
     assert!(rt; article.date().is_none());
     assert!(rt; article.has("parent"));
     assert!(rt; article.date_any()? == Some(&year(1971)));
+    Ok(())
+}
+
+#[test]
+fn asks_a_closure(rt: HostRuntime) -> Result<(), Fail> {
+    let mut article = article(rt.alloc())?;
+    article.set_date(year(1972));
+    assert!(rt; article.map(|entry| entry.date())? == Some(&year(1972)));
+    assert!(rt; article.map_parents(|entry| entry.date())? == Some(&year(1971)));
+    Ok(())
+}
+
+#[test]
+fn asks_for_an_address(rt: HostRuntime) -> Result<(), Fail> {
+    let mut series = dated(rt.alloc(), "series", year(1970))?;
+    series.set_url(QualifiedUrl {
+        value: MaybeTyped::String(String::from_str(rt.alloc(), "nowhere")?),
+        visit_date: Some(year(1973)),
+    });
+    let article = part_of(rt.alloc(), "article", alone(rt.alloc(), series)?)?;
+    assert!(rt; article.url().is_none());
+    let visit = article.url_any()?.and_then(|url| url.visit_date);
+    assert!(rt; visit == Some(year(1973)));
+    Ok(())
+}
+
+#[test]
+fn numbers_books_and_journals(rt: HostRuntime) -> Result<(), Fail> {
+    let alloc = rt.alloc();
+    let mut book = dated(alloc, "book", year(1971))?;
+    book.set_doi(String::from_str(alloc, "1")?)?;
+    book.set_issn(String::from_str(alloc, "2")?)?;
+    book.set_keyed_serial_number("urn", String::from_str(alloc, "3")?)?;
+    assert!(rt; book.doi() == Some("1"));
+    assert!(rt; book.issn() == Some("2"));
+    assert!(rt; book.keyed_serial_number("urn") == Some("3"));
+    Ok(())
+}
+
+#[test]
+fn numbers_articles(rt: HostRuntime) -> Result<(), Fail> {
+    let alloc = rt.alloc();
+    let mut article = dated(alloc, "article", year(1971))?;
+    article.set_pmid(String::from_str(alloc, "1")?)?;
+    article.set_pmcid(String::from_str(alloc, "2")?)?;
+    article.set_arxiv(String::from_str(alloc, "3")?)?;
+    assert!(rt; article.pmid() == Some("1"));
+    assert!(rt; article.pmcid() == Some("2"));
+    assert!(rt; article.arxiv() == Some("3"));
     Ok(())
 }
 

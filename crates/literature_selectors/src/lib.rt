@@ -1,6 +1,8 @@
 //! The texts of the selector language, the trees that they spell, and the entries at which these hold.
 #![tactic(auto)]
 
+#[cfg(test)]
+mod allocating;
 mod binding;
 mod bindings;
 mod character;

@@ -1,14 +1,15 @@
 //! Texts of selectors and what is read of them.
 
-use crate::Selector;
+use crate::{Selector, SelectorError};
 use std::alloc::{AllocError, Global};
 use std::fmt::Write;
 
 /// What is read of the text, or why it is refused.
-fn described(alloc: Global, text: &str) -> Result<String, AllocError> {
+pub(crate) fn described(alloc: Global, text: &str) -> Result<String, AllocError> {
     let mut out = String::new(alloc);
     match Selector::parse(alloc, text) {
         Ok(selector) => write!(out, "{selector:?}")?,
+        Err(SelectorError::Memory) => return Err(AllocError),
         Err(error) => write!(out, "{error}")?,
     }
     Ok(out)

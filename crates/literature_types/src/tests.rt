@@ -1,12 +1,13 @@
 //! Names of types.
 
 use crate::EntryType;
-use std::alloc::{AllocError, Global};
+use std::alloc::AllocError;
 use std::fmt::Write;
+use std::test::Fail;
 
 /// Whether the type of that name prints as it.
-fn is_written_again(alloc: Global, name: &str) -> Result<bool, AllocError> {
-    let mut written = String::new(alloc);
+fn is_written_again(written: &mut String, name: &str) -> Result<bool, AllocError> {
+    written.clear();
     if let Some(entry_type) = EntryType::read(name) {
         write!(written, "{entry_type}")?;
     }
@@ -14,7 +15,7 @@ fn is_written_again(alloc: Global, name: &str) -> Result<bool, AllocError> {
 }
 
 #[test]
-fn reads_and_writes_types(rt: HostRuntime) {
+fn reads_and_writes_types(rt: HostRuntime) -> Result<(), Fail> {
     let names = [
         "article",
         "chapter",
@@ -47,12 +48,14 @@ fn reads_and_writes_types(rt: HostRuntime) {
         "audio",
         "exhibition",
     ];
+    let mut written = String::new(rt.alloc());
     for name in names {
-        let is_again = is_written_again(rt.alloc(), name).expect(&rt, "memory");
+        let is_again = is_written_again(&mut written, name)?;
         assert!(rt; is_again, "{name}");
     }
     assert_eq!(rt; EntryType::read("Newspaper"), Some(EntryType::Newspaper));
     assert_eq!(rt; EntryType::read("THESI\u{17f}"), Some(EntryType::Thesis));
     assert_eq!(rt; EntryType::read("books"), None);
     assert_eq!(rt; EntryType::read(""), None);
+    Ok(())
 }

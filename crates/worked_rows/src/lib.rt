@@ -2,6 +2,8 @@
 #![tactic(auto)]
 
 #[cfg(test)]
+mod allocating;
+#[cfg(test)]
 mod calls;
 #[cfg(test)]
 mod memory;

@@ -1,6 +1,5 @@
 //! Bib texts of the first profile.
 
-use crate::memory::SMALL_TEXT;
 use biblatex::{Bibliography, EntryType, is_first_profile};
 use std::alloc::Global;
 use std::process::Abort;
@@ -132,12 +131,5 @@ fn types_have_their_names(rt: HostRuntime) -> Result<(), Fail> {
     for (name, wanted) in rows {
         assert_eq!(rt; EntryType::new(rt.alloc(), name)?, wanted, "{name}");
     }
-    Ok(())
-}
-
-#[test]
-fn a_small_text_is_read(rt: HostRuntime) -> Result<(), Fail> {
-    let found = biblatex_bibliography::Bibliography::parse(rt.alloc(), SMALL_TEXT)?;
-    assert_eq!(rt; found.place("b"), Some(0));
     Ok(())
 }
