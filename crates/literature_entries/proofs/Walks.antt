@@ -6,7 +6,7 @@ use Rattle.literature_entries.specs.Views.{parents, lent}
 use Rattle.literature_entries.specs.declared.entry.Entry.{Entry, the_lemmas}
 
 -- an entry is one level above its parents
-height_is : (e : Entry) → height e ≡ suc (levels (parents e))
+pub height_is : (e : Entry) → height e ≡ suc (levels (parents e))
 height_is e = search (rules, the_lemmas)
 
 levels_append : (xs ys : List Entry) → levels (xs ++ ys) ≡ max (levels xs) (levels ys)

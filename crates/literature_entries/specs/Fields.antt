@@ -1,20 +1,13 @@
 -- What an entry says of itself, as callers see it. Texts without pieces are bytes.
-use Rattle.std.specs.Prelude.{ℕ, List, Option, None, Result}
+use Rattle.std.specs.Prelude.{ℕ, List, Option, None}
 use Rattle.literature_numbers.specs.Numerics.{Numeral}
 use Rattle.literature_numbers.specs.Pages.{Part}
+use Rattle.literature_values.specs.OtherViews.{Address}
 use Rattle.literature_values.specs.PersonViews.{Named}
 use Rattle.literature_values.specs.TextViews.{Format, Publishing}
+use Rattle.literature_values.specs.TypedViews.{Held}
 use Rattle.literature_dates.specs.declared.date.Date.{Date}
 use Rattle.literature_types.specs.declared.entry_type.EntryType.{EntryType}
-
--- a value, or the text that was not read as one
-abbrev pub Kept : Type 0 → Type 0
-Kept V = Result V (List ℕ)
-
--- an address by its text, and the day of the last visit
-pub record Address : Type 0 where
-  pub value : Kept (List ℕ)
-  pub visit_date : Option Date
 
 -- numbers by the names of their schemes, in order of the names
 abbrev pub Serials : Type 0
@@ -29,12 +22,12 @@ pub record Fields : Type 0 where
   pub translator : Option (List Named)
   pub date : Option Date
   pub publisher : Option Publishing
-  pub volume : Option (Kept Numeral)
+  pub volume : Option (Held Numeral)
   pub volume_total : Option Numeral
-  pub issue : Option (Kept Numeral)
-  pub chapter : Option (Kept Numeral)
-  pub edition : Option (Kept Numeral)
-  pub page_range : Option (Kept (List Part))
+  pub issue : Option (Held Numeral)
+  pub chapter : Option (Held Numeral)
+  pub edition : Option (Held Numeral)
+  pub page_range : Option (Held (List Part))
   pub page_total : Option Numeral
   pub url : Option Address
   pub serial_number : Option Serials

@@ -1,30 +1,19 @@
 -- Entries of the code as callers see them.
 use Rattle.std.specs.Global.{Global}
-use Rattle.std.specs.Prelude.{◌≡◌, ℕ, List, map, Option, Ok, Err, String, string_bytes}
+use Rattle.std.specs.Prelude.{◌≡◌, ℕ, List, map, Option, String, string_bytes}
 use Rattle.std.specs.Option.{option_map, option_copied}
 use Rattle.std.specs.Borrow.{Bor}
-use Rattle.url.specs.Parts.{serialize}
 use Rattle.literature_numbers.specs.Views.{numeral}
 use Rattle.literature_numbers.specs.PageViews.{pages}
+use Rattle.literature_values.specs.OtherViews.{address}
 use Rattle.literature_values.specs.PersonViews.{Named, person}
 use Rattle.literature_values.specs.TextViews.{format, publishing}
-use Rattle.literature_values.specs.declared.maybe_typed.MaybeTyped.{MaybeTyped}
-use Rattle.literature_values.specs.declared.maybe_typed.MaybeTyped.TheVariants as typed
+use Rattle.literature_values.specs.TypedViews.{held}
 use Rattle.literature_values.specs.declared.person.Person.{Person}
-use Rattle.literature_values.specs.declared.qualified_url.QualifiedUrl.{QualifiedUrl}
 use Rattle.literature_values.specs.declared.serial_number.SerialNumber.{SerialNumber}
-use Rattle.literature_entries.specs.Fields.{Kept, Address, Serials, Fields}
+use Rattle.literature_entries.specs.Fields.{Serials, Fields}
 use Rattle.literature_entries.specs.declared.details.Details.{Details}
 use Rattle.literature_entries.specs.declared.entry.Entry.{Entry, out-Entry}
-
--- a value seen by view, or the bytes of the text that was not read as one
-abbrev pub kept : {T V : Type 0} → (T → V) → MaybeTyped T → Kept V
-kept view (typed.Typed x) = Ok (view x)
-kept view (typed.String s) = Err (string_bytes s)
-
--- an address by its text, and the day of the last visit
-abbrev pub address : QualifiedUrl → Address
-address u = record { value = kept serialize u.value; visit_date = u.visit_date }
 
 -- the name of a scheme and a number by their bytes
 abbrev pub pair : String Global × String Global → List ℕ × List ℕ
@@ -48,12 +37,12 @@ details d = record {
   translator = option_map (λ v. people v.items) d.translator;
   date = d.date;
   publisher = option_map publishing d.publisher;
-  volume = option_map (kept numeral) d.volume;
+  volume = option_map (held numeral) d.volume;
   volume_total = option_map numeral d.volume_total;
-  issue = option_map (kept numeral) d.issue;
-  chapter = option_map (kept numeral) d.chapter;
-  edition = option_map (kept numeral) d.edition;
-  page_range = option_map (kept pages) d.page_range;
+  issue = option_map (held numeral) d.issue;
+  chapter = option_map (held numeral) d.chapter;
+  edition = option_map (held numeral) d.edition;
+  page_range = option_map (held pages) d.page_range;
   page_total = option_map numeral d.page_total;
   url = option_map address d.url;
   serial_number = option_map serials d.serial_number;

@@ -3,7 +3,8 @@
 ghost use Rattle.std.specs.Prelude.{◌≡◌, ◌∷◌, ◌++◌, IfOk, OnOk};
 ghost use Rattle.std.specs.List.{flat_map};
 ghost use Rattle.literature_entries.specs.Ancestors.{ancestors, Asks, AsksFrom, borrowed, first_of};
-ghost use Rattle.literature_entries.specs.Views.{parents, fields, address, lent};
+ghost use Rattle.literature_entries.specs.Views.{parents, fields, lent};
+ghost use Rattle.literature_values.specs.OtherViews.{address};
 
 use crate::entry::Entry;
 use literature_values::{Date, QualifiedUrl};

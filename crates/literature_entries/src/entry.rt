@@ -8,8 +8,8 @@ ghost use Rattle.literature_entries.specs.Views as views;
 use crate::details::Details;
 use literature_types::EntryType;
 
-/// An entry of a library: its type and fields, and the works that it is part of. Two entries are equal where all of this
-/// is; their hash is that of the key.
+/// An entry of a library: its key, its type and fields, and the works that it is part of. Two entries are equal where all of
+/// this is, which is asked of parents by a call in a call, as deep as ancestors go; their hash is that of the key.
 #[derive(Debug, PartialEq, Eq, Drop)]
 #[derive_where(Hash)]
 pub struct Entry {

@@ -4,9 +4,11 @@ ghost use Rattle.std.specs.Prelude.{◌≡◌, Some, string_bytes};
 ghost use Rattle.std.specs.Option.{option_map};
 ghost use Rattle.literature_numbers.specs.PageViews.{pages};
 ghost use Rattle.literature_numbers.specs.Views.{numeral};
+ghost use Rattle.literature_values.specs.OtherViews.{address};
 ghost use Rattle.literature_values.specs.TextViews.{format, publishing};
+ghost use Rattle.literature_values.specs.TypedViews.{held};
 ghost use Rattle.literature_entries.specs.Fields.{Fields};
-ghost use Rattle.literature_entries.specs.Views.{kept, address, serials, people, fields, lent, Sets};
+ghost use Rattle.literature_entries.specs.Views.{serials, people, fields, lent, Sets};
 
 use crate::entry::Entry;
 use literature_values::{
@@ -102,14 +104,14 @@ impl Entry {
 
     /// The volume.
     pub fn volume(&self) -> Option<&MaybeTyped<Numeric>>
-        ensures { lent (kept numeral) result ≡ (fields self.now).volume }
+        ensures { lent (held numeral) result ≡ (fields self.now).volume }
     {
         self.details.volume.as_ref()
     }
 
     /// Sets the volume.
     pub fn set_volume(&mut self, volume: MaybeTyped<Numeric>)
-        ensures { Sets self.old (record (fields self.old) { volume = Some (kept numeral volume) }) self.new }
+        ensures { Sets self.old (record (fields self.old) { volume = Some (held numeral volume) }) self.new }
     {
         self.details.volume = Some(volume);
     }
@@ -130,56 +132,56 @@ impl Entry {
 
     /// The issue.
     pub fn issue(&self) -> Option<&MaybeTyped<Numeric>>
-        ensures { lent (kept numeral) result ≡ (fields self.now).issue }
+        ensures { lent (held numeral) result ≡ (fields self.now).issue }
     {
         self.details.issue.as_ref()
     }
 
     /// Sets the issue.
     pub fn set_issue(&mut self, issue: MaybeTyped<Numeric>)
-        ensures { Sets self.old (record (fields self.old) { issue = Some (kept numeral issue) }) self.new }
+        ensures { Sets self.old (record (fields self.old) { issue = Some (held numeral issue) }) self.new }
     {
         self.details.issue = Some(issue);
     }
 
     /// The chapter.
     pub fn chapter(&self) -> Option<&MaybeTyped<Numeric>>
-        ensures { lent (kept numeral) result ≡ (fields self.now).chapter }
+        ensures { lent (held numeral) result ≡ (fields self.now).chapter }
     {
         self.details.chapter.as_ref()
     }
 
     /// Sets the chapter.
     pub fn set_chapter(&mut self, chapter: MaybeTyped<Numeric>)
-        ensures { Sets self.old (record (fields self.old) { chapter = Some (kept numeral chapter) }) self.new }
+        ensures { Sets self.old (record (fields self.old) { chapter = Some (held numeral chapter) }) self.new }
     {
         self.details.chapter = Some(chapter);
     }
 
     /// The edition.
     pub fn edition(&self) -> Option<&MaybeTyped<Numeric>>
-        ensures { lent (kept numeral) result ≡ (fields self.now).edition }
+        ensures { lent (held numeral) result ≡ (fields self.now).edition }
     {
         self.details.edition.as_ref()
     }
 
     /// Sets the edition.
     pub fn set_edition(&mut self, edition: MaybeTyped<Numeric>)
-        ensures { Sets self.old (record (fields self.old) { edition = Some (kept numeral edition) }) self.new }
+        ensures { Sets self.old (record (fields self.old) { edition = Some (held numeral edition) }) self.new }
     {
         self.details.edition = Some(edition);
     }
 
     /// The pages.
     pub fn page_range(&self) -> Option<&MaybeTyped<PageRanges>>
-        ensures { lent (kept pages) result ≡ (fields self.now).page_range }
+        ensures { lent (held pages) result ≡ (fields self.now).page_range }
     {
         self.details.page_range.as_ref()
     }
 
     /// Sets the pages.
     pub fn set_page_range(&mut self, page_range: MaybeTyped<PageRanges>)
-        ensures { Sets self.old (record (fields self.old) { page_range = Some (kept pages page_range) }) self.new }
+        ensures { Sets self.old (record (fields self.old) { page_range = Some (held pages page_range) }) self.new }
     {
         self.details.page_range = Some(page_range);
     }

@@ -1,9 +1,16 @@
 //! Rows of entries.
 
+ghost use Rattle.std.specs.Prelude.{◌≡◌, ◌↔◌, IsTrue, fold};
+ghost use Rattle.std.specs.Hash as fed;
+ghost use Rattle.std.specs.Hash.DefaultHasher as sip;
+ghost use Rattle.literature_entries.specs.Views as views;
+ghost use Rattle.literature_entries.specs.Wholes.{whole};
+
 use crate::Entry;
 use literature_types::EntryType;
 use literature_values::{Date, MaybeTyped, QualifiedUrl};
 use std::alloc::{AllocError, Global};
+use std::hash::{DefaultHasher, Hash, Hasher};
 use std::test::Fail;
 
 /// A year.
@@ -119,5 +126,48 @@ fn replaces_a_serial_number(rt: HostRuntime) -> Result<(), Fail> {
     book.set_isbn(String::from_str(alloc, "2")?)?;
     assert!(rt; book.isbn() == Some("2"));
     assert!(rt; book.has("isbn"));
+    Ok(())
+}
+
+/// Whether two are equal, which is where they hold the same.
+fn are_equal(a: &Entry, b: &Entry) -> bool
+    ensures { IsTrue result ↔ (whole a.now ≡ whole b.now) }
+{
+    *a == *b
+}
+
+/// The hash of an entry, which is that of its key.
+fn hash_of(entry: &Entry) -> u64
+    ensures { result ≡ sip.finish (fold sip.write sip.initial (fed.str (views.key entry.now))) }
+{
+    let mut state = DefaultHasher::new();
+    entry.hash(&mut state);
+    state.finish()
+}
+
+/// Equal entries have one hash.
+fn hash_alike(a: &Entry, b: &Entry) -> bool
+    ensures { IsTrue result }
+{
+    *a != *b || hash_of(a) == hash_of(b)
+}
+
+#[test]
+fn compares_entries(rt: HostRuntime) -> Result<(), Fail> {
+    let one = article(rt.alloc())?;
+    let mut other = article(rt.alloc())?;
+    assert!(rt; are_equal(&one, &other));
+    other.set_date(year(1972));
+    assert!(rt; !are_equal(&one, &other));
+    assert!(rt; hash_of(&one) == hash_of(&other));
+    Ok(())
+}
+
+#[test]
+fn compares_parents(rt: HostRuntime) -> Result<(), Fail> {
+    let one = article(rt.alloc())?;
+    let other = part_of(rt.alloc(), "article", alone(rt.alloc(), issue(rt.alloc())?)?)?;
+    assert!(rt; !are_equal(&one, &other));
+    assert!(rt; hash_alike(&one, &other));
     Ok(())
 }

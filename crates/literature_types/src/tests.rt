@@ -1,5 +1,8 @@
 //! Names of types.
 
+ghost use Rattle.std.specs.Prelude.{◌≡◌, ◌↔◌, IsTrue};
+ghost use Rattle.literature_types.specs.EntryTypes.{type_name};
+
 use crate::EntryType;
 use std::alloc::AllocError;
 use std::fmt::Write;
@@ -12,6 +15,19 @@ fn is_written_again(written: &mut String, name: &str) -> Result<bool, AllocError
         write!(written, "{entry_type}")?;
     }
     Ok(written.as_str() == name)
+}
+
+/// Whether two are equal, which is where their names are.
+fn are_equal(a: &EntryType, b: &EntryType) -> bool
+    ensures { IsTrue result ↔ (type_name a.now ≡ type_name b.now) }
+{
+    *a == *b
+}
+
+#[test]
+fn compares_types(rt: HostRuntime) {
+    assert!(rt; are_equal(&EntryType::Book, &EntryType::Book));
+    assert!(rt; !are_equal(&EntryType::Book, &EntryType::Blog));
 }
 
 #[test]

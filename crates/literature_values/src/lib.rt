@@ -22,3 +22,4 @@ pub use publisher::Publisher;
 pub use qualified_url::QualifiedUrl;
 pub use serial_number::SerialNumber;
 pub use text::{ChunkKind, ChunkedString, FormatString, StringChunk};
+pub use url::Url;

@@ -1,0 +1,24 @@
+-- All that entries hold: the key, the type and the fields, and the same of each parent.
+use Rattle.std.specs.Prelude.{ℕ, List, [], ◌∷◌, string_bytes}
+use Rattle.literature_entries.specs.Fields.{Fields}
+use Rattle.literature_entries.specs.Views.{details}
+use Rattle.literature_entries.specs.declared.entry.Entry.{Entry, fold-Entry}
+
+mutual
+  -- an entry with its key, what it says of itself, and its parents
+  pub data Whole : Type 0 where
+    Holding : List ℕ → Fields → Wholes → Whole
+
+  -- a list of them
+  pub data Wholes : Type 0 where
+    nothing : Wholes
+    before : Whole → Wholes → Wholes
+
+-- a list as one of them holds it
+abbrev pub wholes : List Whole → Wholes
+wholes [] = nothing
+wholes (w ∷ ws) = before w (wholes ws)
+
+-- all that an entry holds
+abbrev pub whole : Entry → Whole
+whole = fold-Entry Whole (λ e. Holding (string_bytes e.key) (details e.details) (wholes e.parents.items))
