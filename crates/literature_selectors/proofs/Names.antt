@@ -4,7 +4,7 @@ use Rattle.std.specs.Option.{option_copied}
 use Rattle.std.proofs.lemmas.List.{at_drop_more, at_drop_all, length-map, get_or-map}
 use Rattle.std.specs.Global.{Global}
 use Rattle.std.specs.Cmp.Lexicographic.{bytes_decides}
-use Rattle.std.specs.Map.{lookup}
+use Rattle.std.specs.Map.{lookup, keys_of}
 use Rattle.indexmap.specs.IndexMap.{insert_entry}
 use Rattle.literature_entries.specs.declared.entry.Entry.{Entry}
 use Rattle.literature_selectors.specs.Bindings.{Bound, later_or, last_bound, set, settle, settled}
@@ -91,3 +91,8 @@ settle_end done bs i end = at_drop_all (settle done) bs i end
 pub settles_next : (found : List Named) (i : ℕ) (n : Named) (done : Bound) → i < length found → n ≡ get_or found i n → settle (set (named n) done) (drop (i + 1) (all_named found)) ≡ settle done (drop i (all_named found))
 settles_next found i n done less is =
     sym (settle_next done (all_named found) i (named n) (subst (λ k. i < k) (sym (length-map found named)) less) (ap named is ∙ sym (get_or-map named found i n (named n) less)))
+
+-- the names of pairs, in order
+pub names_in_order : (ps : List (String Global × Bor Entry)) → map string_bytes (keys_of ps) ≡ map (λ b. b.0) (map pair ps)
+names_in_order [] = refl
+names_in_order (p ∷ ps) = ap (λ ns. string_bytes p.0 ∷ ns) (names_in_order ps)

@@ -1,4 +1,5 @@
--- What the names of a selector are bound to where it holds. Names are bytes.
+-- What the names of a selector are bound to where it holds, in the order of the text; of equal names the last that is bound
+-- counts. Names are bytes.
 use Rattle.std.specs.Prelude.{ℕ, Bool, List, [], ◌∷◌, ◌++◌, if◌then◌else◌, Option, Some, None}
 use Rattle.std.specs.Str.{bytes_eq}
 use Rattle.laws.specs.Text.{text}

@@ -2,9 +2,10 @@
 use Rattle.std.specs.Prelude.{ℕ, Bool, true, false, not, ◌&&◌, List, [], ◌∷◌, map, if◌then◌else◌, Option, Some, None}
 use Rattle.std.specs.List.{list_any, list_all}
 use Rattle.std.specs.Option.{option_map}
+use Rattle.std.specs.Str.{bytes_eq}
 use Rattle.laws.specs.Text.{text}
+use Rattle.literature_types.specs.EntryTypes.{type_name}
 use Rattle.literature_types.specs.declared.entry_type.EntryType.{EntryType}
-use Rattle.literature_types.specs.contracts.entry_type.EntryTypePartialEq.TheImpl as types
 use Rattle.literature_entries.specs.declared.entry.Entry.{Entry}
 use Rattle.literature_entries.specs.Names.{has, are_some}
 use Rattle.literature_entries.specs.Views.{fields, parents}
@@ -20,9 +21,9 @@ pub record Meaning : Type 0 where
 abbrev pub at_one : (Entry → Bool) → Meaning
 at_one test = record { at = test; above = list_any test }
 
--- whether the entry is of the type
+-- whether the entry is of the type, by the names of both
 abbrev pub is_of : EntryType → Entry → Bool
-is_of t e = types.ghosts.eq t (fields e).entry_type
+is_of t e = bytes_eq (type_name t) (type_name (fields e).entry_type)
 
 -- whether the entry has each of the named fields
 abbrev pub has_each : List (List ℕ) → Entry → Bool

@@ -4,7 +4,8 @@ use Rattle.literature_types.specs.declared.entry_type.EntryType.{EntryType}
 
 mutual
   -- every entry, an entry of a type, what a selector does not ask, one with a name for what it holds at, one with names of
-  -- fields, one of several, each of several at a parent of its own, one of an entry and another of its parents
+  -- fields, one of several, several of which each in turn takes the first parent that is left and at which it holds, one of
+  -- an entry and another of its parents
   pub data Tree : Type 0 where
     Any : Tree
     Entry : EntryType → Tree

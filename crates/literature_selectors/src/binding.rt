@@ -10,7 +10,7 @@ ghost use Rattle.literature_selectors.specs.Bindings.{binds, of_first, each_bind
 ghost use Rattle.literature_selectors.specs.Found.{Adds, all_named, side, borrowed};
 ghost use Rattle.literature_selectors.specs.Views.{tree, characters};
 
-use crate::holding::has_each;
+use crate::holding::{has_each, is_of};
 use crate::node::Node;
 use literature_entries::Entry;
 use std::alloc::{AllocError, Global};
@@ -35,7 +35,7 @@ impl Node {
     {
         match self {
             Node::Any => Ok(true),
-            Node::Entry(entry_type) => Ok(entry_type == entry.entry_type()),
+            Node::Entry(entry_type) => Ok(is_of(entry, entry_type)),
             Node::Not(negated) => Ok(!negated.holds(entry)),
             Node::Binding(name, bound) => bound.bind_name(name.as_str(), entry, found),
             Node::Attributes(of, names) => {

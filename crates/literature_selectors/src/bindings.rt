@@ -1,17 +1,18 @@
 //! Names with the entries that they are bound to.
 
-ghost use Rattle.std.specs.Prelude.{◌≡◌, IfOk, length, IsTrue, ◌↔◌, []};
+ghost use Rattle.std.specs.Prelude.{◌≡◌, IfOk, length, map, string_bytes, IsTrue, ◌↔◌, []};
 ghost use Rattle.std.specs.Option.{option_copied};
 ghost use Rattle.literature_selectors.specs.Bindings.{settled};
 ghost use Rattle.literature_selectors.specs.Found.{all_named};
-ghost use Rattle.literature_selectors.specs.Pairs.{pairs, named_in};
+ghost use Rattle.literature_selectors.specs.Pairs.{pair, pairs, named_in};
 
 use crate::binding::Named;
 use indexmap::IndexMap;
+use indexmap::map::{Iter, Keys};
 use literature_entries::Entry;
 use std::alloc::{AllocError, Global};
 
-/// The names of a selector that holds, each with the entry that it is bound to, in the order of the text.
+/// The names of a selector that holds, each with the entry that it is bound to, in the order in which they were first bound.
 #[derive(Drop)]
 pub struct Bindings<'e> {
     entries: IndexMap<String, &'e Entry>,
@@ -51,5 +52,19 @@ impl<'e> Bindings<'e> {
         ensures { IsTrue result ↔ (pairs self.now ≡ []) }
     {
         self.entries.is_empty()
+    }
+
+    /// The names in order.
+    pub fn keys(&self) -> Keys<'_, String, &'e Entry>
+        ensures { map string_bytes result ≡ map (λ p. p.0) (pairs self.now) }
+    {
+        self.entries.keys()
+    }
+
+    /// The names in order, each with the entry that it is bound to.
+    pub fn iter(&self) -> Iter<'_, String, &'e Entry>
+        ensures { map pair result ≡ pairs self.now }
+    {
+        self.entries.iter()
     }
 }

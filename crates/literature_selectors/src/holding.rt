@@ -3,12 +3,13 @@
 ghost use Rattle.std.specs.Prelude.{◌≡◌, ◌∷◌, map};
 ghost use Rattle.std.specs.Option.{option_map};
 ghost use Rattle.std.specs.List.{list_any};
-ghost use Rattle.literature_selectors.specs.Holding.{meaning, has_each, each_takes, take_first};
+ghost use Rattle.literature_selectors.specs.Holding.{meaning, is_of, has_each, each_takes, take_first};
 ghost use Rattle.literature_selectors.specs.Left.{left_of, is_among, taken_places};
 ghost use Rattle.literature_selectors.specs.Views.{tree, characters};
 
 use crate::node::Node;
 use literature_entries::Entry;
+use literature_types::EntryType;
 
 /// The place of a parent that was taken, and those that were taken before.
 #[derive(Clone, Copy)]
@@ -25,7 +26,7 @@ impl Node {
     {
         match self {
             Node::Any => true,
-            Node::Entry(entry_type) => entry_type == entry.entry_type(),
+            Node::Entry(entry_type) => is_of(entry, entry_type),
             Node::Not(negated) => !negated.holds(entry),
             Node::Binding(_, bound) => bound.holds(entry),
             Node::Attributes(of, names) => of.holds(entry) && has_each(entry, names.as_slice()),
@@ -80,6 +81,13 @@ impl Node {
         }
         None
     }
+}
+
+/// Whether the entry is of the type.
+pub(crate) fn is_of(entry: &Entry, wanted: &EntryType) -> bool
+    ensures { result ≡ is_of wanted.now entry.now }
+{
+    wanted == entry.entry_type()
 }
 
 /// Whether the entry has each of the named fields.

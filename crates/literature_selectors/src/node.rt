@@ -24,7 +24,7 @@ pub(crate) enum Node {
     Attributes(Box<Node>, Vec<String>),
     /// `x | y`: one of the two or more.
     Alternatives(Vec<Node>),
-    /// `x & y`: of two or more each at a parent of its own.
+    /// `x & y`: of two or more each in turn takes the first parent that is left and at which it holds.
     Multi(Vec<Node>),
     /// `x > y`: `x` of the entry and `y` of its parents.
     Ancestry(Box<Node>, Box<Node>),

@@ -2,6 +2,7 @@
 
 ghost use Rattle.std.specs.Prelude.{◌≡◌, IfOk};
 ghost use Rattle.std.specs.Option.{option_copied};
+ghost use Rattle.literature_entries.specs.declared.entry.Entry.{Entry};
 ghost use Rattle.literature_selectors.specs.Bindings.{bound_to};
 ghost use Rattle.literature_selectors.specs.Views.{meant};
 
@@ -9,9 +10,12 @@ use crate::selector::Selector;
 use literature_entries::Entry;
 use std::alloc::{AllocError, Global};
 
-/// Entries that can be asked for what a selector binds.
+/// What can be asked for the entry that a selector binds to a name.
 pub trait BoundSelect {
-    /// The entry that the selector binds to the name, where it holds here.
+    // the entry that is asked
+    ghost asked: { Self → Entry };
+
+    /// The entry that the selector binds to the name where it holds here, else none.
     ///
     /// # Errors
     /// Want of memory.
@@ -20,18 +24,19 @@ pub trait BoundSelect {
         alloc: Global,
         selector: &Selector,
         name: &str,
-    ) -> Result<Option<&Entry>, AllocError>;
+    ) -> Result<Option<&Entry>, AllocError>
+        ensures { IfOk result (λ e. option_copied e ≡ bound_to (meant selector.now) (asked self.now) name.now) };
 }
 
 impl BoundSelect for Entry {
+    ghost asked = { λ e. e };
+
     fn bound_select(
         &self,
         alloc: Global,
         selector: &Selector,
         name: &str,
-    ) -> Result<Option<&Entry>, AllocError>
-        ensures { IfOk result (λ e. option_copied e ≡ bound_to (meant selector.now) self.now name.now) }
-    {
+    ) -> Result<Option<&Entry>, AllocError> {
         selector.bound(alloc, self, name)
     }
 }

@@ -44,9 +44,7 @@ impl Selector {
         rooted(alloc, text)
     }
 
-    /// Whether it holds at the entry. This takes no memory. No part of the selector is asked of an entry twice. Calls stand
-    /// in one another no deeper than the selector's levels, but where `&` asks several of an entry's parents: there up to as
-    /// many more as the entry has parents.
+    /// Whether it holds at the entry. This takes no memory, and no part of the selector is asked of an entry twice.
     pub fn matches(&self, entry: &Entry) -> bool
         ensures { result ≡ holds (meant self.now) entry.now }
     {
@@ -54,7 +52,7 @@ impl Selector {
     }
 
     /// The names with the entries that they are bound to, where the selector holds at the entry, else none. Of equal names
-    /// the last one of the text counts.
+    /// that are bound the last one of the text counts.
     ///
     /// # Errors
     /// Want of memory.

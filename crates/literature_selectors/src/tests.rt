@@ -239,6 +239,30 @@ fn reads_each_beginning_of_lists(rt: HostRuntime) {
 }
 
 #[test]
+fn reads_each_beginning_of_an_empty_list(rt: HostRuntime) {
+    let wanted = [
+        "missing value",
+        "Any",
+        "malformed attribute",
+        "malformed attribute",
+    ];
+    let other = first_other(rt.alloc(), "*[]", &wanted).expect(&rt, "memory");
+    assert_eq!(rt; other, None);
+}
+
+#[test]
+fn reads_each_beginning_of_an_unknown_type(rt: HostRuntime) {
+    let wanted = [
+        "missing value",
+        "unknown entry type f",
+        "unknown entry type fo",
+        "unknown entry type foo",
+    ];
+    let other = first_other(rt.alloc(), "foo", &wanted).expect(&rt, "memory");
+    assert_eq!(rt; other, None);
+}
+
+#[test]
 fn reads_each_beginning_of_a_parenthesis(rt: HostRuntime) {
     let wanted = [
         "missing value",

@@ -1,0 +1,11 @@
+use Rattle.std.proofs.Common.{ap, ◌∙◌}
+use Rattle.std.specs.Str.{bytes_eq}
+use Rattle.literature_types.specs.EntryTypes.{type_name}
+use Rattle.literature_types.proofs.Equality.{told_by_names}
+use Rattle.literature_selectors.proofs.holding.is_of.Goals as goal
+
+pub returns : goal.returns
+returns c =
+    c.eq.ensures
+    ∙ told_by_names c.args.wanted.now c.entry_type.result.now
+    ∙ ap (λ t. bytes_eq (type_name c.args.wanted.now) (type_name t)) c.entry_type.ensures
