@@ -19,6 +19,6 @@ pub use literature_types::EntryType;
 pub use literature_values::{
     ChunkKind, ChunkedString, Date, DateError, FormatString, MaybeTyped, Numeric, NumericDelimiter,
     NumericError, NumericValue, PageRanges, PageRangesError, PageRangesPart, Person, Publisher,
-    QualifiedUrl, SerialNumber, StringChunk,
+    QualifiedUrl, SerialNumber, StringChunk, Url,
 };
 pub use query::Selected;

@@ -112,7 +112,8 @@ impl IntoIterator for Library {
 
     type IntoIter = IntoValues<String, Entry, Global>;
 
-    ghost into_iter_gives = { λ l r. r ≡ entries l };
+    // The entries in order, of which no two have the same key.
+    ghost into_iter_gives = { λ l r. (r ≡ entries l) × AreDistinct views.key r };
 
     fn into_iter(self) -> IntoValues<String, Entry, Global> {
         self.entries.into_values()
@@ -126,7 +127,8 @@ impl<'a> IntoIterator for &'a Library {
 
     type IntoIter = Values<'a, String, Entry>;
 
-    ghost into_iter_gives = { λ l r. r ≡ entries l.now };
+    // The entries in order, of which no two have the same key.
+    ghost into_iter_gives = { λ l r. (r ≡ entries l.now) × AreDistinct views.key r };
 
     fn into_iter(self) -> Values<'a, String, Entry> {
         self.iter()
