@@ -166,7 +166,11 @@ fn compares_entries(rt: HostRuntime) -> Result<(), Fail> {
 #[test]
 fn compares_parents(rt: HostRuntime) -> Result<(), Fail> {
     let one = article(rt.alloc())?;
-    let other = part_of(rt.alloc(), "article", alone(rt.alloc(), issue(rt.alloc())?)?)?;
+    let other = part_of(
+        rt.alloc(),
+        "article",
+        alone(rt.alloc(), issue(rt.alloc())?)?,
+    )?;
     assert!(rt; !are_equal(&one, &other));
     assert!(rt; hash_alike(&one, &other));
     Ok(())
