@@ -7,6 +7,9 @@ pub mod Shifting
 pub mod Pieces
 pub mod Neighbours
 pub mod PlainPieces
+pub mod Placed
+pub mod Reaches
 pub mod TidyTexts
+pub mod TidyPlaces
 pub mod WritingRows
 pub mod Written

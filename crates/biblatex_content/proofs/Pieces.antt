@@ -1,5 +1,5 @@
 -- Reading a piece of an ordinary field as a loop does.
-use Rattle.std.proofs.Common.{◌≡◌, ℕ, List, ◌∷◌, Result, Ok, Err, refl, sym, ap, ◌∙◌}
+use Rattle.std.proofs.Common.{◌≡◌, ℕ, List, [], ◌∷◌, Result, Ok, Err, refl, sym, ap, ◌∙◌}
 use Rattle.laws.specs.Results.{◌>>=◌}
 use Rattle.biblatex_content.specs.declared.error.ContentError.{ContentError}
 use Rattle.biblatex_content.specs.declared.error.ContentError.TheVariants as errors
@@ -9,14 +9,14 @@ use Rattle.biblatex_content.specs.Styled.{Member}
 use Rattle.biblatex_content.specs.Token.{Token, paired_of}
 use Rattle.biblatex_content.specs.Ordinary.{State, step, steps, begun, ended_in, ordinary}
 use Rattle.biblatex_content.specs.OrdinaryViews.{Moves}
-use Rattle.biblatex_content.specs.Views.{Gives, behind, so_far}
+use Rattle.biblatex_content.specs.Views.{Gives, behind, joined}
 use Rattle.biblatex_content.proofs.Shifting.{onto, ordinary-behind}
 
 -- the tokens have a fault
 behind-malformed : (done : List Member) (cs : List ℕ) → paired_of cs ≡ Err MalformedText → behind done (ordinary cs) ≡ Err MalformedText
 behind-malformed done cs e = sym (ordinary-behind done cs) ∙ ap (onto done) e
 
-pub behind-fails : {X : Type 0} (view : X → List Token) (e : ContentError) (done : List Member) (cs : List ℕ) → Gives view (Err e) (paired_of cs) → Gives so_far (Err e) (behind done (ordinary cs))
+pub behind-fails : {X : Type 0} (view : X → List Token) (e : ContentError) (done : List Member) (cs : List ℕ) → Gives view (Err e) (paired_of cs) → Gives joined (Err e) (behind done (ordinary cs))
 behind-fails view errors.Memory done cs g = tt
 behind-fails view errors.MalformedCommand done cs g = behind-malformed done cs g
 
@@ -28,7 +28,7 @@ behind-stopped done cs ts rest t s e same stops =
     sym (ordinary-behind done cs) ∙ (ap (onto done) e ∙ rw fault refl)
 
 pub behind-stops : (e : ContentError) (done : List Member) (cs : List ℕ) (ts rest : List Token) (t : Token) (s next : State) → paired_of cs ≡ Ok ts → steps (t ∷ rest) s ≡ steps ts (begun done)
-    → Moves {X = Unit {0}} (Err e) next (step t s) → Gives so_far (Err e) (behind done (ordinary cs))
+    → Moves {X = Unit {0}} (Err e) next (step t s) → Gives joined (Err e) (behind done (ordinary cs))
 behind-stops errors.Memory done cs ts rest t s next is same m = tt
 behind-stops errors.MalformedCommand done cs ts rest t s next is same m = behind-stopped done cs ts rest t s is same m
 
@@ -36,3 +36,8 @@ behind-stops errors.MalformedCommand done cs ts rest t s next is same m = behind
 pub behind-ends : (done : List Member) (cs : List ℕ) (ts : List Token) (s : State) → paired_of cs ≡ Ok ts → Ok s ≡ steps ts (begun done) → behind done (ordinary cs) ≡ ended_in s.mode s.frames s.done
 behind-ends done cs ts s is same =
     sym (ordinary-behind done cs) ∙ (ap (onto done) is ∙ ap (λ (r : Result State Malformed). r >>= λ x. ended_in x.mode x.frames x.done) (sym same))
+
+-- behind nothing stands what was read
+pub behind_nothing : (read : Result (List Member) Malformed) → behind [] read ≡ read
+behind_nothing (Ok ms) = refl
+behind_nothing (Err f) = refl

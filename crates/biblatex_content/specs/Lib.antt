@@ -10,5 +10,6 @@ pub mod Ordinary
 pub mod OrdinaryViews
 pub mod Views
 pub mod Parted
+pub mod Places
 pub mod Writing
 pub mod Lending

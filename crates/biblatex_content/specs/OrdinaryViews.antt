@@ -6,11 +6,11 @@ use Rattle.biblatex_content.specs.declared.error.Malformed.{Malformed}
 use Rattle.biblatex_content.specs.declared.error.Malformed.TheVariants.{MalformedText}
 use Rattle.biblatex_content.specs.declared.ordinary.Reading.{Reading}
 use Rattle.biblatex_content.specs.Ordinary.{State}
-use Rattle.biblatex_content.specs.Views.{characters, so_far}
+use Rattle.biblatex_content.specs.Views.{characters, joined}
 
 abbrev pub state : Reading → State
 state r = record {
-  done = so_far r.contents;
+  done = joined r.contents;
   kind = r.kind;
   frames = reverse r.frames.items;
   marks = r.marks.items;

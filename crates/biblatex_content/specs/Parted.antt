@@ -5,7 +5,7 @@ use Rattle.biblatex_content.specs.declared.chunk.Kind.TheVariants.{Normal, Verba
 use Rattle.biblatex_content.specs.declared.chunk.Chunk.{Chunk}
 use Rattle.biblatex_content.specs.declared.chunk.Chunk.TheVariants as chunks
 use Rattle.biblatex_text.specs.declared.spanned.Spanned.{Spanned}
-use Rattle.biblatex_content.specs.declared.contents.Contents.{Contents}
+use Rattle.biblatex_content.specs.declared.joining.Joining.{Joining}
 use Rattle.biblatex_content.specs.Views.{characters}
 
 abbrev pub is_filled : {A : Type 0} → List A → Bool
@@ -54,11 +54,11 @@ IsLastOrNone kind None = Unit {0}
 IsLastOrNone kind (Some last) = last ≡ kind
 
 -- Text of the content's kind may follow its chunks.
-pub record IsTurned (c : Contents) : Type 0 where
+pub record IsTurned (c : Joining) : Type 0 where
   pub parted : are_parted c.chunks.items ≡ true
   pub fits : is_apart (last_kind c.chunks.items) (Some c.kind) ≡ true
 
 -- Text of either kind may follow.
-pub record IsReady (c : Contents) : Type 0 where
+pub record IsReady (c : Joining) : Type 0 where
   pub turned : IsTurned c
   pub fresh : characters c.run ≡ [] → last_kind c.chunks.items ≡ None

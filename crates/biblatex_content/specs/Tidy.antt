@@ -1,12 +1,13 @@
 -- Tidying: blanks become spaces, of neighbouring spaces the first stays, and none stays at an end.
 use Rattle.std.specs.Prelude.{ℕ, not, ◌&&◌, ◌||◌, Bool, true, false, ◌==◌, List, [], ◌∷◌, ◌++◌, map, if◌then◌else◌}
-use Rattle.biblatex_content.specs.declared.chunk.Kind.{Kind}
 use Rattle.biblatex_content.specs.declared.tidy.Gap.{Gap}
 use Rattle.biblatex_content.specs.declared.tidy.Gap.TheVariants.{Beginning, Nothing, Space}
 use Rattle.biblatex_content.specs.declared.tidy.Tidying.{Tidying}
 use Rattle.biblatex_content.specs.Character.{is_blank}
 use Rattle.biblatex_content.specs.Styled.{Member, Letter, Math}
-use Rattle.biblatex_content.specs.Views.{so_far}
+use Rattle.biblatex_content.specs.declared.chunk.Chunk.{Chunk}
+use Rattle.biblatex_content.specs.declared.chunk.Chunk.TheVariants as chunks
+use Rattle.biblatex_content.specs.Views.{characters, joined}
 
 -- a blank becomes a space of its kind
 abbrev pub spaced : Member → Member
@@ -42,17 +43,17 @@ abbrev pub is_tidy : Bool → List ℕ → Bool
 is_tidy after_space [] = not after_space
 is_tidy after_space (c ∷ cs) = stays after_space c && is_tidy (c == 32) cs
 
+-- whether a chunk is text that tidying leaves as it is
+abbrev pub is_tidy_text : Chunk → Bool
+is_tidy_text (chunks.Normal s) = is_tidy true (characters s)
+is_tidy_text (chunks.Verbatim s) = is_tidy true (characters s)
+is_tidy_text (chunks.Math s) = false
+
 -- what is still to be written of a text in which the gap stands before these members
 abbrev pub tidied_behind : Gap → List Member → List Member
 tidied_behind Beginning ms = tidied ms
 tidied_behind Nothing ms = without_last_space (squeezed false (map spaced ms))
 tidied_behind (Space kind) ms = without_last_space (Letter kind 32 ∷ squeezed true (map spaced ms))
-
--- the gap behind one more blank
-abbrev pub widened : Gap → Kind → Gap
-widened Beginning kind = Beginning
-widened Nothing kind = Space kind
-widened (Space first) kind = Space first
 
 -- the space that a gap becomes
 abbrev pub owed : Gap → List Member
@@ -62,4 +63,4 @@ owed (Space kind) = Letter kind 32 ∷ []
 
 -- what has been written, and what is still to be written of these members
 abbrev pub to_come : Tidying → List Member → List Member
-to_come t ms = so_far t.contents ++ tidied_behind t.gap ms
+to_come t ms = joined t.contents ++ tidied_behind t.gap ms

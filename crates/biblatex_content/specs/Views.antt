@@ -1,6 +1,6 @@
 -- What the code holds, as plain lists.
 use Rattle.std.specs.Global.{Global}
-use Rattle.std.specs.Prelude.{◌≡◌, ℕ, ◌-◌, length, slice_get, List, [], ◌∷◌, ◌++◌, flat_map, Result, Ok, Err, string_bytes, String}
+use Rattle.std.specs.Prelude.{◌≡◌, ℕ, ◌-◌, max, length, slice_get, List, [], ◌∷◌, ◌++◌, flat_map, Result, Ok, Err, string_bytes, String}
 use Rattle.std.specs.Option.{option_map_or}
 use Rattle.std.specs.Str.{chars}
 use Rattle.std.specs.Borrow.{Bor}
@@ -9,6 +9,7 @@ use Rattle.biblatex_content.specs.declared.chunk.Chunk.{Chunk}
 use Rattle.biblatex_content.specs.declared.chunk.Chunk.TheVariants as chunks
 use Rattle.biblatex_text.specs.declared.spanned.Spanned.{Spanned}
 use Rattle.biblatex_content.specs.declared.contents.Contents.{Contents}
+use Rattle.biblatex_content.specs.declared.joining.Joining.{Joining}
 use Rattle.biblatex_content.specs.declared.error.ContentError.{ContentError}
 use Rattle.biblatex_content.specs.declared.error.ContentError.TheVariants as errors
 use Rattle.biblatex_content.specs.declared.error.Malformed.{Malformed}
@@ -34,12 +35,12 @@ chunk_text (chunks.Math s) = characters s
 abbrev pub plain_text : List (Spanned Chunk) → List ℕ
 plain_text cs = flat_map (λ c. chunk_text c.v) cs
 
--- where the first chunk begins, and where the last one ends
+-- where the first chunk begins, and where the last one ends, but not before the first one ends
 abbrev pub span_start : List (Spanned Chunk) → ℕ
 span_start cs = option_map_or (λ c. c.span.start) (slice_get cs 0) 0
 
 abbrev pub span_end : List (Spanned Chunk) → ℕ
-span_end cs = option_map_or (λ c. c.span.end) (slice_get cs (length cs - 1)) 0
+span_end cs = max (option_map_or (λ c. c.span.end) (slice_get cs 0) 0) (option_map_or (λ c. c.span.end) (slice_get cs (length cs - 1)) 0)
 
 -- the members that a chunk spells
 abbrev pub members : Chunk → List Member
@@ -53,7 +54,11 @@ styled cs = flat_map (λ c. members c.v) cs
 
 -- the styled text that has been read
 abbrev pub so_far : Contents → List Member
-so_far c = styled c.chunks.items ++ letters c.kind (characters c.run)
+so_far c = styled c.chunks.items
+
+-- the styled text that has been joined
+abbrev pub joined : Joining → List Member
+joined j = styled j.chunks.items ++ letters j.kind (characters j.run)
 
 -- What was made, seen by view, or the refusal, is what reading gives; of want of memory nothing is said.
 abbrev pub Gives : {X Y : Type 0} → (X → Y) → Result X ContentError → Result Y Malformed → Type 0

@@ -9,7 +9,7 @@ ghost use Rattle.biblatex_content.specs.Lending.{LendsText};
 ghost use Rattle.biblatex_content.specs.Writing.{written_content};
 ghost use Rattle.biblatex_content.specs.Views.{chunk_text, characters, plain_text, styled, span_start, span_end};
 
-use crate::contents::{empty_text, push_text};
+use crate::joining::{empty_text, push_text};
 use crate::writing::push_biblatex;
 use biblatex_text::Spanned;
 use std::alloc::{AllocError, Global};
@@ -19,9 +19,11 @@ use std::ops::Range;
 pub type Span = Range<usize>;
 
 /// How text is meant: to be changed as a style asks, or to stay as it is.
-#[derive(Clone, Copy, PartialEq, Eq)]
-pub(crate) enum Kind {
+#[derive(Debug, Clone, Copy, PartialEq, Eq)]
+pub enum Kind {
+    /// A style may change it.
     Normal,
+    /// It stays as it is.
     Verbatim,
 }
 
@@ -75,7 +77,8 @@ pub trait ChunksExt {
     fn to_biblatex_string(&self, alloc: Global, is_verbatim: bool) -> Result<String, AllocError>
         ensures { IfOk result (λ s. characters s ≡ written_content is_verbatim (styled (chunks self.now))) };
 
-    /// From where the first chunk begins to where the last one ends; `0..0` where there is none.
+    /// From where the first chunk begins to where the last one ends, but not before the first one ends; `0..0` where there
+    /// is none.
     fn span(&self) -> Span
         ensures start { result.start ≡ span_start (chunks self.now) }
         ensures end { result.end ≡ span_end (chunks self.now) };
@@ -100,7 +103,7 @@ impl ChunksExt for &[Spanned<Chunk>] {
 
     fn span(&self) -> Span {
         match (self.first(), self.last()) {
-            (Some(first), Some(last)) => first.span.start..last.span.end,
+            (Some(first), Some(last)) => { first.span.start..first.span.end.max(last.span.end) }
             _ => 0..0,
         }
     }

@@ -1,196 +1,119 @@
 //! The content of a field while its pieces are read.
 
-ghost use Rattle.std.specs.Prelude.{◌≡◌, ◌++◌, ◌∷◌, [], true, IfOk, OnOk, Some, reverse};
+ghost use Rattle.std.specs.Prelude.{◌≡◌, ◌++◌, [], true, IfOk, OnOk};
 ghost use Rattle.std.specs.Str.{chars};
-ghost use Rattle.biblatex_content.specs.Styled.{Letter, Math, letters};
-ghost use Rattle.biblatex_content.specs.Parted.{is_filled, is_full, kind_of, is_apart, are_parted, last_kind, IsTurned, IsReady, IsLastOrNone};
+ghost use Rattle.biblatex_content.specs.declared.chunk.Kind.TheVariants.{Normal, Verbatim};
+ghost use Rattle.biblatex_content.specs.Styled.{letters};
+ghost use Rattle.biblatex_content.specs.Ordinary.{ordinary};
+ghost use Rattle.biblatex_content.specs.Parted.{are_parted};
+ghost use Rattle.biblatex_content.specs.Places.{all_at, placed_so_far, behind_at, tidied_at, places, places_of};
 ghost use Rattle.biblatex_content.specs.Tidy.{tidied};
-ghost use Rattle.biblatex_content.specs.Views.{characters, members, so_far, styled};
+ghost use Rattle.biblatex_content.specs.Verbatim.{verbatim_text};
+ghost use Rattle.biblatex_content.specs.Views.{so_far, styled, members, behind, Gives};
 
-use crate::character::split_first;
-use crate::chunk::{Chunk, Chunks, Kind};
-use crate::tidy::{is_tidy, tidy};
+use crate::chunk::{Chunk, Chunks, Span};
+use crate::error::ContentError;
+use crate::ordinary::{is_plain, read_ordinary};
+use crate::tidy::{are_done, tidy};
+use crate::verbatim::read_verbatim;
 use biblatex_text::Spanned;
 use std::alloc::{AllocError, Global};
-use std::mem;
 
-/// The content of a field, as far as its pieces have been read.
+/// The content of a field, as far as its pieces have been read: the chunks of each piece, at its place.
 #[derive(Drop)]
 pub struct Contents {
     alloc: Global,
-    chunks: Vec<Spanned<Chunk>>,
-    run: String,
-    kind: Kind,
-}
-
-/// A chunk of text of the kind.
-fn chunk_of(kind: Kind, text: String) -> Chunk
-    ensures members { members result ≡ letters kind (characters text) }
-    ensures kind { kind_of result ≡ Some kind }
-    ensures full { is_full result ≡ is_filled (characters text) }
-{
-    match kind {
-        Kind::Normal => Chunk::Normal(text),
-        Kind::Verbatim => Chunk::Verbatim(text),
-    }
-}
-
-/// Whether there is a character.
-pub(crate) fn has_text(text: &str) -> bool
-    ensures { result ≡ is_filled (chars text.now) }
-{
-    split_first(text).is_some()
-}
-
-/// Puts a character last.
-pub(crate) fn push_character(text: &mut String, c: char) -> Result<(), AllocError>
-    ensures { OnOk result (characters text.new ≡ characters text.old ++ c ∷ []) }
-{
-    text.push(c)
-}
-
-/// Puts a text last.
-pub(crate) fn push_text(text: &mut String, more: &str) -> Result<(), AllocError>
-    ensures { OnOk result (characters text.new ≡ characters text.old ++ chars more.now) }
-{
-    text.push_str(more)
-}
-
-/// A text without characters.
-pub(crate) fn empty_text(alloc: Global) -> String
-    ensures { characters result ≡ [] }
-{
-    String::new(alloc)
-}
-
-/// Takes a text out, and leaves an empty one.
-pub(crate) fn take_text(alloc: Global, text: &mut String) -> String
-    ensures taken { characters result ≡ characters text.old }
-    ensures left { characters text.new ≡ [] }
-{
-    mem::replace(text, empty_text(alloc))
+    chunks: Chunks,
 }
 
 impl Contents {
     /// Nothing has been read.
     pub fn new(alloc: Global) -> Contents
         ensures so_far { so_far result ≡ [] }
-        ensures ready { IsReady result }
+        ensures placed { placed_so_far result ≡ [] }
     {
         Contents {
             alloc,
             chunks: Vec::new(alloc),
-            run: empty_text(alloc),
-            kind: Kind::Normal,
         }
     }
 
-    /// The allocator.
-    pub(crate) fn allocator(&self) -> Global
-        ensures { result ≡ self.now.alloc }
-    {
-        self.alloc
-    }
-
-    /// Puts a chunk behind the finished ones.
-    #[tactic(auto, using(crate::proofs::Neighbours::last_kind_behind, crate::proofs::Neighbours::parted_behind))]
-    fn push_chunk(&mut self, chunk: Chunk) -> Result<(), AllocError>
-        ensures chunks { OnOk result (styled self.new.chunks.items ≡ styled self.old.chunks.items ++ members chunk) }
-        ensures run { self.new.run ≡ self.old.run }
-        ensures kind { self.new.kind ≡ self.old.kind }
-        ensures last { OnOk result (last_kind self.new.chunks.items ≡ kind_of chunk) }
-        ensures parted { OnOk result (are_parted self.old.chunks.items ≡ true → is_full chunk ≡ true → is_apart (last_kind self.old.chunks.items) (kind_of chunk) ≡ true → are_parted self.new.chunks.items ≡ true) }
+    /// Puts a chunk of a piece at the span last.
+    fn push_chunk(&mut self, span: &Span, chunk: Chunk) -> Result<(), AllocError>
+        ensures styled { OnOk result (so_far self.new ≡ so_far self.old ++ members chunk) }
+        ensures placed { OnOk result (placed_so_far self.new ≡ placed_so_far self.old ++ all_at span.now.start span.now.end (members chunk)) }
     {
         if self.chunks.is_empty() {
             self.chunks.reserve_exact(1)?;
         }
-        Ok(self.chunks.push(Spanned::detached(chunk))?)
+        Ok(self.chunks.push(Spanned::new(chunk, span.start..span.end))?)
     }
 
-    /// Makes a chunk of the text that was begun.
-    fn close_run(&mut self) -> Result<(), AllocError>
-        ensures styled { OnOk result (so_far self.new ≡ so_far self.old) }
-        ensures run { OnOk result (characters self.new.run ≡ []) }
-        ensures kind { self.new.kind ≡ self.old.kind }
-        ensures parted { IsReady self.old → OnOk result (are_parted self.new.chunks.items ≡ true) }
-        ensures last { IsReady self.old → OnOk result (IsLastOrNone self.old.kind (last_kind self.new.chunks.items)) }
+    /// Puts the chunks of a piece at the span last.
+    fn push_chunks(&mut self, span: &Span, chunks: Chunks) -> Result<(), AllocError>
+        ensures styled { OnOk result (so_far self.new ≡ so_far self.old ++ styled chunks.items) }
+        ensures placed { OnOk result (placed_so_far self.new ≡ placed_so_far self.old ++ all_at span.now.start span.now.end (styled chunks.items)) }
     {
-        if !has_text(self.run.as_str()) {
-            return Ok(());
-        }
-        let run = take_text(self.alloc, &mut self.run);
-        self.push_chunk(chunk_of(self.kind, run))?;
-        Ok(())
-    }
-
-    /// Sees to it that text of the kind may follow.
-    fn turn(&mut self, kind: Kind) -> Result<(), AllocError>
-        ensures styled { OnOk result (so_far self.new ≡ so_far self.old) }
-        ensures kind { OnOk result (self.new.kind ≡ kind) }
-        ensures turned { IsReady self.old → OnOk result (IsTurned self.new) }
-    {
-        if self.kind != kind {
-            self.close_run()?;
-            self.kind = kind;
+        for chunk in chunks {
+            self.push_chunk(span, chunk.v)?;
         }
         Ok(())
     }
 
-    /// Puts a character of the kind last.
-    pub(crate) fn push(&mut self, kind: Kind, c: char) -> Result<(), AllocError>
-        ensures styled { OnOk result (so_far self.new ≡ so_far self.old ++ Letter kind c ∷ []) }
-        ensures ready { IsReady self.old → OnOk result (IsReady self.new) }
+    /// Puts a piece of plain characters last.
+    fn push_plain(&mut self, piece: Spanned<&str>) -> Result<(), AllocError>
+        ensures styled { OnOk result (so_far self.new ≡ so_far self.old ++ letters Normal (chars piece.entry.v.now)) }
+        ensures placed { OnOk result (placed_so_far self.new ≡ placed_so_far self.old ++ all_at piece.entry.span.start piece.entry.span.end (letters Normal (chars piece.entry.v.now))) }
     {
-        self.turn(kind)?;
-        push_character(&mut self.run, c)
+        let text = String::from_str(self.alloc, piece.v)?;
+        self.push_chunk(&piece.span, Chunk::Normal(text))
     }
 
-    /// Puts a text of the kind last.
-    pub(crate) fn push_str(&mut self, kind: Kind, text: &str) -> Result<(), AllocError>
-        ensures { OnOk result (so_far self.new ≡ so_far self.old ++ letters kind (chars text.now)) }
+    /// The same with a piece of an ordinary field behind it, whose first row that fits counts: `---`, `--` and `~` are
+    /// dashes and a tie; a backslash and one of `{ } # & % $ _` that character, a backslash before a backslash or a blank a
+    /// space, `\,` a thin space, `\-` and `\/` nothing; accents are composed with their arguments; commands of letters are
+    /// characters or are passed over; a backslash and another character is that character; groups are verbatim but for
+    /// arguments, groups behind a command that is passed over, and groups that begin with a backslash; math stands between
+    /// dollar signs of one depth, and a dollar sign without a partner is itself. What the piece gives has its place.
+    ///
+    /// # Errors
+    ///
+    /// `MalformedCommand` where a brace has no partner, the last character is a lone backslash, or an accent has no argument.
+    #[tactic(auto, using(crate::proofs::PlainPieces::ordinary_plain))]
+    pub fn push_ordinary(mut self, piece: Spanned<&str>) -> Result<Contents, ContentError>
+        ensures read { Gives so_far result (behind (so_far self) (ordinary (chars piece.entry.v.now))) }
+        ensures placed { Gives placed_so_far result (behind_at piece.entry.span.start piece.entry.span.end (placed_so_far self) (ordinary (chars piece.entry.v.now))) }
     {
-        self.turn(kind)?;
-        push_text(&mut self.run, text)
-    }
-
-    /// Puts characters of the kind last, of which the first is the last of the list.
-    pub(crate) fn push_reversed(&mut self, kind: Kind, mut cs: Vec<char>) -> Result<(), AllocError>
-        ensures { OnOk result (so_far self.new ≡ so_far self.old ++ letters kind (reverse cs.items)) }
-    {
-        while let Some(c) = cs.pop() {
-            self.push(kind, c)?;
+        if is_plain(piece.v) {
+            self.push_plain(piece)?;
+            return Ok(self);
         }
-        Ok(())
+        let chunks = read_ordinary(self.alloc, piece.v)?;
+        self.push_chunks(&piece.span, chunks)?;
+        Ok(self)
     }
 
-    /// Puts a math piece last.
-    pub(crate) fn push_math(&mut self, text: String) -> Result<(), AllocError>
-        ensures styled { OnOk result (so_far self.new ≡ so_far self.old ++ Math (characters text) ∷ []) }
-        ensures ready { IsReady self.old → OnOk result (IsReady self.new) }
+    /// The same with a piece of a verbatim field behind it: a backslash before one of `{ } \ ~ ^ # & % $ _` gives that
+    /// character, other braces give nothing, and all else is itself. What the piece gives has its place.
+    pub fn push_verbatim(mut self, piece: Spanned<&str>) -> Result<Contents, AllocError>
+        ensures read { IfOk result (λ c. so_far c ≡ so_far self ++ letters Verbatim (verbatim_text (chars piece.entry.v.now))) }
+        ensures placed { IfOk result (λ c. placed_so_far c ≡ placed_so_far self ++ all_at piece.entry.span.start piece.entry.span.end (letters Verbatim (verbatim_text (chars piece.entry.v.now)))) }
     {
-        self.close_run()?;
-        self.push_chunk(Chunk::Math(text))
+        let chunks = read_verbatim(self.alloc, piece.v)?;
+        self.push_chunks(&piece.span, chunks)?;
+        Ok(self)
     }
 
-    /// The chunks of what was read.
-    pub(crate) fn into_chunks(mut self) -> Result<Chunks, AllocError>
-        ensures styled { IfOk result (λ cs. styled cs.items ≡ so_far self) }
-        ensures parted { IsReady self → IfOk result (λ cs. are_parted cs.items ≡ true) }
-    {
-        self.close_run()?;
-        Ok(self.chunks)
-    }
-
-    /// The chunks of the field: what its pieces gave, one behind the other, tidied.
+    /// The chunks of the field: what its pieces gave, one behind the other, tidied. A chunk stands from where the first piece
+    /// begins that it has a character of to where the one ends that ends last; a math piece where its piece stands.
     pub fn finish(self) -> Result<Chunks, AllocError>
         ensures styled { IfOk result (λ cs. styled cs.items ≡ tidied (so_far self)) }
+        ensures places { IfOk result (λ cs. places cs.items ≡ places_of (tidied_at (placed_so_far self))) }
         ensures parted { IfOk result (λ cs. are_parted cs.items ≡ true) }
     {
-        if self.chunks.is_empty() && is_tidy(self.run.as_str()) {
-            return self.into_chunks();
+        if are_done(self.chunks.as_slice()) {
+            return Ok(self.chunks);
         }
-        let alloc = self.alloc;
-        let chunks = self.into_chunks()?;
-        tidy(alloc, chunks)?.into_chunks()
+        tidy(self.alloc, self.chunks)?.into_chunks()
     }
 }

@@ -7,6 +7,7 @@ mod chunk;
 mod command;
 mod contents;
 mod error;
+mod joining;
 mod ordinary;
 #[cfg(test)]
 mod tests;
@@ -16,7 +17,7 @@ mod verbatim;
 mod writing;
 
 pub use biblatex_text::Spanned;
-pub use chunk::{Chunk, Chunks, ChunksExt, Span};
+pub use chunk::{Chunk, Chunks, ChunksExt, Kind, Span};
 pub use contents::Contents;
 pub use error::ContentError;
 pub use verbatim::{is_escapable, is_verbatim_field};

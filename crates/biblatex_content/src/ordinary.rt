@@ -11,15 +11,15 @@ ghost use Rattle.biblatex_content.specs.Ordinary.{kept_in, given, marked_behind,
 ghost use Rattle.biblatex_content.specs.Command.{sign_mark, letter_mark};
 ghost use Rattle.biblatex_content.specs.Token.{written};
 ghost use Rattle.biblatex_content.specs.TokenViews.{token};
-ghost use Rattle.biblatex_content.specs.Views.{characters, so_far, behind, Gives};
+ghost use Rattle.biblatex_content.specs.Views.{characters, joined, styled, behind, Gives};
 ghost use Rattle.biblatex_content.specs.OrdinaryViews.{state, Moves};
 
 use crate::accent::{put_marks, reversed};
 use crate::character::{Class, split_first, split_run};
-use crate::chunk::Kind;
+use crate::chunk::{Chunks, Kind};
 use crate::command::{letter_character, letter_mark, sign_character, sign_mark};
-use crate::contents::{Contents, empty_text, has_text, push_character, push_text, take_text};
 use crate::error::ContentError;
+use crate::joining::{Joining, empty_text, has_text, push_character, push_text, take_text};
 use crate::token::{Token, paired_tokens};
 use std::alloc::{AllocError, Global};
 
@@ -45,7 +45,7 @@ pub(crate) struct Frame {
 
 /// Whether each character of the piece stands for itself.
 #[tactic(auto, using(crate::proofs::PlainPieces::nothing_filled))]
-fn is_plain(piece: &str) -> bool
+pub(crate) fn is_plain(piece: &str) -> bool
     ensures { result ≡ true → after (passes Plain) (chars piece.now) ≡ [] }
 {
     !has_text(split_run(piece, Class::Plain).1)
@@ -98,7 +98,7 @@ fn push_written(text: &mut String, read: Token<'_>) -> Result<(), AllocError>
 #[derive(Drop)]
 struct Reading {
     alloc: Global,
-    contents: Contents,
+    contents: Joining,
     kind: Kind,
     frames: Vec<Frame>,
     marks: Vec<char>,
@@ -108,8 +108,8 @@ struct Reading {
 
 impl Reading {
     /// Before the first token.
-    fn new(alloc: Global, contents: Contents) -> Reading
-        ensures { state result ≡ begun (so_far contents) }
+    fn new(alloc: Global, contents: Joining) -> Reading
+        ensures { state result ≡ begun (joined contents) }
     {
         Reading {
             alloc,
@@ -372,7 +372,7 @@ impl Reading {
         match read {
             Token::Dollar(_) if self.frames.len() == depth => {
                 let math = take_text(self.alloc, &mut self.math);
-                self.contents.push_math(math)?;
+                self.contents.push_math(&(0..0), math)?;
                 self.mode = Mode::Free;
                 return Ok(());
             }
@@ -398,8 +398,8 @@ impl Reading {
     }
 
     /// What was read, where the piece may end.
-    fn end(self) -> Result<Contents, ContentError>
-        ensures { Gives so_far result (ended_in self.mode (reverse self.frames.items) (so_far self.contents)) }
+    fn end(self) -> Result<Joining, ContentError>
+        ensures { Gives joined result (ended_in self.mode (reverse self.frames.items) (joined self.contents)) }
     {
         match self.mode {
             Mode::Free | Mode::Groups(_) if self.frames.is_empty() => Ok(self.contents),
@@ -408,31 +408,10 @@ impl Reading {
     }
 }
 
-impl Contents {
-    /// The same with a piece of an ordinary field behind it, whose first row that fits counts: `---`, `--` and `~` are
-    /// dashes and a tie; a backslash and one of `{ } # & % $ _` that character, a backslash before a backslash or a blank a
-    /// space, `\,` a thin space, `\-` and `\/` nothing; accents are composed with their arguments; commands of letters are
-    /// characters or are passed over; a backslash and another character is that character; groups are verbatim but for
-    /// arguments, groups behind a command that is passed over, and groups that begin with a backslash; math stands between
-    /// dollar signs of one depth, and a dollar sign without a partner is itself.
-    ///
-    /// # Errors
-    ///
-    /// `MalformedCommand` where a brace has no partner, the last character is a lone backslash, or an accent has no argument.
-    #[tactic(auto, using(crate::proofs::PlainPieces::ordinary_plain))]
-    pub fn push_ordinary(mut self, piece: &str) -> Result<Contents, ContentError>
-        ensures { Gives so_far result (behind (so_far self) (ordinary (chars piece.now))) }
-    {
-        if is_plain(piece) {
-            self.push_str(Kind::Normal, piece)?;
-            return Ok(self);
-        }
-        self.push_tokens(piece)
-    }
-
-    /// The same, whatever the piece is made of.
-    fn push_tokens(self, piece: &str) -> Result<Contents, ContentError>
-        ensures { Gives so_far result (behind (so_far self) (ordinary (chars piece.now))) }
+impl Joining {
+    /// The same with a piece of an ordinary field behind it.
+    fn push_tokens(self, piece: &str) -> Result<Joining, ContentError>
+        ensures { Gives joined result (behind (joined self) (ordinary (chars piece.now))) }
     {
         let alloc = self.allocator();
         let mut tokens = paired_tokens(alloc, piece)?;
@@ -442,4 +421,12 @@ impl Contents {
         }
         reading.end()
     }
+}
+
+/// The chunks of a piece of an ordinary field.
+#[tactic(auto, using(crate::proofs::Pieces::behind_nothing))]
+pub(crate) fn read_ordinary(alloc: Global, piece: &str) -> Result<Chunks, ContentError>
+    ensures { Gives (λ cs. styled cs.items) result (ordinary (chars piece.now)) }
+{
+    Ok(Joining::new(alloc).push_tokens(piece)?.into_chunks()?)
 }

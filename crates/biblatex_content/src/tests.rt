@@ -6,6 +6,7 @@ use crate::{
     push_biblatex,
 };
 use std::alloc::Global;
+use std::fmt::Write;
 use std::test::Fail;
 
 /// The chunks as one text.
@@ -31,7 +32,7 @@ fn shown(alloc: Global, chunks: &Chunks) -> Result<String, Fail> {
 
 /// What one piece of an ordinary field gives.
 fn ordinary(alloc: Global, piece: &str) -> Result<String, Fail> {
-    match Contents::new(alloc).push_ordinary(piece) {
+    match Contents::new(alloc).push_ordinary(Spanned::zero(piece)) {
         Ok(contents) => shown(alloc, &contents.finish()?),
         Err(ContentError::MalformedCommand) => Ok(String::from_str(alloc, "malformed")?),
         Err(ContentError::Memory) => Ok(String::from_str(alloc, "out of memory")?),
@@ -40,7 +41,12 @@ fn ordinary(alloc: Global, piece: &str) -> Result<String, Fail> {
 
 /// What one piece of a verbatim field gives.
 fn verbatim(alloc: Global, piece: &str) -> Result<String, Fail> {
-    shown(alloc, &Contents::new(alloc).push_verbatim(piece)?.finish()?)
+    shown(
+        alloc,
+        &Contents::new(alloc)
+            .push_verbatim(Spanned::zero(piece))?
+            .finish()?,
+    )
 }
 
 #[test]
@@ -215,25 +221,96 @@ fn malformed(rt: HostRuntime) -> Result<(), Fail> {
 
 #[test]
 fn pieces_are_read_one_by_one(rt: HostRuntime) -> Result<(), Fail> {
-    let contents = Contents::new(rt.alloc()).push_ordinary("ABC")?;
+    let contents = Contents::new(rt.alloc()).push_ordinary(Spanned::zero("ABC"))?;
     let contents = contents
-        .push_ordinary("good {TIMES}")?
-        .push_ordinary("hello")?;
-    let contents = contents.push_ordinary("person")?.push_ordinary("last")?;
+        .push_ordinary(Spanned::zero("good {TIMES}"))?
+        .push_ordinary(Spanned::zero("hello"))?;
+    let contents = contents
+        .push_ordinary(Spanned::zero("person"))?
+        .push_ordinary(Spanned::zero("last"))?;
     let given = shown(rt.alloc(), &contents.finish()?)?;
     assert_eq!(rt; given.as_str(), "ABCgood «TIMES»hellopersonlast");
 
     let contents = Contents::new(rt.alloc())
-        .push_ordinary("-")?
-        .push_ordinary("-")?;
+        .push_ordinary(Spanned::zero("-"))?
+        .push_ordinary(Spanned::zero("-"))?;
     let given = shown(rt.alloc(), &contents.finish()?)?;
     assert_eq!(rt; given.as_str(), "--");
 
     let contents = Contents::new(rt.alloc())
-        .push_ordinary("a ")?
-        .push_ordinary(" b")?;
+        .push_ordinary(Spanned::zero("a "))?
+        .push_ordinary(Spanned::zero(" b"))?;
     let given = shown(rt.alloc(), &contents.finish()?)?;
     assert_eq!(rt; given.as_str(), "a b");
+    Ok(())
+}
+
+/// What pieces of an ordinary field give that stand from these bytes to those, each chunk with where it stands.
+fn placed(alloc: Global, pieces: &[(&str, usize, usize)]) -> Result<String, Fail> {
+    let mut contents = Contents::new(alloc);
+    for (piece, start, end) in pieces.iter() {
+        contents = contents.push_ordinary(Spanned::new(*piece, *start..*end))?;
+    }
+    let chunks = contents.finish()?;
+    let mut text = shown(alloc, &chunks)?;
+    for chunk in chunks.iter() {
+        write!(text, " {}-{}", chunk.span.start, chunk.span.end)?;
+    }
+    let span = chunks.as_slice().span();
+    write!(text, " all {}-{}", span.start, span.end)?;
+    Ok(text)
+}
+
+#[test]
+fn chunks_stand_where_their_pieces_stand(rt: HostRuntime) -> Result<(), Fail> {
+    let rows: [(&[(&str, usize, usize)], &str); 5] = [
+        (
+            &[("x {y} $z$", 3, 12)],
+            "x «y» ⟨z⟩ 3-12 3-12 3-12 3-12 all 3-12",
+        ),
+        (&[("x", 1, 2), ("y", 5, 6)], "xy 1-6 all 1-6"),
+        (&[("x", 1, 2), ("{y}", 5, 8)], "x«y» 1-2 5-8 all 1-8"),
+        (&[("$a$", 0, 3), ("$b$", 6, 9)], "⟨a⟩⟨b⟩ 0-3 6-9 all 0-9"),
+        (&[], " all 0-0"),
+    ];
+    for (pieces, wanted) in rows.iter() {
+        let given = placed(rt.alloc(), pieces)?;
+        assert_eq!(rt; given.as_str(), *wanted);
+    }
+    Ok(())
+}
+
+#[test]
+fn what_is_tidied_away_leaves_no_place(rt: HostRuntime) -> Result<(), Fail> {
+    let rows: [(&[(&str, usize, usize)], &str); 3] = [
+        (&[(" ", 0, 1), ("x", 4, 5), ("  ", 8, 10)], "x 4-5 all 4-5"),
+        (&[("x ", 0, 2), (" y", 5, 7)], "x y 0-7 all 0-7"),
+        (
+            &[("x", 0, 1), ("{ }", 4, 7), ("{y}", 10, 13)],
+            "x« y» 0-1 4-13 all 0-13",
+        ),
+    ];
+    for (pieces, wanted) in rows.iter() {
+        let given = placed(rt.alloc(), pieces)?;
+        assert_eq!(rt; given.as_str(), *wanted);
+    }
+    Ok(())
+}
+
+#[test]
+fn pieces_out_of_order(rt: HostRuntime) -> Result<(), Fail> {
+    let rows: [(&[(&str, usize, usize)], &str); 3] = [
+        (
+            &[("x", 20, 21), ("y", 3, 4), ("z", 24, 25)],
+            "xyz 20-25 all 20-25",
+        ),
+        (&[("x", 20, 21), ("y", 3, 4)], "xy 20-21 all 20-21"),
+        (&[("x", 20, 21), ("{y}", 3, 6)], "x«y» 20-21 3-6 all 20-21"),
+    ];
+    for (pieces, wanted) in rows.iter() {
+        let given = placed(rt.alloc(), pieces)?;
+        assert_eq!(rt; given.as_str(), *wanted);
+    }
     Ok(())
 }
 
@@ -261,12 +338,10 @@ fn verbatim_fields(rt: HostRuntime) -> Result<(), Fail> {
 #[test]
 fn chunks_as_one_text(rt: HostRuntime) -> Result<(), Fail> {
     let mut chunks = Contents::new(rt.alloc())
-        .push_ordinary("a {B} $c$")?
+        .push_ordinary(Spanned::zero("a {B} $c$"))?
         .finish()?;
     let text = chunks.as_slice().format_verbatim(rt.alloc())?;
     assert_eq!(rt; text.as_str(), "a B c");
-    let span = chunks.as_slice().span();
-    assert_eq!(rt; span.start, usize::MAX);
     for chunk in chunks.iter_mut() {
         chunk.v.get_mut().push('!')?;
     }
@@ -294,7 +369,7 @@ fn names_and_escapes(rt: HostRuntime) -> Result<(), Fail> {
 
 /// What a piece of an ordinary field is written as.
 fn ordinary_again(alloc: Global, piece: &str) -> Result<String, Fail> {
-    match Contents::new(alloc).push_ordinary(piece) {
+    match Contents::new(alloc).push_ordinary(Spanned::zero(piece)) {
         Ok(contents) => {
             let chunks = contents.finish()?;
             Ok(chunks.as_slice().to_biblatex_string(alloc, false)?)
@@ -306,7 +381,9 @@ fn ordinary_again(alloc: Global, piece: &str) -> Result<String, Fail> {
 
 /// What a piece of a verbatim field is written as.
 fn verbatim_again(alloc: Global, piece: &str) -> Result<String, Fail> {
-    let chunks = Contents::new(alloc).push_verbatim(piece)?.finish()?;
+    let chunks = Contents::new(alloc)
+        .push_verbatim(Spanned::zero(piece))?
+        .finish()?;
     Ok(chunks.as_slice().to_biblatex_string(alloc, true)?)
 }
 

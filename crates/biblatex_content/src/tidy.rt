@@ -1,16 +1,21 @@
 //! Tidying: blanks become spaces, of neighbouring spaces the first stays, and none stays at an end.
 
-ghost use Rattle.std.specs.Prelude.{◌≡◌, ◌++◌, ◌∷◌, true, List, IfOk, OnOk};
+ghost use Rattle.std.specs.Prelude.{◌≡◌, ◌++◌, ◌∷◌, [], true, List, IfOk, OnOk};
 ghost use Rattle.std.specs.Str.{chars};
+ghost use Rattle.biblatex_text.specs.Raw.{At};
+ghost use Rattle.biblatex_text.specs.declared.spanned.Spanned.{Spanned};
 ghost use Rattle.biblatex_content.specs.declared.tidy.Gap.TheVariants.{Nothing};
+ghost use Rattle.biblatex_content.specs.Character.{is_blank};
 ghost use Rattle.biblatex_content.specs.Styled.{Member, Letter, Math, letters};
 ghost use Rattle.biblatex_content.specs.Parted.{IsReady};
-ghost use Rattle.biblatex_content.specs.Tidy.{tidied, is_tidy, stays, widened, owed, to_come};
-ghost use Rattle.biblatex_content.specs.Views.{so_far, styled, members, characters};
+ghost use Rattle.biblatex_content.specs.Places.{all_at, placed, placed_in, places_of, tidied_at, places_with, owed_at, places_to_come, AreDone};
+ghost use Rattle.biblatex_content.specs.Tidy.{tidied, is_tidy, is_tidy_text, stays, owed, to_come};
+ghost use Rattle.biblatex_content.specs.Views.{joined, styled, members, characters};
 
 use crate::character::is_blank;
-use crate::chunk::{Chunk, Chunks, Kind};
-use crate::contents::Contents;
+use crate::chunk::{Chunk, Chunks, Kind, Span};
+use crate::joining::Joining;
+use biblatex_text::Spanned;
 use std::alloc::{AllocError, Global};
 
 /// What stands between the last member that is no blank and the next one.
@@ -24,103 +29,117 @@ pub(crate) enum Gap {
     Space(Kind),
 }
 
-impl Gap {
-    /// The gap behind one more blank.
-    fn widened(self, kind: Kind) -> Gap
-        ensures { result ≡ widened self kind }
-    {
-        match self {
-            Gap::Nothing => Gap::Space(kind),
-            _ => self,
-        }
-    }
-}
-
-/// A content that is being tidied.
+/// A content that is being tidied, and where the space of the gap stands, if it is one.
 #[derive(Drop)]
 struct Tidying {
-    contents: Contents,
+    contents: Joining,
     gap: Gap,
+    space: Span,
 }
 
 impl Tidying {
     fn new(alloc: Global) -> Tidying
         ensures to_come { (ms : List Member) → to_come result ms ≡ tidied ms }
+        ensures places { (ms : List (At Member)) → places_to_come result ms ≡ places_of (tidied_at ms) }
         ensures ready { IsReady result.contents }
     {
         Tidying {
-            contents: Contents::new(alloc),
+            contents: Joining::new(alloc),
             gap: Gap::Beginning,
+            space: 0..0,
         }
     }
 
     /// Makes a space of a gap that is one.
     fn close_gap(&mut self) -> Result<(), AllocError>
-        ensures written { OnOk result (so_far self.new.contents ≡ so_far self.old.contents ++ owed self.old.gap) }
+        ensures written { OnOk result (joined self.new.contents ≡ joined self.old.contents ++ owed self.old.gap) }
+        ensures places { OnOk result ((ms : List (At Member)) → places_with self.new.contents ms ≡ places_with self.old.contents (owed_at self.old.space.start self.old.space.end self.old.gap ++ ms)) }
         ensures gap { OnOk result (self.new.gap ≡ Nothing) }
         ensures ready { IsReady self.old.contents → OnOk result (IsReady self.new.contents) }
     {
         if let Gap::Space(kind) = self.gap {
-            self.contents.push(kind, ' ')?;
+            self.contents.push_at(&self.space, kind, ' ')?;
         }
         self.gap = Gap::Nothing;
         Ok(())
     }
 
+    /// Puts a blank last.
+    fn push_blank(&mut self, span: &Span, kind: Kind, c: char)
+        requires { is_blank c ≡ true }
+        ensures to_come { (ms : List Member) → to_come self.new ms ≡ to_come self.old (Letter kind c ∷ ms) }
+        ensures places { (ms : List (At Member)) → places_to_come self.new ms ≡ places_to_come self.old (record { v = Letter kind c; start = span.now.start; end = span.now.end } ∷ ms) }
+        ensures contents { self.new.contents ≡ self.old.contents }
+    {
+        match self.gap {
+            Gap::Nothing => {
+                self.gap = Gap::Space(kind);
+                self.space = span.start..span.end;
+            }
+            Gap::Beginning | Gap::Space(_) => {}
+        }
+    }
+
     /// Puts a character of the kind last.
-    fn push(&mut self, kind: Kind, c: char) -> Result<(), AllocError>
+    fn push(&mut self, span: &Span, kind: Kind, c: char) -> Result<(), AllocError>
         ensures to_come { OnOk result ((ms : List Member) → to_come self.new ms ≡ to_come self.old (Letter kind c ∷ ms)) }
+        ensures places { OnOk result ((ms : List (At Member)) → places_to_come self.new ms ≡ places_to_come self.old (record { v = Letter kind c; start = span.now.start; end = span.now.end } ∷ ms)) }
         ensures ready { IsReady self.old.contents → OnOk result (IsReady self.new.contents) }
     {
         if is_blank(c) {
-            self.gap = self.gap.widened(kind);
+            self.push_blank(span, kind, c);
             return Ok(());
         }
         self.close_gap()?;
-        self.contents.push(kind, c)
+        self.contents.push_at(span, kind, c)
     }
 
     /// Puts a text of the kind last.
-    fn push_str(&mut self, kind: Kind, text: &str) -> Result<(), AllocError>
+    fn push_str(&mut self, span: &Span, kind: Kind, text: &str) -> Result<(), AllocError>
         ensures to_come { OnOk result ((ms : List Member) → to_come self.new ms ≡ to_come self.old (letters kind (chars text.now) ++ ms)) }
+        ensures places { OnOk result ((ms : List (At Member)) → places_to_come self.new ms ≡ places_to_come self.old (all_at span.now.start span.now.end (letters kind (chars text.now)) ++ ms)) }
         ensures ready { IsReady self.old.contents → OnOk result (IsReady self.new.contents) }
     {
         for c in text.chars() {
-            self.push(kind, c)?;
+            self.push(span, kind, c)?;
         }
         Ok(())
     }
 
     /// Puts a math piece last.
-    fn push_math(&mut self, text: String) -> Result<(), AllocError>
+    fn push_math(&mut self, span: &Span, text: String) -> Result<(), AllocError>
         ensures to_come { OnOk result ((ms : List Member) → to_come self.new ms ≡ to_come self.old (Math (characters text) ∷ ms)) }
+        ensures places { OnOk result ((ms : List (At Member)) → places_to_come self.new ms ≡ places_to_come self.old (record { v = Math (characters text); start = span.now.start; end = span.now.end } ∷ ms)) }
         ensures ready { IsReady self.old.contents → OnOk result (IsReady self.new.contents) }
     {
         self.close_gap()?;
-        self.contents.push_math(text)
+        self.contents.push_math(span, text)
     }
 
     /// Puts a chunk last.
-    fn push_chunk(&mut self, chunk: Chunk) -> Result<(), AllocError>
-        ensures to_come { OnOk result ((ms : List Member) → to_come self.new ms ≡ to_come self.old (members chunk ++ ms)) }
+    fn push_chunk(&mut self, chunk: Spanned<Chunk>) -> Result<(), AllocError>
+        ensures to_come { OnOk result ((ms : List Member) → to_come self.new ms ≡ to_come self.old (members chunk.v ++ ms)) }
+        ensures places { OnOk result ((ms : List (At Member)) → places_to_come self.new ms ≡ places_to_come self.old (placed_in chunk ++ ms)) }
         ensures ready { IsReady self.old.contents → OnOk result (IsReady self.new.contents) }
     {
-        match chunk {
-            Chunk::Normal(text) => self.push_str(Kind::Normal, text.as_str()),
-            Chunk::Verbatim(text) => self.push_str(Kind::Verbatim, text.as_str()),
-            Chunk::Math(text) => self.push_math(text),
+        let Spanned { v, span } = chunk;
+        match v {
+            Chunk::Normal(text) => self.push_str(&span, Kind::Normal, text.as_str()),
+            Chunk::Verbatim(text) => self.push_str(&span, Kind::Verbatim, text.as_str()),
+            Chunk::Math(text) => self.push_math(&span, text),
         }
     }
 }
 
 /// The chunks, tidied.
-pub(crate) fn tidy(alloc: Global, chunks: Chunks) -> Result<Contents, AllocError>
-    ensures so_far { IfOk result (λ c. so_far c ≡ tidied (styled chunks.items)) }
+pub(crate) fn tidy(alloc: Global, chunks: Chunks) -> Result<Joining, AllocError>
+    ensures joined { IfOk result (λ c. joined c ≡ tidied (styled chunks.items)) }
+    ensures places { IfOk result (λ c. places_with c [] ≡ places_of (tidied_at (placed chunks.items))) }
     ensures ready { IfOk result IsReady }
 {
     let mut tidying = Tidying::new(alloc);
     for chunk in chunks {
-        tidying.push_chunk(chunk.v)?;
+        tidying.push_chunk(chunk)?;
     }
     Ok(tidying.contents)
 }
@@ -144,4 +163,24 @@ pub(crate) fn is_tidy(text: &str) -> bool
         is_after_space = c == ' ';
     }
     !is_after_space
+}
+
+/// Whether the chunk is text that tidying leaves as it is.
+fn is_tidy_text(chunk: &Chunk) -> bool
+    ensures { result ≡ is_tidy_text chunk.now }
+{
+    match chunk {
+        Chunk::Normal(text) | Chunk::Verbatim(text) => is_tidy(text.as_str()),
+        Chunk::Math(_) => false,
+    }
+}
+
+/// Whether the chunks are one text that tidying leaves as it is.
+pub(crate) fn are_done(chunks: &[Spanned<Chunk>]) -> bool
+    ensures { result ≡ true → AreDone chunks.now }
+{
+    match chunks.split_first() {
+        Some((chunk, rest)) => rest.is_empty() && is_tidy_text(&chunk.v),
+        None => false,
+    }
 }

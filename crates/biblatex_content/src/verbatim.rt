@@ -5,11 +5,11 @@ ghost use Rattle.std.specs.Str.{chars, str_to_ascii_lowercase};
 ghost use Rattle.biblatex_content.specs.declared.chunk.Kind.TheVariants.{Verbatim};
 ghost use Rattle.biblatex_content.specs.Styled.{letters};
 ghost use Rattle.biblatex_content.specs.Verbatim.{is_escapable, verbatim_piece, is_verbatim_escape, verbatim_text, is_verbatim_name};
-ghost use Rattle.biblatex_content.specs.Views.{so_far};
+ghost use Rattle.biblatex_content.specs.Views.{joined, styled};
 
-use crate::chunk::Kind;
-use crate::contents::Contents;
-use std::alloc::AllocError;
+use crate::chunk::{Chunks, Kind};
+use crate::joining::Joining;
+use std::alloc::{AllocError, Global};
 
 /// Whether a backslash before the character stands for the character: in an ordinary field before `{ } # & % $ _`; in a
 /// verbatim field (`verb`) before these and `\ ~ ^` where it is read (`read_char`), and before `{ } \` where it is written.
@@ -36,11 +36,10 @@ pub fn is_verbatim_field(key: &str) -> bool
     )
 }
 
-impl Contents {
-    /// The same with a piece of a verbatim field behind it: a backslash before one of `{ } \ ~ ^ # & % $ _` gives that
-    /// character, other braces give nothing, and all else is itself.
-    pub fn push_verbatim(mut self, piece: &str) -> Result<Contents, AllocError>
-        ensures { IfOk result (λ c. so_far c ≡ so_far self ++ letters Verbatim (verbatim_text (chars piece.now))) }
+impl Joining {
+    /// The same with a piece of a verbatim field behind it.
+    fn push_verbatim(mut self, piece: &str) -> Result<Joining, AllocError>
+        ensures { IfOk result (λ c. joined c ≡ joined self ++ letters Verbatim (verbatim_text (chars piece.now))) }
     {
         let mut is_escaped = false;
         for c in piece.chars() {
@@ -54,7 +53,7 @@ impl Contents {
 
     /// Reads a character behind a backslash or not, and says whether it is a backslash that the next one decides about.
     fn push_verbatim_character(&mut self, is_escaped: bool, c: char) -> Result<bool, AllocError>
-        ensures pushed { IfOk result (λ is_next. so_far self.new ≡ so_far self.old ++ letters Verbatim (verbatim_piece is_escaped c)) }
+        ensures pushed { IfOk result (λ is_next. joined self.new ≡ joined self.old ++ letters Verbatim (verbatim_piece is_escaped c)) }
         ensures next { IfOk result (λ is_next. is_next ≡ is_verbatim_escape is_escaped c) }
     {
         if !is_escaped && c == '\\' {
@@ -68,4 +67,11 @@ impl Contents {
         }
         Ok(false)
     }
+}
+
+/// The chunks of a piece of a verbatim field.
+pub(crate) fn read_verbatim(alloc: Global, piece: &str) -> Result<Chunks, AllocError>
+    ensures { IfOk result (λ cs. styled cs.items ≡ letters Verbatim (verbatim_text (chars piece.now))) }
+{
+    Joining::new(alloc).push_verbatim(piece)?.into_chunks()
 }

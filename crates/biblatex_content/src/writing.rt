@@ -9,7 +9,7 @@ ghost use Rattle.biblatex_content.specs.Writing.{escaped, written_character, gua
 ghost use Rattle.biblatex_content.specs.Views.{characters, members, styled};
 
 use crate::chunk::{Chunk, Kind};
-use crate::contents::{empty_text, push_character, push_text};
+use crate::joining::{empty_text, push_character, push_text};
 use crate::verbatim::is_escapable;
 use biblatex_text::Spanned;
 use std::alloc::{AllocError, Global};

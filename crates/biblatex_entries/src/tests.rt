@@ -99,7 +99,8 @@ fn older_types_are_written_as_newer_ones(rt: HostRuntime) -> Result<(), Fail> {
 
 /// The content of an ordinary field, as it is written in a file.
 fn field(alloc: Global, written: &str) -> Result<Chunks, Fail> {
-    Ok(Contents::new(alloc).push_ordinary(written)?.finish()?)
+    let contents = Contents::new(alloc).push_ordinary(Spanned::detached(written))?;
+    Ok(contents.finish()?)
 }
 
 /// An entry without fields.

@@ -9,3 +9,4 @@ pub mod Entries
 pub mod Flags
 pub mod LookUps
 pub mod Sorted
+pub mod Values

@@ -16,29 +16,29 @@ abbrev pub stack_read : (At Piece → Reading) → List (List (At Piece)) → Re
 stack_read each [] done = Ok done
 stack_read each (f ∷ fs) done = stack_read each fs done >>= λ ms. in_order each f ms
 
-bind_done : (r : Result (List Member) Refusal) → r ≡ (r >>= λ ms. Ok ms)
+bind_done : (r : Result (List (At Member)) Refusal) → r ≡ (r >>= λ ms. Ok ms)
 bind_done (Ok ms) = refl
 bind_done (Err f) = refl
 
 -- a frame put last is read first
-pub pushed : (each : At Piece → Reading) (fs : List (List (At Piece))) (f : List (At Piece)) (done : List Member)
+pub pushed : (each : At Piece → Reading) (fs : List (List (At Piece))) (f : List (At Piece)) (done : List (At Member))
     → stack_read each (fs ++ f ∷ []) done ≡ (in_order each f done >>= λ ms. stack_read each fs ms)
 pushed each [] f done = bind_done (in_order each f done)
-pushed each (g ∷ fs) f done = ap (λ (r : Result (List Member) Refusal). r >>= λ ms. in_order each g ms) (pushed each fs f done)
+pushed each (g ∷ fs) f done = ap (λ (r : Result (List (At Member)) Refusal). r >>= λ ms. in_order each g ms) (pushed each fs f done)
     ∙ bind_bind (in_order each f done) (λ ms. stack_read each fs ms) (λ ms. in_order each g ms)
 
-unfolded : (each : At Piece → Reading) (fs : List (List (At Piece))) (ps : List (At Piece)) (r : Result (List Member) Refusal)
+unfolded : (each : At Piece → Reading) (fs : List (List (At Piece))) (ps : List (At Piece)) (r : Result (List (At Member)) Refusal)
     → ((r >>= λ ms. in_order each ps ms) >>= λ ms. stack_read each fs ms) ≡ (r >>= λ ms. stack_read each (fs ++ ps ∷ []) ms)
 unfolded each fs ps (Ok ms) = sym (pushed each fs ps ms)
 unfolded each fs ps (Err f) = refl
 
 -- the first piece of the last frame is read first of all
-pub first_piece : (each : At Piece → Reading) (fs : List (List (At Piece))) (p : At Piece) (ps : List (At Piece)) (done : List Member)
+pub first_piece : (each : At Piece → Reading) (fs : List (List (At Piece))) (p : At Piece) (ps : List (At Piece)) (done : List (At Member))
     → stack_read each (fs ++ (p ∷ ps) ∷ []) done ≡ (each p done >>= λ ms. stack_read each (fs ++ ps ∷ []) ms)
 first_piece each fs p ps done = pushed each fs (p ∷ ps) done ∙ unfolded each fs ps (each p done)
 
 -- a frame without pieces gives nothing
-pub nothing_left : (each : At Piece → Reading) (fs : List (List (At Piece))) (done : List Member) → stack_read each (fs ++ [] ∷ []) done ≡ stack_read each fs done
+pub nothing_left : (each : At Piece → Reading) (fs : List (List (At Piece))) (done : List (At Member)) → stack_read each (fs ++ [] ∷ []) done ≡ stack_read each fs done
 nothing_left each fs done = pushed each fs [] done
 
 same_order : (f h : At Piece → Reading) (ps : List (At Piece)) → All (λ q. f q ≡ h q) ps → in_order f ps ≡ in_order h ps
@@ -48,7 +48,7 @@ same_order f h (p ∷ ps) all =
     let more = same_order f h ps (All-tail (λ q. f q ≡ h q) p ps all) in
     λ i done. here i done >>= λ ms. more i ms
 
-local_sense : (f h : At Piece → Reading) (is_verbatim : Bool) (start end : ℕ) (r : Result Sense Refusal) → All (λ q. f q ≡ h q) (parts_in r) → (done : List Member)
+local_sense : (f h : At Piece → Reading) (is_verbatim : Bool) (start end : ℕ) (r : Result Sense Refusal) → All (λ q. f q ≡ h q) (parts_in r) → (done : List (At Member))
     → (r >>= λ s. by_sense f is_verbatim start end s done) ≡ (r >>= λ s. by_sense h is_verbatim start end s done)
 local_sense f h is_verbatim start end (Ok (spelled cs)) all done = refl
 local_sense f h is_verbatim start end (Ok (defined ps)) all done = λ i. same_order f h ps all i done
@@ -62,23 +62,23 @@ unfolding read
 by_the_rule g flags is_verbatim p = deep_enough g (reading g is_verbatim) (λ ms. Ok ms) (reading_is_local g is_verbatim) flags p
 
 -- What is left to be read where the last frame begins with a piece, by what the piece stands for.
-pub next : (g : Glossary) (is_verbatim : Bool) → AreFlags g.flags g.definitions → (fs : List (List (At Piece))) (p : At Piece) (ps : List (At Piece)) (done : List Member)
+pub next : (g : Glossary) (is_verbatim : Bool) → AreFlags g.flags g.definitions → (fs : List (List (At Piece))) (p : At Piece) (ps : List (At Piece)) (done : List (At Member))
     → stack_read (read g is_verbatim) (fs ++ (p ∷ ps) ∷ []) done
     ≡ ((sense g p >>= λ s. by_sense (read g is_verbatim) is_verbatim p.start p.end s done) >>= λ ms. stack_read (read g is_verbatim) (fs ++ ps ∷ []) ms)
 next g is_verbatim flags fs p ps done = first_piece (read g is_verbatim) fs p ps done
-    ∙ ap (λ (r : Result (List Member) Refusal). r >>= λ ms. stack_read (read g is_verbatim) (fs ++ ps ∷ []) ms) (λ i. by_the_rule g flags is_verbatim p i done)
+    ∙ ap (λ (r : Result (List (At Member)) Refusal). r >>= λ ms. stack_read (read g is_verbatim) (fs ++ ps ∷ []) ms) (λ i. by_the_rule g flags is_verbatim p i done)
 
-abbrev behind_frame : Glossary → Bool → List (List (At Piece)) → List (At Piece) → Result (List Member) Refusal → Result (List Member) Refusal
+abbrev behind_frame : Glossary → Bool → List (List (At Piece)) → List (At Piece) → Result (List (At Member)) Refusal → Result (List (At Member)) Refusal
 behind_frame g is_verbatim fs ps r = r >>= λ ms. stack_read (read g is_verbatim) (fs ++ ps ∷ []) ms
 
 -- a fault of what the piece stands for
-pub next_refused : (g : Glossary) (is_verbatim : Bool) → AreFlags g.flags g.definitions → (fs : List (List (At Piece))) (p : At Piece) (ps : List (At Piece)) (done : List Member) (f : Refusal)
+pub next_refused : (g : Glossary) (is_verbatim : Bool) → AreFlags g.flags g.definitions → (fs : List (List (At Piece))) (p : At Piece) (ps : List (At Piece)) (done : List (At Member)) (f : Refusal)
     → sense g p ≡ Err f → stack_read (read g is_verbatim) (fs ++ (p ∷ ps) ∷ []) done ≡ Err f
 next_refused g is_verbatim flags fs p ps done f is = next g is_verbatim flags fs p ps done
     ∙ ap (λ (r : Result Sense Refusal). behind_frame g is_verbatim fs ps (r >>= λ s. by_sense (read g is_verbatim) is_verbatim p.start p.end s done)) is
 
 -- a text
-pub next_spelled : (g : Glossary) (is_verbatim : Bool) → AreFlags g.flags g.definitions → (fs : List (List (At Piece))) (p : At Piece) (ps : List (At Piece)) (done : List Member) (cs : List ℕ) (r : Result (List Member) Refusal)
+pub next_spelled : (g : Glossary) (is_verbatim : Bool) → AreFlags g.flags g.definitions → (fs : List (List (At Piece))) (p : At Piece) (ps : List (At Piece)) (done : List (At Member)) (cs : List ℕ) (r : Result (List (At Member)) Refusal)
     → sense g p ≡ Ok (spelled cs) → text_read is_verbatim p.start p.end cs done ≡ r
     → stack_read (read g is_verbatim) (fs ++ (p ∷ ps) ∷ []) done ≡ (r >>= λ ms. stack_read (read g is_verbatim) (fs ++ ps ∷ []) ms)
 next_spelled g is_verbatim flags fs p ps done cs r is given = next g is_verbatim flags fs p ps done
@@ -86,7 +86,7 @@ next_spelled g is_verbatim flags fs p ps done cs r is given = next g is_verbatim
     ∙ ap (behind_frame g is_verbatim fs ps) given)
 
 -- the pieces of a definition
-pub next_defined : (g : Glossary) (is_verbatim : Bool) → AreFlags g.flags g.definitions → (fs : List (List (At Piece))) (p : At Piece) (ps qs : List (At Piece)) (done : List Member)
+pub next_defined : (g : Glossary) (is_verbatim : Bool) → AreFlags g.flags g.definitions → (fs : List (List (At Piece))) (p : At Piece) (ps qs : List (At Piece)) (done : List (At Member))
     → sense g p ≡ Ok (defined qs) → stack_read (read g is_verbatim) (fs ++ (p ∷ ps) ∷ []) done ≡ stack_read (read g is_verbatim) ((fs ++ ps ∷ []) ++ qs ∷ []) done
 next_defined g is_verbatim flags fs p ps qs done is = next g is_verbatim flags fs p ps done
     ∙ (ap (λ (x : Result Sense Refusal). behind_frame g is_verbatim fs ps (x >>= λ s. by_sense (read g is_verbatim) is_verbatim p.start p.end s done)) is

@@ -1,4 +1,5 @@
--- The value of a field: what its pieces give, one behind the other, with abbreviations opened, or the first fault.
+-- The value of a field: what its pieces give, one behind the other, with abbreviations opened, or the first fault. What a piece
+-- of a definition gives has its place in the definition.
 use Rattle.std.specs.Prelude.{◌≡◌, ℕ, zero, suc, Bool, true, false, List, [], ◌∷◌, ◌++◌, length, Result, Ok, Err}
 use Rattle.laws.specs.Results.{◌>>=◌}
 use Rattle.laws.specs.Text.{lowered}
@@ -8,22 +9,22 @@ use Rattle.biblatex_content.specs.Styled.{Member, letters}
 use Rattle.biblatex_content.specs.Verbatim.{verbatim_text, is_verbatim_name}
 use Rattle.biblatex_content.specs.Ordinary.{ordinary}
 use Rattle.biblatex_content.specs.Tidy.{tidied}
-use Rattle.biblatex_content.specs.Views.{behind}
+use Rattle.biblatex_content.specs.Places.{all_at, without_places, behind_at, tidied_at, places_of}
 use Rattle.biblatex_fields.specs.Abbreviations.{Refusal, malformed, Glossary, Sense, spelled, defined, sense}
 
 -- What is read behind what was read before.
 abbrev pub Reading : Type 0
-Reading = List Member → Result (List Member) Refusal
+Reading = List (At Member) → Result (List (At Member)) Refusal
 
 -- what was read, or a malformed command, by the piece that it stands in
-abbrev pub placed : {F : Type 0} → ℕ → ℕ → Result (List Member) F → Result (List Member) Refusal
+abbrev pub placed : {F : Type 0} → ℕ → ℕ → Result (List (At Member)) F → Result (List (At Member)) Refusal
 placed start end (Ok ms) = Ok ms
 placed start end (Err f) = Err (malformed start end)
 
 -- a text, in a verbatim field or an ordinary one
 abbrev pub text_read : Bool → ℕ → ℕ → List ℕ → Reading
-text_read true start end cs done = Ok (done ++ letters Verbatim (verbatim_text cs))
-text_read false start end cs done = placed start end (behind done (ordinary cs))
+text_read true start end cs done = Ok (done ++ all_at start end (letters Verbatim (verbatim_text cs)))
+text_read false start end cs done = placed start end (behind_at start end done (ordinary cs))
 
 -- pieces in order, up to the first fault
 abbrev pub in_order : (At Piece → Reading) → List (At Piece) → Reading
@@ -53,12 +54,26 @@ read g is_verbatim p done = deep (reading g is_verbatim) (λ ms. Ok ms) (suc (le
 abbrev pub ReadsByTheRule : Glossary → Type 0
 ReadsByTheRule g = (is_verbatim : Bool) (p : At Piece) → read g is_verbatim p ≡ reading g is_verbatim (read g is_verbatim) p
 
+-- what pieces give in the kind of a field of that name, each member with its place
+abbrev pub members_of : Glossary → List ℕ → List (At Piece) → Result (List (At Member)) Refusal
+members_of g name ps = in_order (read g (is_verbatim_name (lowered name))) ps []
+
 -- what pieces give as the value of a field of that name, in the kind of the field
 unfoldable pub content_of : Glossary → List ℕ → List (At Piece) → Result (List Member) Refusal
 content_of g name ps = do
-  ms ← in_order (read g (is_verbatim_name (lowered name))) ps []
-  Ok (tidied ms)
+  ms ← members_of g name ps
+  Ok (tidied (without_places ms))
+
+-- where the chunks of this value stand
+unfoldable pub places_in : Glossary → List ℕ → List (At Piece) → Result (List (ℕ × ℕ)) Refusal
+places_in g name ps = do
+  ms ← members_of g name ps
+  Ok (places_of (tidied_at ms))
 
 -- the value of a field
 abbrev pub value_of : Glossary → Field → Result (List Member) Refusal
 value_of g f = content_of g f.name.v f.value.v
+
+-- where the chunks of the value of a field stand
+abbrev pub places_of_field : Glossary → Field → Result (List (ℕ × ℕ)) Refusal
+places_of_field g f = places_in g f.name.v f.value.v

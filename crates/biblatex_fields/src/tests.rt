@@ -1,7 +1,9 @@
 //! The rows that the reading is held against: a text, and what the fields of its entries give, or why they are refused.
 //! Verbatim text stands between « and », math between ⟨ and ⟩.
 
-use crate::{Abbreviations, Chunk, Chunks, FieldError, FieldFault, Fields, Spanned, read_fields};
+use crate::{
+    Abbreviations, Chunk, Chunks, ChunksExt, FieldError, FieldFault, Fields, Spanned, read_fields,
+};
 use biblatex_text::RawBibliography;
 use std::alloc::{AllocError, Global};
 use std::fmt::Write;
@@ -165,6 +167,57 @@ fn refuses_the_first_fault(rt: HostRuntime) -> Result<(), Fail> {
     ];
     for (source, wanted) in rows.iter() {
         let found = read(rt.alloc(), source)?;
+        assert_eq!(rt; found.as_str(), *wanted, "{source}");
+    }
+    Ok(())
+}
+
+/// The title of the first entry, each chunk with where it stands, and where all of it stands.
+fn placed_title(alloc: Global, source: &str) -> Result<String, Fail> {
+    let mut out = String::new(alloc);
+    let Ok(raw) = RawBibliography::parse(alloc, source) else {
+        return Ok(String::from_str(alloc, "not of the grammar")?);
+    };
+    let abbreviations = Abbreviations::new(alloc, raw.abbreviations.as_slice())?;
+    let Some(entry) = raw.entries.as_slice().first() else {
+        return Ok(String::from_str(alloc, "no entry")?);
+    };
+    let Ok(fields) = read_fields(alloc, &abbreviations, &entry.v) else {
+        return Ok(String::from_str(alloc, "refused")?);
+    };
+    let Some(title) = fields.get("title") else {
+        return Ok(String::from_str(alloc, "no title")?);
+    };
+    write_chunks(&mut out, title)?;
+    for chunk in title.iter() {
+        write!(out, " {}-{}", chunk.span.start, chunk.span.end)?;
+    }
+    let span = title.as_slice().span();
+    write!(out, " all {}-{}", span.start, span.end)?;
+    Ok(out)
+}
+
+#[test]
+fn chunks_stand_where_they_are_written(rt: HostRuntime) -> Result<(), Fail> {
+    let rows = [
+        ("@book{a, title = \"x\" # {y}}", "xy 18-25 all 18-25"),
+        ("@book{a, title = {x {Y}}}", "x «Y» 18-23 18-23 all 18-23"),
+        (
+            "@book{a, title = \" \" # {x} # { {Y} }}",
+            "x «Y» 24-35 30-35 all 24-35",
+        ),
+        (
+            "@string{p = {P}} @book{a, title = {x } # p # jan}",
+            "x PJanuary 35-48 all 35-48",
+        ),
+        (
+            "@string{p = {{P}}} @book{a, title = p # {x}}",
+            "«P»x 13-16 41-42 all 13-42",
+        ),
+        ("@book{a, title = 7}", "7 17-18 all 17-18"),
+    ];
+    for (source, wanted) in rows.iter() {
+        let found = placed_title(rt.alloc(), source)?;
         assert_eq!(rt; found.as_str(), *wanted, "{source}");
     }
     Ok(())

@@ -4,8 +4,9 @@ ghost use Rattle.std.specs.Prelude.{◌≡◌, [], map, true, IfOk};
 ghost use Rattle.std.specs.Str.{chars};
 ghost use Rattle.biblatex_text.specs.Views.{field, piece};
 ghost use Rattle.biblatex_content.specs.Parted.{are_parted};
-ghost use Rattle.biblatex_content.specs.Views.{so_far, styled};
-ghost use Rattle.biblatex_fields.specs.Value.{text_read, in_order, read, content_of, value_of};
+ghost use Rattle.biblatex_content.specs.Places.{placed_so_far, places};
+ghost use Rattle.biblatex_content.specs.Views.{styled};
+ghost use Rattle.biblatex_fields.specs.Value.{text_read, in_order, read, content_of, value_of, places_in, places_of_field};
 ghost use Rattle.biblatex_fields.specs.Views.{Gives};
 
 use crate::abbreviations::{Abbreviations, Sense, lowered};
@@ -21,12 +22,13 @@ fn push_text<'s>(
     span: &Span,
     text: &str,
 ) -> Result<Contents, FieldError<'s>>
-    ensures { Gives so_far result (text_read is_verbatim span.now.start span.now.end (chars text.now) (so_far contents)) }
+    ensures { Gives placed_so_far result (text_read is_verbatim span.now.start span.now.end (chars text.now) (placed_so_far contents)) }
 {
+    let piece = Spanned::new(text, span.start..span.end);
     if is_verbatim {
-        return Ok(contents.push_verbatim(text)?);
+        return Ok(contents.push_verbatim(piece)?);
     }
-    match contents.push_ordinary(text) {
+    match contents.push_ordinary(piece) {
         Ok(contents) => Ok(contents),
         Err(ContentError::Memory) => Err(FieldError::Memory),
         Err(ContentError::MalformedCommand) => Err(FieldError::Fault(FieldFault::MalformedCommand(
@@ -43,7 +45,7 @@ impl<'r, 's> Abbreviations<'r, 's> {
         is_verbatim: bool,
         pieces: &'a [Spanned<RawChunk<'s>>],
     ) -> Result<Contents, FieldError<'s>>
-        ensures { Gives so_far result (in_order (read self.now is_verbatim) (map piece pieces.now) []) }
+        ensures { Gives placed_so_far result (in_order (read self.now is_verbatim) (map piece pieces.now) []) }
     {
         let mut contents = Contents::new(alloc);
         let mut frames = Vec::with_capacity(alloc, 1)?;
@@ -64,12 +66,14 @@ impl<'r, 's> Abbreviations<'r, 's> {
     }
 
     /// The value of a field of that name: what its pieces give, one behind the other, tidied. A verbatim field reads all of
-    /// them as verbatim, the pieces of abbreviations too.
+    /// them as verbatim, the pieces of abbreviations too. A chunk stands in the source from where the first piece begins that
+    /// it has a character of to where the one ends that ends last; what an abbreviation gives stands in its definition, and
+    /// a month where it is named.
     ///
     /// # Errors
     ///
     /// The first fault in the order of pieces. A name is found to be circular before its pieces are read.
-    #[tactic(auto, unfolding(crate::specs::Value::content_of))]
+    #[tactic(auto, using(crate::proofs::Values::value_given, crate::proofs::Values::places_given, crate::proofs::Values::value_refused, crate::proofs::Values::places_refused))]
     pub fn parse_field(
         &self,
         alloc: Global,
@@ -77,6 +81,7 @@ impl<'r, 's> Abbreviations<'r, 's> {
         field: &[Spanned<RawChunk<'s>>],
     ) -> Result<Chunks, FieldError<'s>>
         ensures value { Gives (λ cs. styled cs.items) result (content_of self.now (chars key.now) (map piece field.now)) }
+        ensures places { Gives (λ cs. places cs.items) result (places_in self.now (chars key.now) (map piece field.now)) }
         ensures parted { IfOk result (λ cs. are_parted cs.items ≡ true) }
     {
         let name = lowered(alloc, key)?;
@@ -92,6 +97,7 @@ impl<'r, 's> Abbreviations<'r, 's> {
     /// Those of `parse_field`.
     pub fn read(&self, alloc: Global, pair: &Pair<'s>) -> Result<Chunks, FieldError<'s>>
         ensures value { Gives (λ cs. styled cs.items) result (value_of self.now (field pair.now)) }
+        ensures places { Gives (λ cs. places cs.items) result (places_of_field self.now (field pair.now)) }
         ensures parted { IfOk result (λ cs. are_parted cs.items ≡ true) }
     {
         self.parse_field(alloc, pair.key.v, pair.value.v.as_slice())

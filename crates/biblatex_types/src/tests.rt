@@ -20,7 +20,8 @@ fn normal(alloc: Global, text: &str) -> Result<Chunks, Fail> {
 
 /// The content of an ordinary field, as it is written in a file.
 fn field(alloc: Global, written: &str) -> Result<Chunks, Fail> {
-    Ok(Contents::new(alloc).push_ordinary(written)?.finish()?)
+    let contents = Contents::new(alloc).push_ordinary(Spanned::detached(written))?;
+    Ok(contents.finish()?)
 }
 
 /// Whether the chunks are read as the value.

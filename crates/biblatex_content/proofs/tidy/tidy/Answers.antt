@@ -4,8 +4,10 @@ use Rattle.std.proofs.lemmas.List.{append-nil, nil_from_length}
 use Rattle.biblatex_content.specs.declared.chunk.Chunk.{Chunk}
 use Rattle.biblatex_text.specs.declared.spanned.Spanned.{Spanned}
 use Rattle.biblatex_content.specs.Styled.{Member}
+use Rattle.biblatex_content.specs.Places.{placed, tidied_at, places_of, places_with, places_to_come}
+use Rattle.biblatex_content.proofs.TidyPlaces.{nothing_comes}
 use Rattle.biblatex_content.specs.Tidy.{tidied, to_come}
-use Rattle.biblatex_content.specs.Views.{so_far, styled}
+use Rattle.biblatex_content.specs.Views.{joined, styled}
 use Rattle.biblatex_content.proofs.Members.{tidied_behind-nil}
 use Rattle.biblatex_content.proofs.tidy.tidy.Goals as goal
 
@@ -14,6 +16,7 @@ loop-chunk-init c =
     let e = c.into_iter-chunk-iterator.ensures.into_iter_gives in
     record {
       same = c.new-tidying.ensures.to_come _ ∙ ap (λ (x : List (Spanned Chunk)). tidied (styled x)) e.0;
+      places = c.new-tidying.ensures.places _ ∙ ap (λ (x : List (Spanned Chunk)). places_of (tidied_at (placed x))) e.0;
       ready = c.new-tidying.ensures.ready;
       long = e.1 ∙ (c.args.chunks.ok.0 ∙ sym (ap length e.0));
     }
@@ -23,12 +26,20 @@ loop-chunk-preserved c =
     let steps : into_iter_items c.loop-chunk.chunk-iterator ≡ c.in-Some.chunk ∷ into_iter_items c.next.new.self = c.in-Some.ensures.steps.0 in
     record {
       same = c.in_ok-push_chunk.ensures.to_come (styled (into_iter_items c.next.new.self)) ∙ (ap (λ (x : List (Spanned Chunk)). to_come c.loop-chunk.tidying (styled x)) (sym steps) ∙ c.loop-chunk.invariant.same);
+      places = c.in_ok-push_chunk.ensures.places (placed (into_iter_items c.next.new.self)) ∙ (ap (λ (x : List (Spanned Chunk)). places_to_come c.loop-chunk.tidying (placed x)) (sym steps) ∙ c.loop-chunk.invariant.places);
       ready = c.in_ok-push_chunk.ensures.ready c.loop-chunk.invariant.ready;
       long = omega (arith, c.loop-chunk.invariant.long, ap length steps, c.in-Some.ensures.steps.1);
     }
 
-pub returns-clause-so_far : goal.returns-clause-so_far
-returns-clause-so_far c =
+pub returns-clause-joined : goal.returns-clause-joined
+returns-clause-joined c =
     let none : into_iter_items c.loop-chunk.chunk-iterator ≡ [] = nil_from_length _ (sym c.loop-chunk.invariant.long ∙ c.in-None.ensures.steps.0) in
-    sym (append-nil (so_far c.loop-chunk.tidying.contents)) ∙ (ap (λ (x : List Member). so_far c.loop-chunk.tidying.contents ++ x) (sym (tidied_behind-nil c.loop-chunk.tidying.gap))
+    sym (append-nil (joined c.loop-chunk.tidying.contents)) ∙ (ap (λ (x : List Member). joined c.loop-chunk.tidying.contents ++ x) (sym (tidied_behind-nil c.loop-chunk.tidying.gap))
     ∙ (ap (λ (x : List (Spanned Chunk)). to_come c.loop-chunk.tidying (styled x)) (sym none) ∙ c.loop-chunk.invariant.same))
+
+pub returns-clause-places : goal.returns-clause-places
+returns-clause-places c =
+    let none : into_iter_items c.loop-chunk.chunk-iterator ≡ [] = nil_from_length _ (sym c.loop-chunk.invariant.long ∙ c.in-None.ensures.steps.0) in
+    let t = c.loop-chunk.tidying in
+    ap (places_with t.contents) (sym (nothing_comes t.space.start t.space.end t.gap))
+    ∙ (ap (λ (x : List (Spanned Chunk)). places_to_come t (placed x)) (sym none) ∙ c.loop-chunk.invariant.places)

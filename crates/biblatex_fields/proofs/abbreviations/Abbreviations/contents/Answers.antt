@@ -2,7 +2,7 @@ use Rattle.std.proofs.Common.{◌≡◌, ◌<◌, [], ◌∷◌, ◌++◌, List,
 use Rattle.std.specs.Str.{chars}
 use Rattle.biblatex_text.specs.Raw.{At, Piece}
 use Rattle.biblatex_text.specs.Views.{piece}
-use Rattle.biblatex_content.specs.Views.{so_far}
+use Rattle.biblatex_content.specs.Places.{placed_so_far}
 use Rattle.biblatex_fields.specs.Abbreviations.{Refusal, sense}
 use Rattle.biblatex_fields.specs.Value.{text_read, in_order, read}
 use Rattle.biblatex_fields.specs.Views.{frame, sense_seen}
@@ -23,8 +23,8 @@ pub loop-frame-preserved-in_default-split_first : goal.loop-frame-preserved-in_d
 loop-frame-preserved-in_default-split_first c =
     let each = read c.args.self.now c.args.is_verbatim in
     let frames = frame_empty c.loop-frame.frames.items c.pop.new.self.items c.in-Some.frame c.in-Some.ensures.items c.in_default-split_first.ensures.cases in
-    sym (nothing_left each (map frame c.pop.new.self.items) (so_far c.loop-frame.contents))
-    ∙ (ap (λ (fs : List (List (At Piece))). stack_read each fs (so_far c.loop-frame.contents)) (sym frames) ∙ c.loop-frame.invariant)
+    sym (nothing_left each (map frame c.pop.new.self.items) (placed_so_far c.loop-frame.contents))
+    ∙ (ap (λ (fs : List (List (At Piece))). stack_read each fs (placed_so_far c.loop-frame.contents)) (sym frames) ∙ c.loop-frame.invariant)
 
 pub returns-in_err-text : goal.returns-in_err-text
 returns-in_err-text c =
@@ -35,11 +35,11 @@ returns-in_err-text c =
     let next = piece c.in-Some-split_first.next.now in
     let ps = frame c.in-Some-split_first.rest in
     let before = frame_split c.loop-frame.frames.items c.pop.new.self.items c.in-Some.frame c.in-Some-split_first.rest c.in-Some-split_first.next.now c.in-Some.ensures.items c.in-Some-split_first.ensures.cases.0 in
-    let done = so_far c.loop-frame.contents in
+    let done = placed_so_far c.loop-frame.contents in
     let whole = in_order each (map piece c.args.pieces.now) [] in
     let more : (f : Refusal) → sense g next ≡ Err f → whole ≡ Err f = λ f e. sym c.loop-frame.invariant
     ∙ (ap (λ (x : List (List (At Piece))). stack_read each x done) before ∙ next_refused g c.args.is_verbatim c.sense.ensures.flags fs next ps done f e) in
-    rw (p.1, p.2) (refused sense_seen so_far c.in_err-text.field-0.0 (sense g next) whole c.in_err-text.ensures.sense more)
+    rw (p.1, p.2) (refused sense_seen placed_so_far c.in_err-text.field-0.0 (sense g next) whole c.in_err-text.ensures.sense more)
 
 pub returns-in_err-contents-in-Spelled : goal.returns-in_err-contents-in-Spelled
 returns-in_err-contents-in-Spelled c =
@@ -50,13 +50,13 @@ returns-in_err-contents-in-Spelled c =
     let next = piece c.in-Some-split_first.next.now in
     let ps = frame c.in-Some-split_first.rest in
     let before = frame_split c.loop-frame.frames.items c.pop.new.self.items c.in-Some.frame c.in-Some-split_first.rest c.in-Some-split_first.next.now c.in-Some.ensures.items c.in-Some-split_first.ensures.cases.0 in
-    let done = so_far c.loop-frame.contents in
+    let done = placed_so_far c.loop-frame.contents in
     let whole = in_order each (map piece c.args.pieces.now) [] in
     let is = rw c.in-Spelled.is at c.in_ok-text.ensures.sense in
     let text = text_read c.args.is_verbatim next.start next.end (chars c.in-Spelled.text.now) done in
     let more : (f : Refusal) → text ≡ Err f → whole ≡ Err f = λ f e. sym c.loop-frame.invariant
     ∙ (ap (λ (x : List (List (At Piece))). stack_read each x done) before ∙ next_spelled g c.args.is_verbatim c.sense.ensures.flags fs next ps done (chars c.in-Spelled.text.now) (Err f) is e) in
-    rw (p.1, p.2) (refused so_far so_far c.in_err-contents-in-Spelled.field-0.0 text whole c.in_err-contents-in-Spelled.ensures more)
+    rw (p.1, p.2) (refused placed_so_far placed_so_far c.in_err-contents-in-Spelled.field-0.0 text whole c.in_err-contents-in-Spelled.ensures more)
 
 pub loop-frame-smaller-in-Spelled : goal.loop-frame-smaller-in-Spelled
 loop-frame-smaller-in-Spelled c =
@@ -74,9 +74,9 @@ loop-frame-preserved-in-Spelled c =
     let before = frame_split c.loop-frame.frames.items c.pop.new.self.items c.in-Some.frame c.in-Some-split_first.rest c.in-Some-split_first.next.now c.in-Some.ensures.items c.in-Some-split_first.ensures.cases.0 in
     let after = frame_last c.push-in-Some.new.self.items c.pop.new.self.items c.in-Some-split_first.rest c.in_ok-push-2.ensures.items in
     let is = rw c.in-Spelled.is at c.in_ok-text.ensures.sense in
-    let done = so_far c.loop-frame.contents in
-    let step = next_spelled g c.args.is_verbatim c.sense.ensures.flags fs p ps done (chars c.in-Spelled.text.now) (Ok (so_far c.in_ok-contents-in-Spelled.contents)) is c.in_ok-contents-in-Spelled.ensures in
-    ap (λ (x : List (List (At Piece))). stack_read each x (so_far c.in_ok-contents-in-Spelled.contents)) after
+    let done = placed_so_far c.loop-frame.contents in
+    let step = next_spelled g c.args.is_verbatim c.sense.ensures.flags fs p ps done (chars c.in-Spelled.text.now) (Ok (placed_so_far c.in_ok-contents-in-Spelled.contents)) is c.in_ok-contents-in-Spelled.ensures in
+    ap (λ (x : List (List (At Piece))). stack_read each x (placed_so_far c.in_ok-contents-in-Spelled.contents)) after
     ∙ (sym step ∙ (ap (λ (x : List (List (At Piece))). stack_read each x done) (sym before) ∙ c.loop-frame.invariant))
 
 pub loop-frame-smaller : goal.loop-frame-smaller
@@ -103,7 +103,7 @@ loop-frame-preserved c =
     let rest = frame_last c.push-in-Some.new.self.items c.pop.new.self.items c.in-Some-split_first.rest c.in_ok-push-2.ensures.items in
     let after = frame_last c.push-in-Defined.new.self.items c.push-in-Some.new.self.items c.in-Defined.pieces c.in_ok-push-in-Defined.ensures.items in
     let is = rw c.in-Defined.is at c.in_ok-text.ensures.sense in
-    let done = so_far c.loop-frame.contents in
+    let done = placed_so_far c.loop-frame.contents in
     let step = next_defined g c.args.is_verbatim c.sense.ensures.flags fs p ps qs done is in
     ap (λ (x : List (List (At Piece))). stack_read each x done) (after ∙ ap (λ (x : List (List (At Piece))). x ++ qs ∷ []) rest)
     ∙ (sym step ∙ (ap (λ (x : List (List (At Piece))). stack_read each x done) (sym before) ∙ c.loop-frame.invariant))

@@ -2,7 +2,7 @@ use Rattle.std.specs.Prelude.{string_bytes}
 use Rattle.std.specs.Char.{IsScalar}
 use Rattle.std.proofs.lemmas.Str.{IsUtf8-string_bytes}
 use Rattle.biblatex_content.proofs.Characters.{chars-put_one}
-use Rattle.biblatex_content.proofs.contents.push_character.Goals as goal
+use Rattle.biblatex_content.proofs.joining.push_character.Goals as goal
 
 pub returns : goal.returns
 returns c =

@@ -8,10 +8,10 @@ use Rattle.laws.proofs.Text.{next_char}
 use Rattle.biblatex_content.specs.declared.chunk.Kind.TheVariants.{Verbatim}
 use Rattle.biblatex_content.specs.Styled.{letters}
 use Rattle.biblatex_content.specs.Verbatim.{verbatim_from, verbatim_piece, verbatim_text, is_verbatim_escape}
-use Rattle.biblatex_content.specs.Views.{so_far}
+use Rattle.biblatex_content.specs.Views.{joined}
 use Rattle.biblatex_content.proofs.Members.{letters_more}
-use Rattle.biblatex_content.proofs.contents.Contents.push_verbatim.Goals as goal
-use Rattle.biblatex_content.proofs.contents.Contents.push_verbatim.Goals.{then-is_escaped+in_ok-push, else-is_escaped}
+use Rattle.biblatex_content.proofs.joining.Joining.push_verbatim.Goals as goal
+use Rattle.biblatex_content.proofs.joining.Joining.push_verbatim.Goals.{then-is_escaped+in_ok-push, else-is_escaped}
 
 pub loop-c-init : goal.loop-c-init
 loop-c-init c = rw (c.into_iter-c-iterator.ensures.into_iter_gives, c.chars-c-items.ensures.rest) (record { written = refl; utf8 = c.utf8.piece })
@@ -20,7 +20,7 @@ pub loop-c-preserved : goal.loop-c-preserved
 loop-c-preserved c =
     let n = next_char _ _ c.in-Some.c c.loop-c.invariant.utf8 c.in-Some.ensures.steps.0 in
     let rest = chars (chars_rest c.next.new.self) in
-    let old = so_far c.loop-c.self in
+    let old = joined c.loop-c.self in
     record {
       written =
           rw (c.in_ok-is_escaped.ensures.pushed, c.in_ok-is_escaped.ensures.next)
@@ -33,9 +33,9 @@ pub returns : goal.returns
 returns c =
     let empty : chars_rest c.loop-c.c-iterator ≡ [] = nil_from_length _ c.in-None.ensures.steps.0.0 in
     let nothing : chars (chars_rest c.loop-c.c-iterator) ≡ [] = ap chars empty ∙ chars-nil in
-    let ends : so_far c.loop-c.self ++ letters Verbatim (if c.loop-c.is_escaped then 92 ∷ [] else []) ≡ so_far c.args.self ++ letters Verbatim (verbatim_text (chars c.args.piece.now)) =
-    ap (λ (x : List ℕ). so_far c.loop-c.self ++ letters Verbatim (verbatim_from c.loop-c.is_escaped x)) (sym nothing) ∙ c.loop-c.invariant.written in
+    let ends : joined c.loop-c.self ++ letters Verbatim (if c.loop-c.is_escaped then 92 ∷ [] else []) ≡ joined c.args.self ++ letters Verbatim (verbatim_text (chars c.args.piece.now)) =
+    ap (λ (x : List ℕ). joined c.loop-c.self ++ letters Verbatim (verbatim_from c.loop-c.is_escaped x)) (sym nothing) ∙ c.loop-c.invariant.written in
     elim c.if-is_escaped.branch [
       | then-is_escaped+in_ok-push w ↦ rw w.self-is (w.in_ok-push.ensures.styled ∙ rw w.if-is_escaped.true at ends)
-      | else-is_escaped w ↦ rw w.self-is (sym (append-nil (so_far c.loop-c.self)) ∙ rw w.if-is_escaped.false at ends)
+      | else-is_escaped w ↦ rw w.self-is (sym (append-nil (joined c.loop-c.self)) ∙ rw w.if-is_escaped.false at ends)
     ]

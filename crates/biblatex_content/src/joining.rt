@@ -1,0 +1,218 @@
+//! Text that is joined to chunks of one kind each.
+
+ghost use Rattle.std.specs.Prelude.{◌≡◌, ◌++◌, ◌∷◌, [], true, ℕ, max, if◌then◌else◌, List, IfOk, OnOk, Some, reverse};
+ghost use Rattle.std.specs.Str.{chars};
+ghost use Rattle.biblatex_text.specs.Raw.{At};
+ghost use Rattle.biblatex_content.specs.Styled.{Member, Letter, Math, letters};
+ghost use Rattle.biblatex_content.specs.Parted.{is_filled, is_full, kind_of, is_apart, are_parted, last_kind, IsTurned, IsReady, IsLastOrNone};
+ghost use Rattle.biblatex_content.specs.Places.{kind_in, places, places_of, places_with};
+ghost use Rattle.biblatex_content.specs.Views.{characters, members, joined, styled};
+
+use crate::character::split_first;
+use crate::chunk::{Chunk, Chunks, Kind, Span};
+use biblatex_text::Spanned;
+use std::alloc::{AllocError, Global};
+use std::mem;
+
+/// Chunks that are finished, and text of a kind that was begun, with where it stands.
+#[derive(Drop)]
+pub(crate) struct Joining {
+    alloc: Global,
+    chunks: Chunks,
+    run: String,
+    kind: Kind,
+    span: Span,
+}
+
+/// A chunk of text of the kind.
+fn chunk_of(kind: Kind, text: String) -> Chunk
+    ensures members { members result ≡ letters kind (characters text) }
+    ensures kind { kind_of result ≡ Some kind }
+    ensures full { is_full result ≡ is_filled (characters text) }
+{
+    match kind {
+        Kind::Normal => Chunk::Normal(text),
+        Kind::Verbatim => Chunk::Verbatim(text),
+    }
+}
+
+/// Whether there is a character.
+pub(crate) fn has_text(text: &str) -> bool
+    ensures { result ≡ is_filled (chars text.now) }
+{
+    split_first(text).is_some()
+}
+
+/// Puts a character last.
+pub(crate) fn push_character(text: &mut String, c: char) -> Result<(), AllocError>
+    ensures { OnOk result (characters text.new ≡ characters text.old ++ c ∷ []) }
+{
+    text.push(c)
+}
+
+/// Puts a text last.
+pub(crate) fn push_text(text: &mut String, more: &str) -> Result<(), AllocError>
+    ensures { OnOk result (characters text.new ≡ characters text.old ++ chars more.now) }
+{
+    text.push_str(more)
+}
+
+/// A text without characters.
+pub(crate) fn empty_text(alloc: Global) -> String
+    ensures { characters result ≡ [] }
+{
+    String::new(alloc)
+}
+
+/// Takes a text out, and leaves an empty one.
+pub(crate) fn take_text(alloc: Global, text: &mut String) -> String
+    ensures taken { characters result ≡ characters text.old }
+    ensures left { characters text.new ≡ [] }
+{
+    mem::replace(text, empty_text(alloc))
+}
+
+impl Joining {
+    /// Nothing has been joined.
+    pub(crate) fn new(alloc: Global) -> Joining
+        ensures joined { joined result ≡ [] }
+        ensures places { (ms : List (At Member)) → places_with result ms ≡ places_of ms }
+        ensures ready { IsReady result }
+    {
+        Joining {
+            alloc,
+            chunks: Vec::new(alloc),
+            run: empty_text(alloc),
+            kind: Kind::Normal,
+            span: 0..0,
+        }
+    }
+
+    /// The allocator.
+    pub(crate) fn allocator(&self) -> Global
+        ensures { result ≡ self.now.alloc }
+    {
+        self.alloc
+    }
+
+    /// Puts a chunk behind the finished ones, at the bytes from the start to the end.
+    #[tactic(auto, using(crate::proofs::Neighbours::last_kind_behind, crate::proofs::Neighbours::parted_behind))]
+    fn push_chunk(&mut self, chunk: Chunk, start: usize, end: usize) -> Result<(), AllocError>
+        ensures chunks { OnOk result (styled self.new.chunks.items ≡ styled self.old.chunks.items ++ members chunk) }
+        ensures places { OnOk result (places self.new.chunks.items ≡ places self.old.chunks.items ++ (start, end) ∷ []) }
+        ensures run { self.new.run ≡ self.old.run }
+        ensures kind { self.new.kind ≡ self.old.kind }
+        ensures last { OnOk result (last_kind self.new.chunks.items ≡ kind_of chunk) }
+        ensures parted { OnOk result (are_parted self.old.chunks.items ≡ true → is_full chunk ≡ true → is_apart (last_kind self.old.chunks.items) (kind_of chunk) ≡ true → are_parted self.new.chunks.items ≡ true) }
+    {
+        if self.chunks.is_empty() {
+            self.chunks.reserve_exact(1)?;
+        }
+        Ok(self.chunks.push(Spanned::new(chunk, start..end))?)
+    }
+
+    /// Makes a chunk of the text that was begun.
+    fn close_run(&mut self) -> Result<(), AllocError>
+        ensures styled { OnOk result (joined self.new ≡ joined self.old) }
+        ensures places { OnOk result (places self.new.chunks.items ≡ places_with self.old []) }
+        ensures run { OnOk result (characters self.new.run ≡ []) }
+        ensures kind { self.new.kind ≡ self.old.kind }
+        ensures parted { IsReady self.old → OnOk result (are_parted self.new.chunks.items ≡ true) }
+        ensures last { IsReady self.old → OnOk result (IsLastOrNone self.old.kind (last_kind self.new.chunks.items)) }
+    {
+        if !has_text(self.run.as_str()) {
+            return Ok(());
+        }
+        let run = take_text(self.alloc, &mut self.run);
+        self.push_chunk(chunk_of(self.kind, run), self.span.start, self.span.end)?;
+        Ok(())
+    }
+
+    /// Sees to it that text of the kind may follow.
+    fn turn(&mut self, kind: Kind) -> Result<(), AllocError>
+        ensures styled { OnOk result (joined self.new ≡ joined self.old) }
+        ensures kind { OnOk result (self.new.kind ≡ kind) }
+        ensures places { OnOk result ((m : At Member) (ms : List (At Member)) → kind_in m.v ≡ Some kind → places_with self.new (m ∷ ms) ≡ places_with self.old (m ∷ ms)) }
+        ensures turned { IsReady self.old → OnOk result (IsTurned self.new) }
+    {
+        if self.kind != kind {
+            self.close_run()?;
+            self.kind = kind;
+        }
+        Ok(())
+    }
+
+    /// Sees to it that text that stands at the span may follow what was begun.
+    fn reach(&mut self, span: &Span)
+        ensures start { self.new.span.start ≡ (if is_filled (characters self.old.run) then self.old.span.start else span.now.start) }
+        ensures end { self.new.span.end ≡ (if is_filled (characters self.old.run) then max self.old.span.end span.now.end else span.now.end) }
+        ensures chunks { self.new.chunks ≡ self.old.chunks }
+        ensures run { self.new.run ≡ self.old.run }
+        ensures kind { self.new.kind ≡ self.old.kind }
+    {
+        if has_text(self.run.as_str()) {
+            self.span.end = self.span.end.max(span.end);
+        } else {
+            self.span = span.start..span.end;
+        }
+    }
+
+    /// Puts a character of the kind last, which stands at the span.
+    pub(crate) fn push_at(&mut self, span: &Span, kind: Kind, c: char) -> Result<(), AllocError>
+        ensures joined { OnOk result (joined self.new ≡ joined self.old ++ Letter kind c ∷ []) }
+        ensures places { OnOk result ((ms : List (At Member)) → places_with self.new ms ≡ places_with self.old (record { v = Letter kind c; start = span.now.start; end = span.now.end } ∷ ms)) }
+        ensures ready { IsReady self.old → OnOk result (IsReady self.new) }
+    {
+        self.turn(kind)?;
+        self.reach(span);
+        push_character(&mut self.run, c)?;
+        Ok(())
+    }
+
+    /// Puts a character of the kind last.
+    pub(crate) fn push(&mut self, kind: Kind, c: char) -> Result<(), AllocError>
+        ensures styled { OnOk result (joined self.new ≡ joined self.old ++ Letter kind c ∷ []) }
+        ensures ready { IsReady self.old → OnOk result (IsReady self.new) }
+    {
+        self.turn(kind)?;
+        push_character(&mut self.run, c)
+    }
+
+    /// Puts a text of the kind last.
+    pub(crate) fn push_str(&mut self, kind: Kind, text: &str) -> Result<(), AllocError>
+        ensures { OnOk result (joined self.new ≡ joined self.old ++ letters kind (chars text.now)) }
+    {
+        self.turn(kind)?;
+        push_text(&mut self.run, text)
+    }
+
+    /// Puts characters of the kind last, of which the first is the last of the list.
+    pub(crate) fn push_reversed(&mut self, kind: Kind, mut cs: Vec<char>) -> Result<(), AllocError>
+        ensures { OnOk result (joined self.new ≡ joined self.old ++ letters kind (reverse cs.items)) }
+    {
+        while let Some(c) = cs.pop() {
+            self.push(kind, c)?;
+        }
+        Ok(())
+    }
+
+    /// Puts a math piece last, which stands at the span.
+    pub(crate) fn push_math(&mut self, span: &Span, text: String) -> Result<(), AllocError>
+        ensures styled { OnOk result (joined self.new ≡ joined self.old ++ Math (characters text) ∷ []) }
+        ensures places { OnOk result ((ms : List (At Member)) → places_with self.new ms ≡ places_with self.old (record { v = Math (characters text); start = span.now.start; end = span.now.end } ∷ ms)) }
+        ensures ready { IsReady self.old → OnOk result (IsReady self.new) }
+    {
+        self.close_run()?;
+        self.push_chunk(Chunk::Math(text), span.start, span.end)
+    }
+
+    /// The chunks of what was joined.
+    pub(crate) fn into_chunks(mut self) -> Result<Chunks, AllocError>
+        ensures styled { IfOk result (λ cs. styled cs.items ≡ joined self) }
+        ensures places { IfOk result (λ cs. places cs.items ≡ places_with self []) }
+        ensures parted { IsReady self → IfOk result (λ cs. are_parted cs.items ≡ true) }
+    {
+        self.close_run()?;
+        Ok(self.chunks)
+    }
+}
