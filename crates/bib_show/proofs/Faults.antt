@@ -6,8 +6,8 @@ use Rattle.std.specs.Str.Lossy.{utf8_valid_len}
 use lib.Chars.{codes}
 use Rattle.std.proofs.lemmas.Str.{is_utf8-from_IsUtf8, IsUtf8-from_is_utf8}
 use Rattle.std.proofs.lemmas.Bool.{false_from_ne_true}
-use Rattle.biblatex_bibliography.specs.Reading.{Refusal}
-use Rattle.biblatex_bibliography.specs.Resolved.{TextMeans}
+use Rattle.biblatex.specs.Reading.{Refusal}
+use Rattle.biblatex.specs.Resolved.{TextMeans}
 use Rattle.bib_show.specs.Refusals.{reason_text, refusal_lines, IsSourceFault}
 use Rattle.bib_show.specs.Program.{no_memory, IsFileFault, IsReason, said_of, Says}
 use Rattle.bib_show.specs.declared.program.RunFault.{RunFault}

@@ -1,3 +1,4 @@
 pub mod Members
 pub mod Faults
 pub mod Marks
+pub mod Plain

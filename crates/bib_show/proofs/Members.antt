@@ -1,7 +1,7 @@
 -- Characters of one kind are shown as one piece.
 use Rattle.std.proofs.Common.{◌≡◌, ℕ, Bool, true, false, List, [], ◌∷◌, ◌++◌, refl, sym, ap, ◌∙◌, append_assoc}
-use Rattle.biblatex_content.specs.Parted.{is_filled}
-use Rattle.biblatex_content.specs.Styled.{Member, letters}
+use Rattle.biblatex.specs.Parted.{is_filled}
+use Rattle.biblatex.specs.Styled.{Member, letters}
 use Rattle.bib_show.specs.Shown.{kind_of, shown_character, shown_characters, turning, shown_from}
 
 -- behind characters of their kind

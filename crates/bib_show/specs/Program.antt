@@ -4,8 +4,8 @@ use Rattle.std.specs.Str.{chars, is_utf8}
 use Rattle.std.specs.Borrow.{Bor}
 use Rattle.std.specs.Io.KnownBytes.{Appends}
 use Rattle.sinks.specs.Sinks.{HasFailed}
-use Rattle.biblatex_bibliography.specs.Bibliographies.{Listed}
-use Rattle.biblatex_bibliography.specs.Resolved.{TextMeans}
+use Rattle.biblatex.specs.Bibliographies.{Listed}
+use Rattle.biblatex.specs.Resolved.{TextMeans}
 use Rattle.bib_show.specs.Shown.{shown, AreAllInOrder}
 use Rattle.bib_show.specs.Refusals.{IsSourceFault}
 use Rattle.bib_show.specs.declared.program.RunFault.{RunFault}

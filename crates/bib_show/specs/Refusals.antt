@@ -3,11 +3,11 @@ use Rattle.std.specs.Prelude.{◌≡◌, ℕ, true, false, List, [], ◌∷◌, 
 use Rattle.std.specs.Str.{chars, is_utf8}
 use Rattle.std.specs.Str.Lossy.{utf8_valid_len}
 use Rattle.std.specs.Fmt.{decimal}
-use Rattle.biblatex_text.specs.Token.{token_name}
-use Rattle.biblatex_text.specs.declared.token.Fault.{Fault}
-use Rattle.biblatex_text.specs.declared.token.Fault.TheVariants as faults
-use Rattle.biblatex_bibliography.specs.Reading.{Reason, Refusal, raw, unknown_abbreviation, abbreviation_cycle, malformed_command, duplicate_key, reference_cycle, unreadable_date}
-use Rattle.biblatex_bibliography.specs.Resolved.{TextMeans}
+use Rattle.biblatex.specs.Token.{token_name}
+use Rattle.biblatex.specs.Fault.{Fault}
+use Rattle.biblatex.specs.Fault.TheVariants as faults
+use Rattle.biblatex.specs.Reading.{Reason, Refusal, raw, unknown_abbreviation, abbreviation_cycle, malformed_command, duplicate_key, reference_cycle, unreadable_date}
+use Rattle.biblatex.specs.Resolved.{TextMeans}
 use Rattle.bib_show.specs.Place.{line_at, mark_at, line_number, column_number}
 
 -- why a text is not of the raw grammar

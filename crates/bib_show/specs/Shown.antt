@@ -1,18 +1,22 @@
 -- How entries are shown, as bytes.
-use Rattle.std.specs.Prelude.{ℕ, Bool, true, false, ◌||◌, ◌==◌, List, [], ◌∷◌, ◌++◌, flat_map, if◌then◌else◌, encode_utf8, codes}
+use Rattle.std.specs.Prelude.{ℕ, Bool, true, false, not, ◌||◌, ◌==◌, List, [], ◌∷◌, ◌++◌, flat_map, if◌then◌else◌, encode_utf8, codes}
 use Rattle.std.specs.List.{AllByRecursion}
 use Rattle.std.specs.Char.{is_control}
 use Rattle.std.specs.Char.Escape.{escape_unicode}
 use Rattle.laws.specs.Text.{text}
-use Rattle.biblatex_content.specs.declared.chunk.Kind.{Kind}
-use Rattle.biblatex_content.specs.declared.chunk.Kind.TheVariants.{Normal, Verbatim}
-use Rattle.biblatex_content.specs.Styled.{Member, Letter, Math}
-use Rattle.biblatex_fields.specs.Fields.{Named, AreInOrder}
-use Rattle.biblatex_entries.specs.Entries.{Source}
+use Rattle.biblatex.specs.Kind.{Kind}
+use Rattle.biblatex.specs.Kind.TheVariants.{Normal, Verbatim}
+use Rattle.biblatex.specs.Styled.{Member, Letter, Math}
+use Rattle.biblatex.specs.Fields.{Named, AreInOrder}
+use Rattle.biblatex.specs.Entries.{Source}
 
 -- a backslash, a dollar sign, a brace or a control character
 abbrev pub is_marked : ℕ → Bool
 is_marked c = is_control c || (c == 92 || (c == 36 || (c == 123 || c == 125)))
+
+-- any other character
+abbrev pub is_plain : ℕ → Bool
+is_plain c = not (is_marked c)
 
 -- a character: \u{..} with its number in hexadecimal digits, or itself
 abbrev pub shown_character : ℕ → List ℕ

@@ -3,13 +3,14 @@
 ghost use Rattle.std.specs.Prelude.{◌≡◌, ◌++◌, ◌∷◌, [], false, IfOk, OnOk, string_bytes, Bool, List, ℕ};
 ghost use Rattle.std.specs.Str.{chars};
 ghost use Rattle.std.specs.Char.Escape.{escape_unicode};
+ghost use Rattle.laws.specs.Runs.{front_of, after};
 ghost use Rattle.laws.specs.Text.{text as text_of};
-ghost use Rattle.biblatex_content.specs.Views.{members, styled};
-ghost use Rattle.biblatex_content.specs.Parted.{is_filled};
-ghost use Rattle.biblatex_content.specs.Styled.{Member, Math, letters};
-ghost use Rattle.bib_show.specs.Shown.{is_marked, kind_of, shown_character, shown_characters, turning, shown_from};
+ghost use Rattle.biblatex.specs.Contents.{members, styled};
+ghost use Rattle.biblatex.specs.Parted.{is_filled};
+ghost use Rattle.biblatex.specs.Styled.{Member, Math, letters};
+ghost use Rattle.bib_show.specs.Shown.{is_marked, is_plain, kind_of, shown_characters, turning, shown_from};
 
-use biblatex_content::{Chunk, Spanned};
+use biblatex::{Chunk, Spanned};
 use std::alloc::AllocError;
 use text_reader::split_first;
 
@@ -87,23 +88,35 @@ fn turn(out: &mut String, is_open: bool, is_verbatim: bool) -> Result<(), AllocE
 fn push_characters(out: &mut String, text: &str) -> Result<(), AllocError>
     ensures { OnOk result (string_bytes out.new ≡ string_bytes out.old ++ shown_characters (chars text.now)) }
 {
-    let mut rest = text;
+    let mut rest = push_plain(out, text)?;
     while let Some((c, more)) = split_first(rest) {
-        push_character(out, c)?;
-        rest = more;
+        push_escape(out, c)?;
+        rest = push_plain(out, more)?;
     }
     Ok(())
 }
 
-/// Shows a character.
-fn push_character(out: &mut String, c: char) -> Result<(), AllocError>
-    ensures { OnOk result (string_bytes out.new ≡ string_bytes out.old ++ shown_character c) }
+/// Shows the characters before the first one that is marked, in one go, and gives back what follows them.
+fn push_plain<'s>(out: &mut String, text: &'s str) -> Result<&'s str, AllocError>
+    ensures shown { IfOk result (λ rest. string_bytes out.new ++ shown_characters (chars rest.now) ≡ string_bytes out.old ++ shown_characters (chars text.now)) }
+    ensures rest { IfOk result (λ rest. chars rest.now ≡ after is_plain (chars text.now)) }
 {
-    if is_marked(c) {
-        push_escape(out, c)
-    } else {
-        out.push(c)
+    let (plain, rest) = split_plain(text);
+    out.push_str(plain)?;
+    Ok(rest)
+}
+
+/// The characters before the first one that is marked, and what follows them.
+fn split_plain(text: &str) -> (&str, &str)
+    ensures front { chars result.0.now ≡ front_of is_plain (chars text.now) }
+    ensures rest { chars result.1.now ≡ after is_plain (chars text.now) }
+{
+    for (i, c) in text.char_indices() {
+        if is_marked(c) {
+            return text.split_at(i);
+        }
     }
+    text.split_at(text.len())
 }
 
 /// Whether the character is a backslash, a dollar sign, a brace or a control character.

@@ -2,14 +2,14 @@
 
 ghost use Rattle.std.specs.Prelude.{◌≡◌, ◌≤◌, ◌++◌, IfOk, IfErr, IfSome, OnOk, OnErr, string_bytes, ◌⊎◌};
 ghost use Rattle.std.specs.Io.KnownBytes.{Appends};
-ghost use Rattle.biblatex_bibliography.specs.Errors.{reason};
+ghost use Rattle.biblatex.specs.Errors.{reason};
 ghost use Rattle.bib_show.specs.Refusals.{IsSourceFault, reason_text, refusal_lines};
 ghost use Rattle.bib_show.specs.Program.{IsShownOf, Shows, Serves, IsUntouched, line, no_memory, CannotRead, IsFileFault, IsFault, IsReason, said_of, Says};
 ghost use Rattle.bib_show.specs.declared.program.RunFault.TheVariants.{Memory};
 
 use crate::refusal::{reason_of, refusal_lines};
 use crate::shown::show;
-use biblatex_bibliography::{Bibliography, ParseError, ParseErrorKind};
+use biblatex::{Bibliography, ParseError, ParseErrorKind};
 use sinks::{ReadFault, ReadPath, Sink, write_all};
 use std::alloc::{AllocError, Global};
 

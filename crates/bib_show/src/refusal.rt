@@ -2,11 +2,11 @@
 
 ghost use Rattle.std.specs.Prelude.{◌≡◌, ◌++◌, ◌∷◌, [], IfOk, OnOk, string_bytes, codes};
 ghost use Rattle.std.specs.Fmt.{decimal};
-ghost use Rattle.biblatex_bibliography.specs.Errors.{reason};
+ghost use Rattle.biblatex.specs.Errors.{reason};
 ghost use Rattle.bib_show.specs.Refusals.{reason_text, refusal_lines};
 
 use crate::place::Place;
-use biblatex_bibliography::ParseErrorKind;
+use biblatex::ParseErrorKind;
 use std::alloc::{AllocError, Global};
 use std::fmt::Write;
 

@@ -1,17 +1,14 @@
 //! How entries are shown.
 
 ghost use Rattle.std.specs.Prelude.{◌≡◌, ◌++◌, IfOk, OnOk, string_bytes, flat_map};
-ghost use Rattle.biblatex_content.specs.Views.{styled};
-ghost use Rattle.biblatex_fields.specs.Fields.{AreInOrder};
-ghost use Rattle.biblatex_entries.specs.Entries.{source};
+ghost use Rattle.biblatex.specs.Contents.{styled};
+ghost use Rattle.biblatex.specs.Fields.{AreInOrder};
+ghost use Rattle.biblatex.specs.Entries.{source};
 ghost use Rattle.bib_show.specs.Shown.{shown, shown_entry, shown_field, AreAllInOrder};
 
 use crate::member::push_value;
 use crate::type_name::type_name;
-use biblatex_bibliography::Bibliography;
-use biblatex_content::Chunks;
-use biblatex_entries::Entry;
-use biblatex_fields::Fields;
+use biblatex::{Bibliography, Chunks, Entry, Fields};
 use std::alloc::{AllocError, Global};
 
 /// The entries in their order: for each a line `@TYPE KEY`, and a line `  NAME = VALUE` for each of its fields, in the order of

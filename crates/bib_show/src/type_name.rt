@@ -1,9 +1,9 @@
 //! The names of types.
 
 ghost use Rattle.std.specs.Prelude.{◌≡◌};
-ghost use Rattle.biblatex_entries.specs.TypeNames as names;
+ghost use Rattle.biblatex.specs.TypeNames as names;
 
-use biblatex_entries::EntryType;
+use biblatex::EntryType;
 
 /// The name of a type, in lower case.
 pub(crate) fn type_name(entry_type: &EntryType) -> &str

@@ -1,15 +1,25 @@
-//! Reads BibLaTeX files: texts of the first profile become entries that are found by their names.
+//! Reads BibLaTeX files. This crate is a table of contents: it hands on what its members make public, so that crates above it
+//! name it alone.
 #![tactic(auto)]
 
-mod bibliography;
-mod character;
-mod content;
-mod entry;
-mod error;
-mod profile;
+#[cfg(test)]
+mod tests;
 
-pub use biblatex_entries::EntryType;
-pub use bibliography::Bibliography;
-pub use entry::Entry;
-pub use error::ParseError;
-pub use profile::is_first_profile;
+pub use biblatex_bibliography::{
+    Bibliography, Counted, Keys, ParseError, ParseErrorKind, parse_field,
+};
+pub use biblatex_content::{
+    Chunk, Chunks, ChunksExt, Span, is_escapable, is_verbatim_field, push_biblatex,
+};
+pub use biblatex_dates::{Date, DateValue, Datetime, Time, TimeOffset, TypeErrorKind};
+pub use biblatex_entries::{Entry, EntryType, RetrievalError, Role};
+pub use biblatex_fields::{Abbreviations, Fields};
+pub use biblatex_people::Person;
+pub use biblatex_text::{
+    BiblatexParser, Fault, Field, Pair, RawBibliography, RawChunk, RawEntry, RawError, Spanned,
+    Token, is_id_continue, is_id_start, is_key,
+};
+pub use biblatex_types::{
+    ChunksParse, EditorType, FieldType, FieldTypeError, Gender, PermissiveType, TypeError,
+};
+pub use first_profile::is_first_profile;

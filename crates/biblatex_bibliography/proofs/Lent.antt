@@ -1,16 +1,16 @@
 -- An entry that is lent, and what the bibliography is after it was changed.
-use Rattle.std.proofs.Common.{◌≡◌, ℕ, List, Option, Some, None, String, MutBor, length, refl, sym, ap, ◌∙◌}
+use Rattle.std.proofs.Common.{◌≡◌, ℕ, List, ◌++◌, Option, Some, None, String, MutBor, length, take, drop, refl, sym, ap, ◌∙◌}
 use Rattle.std.specs.Prelude.{slice_set, slice_get, option_map}
 use Rattle.std.specs.Global.{Global}
 use Rattle.std.specs.HashMap.{HashMap}
-use Rattle.std.specs.List.{IsItemAtMut}
-use Rattle.std.proofs.lemmas.List.{map-set}
+use Rattle.std.specs.List.{IsItemAtMut, refill}
+use Rattle.std.proofs.lemmas.List.{map-set, map-append, take-map, drop-map, length-map}
 use Rattle.std.proofs.lemmas.Option.{slice_get_past, slice_get_read}
 use Rattle.biblatex_entries.specs.declared.entry.Entry.{Entry}
-use Rattle.biblatex_entries.specs.Entries.{source}
+use Rattle.biblatex_entries.specs.Entries.{Source, source, sources}
 use Rattle.biblatex_bibliography.specs.Places.{meaning_in, names_in}
 use Rattle.biblatex_bibliography.specs.Bibliographies.{Held, held}
-use Rattle.biblatex_bibliography.specs.Lending.{with_entry_at}
+use Rattle.biblatex_bibliography.specs.Lending.{with_entry_at, with_entries}
 
 -- what is written at the place that a name means
 pub written : {S : Type 0} (items : List Entry) (places : HashMap (String Global) ℕ S) (name : List ℕ) (place : ℕ) (b : Held) → Some place ≡ meaning_in (names_in places) name → held items places ≡ b → (w : Entry) → held (slice_set items place w) places ≡ with_entry_at (meaning_in b.names name) (source w) b
@@ -29,3 +29,17 @@ written_at items places place b view w =
 pub item : (items : List Entry) (place : ℕ) (r : Option (MutBor Entry)) → IsItemAtMut items place r → option_map (λ e. source e.now) r ≡ option_map source (slice_get items place)
 item items place None h = sym (ap (option_map source) (slice_get_past items place h.3))
 item items place (Some x) h = sym (ap (option_map source) (slice_get_read items (length items) place x.now refl h.3.0 h.1))
+
+-- entries that are written over others, as plain data
+pub sources-refill : (n : ℕ) (items ws : List Entry) → n ≡ length items → sources (refill n items ws) ≡ refill (length (sources items)) (sources items) (sources ws)
+sources-refill n items ws long =
+    sym (take-map source n (ws ++ drop (length ws) items))
+    ∙ (ap (take n) (map-append source ws (drop (length ws) items) ∙ ap (λ (es : List Source). sources ws ++ es) (sym (drop-map source (length ws) items)))
+    ∙ ((λ i. take n (sources ws ++ drop (sym (length-map ws source) i) (sources items)))
+    ∙ (λ i. take ((long ∙ sym (length-map items source)) i) (sources ws ++ drop (length (sources ws)) (sources items)))))
+
+-- what is written over the entries of a bibliography
+pub rewritten : {S : Type 0} (n : ℕ) (items : List Entry) (places : HashMap (String Global) ℕ S) (b : Held) → n ≡ length items → held items places ≡ b → (ws : List Entry) → held (refill n items ws) places ≡ with_entries (sources ws) b
+rewritten n items places b long view ws =
+    (λ i. record { entries = sources-refill n items ws long i; names = names_in places })
+    ∙ ap (λ (h : Held). with_entries (sources ws) h) view

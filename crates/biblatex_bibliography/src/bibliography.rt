@@ -3,11 +3,13 @@
 ghost use Rattle.std.specs.Prelude.{◌≡◌, ◌==◌, ◌<◌, length, map, string_bytes, IfOk, IfErr, IfSome, OnOk, OnErr, Some, slice_get};
 ghost use Rattle.std.specs.Option.{option_map};
 ghost use Rattle.std.specs.Borrow.{sem};
-ghost use Rattle.std.specs.Slice.Iter.{iter_rest};
+ghost use Rattle.std.specs.Slice.Iter.{iter_rest, iter_mut_rest, iter_mut_name};
+ghost use Rattle.std.specs.Iterator.Adapters.{IterMutYieldsInOrder};
 ghost use Rattle.biblatex_inheritance.specs.Solution.{IsRefusedAs};
 ghost use Rattle.biblatex_bibliography.specs.Keys.{keys_left};
 ghost use Rattle.biblatex_bibliography.specs.Resolved.{IsResolved};
-ghost use Rattle.biblatex_bibliography.specs.Lending.{LendsEntry};
+ghost use Rattle.biblatex_bibliography.specs.Lending.{LendsEntry, LendsEntries};
+ghost use Rattle.biblatex_entries.specs.declared.entry.Entry.{Entry};
 ghost use Rattle.biblatex_entries.specs.Entries.{source, sources};
 ghost use Rattle.biblatex_bibliography.specs.Bibliographies.{seen, IsAsRead, nothing, entry_named, pushed, inserted, removed, aliased, references};
 
@@ -19,7 +21,7 @@ use biblatex_inheritance::{Resolution, ResolveError, resolve};
 use std::alloc::{AllocError, Global};
 use std::collections::HashMap;
 use std::marker::Model;
-use std::slice::Iter;
+use std::slice::{Iter, IterMut};
 
 /// Entries in file order, found by their names. A name means the entry that it was last given to.
 #[derive(Drop)]
@@ -76,6 +78,15 @@ impl Bibliography {
         ensures { sources (iter_rest result) ≡ self.now.entries }
     {
         self.entries.as_slice().iter()
+    }
+
+    /// The entries in their order, each to be changed. Names mean what they meant, whatever is changed.
+    pub fn iter_mut(&mut self) -> IterMut<'_, Entry>
+        ensures* writes_back { sem 𝓛 (LendsEntries self.entry (iter_mut_name result)) }
+        ensures value { sources (iter_mut_rest result) ≡ self.old.entries }
+        ensures runs { IterMutYieldsInOrder Entry }
+    {
+        self.entries.as_mut_slice().iter_mut()
     }
 
     /// The keys of the entries in their order.

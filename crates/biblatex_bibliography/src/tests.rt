@@ -292,3 +292,55 @@ fn the_entries_are_handed_over(rt: HostRuntime) {
     let found = handed_over(rt.alloc(), &steps).expect(&rt, "memory");
     assert_eq!(rt; found.as_str(), "2 false a,b,a;b;");
 }
+
+/// Puts a mark behind the title of an entry, where the key stands if there is none.
+fn mark(alloc: Global, entry: &mut Entry) -> Result<(), AllocError> {
+    let mut title = field_text(alloc, &entry.fields, "title")?;
+    if title.is_empty() {
+        title.push_str(entry.key.as_str())?;
+    }
+    title.push('!')?;
+    set(alloc, entry, "title", title.as_str())
+}
+
+/// Marks each entry.
+fn mark_all(alloc: Global, held: &mut Bibliography) -> Result<(), AllocError> {
+    for entry in held.iter_mut() {
+        mark(alloc, entry)?;
+    }
+    Ok(())
+}
+
+/// The same by a loop over the bibliography.
+fn mark_each(alloc: Global, held: &mut Bibliography) -> Result<(), AllocError> {
+    for entry in held {
+        mark(alloc, entry)?;
+    }
+    Ok(())
+}
+
+/// The titles of entries that are marked twice, and what names mean then.
+fn marked(alloc: Global, steps: &[Step], names: &[&str]) -> Result<String, AllocError> {
+    let mut out = String::new(alloc);
+    let mut held = taken(alloc, &mut out, steps)?;
+    mark_all(alloc, &mut held)?;
+    mark_each(alloc, &mut held)?;
+    for entry in &held {
+        write!(out, "{},", field_text(alloc, &entry.fields, "title")?)?;
+    }
+    for name in names {
+        write_meaning(&mut out, &held, *name)?;
+    }
+    Ok(out)
+}
+
+#[test]
+fn each_entry_is_changed_in_its_place(rt: HostRuntime) {
+    let steps = [
+        Step::Push("a", "x", ""),
+        Step::Push("b", "", ""),
+        Step::Retitle("b", "B"),
+    ];
+    let found = marked(rt.alloc(), &steps, &["a", "b", "x"]).expect(&rt, "memory");
+    assert_eq!(rt; found.as_str(), "a!!,B!!, a=0a b=1b x=0a");
+}

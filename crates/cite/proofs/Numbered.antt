@@ -3,7 +3,7 @@ use Rattle.std.proofs.Common.{◌≡◌, ℕ, List, [], ◌∷◌, ◌++◌, Opt
 use Rattle.std.specs.Prelude.{fold}
 use Rattle.std.specs.List.{flat_map}
 use Rattle.laws.specs.Text.{text}
-use Rattle.biblatex.specs.Works.{Work, meaning}
+use Rattle.first_profile.specs.Works.{Work, meaning}
 use Rattle.cite.specs.Marker.{Citation}
 use Rattle.cite.specs.Order.{names_of, first_unknown, cited, with_cited, number_in}
 use Rattle.cite.specs.Orders.{order_in}

@@ -4,7 +4,7 @@ use Rattle.std.specs.Prelude.{◌||◌, fold}
 use Rattle.std.proofs.lemmas.Slice.Eq.{bytes_eq-Decides}
 use Rattle.std.specs.List.{list_any, position_or_len}
 use Rattle.std.specs.Str.{bytes_eq}
-use Rattle.biblatex.specs.Works.{Work}
+use Rattle.first_profile.specs.Works.{Work}
 use Rattle.cite.specs.Order.{is_same, with_cited, number_in}
 
 -- a test of what a function makes of the elements

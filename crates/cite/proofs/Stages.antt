@@ -2,8 +2,8 @@
 use Rattle.std.proofs.Common.{◌≡◌, ℕ, true, false, eqb, List, [], Option, Some, None, refl}
 use Rattle.std.specs.Prelude.{is_some}
 use Rattle.std.specs.Str.{chars, is_utf8}
-use Rattle.biblatex.specs.Reading.{works_in}
-use Rattle.biblatex.specs.Works.{Work, first_repeat}
+use Rattle.first_profile.specs.Reading.{works_in}
+use Rattle.first_profile.specs.Works.{Work, first_repeat}
 use Rattle.cite.specs.Formats.{is_html}
 use Rattle.cite.specs.Verdict.{supported_stage, without_repeat}
 use Rattle.cite.specs.declared.format.BufWriteFormat.{BufWriteFormat}

@@ -1,6 +1,6 @@
 -- What a call answers where its definition gives a value or a refusal.
 use Rattle.std.specs.Prelude.{◌≡◌, Result, Ok, Err, string_bytes}
-use Rattle.biblatex.specs.declared.error.ParseError.TheVariants as parse
+use Rattle.first_profile.specs.declared.error.ParseError.TheVariants as parse
 use Rattle.cite.specs.Verdict.{Refusal, not_yet, bib_not_utf8, duplicate_key, document_not_utf8, no_marker, unknown_name, overflow}
 use Rattle.cite.specs.declared.error.CiteError.{CiteError}
 use Rattle.cite.specs.declared.error.CiteError.TheVariants as errors

@@ -3,7 +3,7 @@ use Rattle.std.specs.Prelude.{ℕ, ◌+◌, Bool, not, List, [], ◌∷◌, ◌+
 use Rattle.std.specs.List.{list_any, position_or_len}
 use Rattle.std.specs.Str.{bytes_eq}
 use Rattle.laws.specs.Text.{text}
-use Rattle.biblatex.specs.Works.{Work, meaning}
+use Rattle.first_profile.specs.Works.{Work, meaning}
 use Rattle.cite.specs.Marker.{Citation}
 
 -- the names as bytes, as they are compared

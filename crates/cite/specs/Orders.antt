@@ -1,8 +1,8 @@
 -- The cited entries that an order of the code holds, and what numbering a document answers.
 use Rattle.std.specs.Prelude.{◌≡◌, ℕ, List, map, Some, None, Result, Ok, Err, String, string_bytes}
 use Rattle.std.specs.Global.{Global}
-use Rattle.biblatex.specs.Works.{Work}
-use Rattle.biblatex.specs.Entries.{work}
+use Rattle.first_profile.specs.Works.{Work}
+use Rattle.first_profile.specs.Entries.{work}
 use Rattle.cite.specs.Marker.{Citation}
 use Rattle.cite.specs.Order.{names_of, first_unknown, cited, order_of}
 use Rattle.cite.specs.Output.{body}

@@ -4,7 +4,7 @@ use Rattle.std.specs.List.{list_all, flat_map}
 use Rattle.std.specs.Char.{is_whitespace}
 use Rattle.std.specs.Fmt.{decimal}
 use Rattle.laws.specs.Text.{text}
-use Rattle.biblatex.specs.Works.{Work, meaning}
+use Rattle.first_profile.specs.Works.{Work, meaning}
 use Rattle.cite.specs.Marker.{Citation}
 use Rattle.cite.specs.Order.{number_in}
 

@@ -3,8 +3,8 @@ use Rattle.std.specs.Prelude.{ℕ, ◌-◌, ◌+◌, Bool, not, nat_lt, ◌==◌
 use Rattle.std.specs.Str.{chars, is_utf8}
 use Rattle.laws.specs.Results.{◌>>=◌}
 use Rattle.laws.specs.Text.{text}
-use Rattle.biblatex.specs.Reading.{works_in}
-use Rattle.biblatex.specs.Works.{Work, first_repeat}
+use Rattle.first_profile.specs.Reading.{works_in}
+use Rattle.first_profile.specs.Works.{Work, first_repeat}
 use Rattle.cite.specs.Marker.{Citation, citations_of}
 use Rattle.cite.specs.Order.{names_of, first_unknown, cited, order_of}
 use Rattle.cite.specs.Output.{output}

@@ -3,7 +3,7 @@
 ghost use Rattle.std.specs.Prelude.{◌≡◌, ◌++◌, List, length, true, false, MatchOption, IfErr, OnOk, string_bytes};
 ghost use Rattle.std.specs.Str.{chars, is_utf8};
 ghost use Rattle.laws.specs.Text.{text as text_of};
-ghost use Rattle.biblatex.specs.Works.{Work};
+ghost use Rattle.first_profile.specs.Works.{Work};
 ghost use Rattle.cite.specs.Order.{names_of};
 ghost use Rattle.cite.specs.Orders.{cited_works};
 ghost use Rattle.std.specs.Io.KnownBytes.{Appends};
@@ -17,7 +17,7 @@ use crate::error::{BibTextError, CiteError, DocumentTextError};
 use crate::format::BufWriteFormat;
 use crate::numbers::numbered_document;
 use crate::style::{Locale, Style};
-use biblatex::{Bibliography, ParseError, is_first_profile};
+use first_profile::{Bibliography, ParseError, is_first_profile};
 use sinks::{Sink, write_all};
 use std::alloc::Global;
 
@@ -105,7 +105,7 @@ fn decide(
 
 /// Replaces each marker of the document by its citation and writes the bibliography of the cited entries after it.
 ///
-/// `bib` is a BibLaTeX file of the first profile (`biblatex::is_first_profile`), `document` a text with markers `[@name]`;
+/// `bib` is a BibLaTeX file of the first profile (`first_profile::is_first_profile`), `document` a text with markers `[@name]`;
 /// both are UTF-8. The style is plain numbers, the format plain text, and no section may be given.
 ///
 /// # Errors

@@ -3,7 +3,7 @@
 ghost use Rattle.std.specs.Prelude.{◌≡◌};
 ghost use Rattle.cite.specs.declared.error.CiteError.TheVariants.{Memory};
 
-use biblatex::ParseError;
+use first_profile::ParseError;
 use sinks::SinkFault;
 use std::alloc::{AllocError, AllocFailed};
 use thiserror::Error;

@@ -3,8 +3,8 @@
 ghost use Rattle.std.specs.Prelude.{◌≡◌, IfOk, MatchOption, string_bytes, None, Some};
 ghost use Rattle.std.specs.Str.{chars};
 ghost use Rattle.laws.specs.Text.{text as text_of};
-ghost use Rattle.biblatex.specs.Works.{meaning};
-ghost use Rattle.biblatex.specs.Entries.{work};
+ghost use Rattle.first_profile.specs.Works.{meaning};
+ghost use Rattle.first_profile.specs.Entries.{work};
 ghost use Rattle.cite.specs.Views.{parsed};
 ghost use Rattle.cite.specs.Orders.{Numbers};
 
@@ -12,7 +12,7 @@ use crate::document::Document;
 use crate::error::CiteError;
 use crate::order::Order;
 use crate::output::{push_citation, push_text};
-use biblatex::{Bibliography, Entry};
+use first_profile::{Bibliography, Entry};
 use std::alloc::{AllocError, Global};
 
 /// The document with numbers for its citations, and the cited entries.

@@ -1,12 +1,12 @@
 //! The cited entries by first citation, and their numbers.
 
 ghost use Rattle.std.specs.Prelude.{◌≡◌, ◌++◌, [], map, length, IfOk, OnOk, string_bytes};
-ghost use Rattle.biblatex.specs.Entries.{work};
+ghost use Rattle.first_profile.specs.Entries.{work};
 ghost use Rattle.cite.specs.Order.{with_cited, number_in};
 ghost use Rattle.cite.specs.Output.{bibliography};
 
 use crate::output::push_title;
-use biblatex::Entry;
+use first_profile::Entry;
 use indexmap::IndexSet;
 use std::alloc::{AllocError, Global};
 

@@ -1,7 +1,7 @@
 //! A call that asks for memory more often than any test of `memory`: the runs of checks/each_allocation end where it holds.
 
 use crate::memory::SMALL_TEXT;
-use biblatex_bibliography::Bibliography;
+use biblatex::Bibliography;
 use std::test::Fail;
 
 #[test]

@@ -3,10 +3,9 @@
 
 use crate::calls::ONE_BOOK;
 use crate::programs::Files;
-use biblatex::{Bibliography, EntryType, ParseError, is_first_profile};
-use biblatex_bibliography as whole;
-use biblatex_entries as entries;
+use biblatex as whole;
 use cite::{BufWriteFormat, CiteError, Tap, cite, english, num, run};
+use first_profile::{Bibliography, EntryType, ParseError, is_first_profile};
 use std::alloc::Global;
 use std::io;
 use std::io::{ErrorKind, Write};
@@ -154,9 +153,9 @@ fn an_alias_that_finds_no_memory_changes_nothing(rt: HostRuntime) {
 }
 
 /// A book without fields, or none for want of memory.
-fn book(alloc: Global, key: &str) -> Option<entries::Entry> {
+fn book(alloc: Global, key: &str) -> Option<whole::Entry> {
     let key = String::from_str(alloc, key).ok()?;
-    Some(entries::Entry::new(alloc, key, entries::EntryType::Book))
+    Some(whole::Entry::new(alloc, key, whole::EntryType::Book))
 }
 
 #[test]

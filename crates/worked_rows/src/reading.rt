@@ -1,6 +1,6 @@
 //! Bib texts of the first profile.
 
-use biblatex::{Bibliography, EntryType, is_first_profile};
+use first_profile::{Bibliography, EntryType, is_first_profile};
 use std::alloc::Global;
 use std::process::Abort;
 use std::test::Fail;

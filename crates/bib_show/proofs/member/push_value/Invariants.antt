@@ -1,5 +1,5 @@
 use Rattle.std.proofs.Common.{◌≡◌, ◌++◌, false, string_bytes, length}
-use Rattle.biblatex_content.specs.Views.{styled}
+use Rattle.biblatex.specs.Contents.{styled}
 use Rattle.bib_show.specs.Shown.{shown_from}
 use Rattle.bib_show.proofs.member.push_value.Given as goal
 

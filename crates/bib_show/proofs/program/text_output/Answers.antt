@@ -2,11 +2,11 @@ use Rattle.std.proofs.Common.{Err, subst}
 use Rattle.std.specs.Prelude.{IfSome}
 use Rattle.std.specs.Str.{chars}
 use Rattle.std.proofs.lemmas.Str.{is_utf8-from_IsUtf8}
-use Rattle.biblatex_bibliography.specs.Bibliographies.{seen}
-use Rattle.biblatex_bibliography.specs.Errors.{reason, refusal_of}
-use Rattle.biblatex_bibliography.specs.Reading.{Refusal}
-use Rattle.biblatex_bibliography.specs.Resolved.{TextMeans}
-use Rattle.biblatex_bibliography.specs.declared.error.ParseError.{ParseError}
+use Rattle.biblatex.specs.Bibliographies.{seen}
+use Rattle.biblatex.specs.Errors.{reason, refusal_of}
+use Rattle.biblatex.specs.Reading.{Refusal}
+use Rattle.biblatex.specs.Resolved.{TextMeans}
+use Rattle.biblatex.specs.ParseError.{ParseError}
 use Rattle.bib_show.specs.Program.{said_of}
 use Rattle.bib_show.proofs.Faults.{refused_text}
 use Rattle.bib_show.proofs.program.text_output.Goals as goal

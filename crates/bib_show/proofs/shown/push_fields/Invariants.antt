@@ -1,5 +1,5 @@
 use Rattle.std.proofs.Common.{◌≡◌, ◌++◌, string_bytes, flat_map}
-use Rattle.biblatex_fields.specs.Fields.{named_of}
+use Rattle.biblatex.specs.Fields.{named_of}
 use Rattle.bib_show.specs.Shown.{shown_field}
 use Rattle.bib_show.proofs.shown.push_fields.Given as goal
 

@@ -1,5 +1,5 @@
 use Rattle.std.proofs.Common.{◌≡◌, ◌++◌, string_bytes, length}
-use Rattle.biblatex_entries.specs.Entries.{sources}
+use Rattle.biblatex.specs.Entries.{sources}
 use Rattle.bib_show.specs.Shown.{shown, AreAllInOrder}
 use Rattle.bib_show.proofs.shown.show.Given as goal
 

@@ -1,9 +1,9 @@
 use Rattle.std.proofs.Common.{◌≡◌, ℕ, true, List, Err, sym, ap, subst, ◌∙◌}
 use Rattle.std.specs.Prelude.{is_some}
 use Rattle.std.specs.Str.{chars}
-use Rattle.biblatex.specs.Reading.{works_in}
-use Rattle.biblatex.specs.Entries.{Loads}
-use Rattle.biblatex.specs.declared.error.ParseError.{ParseError}
+use Rattle.first_profile.specs.Reading.{works_in}
+use Rattle.first_profile.specs.Entries.{Loads}
+use Rattle.first_profile.specs.declared.error.ParseError.{ParseError}
 use Rattle.cite.specs.Verdict.{without_repeat}
 use Rattle.cite.proofs.Stages.{comes_to, some_value}
 use Rattle.cite.proofs.engine.read_library.Goals as goal

@@ -1,7 +1,7 @@
 use Rattle.std.proofs.Common.{◌≡◌, ℕ, List, Some, None, sym, subst}
 use Rattle.std.specs.Prelude.{MatchOption}
-use Rattle.biblatex.specs.Works.{meaning}
-use Rattle.biblatex.specs.Entries.{work}
+use Rattle.first_profile.specs.Works.{meaning}
+use Rattle.first_profile.specs.Entries.{work}
 use Rattle.laws.proofs.Text.{text-chars}
 use Rattle.cite.proofs.numbers.meant.Goals as goal
 

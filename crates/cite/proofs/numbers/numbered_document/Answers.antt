@@ -1,6 +1,6 @@
 use Rattle.std.proofs.Common.{◌≡◌, ◌<◌, ◌+◌, ℕ, List, [], ◌∷◌, Some, drop, length, get_or, sym, ap, subst, ◌∙◌, arith}
 use Rattle.std.specs.Prelude.{string_bytes}
-use Rattle.biblatex.specs.Entries.{work}
+use Rattle.first_profile.specs.Entries.{work}
 use Rattle.cite.specs.declared.document.Citation.{Citation}
 use Rattle.cite.specs.Marker as marker
 use Rattle.cite.specs.Views.{citation, citations, spelled}

@@ -3,9 +3,9 @@ use Rattle.std.specs.Borrow.{Bor}
 use Rattle.std.specs.List.{list_any, position_or_len}
 use Rattle.std.specs.Str.{bytes_eq}
 use Rattle.std.proofs.lemmas.List.{map_push}
-use Rattle.biblatex.specs.Works.{Work}
-use Rattle.biblatex.specs.declared.entry.Entry.{Entry}
-use Rattle.biblatex.specs.Entries.{work}
+use Rattle.first_profile.specs.Works.{Work}
+use Rattle.first_profile.specs.declared.entry.Entry.{Entry}
+use Rattle.first_profile.specs.Entries.{work}
 use Rattle.cite.specs.Order.{is_same}
 use Rattle.cite.specs.Orders.{cited_works}
 use Rattle.cite.proofs.Numbering.{any-map, position-map, found-by_key, position-by_key, keys-works, position-with}

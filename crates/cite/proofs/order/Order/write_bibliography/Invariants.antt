@@ -1,6 +1,6 @@
 use Rattle.std.proofs.Common.{◌≡◌, ◌++◌, take}
 use Rattle.std.specs.Prelude.{string_bytes, map}
-use Rattle.biblatex.specs.Entries.{work}
+use Rattle.first_profile.specs.Entries.{work}
 use Rattle.cite.specs.Output.{bibliography}
 use Rattle.cite.proofs.order.Order.write_bibliography.Given as goal
 
