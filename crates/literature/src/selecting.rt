@@ -211,27 +211,6 @@ fn hands_out_bindings(rt: HostRuntime) -> Result<(), Fail> {
     Ok(())
 }
 
-#[test]
-fn lists_bindings(rt: HostRuntime) -> Result<(), Fail> {
-    let article = article(rt.alloc())?;
-    let selector = Selector::parse(rt.alloc(), "a:* > (b:* & a:*) | a:* > b:*").expect(
-        &rt,
-        "a selector",
-    );
-    let bindings = selector
-        .apply(rt.alloc(), &article)?
-        .expect(&rt, "an answer");
-    let mut listed = String::new(rt.alloc());
-    for (name, entry) in bindings.iter() {
-        write!(listed, "{name} {};", entry.key())?;
-    }
-    for name in bindings.keys() {
-        write!(listed, "{name};")?;
-    }
-    assert_eq!(rt; listed.as_str(), "a article;b periodical;a;b;");
-    Ok(())
-}
-
 /// An entry with so many books for parents, and a selector of so many members for them.
 fn is_met_by_many(alloc: Global, members: usize, books: usize) -> Result<bool, SelectorError> {
     let mut parents = Vec::new(alloc);

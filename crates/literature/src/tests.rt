@@ -2,7 +2,6 @@
 
 use crate::{Date, Entry, EntryType, Library};
 use std::alloc::{AllocError, Global};
-use std::fmt::Write;
 use std::test::Fail;
 
 /// A year.
@@ -38,22 +37,5 @@ fn keeps_places(rt: HostRuntime) -> Result<(), Fail> {
     assert!(rt; library.get("a").and_then(Entry::date) == Some(&year(3)));
     assert!(rt; library.remove("a").is_some());
     assert!(rt; library.nth(0).map(Entry::key) == Some("b"));
-    Ok(())
-}
-
-#[test]
-fn lists_entries(rt: HostRuntime) -> Result<(), Fail> {
-    let library = library(rt.alloc())?;
-    let mut listed = String::new(rt.alloc());
-    for key in library.keys() {
-        write!(listed, "{key};")?;
-    }
-    for entry in &library {
-        write!(listed, "{};", entry.key())?;
-    }
-    for entry in library {
-        write!(listed, "{};", entry.key())?;
-    }
-    assert_eq!(rt; listed.as_str(), "a;b;a;b;a;b;");
     Ok(())
 }

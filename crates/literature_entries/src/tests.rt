@@ -1,9 +1,6 @@
 //! Rows of entries.
 
-ghost use Rattle.std.specs.Prelude.{◌≡◌, ◌↔◌, IsTrue, fold};
-ghost use Rattle.std.specs.Hash as fed;
-ghost use Rattle.std.specs.Hash.DefaultHasher as sip;
-ghost use Rattle.literature_entries.specs.Views as views;
+ghost use Rattle.std.specs.Prelude.{◌≡◌, ◌↔◌, IsTrue};
 ghost use Rattle.literature_entries.specs.Wholes.{whole};
 
 use crate::Entry;
@@ -136,42 +133,65 @@ fn are_equal(a: &Entry, b: &Entry) -> bool
     *a == *b
 }
 
-/// The hash of an entry, which is that of its key.
-fn hash_of(entry: &Entry) -> u64
-    ensures { result ≡ sip.finish (fold sip.write sip.initial (fed.str (views.key entry.now))) }
-{
+/// The hash of an entry.
+fn hash_of(entry: &Entry) -> u64 {
     let mut state = DefaultHasher::new();
     entry.hash(&mut state);
     state.finish()
 }
 
-/// Equal entries have one hash.
-fn hash_alike(a: &Entry, b: &Entry) -> bool
-    ensures { IsTrue result }
-{
+/// Whether two differ, or have one hash.
+fn hash_alike(a: &Entry, b: &Entry) -> bool {
     *a != *b || hash_of(a) == hash_of(b)
 }
 
+/// Whether two are equal; they are let go of then.
+fn is_same(one: Entry, other: Entry) -> bool {
+    are_equal(&one, &other)
+}
+
+/// Whether two have one hash; they are let go of then.
+fn is_hashed_alike(one: Entry, other: Entry) -> bool {
+    hash_of(&one) == hash_of(&other) && hash_alike(&one, &other)
+}
+
+/// The article, with a year.
+fn dated_article(alloc: Global) -> Result<Entry, AllocError> {
+    let mut entry = article(alloc)?;
+    entry.set_date(year(1972));
+    Ok(entry)
+}
+
 #[test]
-fn compares_entries(rt: HostRuntime) -> Result<(), Fail> {
+fn equal_entries_hold_the_same(rt: HostRuntime) -> Result<(), Fail> {
     let one = article(rt.alloc())?;
-    let mut other = article(rt.alloc())?;
-    assert!(rt; are_equal(&one, &other));
-    other.set_date(year(1972));
-    assert!(rt; !are_equal(&one, &other));
-    assert!(rt; hash_of(&one) == hash_of(&other));
+    assert!(rt; is_same(one, article(rt.alloc())?));
     Ok(())
 }
 
 #[test]
-fn compares_parents(rt: HostRuntime) -> Result<(), Fail> {
+fn entries_of_other_fields_differ(rt: HostRuntime) -> Result<(), Fail> {
     let one = article(rt.alloc())?;
-    let other = part_of(
-        rt.alloc(),
-        "article",
-        alone(rt.alloc(), issue(rt.alloc())?)?,
-    )?;
-    assert!(rt; !are_equal(&one, &other));
-    assert!(rt; hash_alike(&one, &other));
+    assert!(rt; !is_same(one, dated_article(rt.alloc())?));
+    Ok(())
+}
+
+#[test]
+fn entries_of_one_key_have_one_hash(rt: HostRuntime) -> Result<(), Fail> {
+    let one = article(rt.alloc())?;
+    assert!(rt; is_hashed_alike(one, dated_article(rt.alloc())?));
+    Ok(())
+}
+
+/// An article without the book among its parents.
+fn article_of_an_issue(alloc: Global) -> Result<Entry, AllocError> {
+    let parents = alone(alloc, issue(alloc)?)?;
+    part_of(alloc, "article", parents)
+}
+
+#[test]
+fn entries_of_other_parents_differ(rt: HostRuntime) -> Result<(), Fail> {
+    let one = article(rt.alloc())?;
+    assert!(rt; !is_same(one, article_of_an_issue(rt.alloc())?));
     Ok(())
 }
