@@ -1,9 +1,9 @@
 //! Bib texts of every form, read to entries with their references resolved.
 
-use biblatex::{
-    Bibliography, Chunk, Entry, ParseError, ParseErrorKind, RawBibliography, Spanned, Token,
-    TypeErrorKind,
-};
+use biblatex_bibliography::{Bibliography, ParseError};
+use biblatex_content::{Chunk, Spanned};
+use biblatex_entries::Entry;
+use biblatex_text::RawBibliography;
 use std::alloc::{AllocError, Global};
 use std::test::Fail;
 
@@ -168,31 +168,4 @@ fn each_entry_is_made_once(rt: HostRuntime) -> Result<(), Fail> {
     let counted = Bibliography::from_raw_counted(rt.alloc(), raw)?;
     assert_eq!(rt; counted.count, 3);
     Ok(())
-}
-
-/// Whether the text is refused for this.
-fn is_refused_for(alloc: Global, text: &str, wanted: &ParseErrorKind) -> bool {
-    match Bibliography::parse(alloc, text) {
-        Err(ParseError::Refused { kind, .. }) => kind == *wanted,
-        _ => false,
-    }
-}
-
-#[test]
-fn faults_have_their_kinds(rt: HostRuntime) {
-    let rows = [
-        (
-            "@book{a, title={\\'}} @book{a, title = zz}",
-            ParseErrorKind::MalformedCommand,
-        ),
-        ("@book{a title={A}}", ParseErrorKind::Expected(Token::Comma)),
-        ("@book a", ParseErrorKind::Expected(Token::OpeningBrace)),
-        (
-            "@book{a, crossref={b}} @book{b, date={1}}",
-            ParseErrorKind::ResolutionError(TypeErrorKind::WrongNumberOfDigits),
-        ),
-    ];
-    for (text, wanted) in rows {
-        assert!(rt; is_refused_for(rt.alloc(), text, &wanted), "{text}");
-    }
 }
