@@ -4,7 +4,7 @@ use Rattle.std.specs.Str.{bytes_eq}
 use Rattle.std.specs.Borrow.{Bor}
 use Rattle.std.specs.Io.KnownBytes.{Appends}
 use lib.Chars.{codes}
-use Rattle.sinks.specs.Sinks.{HasFailed}
+use Rattle.sinks.specs.Sinks.{HasFailed, AppendsFront}
 use Rattle.cite.specs.Verdict.{Refusal, verdict}
 use Rattle.cite.specs.Answers.{Writes}
 use Rattle.cite.specs.declared.format.BufWriteFormat.{BufWriteFormat}
@@ -18,22 +18,27 @@ use Rattle.cite.specs.declared.program.RunFault.TheVariants as faults
 abbrev pub ServesFiles : (List ℕ → Option (List ℕ)) → List ℕ → List ℕ → ℕ → BufWriteFormat → (List ℕ → Type 0) → Type 0
 ServesFiles holds bib document sections format P = IfSome (holds bib) (λ b. IfSome (holds document) (λ d. Writes (verdict b d sections format) P))
 
--- The words are a style, a format, two paths and sections, and there is an output of the files, of which this holds. (Other
--- formats than plain text are refused, so an output is one of plain text.)
+-- the format of that name
+abbrev pub format_of : List ℕ → Option BufWriteFormat
+format_of name = if bytes_eq name (codes "plain") then Some Plain else (if bytes_eq name (codes "html") then Some Html else None)
+
+-- the same, where the format has that name
+abbrev pub ServesAs : (List ℕ → Option (List ℕ)) → Option BufWriteFormat → List ℕ → List ℕ → ℕ → (List ℕ → Type 0) → Type 0
+ServesAs holds None bib document sections P = ⊥
+ServesAs holds (Some format) bib document sections P = ServesFiles holds bib document sections format P
+
+-- The words are the style, the name of a format, two paths and sections, and there is an output of the files, of which this holds.
 abbrev pub Serves : (List ℕ → Option (List ℕ)) → List (Bor (List ℕ)) → (List ℕ → Type 0) → Type 0
 Serves holds [] P = ⊥
 Serves holds (style ∷ []) P = ⊥
 Serves holds (style ∷ format ∷ []) P = ⊥
 Serves holds (style ∷ format ∷ bib ∷ []) P = ⊥
-Serves holds (style ∷ format ∷ bib ∷ document ∷ sections) P = ServesFiles holds bib.now document.now (length sections) Plain P
+Serves holds (style ∷ format ∷ bib ∷ document ∷ sections) P = (bytes_eq style.now (codes "num") ≡ true) × ServesAs holds (format_of format.now) bib.now document.now (length sections) P
 
--- it is as it was, but for a call of `write` that failed or took nothing
-abbrev pub IsUntouched : {O : Type 0} → O → O → ℕ → ℕ → Type 0
-IsUntouched old new failed_before failed_after = (new ≡ old) ⊎ HasFailed failed_before failed_after
-
--- the format of that name
-abbrev pub format_of : List ℕ → Option BufWriteFormat
-format_of name = if bytes_eq name (codes "plain") then Some Plain else (if bytes_eq name (codes "html") then Some Html else None)
+-- Nothing was written; or a call of `write` failed or took nothing, and a beginning of an output that was served was taken.
+abbrev pub IsUntouched : {O : Type 0} → ((List ℕ → Type 0) → Type 0) → O → O → Option (List ℕ) → Option (List ℕ) → ℕ → ℕ → Type 0
+IsUntouched Served old new taken_before taken_after failed_before failed_after =
+    (new ≡ old) ⊎ (HasFailed failed_before failed_after × Served (λ output. AppendsFront taken_before taken_after output))
 
 -- Why files are not served, and what is said of it: the bytes at a path are not known, and it cannot be read; or the bytes at
 -- both paths are refused, as far as they are known, whatever is said of it.
@@ -70,9 +75,10 @@ IsFault holds (style ∷ format ∷ []) said = said ≡ usage
 IsFault holds (style ∷ format ∷ bib ∷ []) said = said ≡ usage
 IsFault holds (style ∷ format ∷ bib ∷ document ∷ sections) said = IsStyleFault holds (bytes_eq style.now (codes "num")) style.now format.now bib.now document.now (length sections) said
 
--- one of these, or there was no memory, or the output was not taken whole
-abbrev pub IsReason : (List ℕ → Type 0) → ℕ → ℕ → List ℕ → Type 0
-IsReason Faults failed_before failed_after said = Faults said ⊎ ((said ≡ codes "out of memory") ⊎ ((said ≡ codes "write failed") × HasFailed failed_before failed_after))
+-- one of these, or there was no memory, or an output that was served was not taken whole
+abbrev pub IsReason : (List ℕ → Type 0) → ((List ℕ → Type 0) → Type 0) → ℕ → ℕ → List ℕ → Type 0
+IsReason Faults Served failed_before failed_after said =
+    Faults said ⊎ ((said ≡ codes "out of memory") ⊎ ((said ≡ codes "write failed") × HasFailed failed_before failed_after × Served (λ output. ⊤)))
 
 -- what is said of a fault; of a refusal of the files' bytes the text is left open
 abbrev pub said_of : RunFault → Option (List ℕ)

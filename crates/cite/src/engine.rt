@@ -7,7 +7,7 @@ ghost use Rattle.first_profile.specs.Works.{Work};
 ghost use Rattle.cite.specs.Order.{names_of};
 ghost use Rattle.cite.specs.Orders.{cited_works};
 ghost use Rattle.std.specs.Io.KnownBytes.{Appends};
-ghost use Rattle.sinks.specs.Sinks.{HasFailed, AppendsFront};
+ghost use Rattle.sinks.specs.Sinks.{next_count, HasFailed, AppendsFront};
 ghost use Rattle.cite.specs.Verdict.{document_stage, supported_stage, output_stage, verdict};
 ghost use Rattle.cite.specs.Views.{parsed};
 ghost use Rattle.cite.specs.Answers.{Answers, Writes, IsRefusalUnlessWrite, UnlessWrite, OnWrite};
@@ -131,6 +131,9 @@ pub fn cite<W: Sink>(
     // After a failed write a beginning of the output stands, and some call of `write` failed or took nothing.
     ensures cut_short { IfErr result (λ e. OnWrite e (Writes (verdict bib.now document.now (length sections.now) format) (λ output. AppendsFront (W.contents sink.old) (W.contents sink.new) output))) }
     ensures cause { IfErr result (λ e. OnWrite e (HasFailed (W.failures sink.old) (W.failures sink.new))) }
+    // No call of `write` failed before Ok, and none was tried after one that did.
+    ensures quiet { OnOk result (W.failures sink.new ≡ W.failures sink.old) }
+    ensures once { IfErr result (λ e. OnWrite e (W.failures sink.new ≡ next_count (W.failures sink.old))) }
 {
     let output = decide(alloc, bib, document, sections, format)?;
     match write_all(sink, output.as_bytes()) {

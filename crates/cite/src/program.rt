@@ -61,11 +61,11 @@ pub fn run<F: ReadPath, O: Sink, E: Sink>(
     ensures status { result ≤ 1 }
     // After the status 0 `out` has taken exactly the output of the files, as far as their bytes are known.
     ensures served { result ≡ 0 → Serves (F.holds files.now) words.now (λ output. Appends (O.contents out.old) (O.contents out.new) output) }
-    // After the status 1 `out` is as it was, but for a failed write of the output.
-    ensures untouched { result ≡ 1 → IsUntouched out.old out.new (O.failures out.old) (O.failures out.new) }
+    // After the status 1 `out` is as it was; or a write of the output failed, and a beginning of it stands.
+    ensures untouched { result ≡ 1 → IsUntouched (Serves (F.holds files.now) words.now) out.old out.new (O.contents out.old) (O.contents out.new) (O.failures out.old) (O.failures out.new) }
     // Then `err` has taken one line that begins `cite: ` and says the first fault, or that memory ran out or the write failed; or
     // it failed itself.
-    ensures said { result ≡ 1 → Says (IsReason (IsFault (F.holds files.now) words.now) (O.failures out.old) (O.failures out.new)) (E.contents err.old) (E.contents err.new) (E.failures err.old) (E.failures err.new) }
+    ensures said { result ≡ 1 → Says (IsReason (IsFault (F.holds files.now) words.now) (Serves (F.holds files.now) words.now) (O.failures out.old) (O.failures out.new)) (E.contents err.old) (E.contents err.new) (E.failures err.old) (E.failures err.new) }
     // After the status 0 `err` is as it was.
     ensures silent { result ≡ 0 → err.new ≡ err.old }
 {
@@ -108,8 +108,8 @@ fn serve<'w, F: ReadPath, O: Sink>(
     out: &mut O,
 ) -> Result<(), RunFault<'w>>
     ensures served { OnOk result (Serves (F.holds files.now) words.now (λ output. Appends (O.contents out.old) (O.contents out.new) output)) }
-    ensures untouched { OnErr result (IsUntouched out.old out.new (O.failures out.old) (O.failures out.new)) }
-    ensures fault { IfErr result (λ f. Explains f (IsReason (IsFault (F.holds files.now) words.now) (O.failures out.old) (O.failures out.new))) }
+    ensures untouched { OnErr result (IsUntouched (Serves (F.holds files.now) words.now) out.old out.new (O.contents out.old) (O.contents out.new) (O.failures out.old) (O.failures out.new)) }
+    ensures fault { IfErr result (λ f. Explains f (IsReason (IsFault (F.holds files.now) words.now) (Serves (F.holds files.now) words.now) (O.failures out.old) (O.failures out.new))) }
 {
     let [style, format, bib, document, sections @ ..] = words else {
         return Err(RunFault::Usage);
@@ -135,8 +135,8 @@ fn cite_files<'w, F: ReadPath, O: Sink>(
     out: &mut O,
 ) -> Result<(), RunFault<'w>>
     ensures served { OnOk result (ServesFiles (F.holds files.now) bib.now document.now (length sections.now) format (λ output. Appends (O.contents out.old) (O.contents out.new) output)) }
-    ensures untouched { OnErr result (IsUntouched out.old out.new (O.failures out.old) (O.failures out.new)) }
-    ensures fault { IfErr result (λ f. Explains f (IsReason (IsFileFault (F.holds files.now) bib.now document.now (length sections.now) format) (O.failures out.old) (O.failures out.new))) }
+    ensures untouched { OnErr result (IsUntouched (ServesFiles (F.holds files.now) bib.now document.now (length sections.now) format) out.old out.new (O.contents out.old) (O.contents out.new) (O.failures out.old) (O.failures out.new)) }
+    ensures fault { IfErr result (λ f. Explains f (IsReason (IsFileFault (F.holds files.now) bib.now document.now (length sections.now) format) (ServesFiles (F.holds files.now) bib.now document.now (length sections.now) format) (O.failures out.old) (O.failures out.new))) }
 {
     let bib = read(alloc, files, bib)?;
     let document = read(alloc, files, document)?;

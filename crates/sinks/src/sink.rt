@@ -3,7 +3,7 @@
 ghost use Rattle.std.specs.Prelude.{◌≡◌, List, Option, ℕ, length, OnOk, OnErr, IfErr};
 ghost use Rattle.std.specs.Io.{WritesAtMost};
 ghost use Rattle.std.specs.Io.KnownBytes.{Appends, WriteAppends};
-ghost use Rattle.sinks.specs.Sinks.{CountsFailure, HasFailed, AppendsFront};
+ghost use Rattle.sinks.specs.Sinks.{next_count, CountsFailure, HasFailed, AppendsFront};
 
 use std::io;
 use std::io::Write;
@@ -79,6 +79,9 @@ pub fn write_all<W: Sink>(sink: &mut W, bytes: &[u8]) -> Result<(), SinkFault>
     ensures ok { OnOk result (Appends (W.contents sink.old) (W.contents sink.new) bytes.now) }
     ensures err { OnErr result (AppendsFront (W.contents sink.old) (W.contents sink.new) bytes.now) }
     ensures cause { OnErr result (HasFailed (W.failures sink.old) (W.failures sink.new)) }
+    // No call failed; or the last one did, and none was tried after it.
+    ensures quiet { OnOk result (W.failures sink.new ≡ W.failures sink.old) }
+    ensures once { OnErr result (W.failures sink.new ≡ next_count (W.failures sink.old)) }
 {
     let mut rest = bytes;
     while !rest.is_empty() {
