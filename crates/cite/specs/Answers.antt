@@ -1,7 +1,8 @@
 -- What a call answers where its definition gives a value or a refusal.
-use Rattle.std.specs.Prelude.{◌≡◌, Result, Ok, Err, string_bytes}
+use Rattle.std.specs.Prelude.{◌≡◌, Option, Some, Result, Ok, Err, string_bytes}
 use Rattle.first_profile.specs.declared.error.ParseError.TheVariants as parse
 use Rattle.cite.specs.Verdict.{Refusal, not_yet, bib_not_utf8, duplicate_key, document_not_utf8, no_marker, unknown_name, overflow}
+use Rattle.sinks.specs.declared.sink.SinkFault.{SinkFault}
 use Rattle.cite.specs.declared.error.CiteError.{CiteError}
 use Rattle.cite.specs.declared.error.CiteError.TheVariants as errors
 use Rattle.cite.specs.declared.error.BibTextError.TheVariants as bib
@@ -39,6 +40,11 @@ UnlessWrite other P = P
 abbrev pub OnWrite : CiteError → Type 0 → Type 0
 OnWrite (errors.Write fault) P = P
 OnWrite other P = Unit {0}
+
+-- the fault of a failed write is this
+abbrev pub IsLastFault : CiteError → Option SinkFault → Type 0
+IsLastFault (errors.Write fault) last = last ≡ Some fault
+IsLastFault other last = Unit {0}
 
 -- the error is the refusal that is wanted, or a failed write
 abbrev pub IsRefusalUnlessWrite : {Y : Type 0} → CiteError → Result Y Refusal → Type 0

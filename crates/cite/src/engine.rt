@@ -10,7 +10,7 @@ ghost use Rattle.std.specs.Io.KnownBytes.{Appends};
 ghost use Rattle.sinks.specs.Sinks.{next_count, HasFailed, AppendsFront};
 ghost use Rattle.cite.specs.Verdict.{document_stage, supported_stage, output_stage, verdict};
 ghost use Rattle.cite.specs.Views.{parsed};
-ghost use Rattle.cite.specs.Answers.{Answers, Writes, IsRefusalUnlessWrite, UnlessWrite, OnWrite};
+ghost use Rattle.cite.specs.Answers.{Answers, Writes, IsRefusalUnlessWrite, UnlessWrite, OnWrite, IsLastFault};
 
 use crate::document::Document;
 use crate::error::{BibTextError, CiteError, DocumentTextError};
@@ -134,6 +134,8 @@ pub fn cite<W: Sink>(
     // No call of `write` failed before Ok, and none was tried after one that did.
     ensures quiet { OnOk result (W.failures sink.new ≡ W.failures sink.old) }
     ensures once { IfErr result (λ e. OnWrite e (W.failures sink.new ≡ next_count (W.failures sink.old))) }
+    // The fault of a failed write is what that call did.
+    ensures fault { IfErr result (λ e. IsLastFault e (W.last_fault sink.new)) }
 {
     let output = decide(alloc, bib, document, sections, format)?;
     match write_all(sink, output.as_bytes()) {

@@ -1,6 +1,8 @@
 -- What a sink took, and how often it failed.
-use Rattle.std.specs.Prelude.{◌≡◌, ℕ, ◌+◌, ◌-◌, ◌^◌, ◌<◌, ◌⊎◌, ◌==◌, ◌&&◌, nat_lt, min, List, ◌++◌, length, Option, Result, MatchResult, MatchBool}
+use Rattle.std.specs.Prelude.{◌≡◌, ℕ, ◌+◌, ◌-◌, ◌^◌, ◌<◌, ◌⊎◌, ◌==◌, ◌&&◌, nat_lt, min, List, ◌++◌, length, Option, Some, None, Result, Ok, Err, MatchResult, MatchBool, if◌then◌else◌}
 use Rattle.std.specs.Io.KnownBytes.{Appends}
+use Rattle.sinks.specs.declared.sink.SinkFault.{SinkFault}
+use Rattle.sinks.specs.declared.sink.SinkFault.TheVariants.{Failed, TookNothing}
 
 -- the next count of failed calls, which stays at the greatest u64
 abbrev pub next_count : ℕ → ℕ
@@ -17,3 +19,16 @@ HasFailed old new = (old < new) ⊎ (new ≡ 2 ^ 64 - 1)
 -- known bytes grow by a beginning of the text
 abbrev pub AppendsFront : Option (List ℕ) → Option (List ℕ) → List ℕ → Type 0
 AppendsFront old new bytes = (front : List ℕ) × (rest : List ℕ) × (bytes ≡ front ++ rest) × Appends old new front
+
+-- what is wrong with the answer of a call of `write` with these bytes, if something is
+abbrev pub fault_in : {E : Type 0} → Result ℕ E → List ℕ → Option SinkFault
+fault_in (Err e) bytes = Some Failed
+fault_in (Ok n) bytes = if n == 0 && nat_lt 0 (length bytes) then Some TookNothing else None
+
+-- the last fault after such a call
+abbrev pub or_before : Option SinkFault → Option SinkFault → Option SinkFault
+or_before before None = before
+or_before before (Some fault) = Some fault
+
+abbrev pub fault_after : {E : Type 0} → Option SinkFault → Result ℕ E → List ℕ → Option SinkFault
+fault_after before r bytes = or_before before (fault_in r bytes)

@@ -1,9 +1,10 @@
 //! Where output goes: sinks, and the loop that writes to them.
 
-ghost use Rattle.std.specs.Prelude.{◌≡◌, List, Option, ℕ, length, OnOk, OnErr, IfErr};
+ghost use Rattle.std.specs.Prelude.{◌≡◌, List, Option, None, Some, ℕ, length, OnOk, OnErr, IfErr};
 ghost use Rattle.std.specs.Io.{WritesAtMost};
 ghost use Rattle.std.specs.Io.KnownBytes.{Appends, WriteAppends};
-ghost use Rattle.sinks.specs.Sinks.{next_count, CountsFailure, HasFailed, AppendsFront};
+ghost use Rattle.sinks.specs.declared.sink.SinkFault.{SinkFault};
+ghost use Rattle.sinks.specs.Sinks.{next_count, fault_in, fault_after, CountsFailure, HasFailed, AppendsFront};
 
 use std::io;
 use std::io::Write;
@@ -14,16 +15,23 @@ pub trait Sink {
     ghost contents: { Self → Option (List ℕ) };
     /// How many calls failed or took 0 bytes of some; the last value of a `u64` stays.
     ghost failures: { Self → ℕ };
+    /// What the last of these calls did, if there was one.
+    ghost last_fault: { Self → Option SinkFault };
 
     /// Takes a front of the bytes, and says how many it took.
     fn write(&mut self, bytes: &[u8]) -> io::Result<usize>
         ensures bound { WritesAtMost result bytes.now }
         ensures bytes { WriteAppends (contents self.old) (contents self.new) result bytes.now }
-        ensures count { CountsFailure (failures self.old) (failures self.new) result bytes.now };
+        ensures count { CountsFailure (failures self.old) (failures self.new) result bytes.now }
+        ensures fault { last_fault self.new ≡ fault_after (last_fault self.old) result bytes.now };
 
     /// How many calls failed or took 0 bytes of some; the last value stays.
     fn failures(&self) -> u64
         ensures { result ≡ failures self.now };
+
+    /// What the last of these calls did, if there was one.
+    fn last_fault(&self) -> Option<SinkFault>
+        ensures { result ≡ last_fault self.now };
 }
 
 /// Why a sink did not take all of an output.
@@ -40,6 +48,7 @@ pub enum SinkFault {
 pub struct Tap<W> {
     writer: W,
     failures: u64,
+    last_fault: Option<SinkFault>,
 }
 
 impl<W: Write> Tap<W> {
@@ -47,10 +56,12 @@ impl<W: Write> Tap<W> {
     pub fn new(writer: W) -> Tap<W>
         ensures contents { W.contents result.writer ≡ W.contents writer }
         ensures count { result.failures ≡ 0 }
+        ensures fault { result.last_fault ≡ None }
     {
         Tap {
             writer,
             failures: 0,
+            last_fault: None,
         }
     }
 }
@@ -60,16 +71,34 @@ impl<W: Write> Sink for Tap<W> {
 
     ghost failures = { λ t. t.failures };
 
+    ghost last_fault = { λ t. t.last_fault };
+
     fn write(&mut self, bytes: &[u8]) -> io::Result<usize> {
         let taken = self.writer.write(bytes);
-        if matches!(taken, Err(_)) || (matches!(taken, Ok(0)) && !bytes.is_empty()) {
+        if let Some(fault) = fault_in(&taken, bytes) {
             self.failures = self.failures.saturating_add(1);
+            self.last_fault = Some(fault);
         }
         taken
     }
 
     fn failures(&self) -> u64 {
         self.failures
+    }
+
+    fn last_fault(&self) -> Option<SinkFault> {
+        self.last_fault
+    }
+}
+
+/// What is wrong with the answer of a call of `write` with these bytes, if something is.
+fn fault_in(taken: &io::Result<usize>, bytes: &[u8]) -> Option<SinkFault>
+    ensures { result ≡ fault_in taken.now bytes.now }
+{
+    match taken {
+        Err(_) => Some(SinkFault::Failed),
+        Ok(0) if !bytes.is_empty() => Some(SinkFault::TookNothing),
+        Ok(_) => None,
     }
 }
 
@@ -82,6 +111,8 @@ pub fn write_all<W: Sink>(sink: &mut W, bytes: &[u8]) -> Result<(), SinkFault>
     // No call failed; or the last one did, and none was tried after it.
     ensures quiet { OnOk result (W.failures sink.new ≡ W.failures sink.old) }
     ensures once { OnErr result (W.failures sink.new ≡ next_count (W.failures sink.old)) }
+    // The fault is what that call did.
+    ensures fault { IfErr result (λ e. W.last_fault sink.new ≡ Some e) }
 {
     let mut rest = bytes;
     while !rest.is_empty() {
