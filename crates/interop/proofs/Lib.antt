@@ -1,0 +1,10 @@
+pub mod Parting
+pub mod Growing
+pub mod Faulty
+pub mod Entries
+pub mod Members
+pub mod FieldByField
+pub mod Lists
+pub mod Titled
+pub mod Shelves
+pub mod Dated

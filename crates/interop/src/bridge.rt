@@ -1,0 +1,206 @@
+//! Entries of a file as entries of a library.
+
+ghost use Rattle.std.specs.Prelude.{◌≡◌, ◌++◌, ◌∷◌, [], List, map, IfOk, OnOk, string_bytes, codes};
+ghost use Rattle.std.specs.Option.{option_map};
+ghost use Rattle.biblatex_entries.specs.Entries.{Source, source, sources};
+ghost use Rattle.biblatex_entries.specs.TypeNames.{type_name, written_type};
+ghost use Rattle.biblatex_content.specs.Views.{styled};
+ghost use Rattle.literature.specs.Keys.{AreDistinct};
+ghost use Rattle.literature_entries.specs.Views as views;
+ghost use Rattle.interop.specs.Values.{values};
+ghost use Rattle.interop.specs.Kinds.{row_of};
+ghost use Rattle.literature_types.specs.declared.entry_type.EntryType.TheVariants as works;
+ghost use Rattle.literature_entries.specs.Wholes.{Holding, wholes, whole};
+ghost use Rattle.interop.specs.Fields.{held_fields};
+ghost use Rattle.interop.specs.Bridge.{bridged, unless_faulty, work_of, container_of, further, titled_under};
+ghost use Rattle.interop.specs.Shelf.{is_xdata, all_faults, all_works, put_behind, library_of, IsPut, AreAlike};
+ghost use Rattle.interop.specs.Views.{container, dates_of, shelf, fault, row, Gives, IsBare};
+
+use crate::dates::{Dates, read_dates};
+use crate::error::{BridgeError, FieldFault};
+use crate::fields::{hold, own_entry};
+use crate::kinds::{Container, row_of};
+use crate::parents::{holding, push_further};
+use crate::texts::owned;
+use crate::values::value;
+use biblatex_bibliography::Bibliography;
+use biblatex_content::{Chunk, Spanned};
+use biblatex_entries::{Entry as SourceEntry, EntryType as SourceType};
+use biblatex_fields::Fields;
+use literature::Library;
+use literature_entries::Entry;
+use literature_types::EntryType;
+use std::alloc::{AllocError, Global};
+
+/// What an entry of a file is in a library: its type, its fields and the works that it is part of, by the names under which its
+/// type and its fields are written.
+///
+/// # Errors
+/// `Fields` with all dates that cannot be read, in the order `date`, `eventdate`, `origdate`, `urldate`; `Memory` where a
+/// request for memory was refused.
+pub fn entry(alloc: Global, read: &SourceEntry) -> Result<Entry, BridgeError>
+    ensures { Gives whole result (bridged (source read.now)) }
+{
+    let dates = read_dates(alloc, read.key.as_str(), &read.fields)?;
+    Ok(work(alloc, read, dates)?)
+}
+
+/// The entry of a library, whose dates have been read.
+fn work(alloc: Global, read: &SourceEntry, dates: Dates) -> Result<Entry, AllocError>
+    requires { dates ≡ dates_of (values read.now.fields) }
+    ensures { IfOk result (λ e. whole e ≡ work_of (string_bytes read.now.key) (written_type (type_name read.now.entry_type)) (values read.now.fields)) }
+{
+    let fields = &read.fields;
+    let row = row_of(&read.entry_type);
+    let key = owned(alloc, read.key.as_str())?;
+    let entry = own_entry(alloc, key, row.entry_type, fields, dates)?;
+    match container_of(row.container, fields) {
+        Some((entry_type, title)) => {
+            let held = holding(alloc, fields, entry_type, title)?;
+            within(alloc, entry, held, fields, dates)
+        }
+        None => by_itself(alloc, entry, fields, dates),
+    }
+}
+
+/// An entry of the work that holds it.
+fn within(
+    alloc: Global,
+    mut entry: Entry,
+    held: Entry,
+    fields: &Fields,
+    dates: Dates,
+) -> Result<Entry, AllocError>
+    requires { dates ≡ dates_of (values fields.now) }
+    ensures { IfOk result (λ e. whole e ≡ Holding (views.key entry) (views.fields entry) (wholes (whole held ∷ further [] (values fields.now)))) }
+{
+    let mut parents = Vec::new(alloc);
+    parents.push(held)?;
+    push_further(alloc, &mut parents, fields, None, dates)?;
+    entry.set_parents(parents);
+    Ok(entry)
+}
+
+/// An entry that no other work holds.
+fn by_itself(
+    alloc: Global,
+    mut entry: Entry,
+    fields: &Fields,
+    dates: Dates,
+) -> Result<Entry, AllocError>
+    requires bare { IsBare (views.fields entry) }
+    requires dates { dates ≡ dates_of (values fields.now) }
+    ensures { IfOk result (λ e. whole e ≡ Holding (views.key entry) (held_fields (values fields.now) (views.fields entry)) (wholes (further (titled_under works.Anthology (codes "series") (values fields.now)) (values fields.now)))) }
+{
+    hold(alloc, &mut entry, fields)?;
+    let mut parents = Vec::new(alloc);
+    push_further(alloc, &mut parents, fields, value(fields, "series"), dates)?;
+    entry.set_parents(parents);
+    Ok(entry)
+}
+
+/// The type of the container and its title, where the title is there.
+fn container_of<'f>(
+    held: Option<Container>,
+    fields: &'f Fields,
+) -> Option<(EntryType, &'f [Spanned<Chunk>])>
+    ensures { option_map (λ c. (c.0, styled c.1.now)) result ≡ container_of (option_map container held) (values fields.now) }
+{
+    let container = held?;
+    let title = value(fields, container.title)?;
+    Some((container.entry_type, title))
+}
+
+/// The library of a file: its entries in order, of equal keys the last at the first's place. Entries of type `xdata`, which only
+/// lend their fields, are passed over with their faults.
+///
+/// # Errors
+/// `Fields` with all dates that cannot be read, in the order of the file; `Memory` where a request for memory was refused.
+pub fn from_biblatex(alloc: Global, bibliography: &Bibliography) -> Result<Library, BridgeError>
+    // The library of the entries, or all faults of works.
+    ensures library { Gives shelf result (library_of bibliography.now.entries) }
+    // The same as of any entries with equal keys, written types and contents under written names.
+    ensures alike { (es : List Source) → AreAlike es bibliography.now.entries → Gives shelf result (library_of es) }
+{
+    let mut library = Library::new(alloc);
+    let mut faults = Vec::new(alloc);
+    put_all(alloc, &mut library, &mut faults, bibliography.entries())?;
+    finished(library, faults)
+}
+
+/// The library, unless there are faults.
+fn finished(library: Library, faults: Vec<FieldFault>) -> Result<Library, BridgeError>
+    ensures { Gives shelf result (unless_faulty (map fault faults.items) (shelf library)) }
+{
+    if faults.is_empty() {
+        return Ok(library);
+    }
+    Err(BridgeError::Fields(faults))
+}
+
+/// Puts works into the library, or faults behind the others.
+fn put_all(
+    alloc: Global,
+    library: &mut Library,
+    faults: &mut Vec<FieldFault>,
+    entries: &[SourceEntry],
+) -> Result<(), AllocError>
+    ensures { OnOk result (unless_faulty (map fault faults.new.items) (shelf library.new) ≡ unless_faulty (map fault faults.old.items ++ all_faults (sources entries.now)) (put_behind (shelf library.old) (all_works (sources entries.now)))) }
+{
+    for read in entries {
+        put_work(alloc, library, faults, read)?;
+    }
+    Ok(())
+}
+
+/// Puts an entry into the library, or its faults behind the others, unless it only lends its fields.
+fn put_work(
+    alloc: Global,
+    library: &mut Library,
+    faults: &mut Vec<FieldFault>,
+    read: &SourceEntry,
+) -> Result<(), AllocError>
+    // The entries behind it make of the library and the faults what it makes of them with those behind it.
+    ensures { OnOk result ((rest : List Source) → unless_faulty (map fault faults.new.items ++ all_faults rest) (put_behind (shelf library.new) (all_works rest)) ≡ unless_faulty (map fault faults.old.items ++ all_faults (source read.now ∷ rest)) (put_behind (shelf library.old) (all_works (source read.now ∷ rest)))) }
+{
+    if is_xdata(&read.entry_type) {
+        return Ok(());
+    }
+    put(alloc, library, faults, read)
+}
+
+/// Whether entries of the type only lend their fields.
+fn is_xdata(entry_type: &SourceType) -> bool
+    ensures { result ≡ is_xdata (written_type (type_name entry_type.now)) }
+{
+    match entry_type {
+        SourceType::XData => true,
+        _ => false,
+    }
+}
+
+/// Puts an entry into the library, or its faults behind the others.
+fn put(
+    alloc: Global,
+    library: &mut Library,
+    faults: &mut Vec<FieldFault>,
+    read: &SourceEntry,
+) -> Result<(), AllocError>
+    ensures { OnOk result (IsPut (shelf library.old) (map fault faults.old.items) (source read.now) (shelf library.new) (map fault faults.new.items)) }
+{
+    match entry(alloc, read) {
+        Ok(work) => library.push(work),
+        Err(BridgeError::Fields(found)) => push_all(faults, found),
+        Err(BridgeError::Memory) => Err(AllocError),
+    }
+}
+
+/// Puts faults behind others.
+fn push_all(faults: &mut Vec<FieldFault>, found: Vec<FieldFault>) -> Result<(), AllocError>
+    ensures { OnOk result (map fault faults.new.items ≡ map fault faults.old.items ++ map fault found.items) }
+{
+    for fault in found {
+        faults.push(fault)?;
+    }
+    Ok(())
+}

@@ -1,0 +1,123 @@
+//! The works that an entry is part of.
+
+ghost use Rattle.std.specs.Prelude.{◌≡◌, ◌||◌, ◌++◌, ◌∷◌, [], map, IfOk, OnOk, option_to_list, codes};
+ghost use Rattle.std.specs.Option.{option_map, is_some};
+ghost use Rattle.biblatex_content.specs.Views.{styled};
+ghost use Rattle.literature_types.specs.declared.entry_type.EntryType.TheVariants as works;
+ghost use Rattle.interop.specs.Values.{values};
+ghost use Rattle.literature_entries.specs.Wholes.{whole};
+ghost use Rattle.interop.specs.Bridge.{titled, titled_under, holding, conference_of, original_of, further};
+ghost use Rattle.interop.specs.Views.{dates_of};
+
+use crate::dates::Dates;
+use crate::fields::hold;
+use crate::readings::{format, format_if, people_under};
+use crate::setting::{set_author, set_date, set_title};
+use crate::texts::empty_text;
+use crate::values::value;
+use biblatex_content::{Chunk, Spanned};
+use biblatex_fields::Fields;
+use literature_dates::Date;
+use literature_entries::Entry;
+use literature_types::EntryType;
+use std::alloc::{AllocError, Global};
+
+/// The work that holds an entry.
+pub(crate) fn holding(
+    alloc: Global,
+    fields: &Fields,
+    entry_type: EntryType,
+    title: &[Spanned<Chunk>],
+) -> Result<Entry, AllocError>
+    ensures { IfOk result (λ e. whole e ≡ holding (values fields.now) entry_type (styled title.now)) }
+{
+    let mut held = Entry::new(empty_text(alloc), entry_type);
+    set_title(&mut held, Some(format(alloc, title)?));
+    set_author(&mut held, people_under(alloc, fields, "bookauthor")?);
+    hold(alloc, &mut held, fields)?;
+    let mut parents = Vec::new(alloc);
+    push_titled(
+        alloc,
+        &mut parents,
+        EntryType::Anthology,
+        value(fields, "series"),
+    )?;
+    held.set_parents(parents);
+    Ok(held)
+}
+
+/// Puts the parents that do not hang on the container last; the series is among them where there is no container.
+pub(crate) fn push_further(
+    alloc: Global,
+    parents: &mut Vec<Entry>,
+    fields: &Fields,
+    series: Option<&[Spanned<Chunk>]>,
+    dates: Dates,
+) -> Result<(), AllocError>
+    requires { dates ≡ dates_of (values fields.now) }
+    ensures { OnOk result (map whole parents.new.items ≡ map whole parents.old.items ++ further (option_to_list (option_map (λ v. titled works.Anthology (styled v.now)) series.entry)) (values fields.now)) }
+{
+    push_titled(alloc, parents, EntryType::Book, value(fields, "maintitle"))?;
+    push_titled(alloc, parents, EntryType::Anthology, series)?;
+    push_conference(alloc, parents, value(fields, "eventtitle"), dates.event)?;
+    push_original(alloc, parents, dates.original)
+}
+
+/// Puts a work of a title alone last, where there is one.
+fn push_titled(
+    alloc: Global,
+    parents: &mut Vec<Entry>,
+    entry_type: EntryType,
+    title: Option<&[Spanned<Chunk>]>,
+) -> Result<(), AllocError>
+    ensures { OnOk result (map whole parents.new.items ≡ map whole parents.old.items ++ option_to_list (option_map (λ v. titled entry_type (styled v.now)) title.entry)) }
+{
+    let Some(title) = title else {
+        return Ok(());
+    };
+    let mut work = Entry::new(empty_text(alloc), entry_type);
+    set_title(&mut work, Some(format(alloc, title)?));
+    Ok(parents.push(work)?)
+}
+
+/// Puts the conference last, where its title or its date is there.
+#[tactic(auto, using(crate::proofs::Titled::no_conference))]
+fn push_conference(
+    alloc: Global,
+    parents: &mut Vec<Entry>,
+    title: Option<&[Spanned<Chunk>]>,
+    date: Option<Date>,
+) -> Result<(), AllocError>
+    ensures { OnOk result (map whole parents.new.items ≡ map whole parents.old.items ++ conference_of (option_map (λ v. styled v.now) title.entry) date) }
+{
+    if !has_conference(title, date) {
+        return Ok(());
+    }
+    let mut conference = Entry::new(empty_text(alloc), EntryType::Conference);
+    set_title(&mut conference, format_if(alloc, title)?);
+    set_date(&mut conference, date);
+    Ok(parents.push(conference)?)
+}
+
+/// Whether a title or a date is there.
+fn has_conference(title: Option<&[Spanned<Chunk>]>, date: Option<Date>) -> bool
+    ensures { result ≡ (is_some title.entry || is_some date) }
+{
+    title.is_some() || date.is_some()
+}
+
+/// Puts the original last, where its date is there.
+fn push_original(
+    alloc: Global,
+    parents: &mut Vec<Entry>,
+    date: Option<Date>,
+) -> Result<(), AllocError>
+    ensures { OnOk result (map whole parents.new.items ≡ map whole parents.old.items ++ original_of date) }
+{
+    let Some(date) = date else {
+        return Ok(());
+    };
+    let mut original = Entry::new(empty_text(alloc), EntryType::Original);
+    original.set_date(date);
+    Ok(parents.push(original)?)
+}
