@@ -1,10 +1,10 @@
 -- What the program serves, from what it makes of its words.
 use Rattle.std.proofs.Common.{◌≡◌, ℕ, ◌≤◌, Bool, List, [], ◌∷◌, true, length, get_or, drop, Option, Some, None, Result, Ok, Err, OnOk, OnErr, IfErr, sym, subst, arith, ◌⊎◌, inl, inr}
 use lib.Chars.{codes}
-use Rattle.std.specs.Prelude.{IfSome, ⊤}
+use Rattle.std.specs.Prelude.{IfSome}
 use Rattle.std.specs.Str.{bytes_eq}
 use Rattle.std.specs.Borrow.{Bor}
-use Rattle.cite.specs.Verdict.{Refusal, verdict}
+use Rattle.cite.specs.Verdict.{verdict}
 use Rattle.cite.specs.Answers.{Writes}
 use Rattle.std.specs.Io.KnownBytes.{Appends}
 use Rattle.sinks.specs.Sinks.{HasFailed}
@@ -74,11 +74,6 @@ err_weaker (Err e) f h = f h
 pub if_err_weaker : {X E : Type 0} (r : Result X E) {P Q : E → Type 0} → ((e : E) → P e → Q e) → IfErr r P → IfErr r Q
 if_err_weaker (Ok x) f h = h
 if_err_weaker (Err e) f h = f e h
-
--- there is an output
-pub some_output : {Y : Type 0} (r : Result Y Refusal) (P : Y → Type 0) → Writes r P → Writes r (λ y. ⊤)
-some_output (Ok y) P h = tt
-some_output (Err e) P h = h
 
 -- what became of writing a line
 pub said_line : {E : Type 0} (r : Result (Unit {0}) E) (Reasons : List ℕ → Type 0) (bytes : List ℕ) (old new : Option (List ℕ)) (fo fn : ℕ)
