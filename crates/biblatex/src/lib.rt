@@ -19,4 +19,3 @@ pub use biblatex_text::{
 pub use biblatex_types::{
     ChunksParse, EditorType, FieldType, FieldTypeError, Gender, PermissiveType, TypeError,
 };
-pub use first_profile::is_first_profile;

@@ -4,5 +4,9 @@ pub mod Documents
 pub mod Numbering
 pub mod Numbered
 pub mod Elements
-pub mod Stages
 pub mod Serving
+pub mod Keys
+pub mod Ends
+pub mod Spelled
+pub mod Lines
+pub mod Verdicts

@@ -4,7 +4,8 @@ use Rattle.std.specs.Prelude.{◌||◌, fold}
 use Rattle.std.proofs.lemmas.Slice.Eq.{bytes_eq-Decides}
 use Rattle.std.specs.List.{list_any, position_or_len}
 use Rattle.std.specs.Str.{bytes_eq}
-use Rattle.first_profile.specs.Works.{Work}
+use Rattle.literature_entries.specs.Wholes.{Whole}
+use Rattle.interop.specs.Shelf.{key_of}
 use Rattle.cite.specs.Order.{is_same, with_cited, number_in}
 
 -- a test of what a function makes of the elements
@@ -16,7 +17,7 @@ pub position-map : {A B : Type 0} (f : A → B) (test : B → Bool) (xs : List A
 position-map f test [] = refl
 position-map f test (x ∷ xs) = ap (λ (n : ℕ). cond (not (test (f x))) (1 + n) 0) (position-map f test xs)
 
-any-append : (test : Work → Bool) (xs : List Work) (y : Work) → list_any test xs ≡ true → list_any test (xs ++ y ∷ []) ≡ true
+any-append : (test : Whole → Bool) (xs : List Whole) (y : Whole) → list_any test xs ≡ true → list_any test (xs ++ y ∷ []) ≡ true
 any-append test [] y h = absurd cc
 any-append test (x ∷ xs) y h = by_test (λ r. any-append test xs y r) (test x) h
   where
@@ -24,7 +25,7 @@ any-append test (x ∷ xs) y h = by_test (λ r. any-append test xs y r) (test x)
     by_test more true r = refl
     by_test more false r = more r
 
-any-last : (test : Work → Bool) (xs : List Work) (y : Work) → test y ≡ true → list_any test (xs ++ y ∷ []) ≡ true
+any-last : (test : Whole → Bool) (xs : List Whole) (y : Whole) → test y ≡ true → list_any test (xs ++ y ∷ []) ≡ true
 any-last test [] y h = rw h refl
 any-last test (x ∷ xs) y h = rw (any-last test xs y h) (by_test (test x))
   where
@@ -33,7 +34,7 @@ any-last test (x ∷ xs) y h = rw (any-last test xs y h) (by_test (test x))
     by_test false = refl
 
 -- a place that was found stays when more follows
-position-append : (test : Work → Bool) (xs : List Work) (y : Work) → list_any test xs ≡ true → position_or_len test (xs ++ y ∷ []) ≡ position_or_len test xs
+position-append : (test : Whole → Bool) (xs : List Whole) (y : Whole) → list_any test xs ≡ true → position_or_len test (xs ++ y ∷ []) ≡ position_or_len test xs
 position-append test [] y h = absurd cc
 position-append test (x ∷ xs) y h = by_test (λ r. position-append test xs y r) (test x) h
   where
@@ -43,7 +44,7 @@ position-append test (x ∷ xs) y h = by_test (λ r. position-append test xs y r
     by_test more false r = ap (λ (n : ℕ). 1 + n) (more r)
 
 -- an element that was not found stands at the end where it is put
-position-last : (test : Work → Bool) (xs : List Work) (y : Work) → test y ≡ true → list_any test xs ≡ false → position_or_len test (xs ++ y ∷ []) ≡ position_or_len test xs
+position-last : (test : Whole → Bool) (xs : List Whole) (y : Whole) → test y ≡ true → list_any test xs ≡ false → position_or_len test (xs ++ y ∷ []) ≡ position_or_len test xs
 position-last test [] y h none = rw h refl
 position-last test (x ∷ xs) y h none = by_test (λ r. position-last test xs y h r) (test x) none
   where
@@ -52,11 +53,11 @@ position-last test (x ∷ xs) y h none = by_test (λ r. position-last test xs y 
     by_test more true r = absurd cc
     by_test more false r = ap (λ (n : ℕ). 1 + n) (more r)
 
-is_same-itself : (w : Work) → is_same w w ≡ true
-is_same-itself w = (bytes_eq-Decides w.key w.key).1 refl
+is_same-itself : (w : Whole) → is_same w w ≡ true
+is_same-itself w = (bytes_eq-Decides (key_of w) (key_of w)).1 refl
 
 -- a citation leaves its entry's place as it was
-pub position-with : (order : List Work) (w : Work) → position_or_len (is_same w) (with_cited order w) ≡ position_or_len (is_same w) order
+pub position-with : (order : List Whole) (w : Whole) → position_or_len (is_same w) (with_cited order w) ≡ position_or_len (is_same w) order
 position-with order w = by_test (list_any (is_same w) order) refl
   where
     by_test : (b : Bool) → list_any (is_same w) order ≡ b → position_or_len (is_same w) (cond b order (order ++ w ∷ [])) ≡ position_or_len (is_same w) order
@@ -64,21 +65,21 @@ position-with order w = by_test (list_any (is_same w) order) refl
     by_test false e = position-last (is_same w) order w (is_same-itself w) e
 
 -- an entry that is cited is in the order from then on
-pub with_cited-has : (order : List Work) (w : Work) → list_any (is_same w) (with_cited order w) ≡ true
+pub with_cited-has : (order : List Whole) (w : Whole) → list_any (is_same w) (with_cited order w) ≡ true
 with_cited-has order w = by_test (list_any (is_same w) order) refl
   where
     by_test : (b : Bool) → list_any (is_same w) order ≡ b → list_any (is_same w) (cond b order (order ++ w ∷ [])) ≡ true
     by_test true e = e
     by_test false e = any-last (is_same w) order w (is_same-itself w)
 
-with_cited-keeps : (order : List Work) (v w : Work) → list_any (is_same w) order ≡ true → list_any (is_same w) (with_cited order v) ≡ true
+with_cited-keeps : (order : List Whole) (v w : Whole) → list_any (is_same w) order ≡ true → list_any (is_same w) (with_cited order v) ≡ true
 with_cited-keeps order v w h = by_test (list_any (is_same v) order)
   where
     by_test : (b : Bool) → list_any (is_same w) (cond b order (order ++ v ∷ [])) ≡ true
     by_test true = h
     by_test false = any-append (is_same w) order v h
 
-position-keeps : (order : List Work) (v w : Work) → list_any (is_same w) order ≡ true → position_or_len (is_same w) (with_cited order v) ≡ position_or_len (is_same w) order
+position-keeps : (order : List Whole) (v w : Whole) → list_any (is_same w) order ≡ true → position_or_len (is_same w) (with_cited order v) ≡ position_or_len (is_same w) order
 position-keeps order v w h = by_test (list_any (is_same v) order)
   where
     by_test : (b : Bool) → position_or_len (is_same w) (cond b order (order ++ v ∷ [])) ≡ position_or_len (is_same w) order
@@ -86,18 +87,13 @@ position-keeps order v w h = by_test (list_any (is_same v) order)
     by_test false = position-append (is_same w) order v h
 
 -- an entry's number never changes once it is cited
-pub number-stays : (ws : List Work) (order : List Work) (w : Work) → list_any (is_same w) order ≡ true → number_in (fold with_cited order ws) w ≡ number_in order w
+pub number-stays : (ws : List Whole) (order : List Whole) (w : Whole) → list_any (is_same w) order ≡ true → number_in (fold with_cited order ws) w ≡ number_in order w
 number-stays [] order w h = refl
 number-stays (v ∷ ws) order w h = number-stays ws (with_cited order v) w (with_cited-keeps order v w h) ∙ ap (λ (n : ℕ). n + 1) (position-keeps order v w h)
 
--- a key is found exactly where the entry of that key is
-pub found-by_key : (w : Work) (ws : List Work) → list_any (bytes_eq w.key) (map (λ v. v.key) ws) ≡ list_any (is_same w) ws
-found-by_key w ws = sym (any-map (λ (v : Work). v.key) (bytes_eq w.key) ws)
+-- a key is found exactly where the work of that key is
+pub found-by_key : (w : Whole) (ws : List Whole) → list_any (bytes_eq (key_of w)) (map key_of ws) ≡ list_any (is_same w) ws
+found-by_key w ws = sym (any-map key_of (bytes_eq (key_of w)) ws)
 
-pub position-by_key : (w : Work) (ws : List Work) → position_or_len (bytes_eq w.key) (map (λ v. v.key) ws) ≡ position_or_len (is_same w) ws
-position-by_key w ws = sym (position-map (λ (v : Work). v.key) (bytes_eq w.key) ws)
-
--- the keys of the entries
-pub keys-works : {A : Type 0} (f : A → Work) (xs : List A) → map (λ x. (f x).key) xs ≡ map (λ w. w.key) (map f xs)
-keys-works f [] = refl
-keys-works f (x ∷ xs) = ap (λ (ks : List (List ℕ)). (f x).key ∷ ks) (keys-works f xs)
+pub position-by_key : (w : Whole) (ws : List Whole) → position_or_len (bytes_eq (key_of w)) (map key_of ws) ≡ position_or_len (is_same w) ws
+position-by_key w ws = sym (position-map key_of (bytes_eq (key_of w)) ws)

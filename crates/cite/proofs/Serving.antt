@@ -1,14 +1,14 @@
 -- What the program serves, from what it makes of its words.
 use Rattle.std.proofs.Common.{◌≡◌, ℕ, ◌≤◌, Bool, List, [], ◌∷◌, true, length, get_or, drop, Option, Some, None, Result, Ok, Err, OnOk, OnErr, IfErr, sym, subst, arith, ◌⊎◌, inl, inr}
 use lib.Chars.{codes}
-use Rattle.std.specs.Prelude.{IfSome}
+use Rattle.std.specs.Prelude.{IfSome, ⊤}
 use Rattle.std.specs.Str.{bytes_eq}
 use Rattle.std.specs.Borrow.{Bor}
-use Rattle.cite.specs.Verdict.{verdict}
-use Rattle.cite.specs.Answers.{Writes}
+use Rattle.cite.specs.Verdict.{IsVerdict}
+use Rattle.cite.specs.Answers.{Wanted, Writes}
 use Rattle.std.specs.Io.KnownBytes.{Appends}
 use Rattle.sinks.specs.Sinks.{HasFailed}
-use Rattle.cite.specs.Program.{format_of, Serves, ServesAs, ServesFiles, IsUntouched, IsFileFault, IsFormatFault, IsStyleFault, IsFault, Says, IsLine, IsReason, IsSaid, Explains}
+use Rattle.cite.specs.Program.{format_of, Serves, ServesAs, ServesFiles, IsUntouched, IsFileFault, IsFormatFault, IsStyleFault, IsFault, Says, AreLines, IsReason, IsSaid, Explains, one}
 use Rattle.cite.specs.declared.program.RunFault.{RunFault}
 use Rattle.cite.specs.declared.format.BufWriteFormat.{BufWriteFormat}
 
@@ -27,10 +27,10 @@ words_serve holds (a ∷ b ∷ c ∷ d ∷ words) e P long style h = (style, h)
 
 -- what the bytes that were read say of the known ones
 pub read_files : (holds : List ℕ → Option (List ℕ)) (bib document b d : List ℕ) (n : ℕ) (format : BufWriteFormat) (P : List ℕ → Type 0)
-    → IfSome (holds bib) (λ known. b ≡ known) → IfSome (holds document) (λ known. d ≡ known) → Writes (verdict b d n format) P → ServesFiles holds bib document n format P
+    → IfSome (holds bib) (λ known. b ≡ known) → IfSome (holds document) (λ known. d ≡ known) → Writes (IsVerdict b d n format) P → ServesFiles holds bib document n format P
 read_files holds bib document b d n format P is_b is_d h =
-    if_some (holds bib) _ _ (λ kb eb. if_some (holds document) _ _ (λ kd ed. subst (λ (x : List ℕ). Writes (verdict x kd n format) P) eb
-    (subst (λ (x : List ℕ). Writes (verdict b x n format) P) ed h)) is_d) is_b
+    if_some (holds bib) _ _ (λ kb eb. if_some (holds document) _ _ (λ kd ed. subst (λ (x : List ℕ). Writes (IsVerdict x kd n format) P) eb
+    (subst (λ (x : List ℕ). Writes (IsVerdict b x n format) P) ed h)) is_d) is_b
 
 -- the words of a style and a format that are known
 pub words_of : (holds : List ℕ → Option (List ℕ)) (words rest : List (Bor (List ℕ))) (e : Bor (List ℕ)) (format : BufWriteFormat) (P : List ℕ → Type 0) → 4 ≤ length words → rest ≡ drop 4 words
@@ -49,13 +49,13 @@ pub untouched_weaker : {O : Type 0} (S T : Held) (old new : O) (before after : O
 untouched_weaker S T old new before after was now f (inl same) = inl same
 untouched_weaker S T old new before after was now f (inr failed) = inr (failed.0, f _ failed.1)
 
-pub reason_weaker : (F G : List ℕ → Type 0) (S T : Held) (was now : ℕ) (said : List ℕ) → (F said → G said) → ((P : List ℕ → Type 0) → S P → T P) → IsReason F S was now said → IsReason G T was now said
+pub reason_weaker : (F G : List (List ℕ) → Type 0) (S T : Held) (was now : ℕ) (said : List (List ℕ)) → (F said → G said) → ((P : List ℕ → Type 0) → S P → T P) → IsReason F S was now said → IsReason G T was now said
 reason_weaker F G S T was now said k f (inl fault) = inl (k fault)
 reason_weaker F G S T was now said k f (inr (inl memory)) = inr (inl memory)
 reason_weaker F G S T was now said k f (inr (inr failed)) = inr (inr (failed.0, failed.1, f _ failed.2))
 
 -- why files are not served, where style and format are known
-pub fault_words : (holds : List ℕ → Option (List ℕ)) (words rest : List (Bor (List ℕ))) (e : Bor (List ℕ)) (format : BufWriteFormat) (said : List ℕ) → 4 ≤ length words → rest ≡ drop 4 words
+pub fault_words : (holds : List ℕ → Option (List ℕ)) (words rest : List (Bor (List ℕ))) (e : Bor (List ℕ)) (format : BufWriteFormat) (said : List (List ℕ)) → 4 ≤ length words → rest ≡ drop 4 words
     → bytes_eq (get_or words 0 e).now (codes "num") ≡ true → Some format ≡ format_of (get_or words 1 e).now
     → IsFileFault holds (get_or words 2 e).now (get_or words 3 e).now (length rest) format said → IsFault holds words said
 fault_words holds [] rest e format said long is style known h = absurd (omega arith)
@@ -76,14 +76,14 @@ if_err_weaker (Ok x) f h = h
 if_err_weaker (Err e) f h = f e h
 
 -- what became of writing a line
-pub said_line : {E : Type 0} (r : Result (Unit {0}) E) (Reasons : List ℕ → Type 0) (bytes : List ℕ) (old new : Option (List ℕ)) (fo fn : ℕ)
-    → IsLine Reasons bytes → OnOk r (Appends old new bytes) → OnErr r (HasFailed fo fn) → Says Reasons old new fo fn
+pub said_line : {E : Type 0} (r : Result (Unit {0}) E) (Reasons : List (List ℕ) → Type 0) (bytes : List ℕ) (old new : Option (List ℕ)) (fo fn : ℕ)
+    → AreLines Reasons bytes → OnOk r (Appends old new bytes) → OnErr r (HasFailed fo fn) → Says Reasons old new fo fn
 said_line (Ok x) Reasons bytes old new fo fn is taken failed = inl (is.0, is.1, subst (λ (b : List ℕ). Appends old new b) is.2 taken)
 said_line (Err e) Reasons bytes old new fo fn is taken failed = inr failed
 
 -- the reasons for what is said of a fault
-pub says_reason : (fault : RunFault) (Faults : List ℕ → Type 0) (Served : Held) (before after : ℕ) (old new : Option (List ℕ)) (fo fn : ℕ)
-    → Explains fault (IsReason Faults Served before after) → Says (λ said. IsSaid fault said ⊎ (said ≡ codes "out of memory")) old new fo fn → Says (IsReason Faults Served before after) old new fo fn
+pub says_reason : (fault : RunFault) (Faults : List (List ℕ) → Type 0) (Served : Held) (before after : ℕ) (old new : Option (List ℕ)) (fo fn : ℕ)
+    → Explains fault (IsReason Faults Served before after) → Says (λ said. IsSaid fault said ⊎ (said ≡ one (codes "out of memory"))) old new fo fn → Says (IsReason Faults Served before after) old new fo fn
 says_reason fault Faults Served before after old new fo fn why (inl (said, inl is, taken)) = inl (said, why said is, taken)
 says_reason fault Faults Served before after old new fo fn why (inl (said, inr is, taken)) = inl (said, inr (inl is), taken)
 says_reason fault Faults Served before after old new fo fn why (inr failed) = inr failed

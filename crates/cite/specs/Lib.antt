@@ -1,3 +1,5 @@
+pub mod Works
+pub mod Page
 pub mod Marker
 pub mod Order
 pub mod Output

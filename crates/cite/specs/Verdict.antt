@@ -1,11 +1,16 @@
 -- What a call of `cite` has to do: refuse, at the first stage that refuses and with its fault, or write the output.
-use Rattle.std.specs.Prelude.{ℕ, ◌-◌, ◌+◌, Bool, not, nat_lt, ◌==◌, ◌||◌, ◌&&◌, List, [], length, if◌then◌else◌, Option, Some, None, Result, Ok, Err, is_some}
+use Rattle.std.specs.Prelude.{◌≡◌, ℕ, ◌-◌, ◌+◌, Bool, true, false, not, nat_lt, ◌==◌, ◌||◌, List, [], length, if◌then◌else◌, Option, Some, None, Result, Ok, Err}
 use Rattle.std.specs.Str.{chars, is_utf8}
 use Rattle.laws.specs.Results.{◌>>=◌}
 use Rattle.laws.specs.Text.{text}
-use Rattle.first_profile.specs.Reading.{works_in}
-use Rattle.first_profile.specs.Works.{Work, first_repeat}
+use Rattle.biblatex.specs.Bibliographies.{Listed}
+use Rattle.biblatex.specs.Reading as reading
+use Rattle.biblatex.specs.Resolved.{TextMeans}
+use Rattle.literature_entries.specs.Wholes.{Whole}
+use Rattle.interop.specs.Bridge.{Fault}
+use Rattle.interop.specs.Shelf.{library_of}
 use Rattle.cite.specs.Marker.{Citation, citations_of}
+use Rattle.cite.specs.Works.{Works}
 use Rattle.cite.specs.Order.{names_of, first_unknown, cited, order_of}
 use Rattle.cite.specs.Output.{output}
 use Rattle.cite.specs.declared.format.BufWriteFormat.{BufWriteFormat}
@@ -14,28 +19,40 @@ use Rattle.cite.specs.Formats.{is_html}
 pub data Refusal : Type 0 where
   not_yet : Refusal
   bib_not_utf8 : Refusal
-  duplicate_key : List ℕ → Refusal
+  bib_refused : reading.Refusal → Refusal
+  fields_refused : List Fault → Refusal
   document_not_utf8 : Refusal
   no_marker : ℕ → Refusal
   unknown_name : List ℕ → Refusal
   overflow : Refusal
 
--- HTML, sections, and texts outside the first profile are not supported yet
-abbrev pub asks_too_much : List ℕ → ℕ → BufWriteFormat → Bool
-asks_too_much bib sections format = is_html format || (not (sections == 0) || (is_utf8 bib && not (is_some (works_in (chars bib)))))
+-- HTML and sections are not supported yet
+abbrev pub asks_too_much : ℕ → BufWriteFormat → Bool
+asks_too_much sections format = is_html format || not (sections == 0)
 
--- the first stage, where bytes that are no text are refused, and then a key that an earlier entry has
-abbrev pub without_repeat : List Work → Option (List ℕ) → Result (List Work) Refusal
-without_repeat works None = Ok works
-without_repeat works (Some key) = Err (duplicate_key key)
+-- the first stage, where bytes that are no text are refused, and then a text that is no bibliography
+abbrev pub refused_as : Result Listed reading.Refusal → Result Listed Refusal
+refused_as (Ok file) = Ok file
+refused_as (Err refusal) = Err (bib_refused refusal)
 
--- (texts outside the first profile are refused before all stages)
-abbrev pub works_stage : Option (List Work) → Result (List Work) Refusal
-works_stage None = Err not_yet
-works_stage (Some works) = without_repeat works (first_repeat [] works)
+abbrev pub IsReadIf : Bool → List ℕ → Result Listed Refusal → Type 0
+IsReadIf false bib read = read ≡ Err bib_not_utf8
+IsReadIf true bib read = (meaning : Result Listed reading.Refusal) × TextMeans (chars bib) meaning × (read ≡ refused_as meaning)
 
-abbrev pub bib_stage : List ℕ → Result (List Work) Refusal
-bib_stage bib = if is_utf8 bib then works_stage (works_in (chars bib)) else Err bib_not_utf8
+abbrev pub IsRead : List ℕ → Result Listed Refusal → Type 0
+IsRead bib read = IsReadIf (is_utf8 bib) bib read
+
+-- the second stage, where entries with fields that cannot be read are refused, all faults together
+abbrev pub shelved : Listed → Result (List Whole) (List Fault) → Result Works Refusal
+shelved file (Ok library) = Ok (record { file = file; library = library })
+shelved file (Err faults) = Err (fields_refused faults)
+
+abbrev pub library_stage : Listed → Result Works Refusal
+library_stage file = shelved file (library_of file.entries)
+
+-- what the bytes of a bib text come to after both
+abbrev pub IsShelved : List ℕ → Result Works Refusal → Type 0
+IsShelved bib works = (read : Result Listed Refusal) × IsRead bib read × (works ≡ read >>= library_stage)
 
 -- the third stage, where bytes that are no text are refused, and then the first opening that begins no marker: at the bytes
 -- that stand before it
@@ -49,31 +66,35 @@ marker_stage document (Err opened) = Err (no_marker (offset_of document opened))
 abbrev pub document_stage : List ℕ → Result (List Citation × List ℕ) Refusal
 document_stage document = if is_utf8 document then marker_stage document (citations_of (chars document)) else Err document_not_utf8
 
--- the fourth stage, where the first name that means no entry is refused
+-- the fourth stage, where the first name that means no work is refused
 abbrev pub without_unknown : List (List ℕ) → Option (List ℕ) → Result (List (List ℕ)) Refusal
 without_unknown names None = Ok names
 without_unknown names (Some name) = Err (unknown_name name)
 
-abbrev pub name_stage : List Work → List (List ℕ) → Result (List (List ℕ)) Refusal
+abbrev pub name_stage : Works → List (List ℕ) → Result (List (List ℕ)) Refusal
 name_stage works names = without_unknown names (first_unknown works names)
 
--- where no stage refuses: the output, or too many entries for their numbers
-abbrev pub numbers_fit : List Work → List Work → List Citation → List ℕ → Result (List ℕ) Refusal
+-- where no stage refuses: the output, or too many works for their numbers
+abbrev pub numbers_fit : Works → List Whole → List Citation → List ℕ → Result (List ℕ) Refusal
 numbers_fit works order cs tail = if nat_lt 2147483647 (length order) then Err overflow else Ok (output works order cs tail)
 
--- before all stages: what is not supported yet
-abbrev pub supported_stage : List ℕ → ℕ → BufWriteFormat → Result (List Work) Refusal
-supported_stage bib sections format = if asks_too_much bib sections format then Err not_yet else bib_stage bib
-
--- what the entries and the document make of each other
-unfoldable pub output_stage : List Work → List Citation → List ℕ → Result (List ℕ) Refusal
+-- what the works and the document make of each other
+unfoldable pub output_stage : Works → List Citation → List ℕ → Result (List ℕ) Refusal
 output_stage works citations tail = do
   names ← name_stage works (names_of citations)
   numbers_fit works (order_of (cited works names)) citations tail
 
--- the output, or the refusal that comes first
-unfoldable pub verdict : List ℕ → List ℕ → ℕ → BufWriteFormat → Result (List ℕ) Refusal
-verdict bib document sections format = do
-  works ← supported_stage bib sections format
+-- the output, or the refusal that comes first, once it is known what the bib text comes to
+unfoldable pub verdict : Result Works Refusal → List ℕ → Result (List ℕ) Refusal
+verdict shelved document = do
+  works ← shelved
   read ← document_stage document
   output_stage works read.0 read.1
+
+-- the output, or the refusal that comes first; before all stages what is not supported yet
+abbrev pub IsVerdictIf : Bool → List ℕ → List ℕ → Result (List ℕ) Refusal → Type 0
+IsVerdictIf true bib document answer = answer ≡ Err not_yet
+IsVerdictIf false bib document answer = (works : Result Works Refusal) × IsShelved bib works × (answer ≡ verdict works document)
+
+abbrev pub IsVerdict : List ℕ → List ℕ → ℕ → BufWriteFormat → Result (List ℕ) Refusal → Type 0
+IsVerdict bib document sections format answer = IsVerdictIf (asks_too_much sections format) bib document answer

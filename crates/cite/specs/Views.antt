@@ -3,7 +3,14 @@ use Rattle.std.specs.Prelude.{◌≡◌, ℕ, List, map, Option, Result, Ok, Err
 use Rattle.std.specs.Option.{option_map}
 use Rattle.std.specs.Str.{chars}
 use Rattle.std.specs.Borrow.{Bor}
+use Rattle.biblatex.specs.Bibliographies.{seen}
+use Rattle.literature_numbers.specs.Views as texts
+use Rattle.interop.specs.Views.{shelf}
 use Rattle.cite.specs.Marker as marker
+use Rattle.cite.specs.Page as pages
+use Rattle.cite.specs.Works as specs
+use Rattle.cite.specs.declared.page.Page.{Page}
+use Rattle.cite.specs.declared.works.Works.{Works}
 use Rattle.cite.specs.declared.document.Citation.{Citation}
 use Rattle.cite.specs.declared.document.Document.{Document}
 use Rattle.cite.specs.declared.document.NoMarker.{NoMarker}
@@ -31,3 +38,11 @@ Finds (Err fault) rest read = read ≡ Err (spelled fault.opened)
 -- a document's citations, and the characters after the last one
 abbrev pub parsed : Document → List marker.Citation × List ℕ
 parsed d = (citations d.citations.items, spelled d.tail)
+
+-- the works of a bib text
+abbrev pub works_in : Works → specs.Works
+works_in w = record { file = seen w.file; library = shelf w.library }
+
+-- a page's texts
+abbrev pub page : Page → pages.Page
+page p = record { before = texts.characters p.before; last = texts.characters p.last }

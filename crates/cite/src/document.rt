@@ -8,7 +8,7 @@ ghost use Rattle.cite.specs.Marker.{is_name, cut_at_opening, name_at, citation_a
 ghost use Rattle.laws.specs.Text.{text as text_of};
 ghost use Rattle.cite.specs.Verdict.{offset_of, marker_stage};
 ghost use Rattle.cite.specs.Views.{left, spelled, parsed, Finds};
-ghost use Rattle.cite.specs.Answers.{Answers};
+ghost use Rattle.cite.specs.Answers.{Gives};
 
 use crate::error::{CiteError, DocumentTextError};
 use std::alloc::Global;
@@ -42,7 +42,7 @@ struct Rest<'s> {
 impl<'s> Document<'s> {
     /// The citations of a text, or the place of the first opening that begins no marker.
     pub(crate) fn parse(alloc: Global, text: &'s str) -> Result<Document<'s>, CiteError>
-        ensures { Answers parsed result (marker_stage text.now (citations_of (chars text.now))) }
+        ensures { Gives parsed result (marker_stage text.now (citations_of (chars text.now))) }
     {
         let mut rest = Rest { text };
         let mut citations = Vec::new(alloc);
@@ -110,7 +110,7 @@ fn split_closed_name(opened: &str) -> Option<(&str, &str)>
 }
 
 /// The first character, and what follows it.
-fn split_first(text: &str) -> Option<(char, &str)>
+pub(crate) fn split_first(text: &str) -> Option<(char, &str)>
     ensures { MatchOption result (chars text.now ≡ []) (λ x. chars text.now ≡ x.0 ∷ chars x.1.now) }
 {
     let mut chars = text.chars();

@@ -1,67 +1,28 @@
 //! The filter: all is known before anything is written.
 
-ghost use Rattle.std.specs.Prelude.{◌≡◌, ◌++◌, List, length, true, false, MatchOption, IfErr, OnOk, string_bytes};
-ghost use Rattle.std.specs.Str.{chars, is_utf8};
-ghost use Rattle.laws.specs.Text.{text as text_of};
-ghost use Rattle.first_profile.specs.Works.{Work};
-ghost use Rattle.cite.specs.Order.{names_of};
-ghost use Rattle.cite.specs.Orders.{cited_works};
+ghost use Rattle.std.specs.Prelude.{◌≡◌, length, IfErr, OnOk, string_bytes};
 ghost use Rattle.std.specs.Io.KnownBytes.{Appends};
 ghost use Rattle.sinks.specs.Sinks.{next_count, HasFailed, AppendsFront};
-ghost use Rattle.cite.specs.Verdict.{document_stage, supported_stage, output_stage, verdict};
-ghost use Rattle.cite.specs.Views.{parsed};
-ghost use Rattle.cite.specs.Answers.{Answers, Writes, IsRefusalUnlessWrite, UnlessWrite, OnWrite, IsLastFault};
+ghost use Rattle.cite.specs.Verdict.{document_stage, output_stage, IsVerdict};
+ghost use Rattle.cite.specs.Views.{parsed, works_in};
+ghost use Rattle.cite.specs.Answers.{Answers, Gives, Writes, IsRefusalUnlessWrite, UnlessWrite, OnWrite, IsLastFault};
 
+use crate::bytes::utf8_text;
 use crate::document::Document;
-use crate::error::{BibTextError, CiteError, DocumentTextError};
+use crate::error::{CiteError, DocumentTextError};
 use crate::format::BufWriteFormat;
 use crate::numbers::numbered_document;
 use crate::style::{Locale, Style};
-use first_profile::{Bibliography, ParseError, is_first_profile};
+use crate::works::Works;
 use sinks::{Sink, write_all};
 use std::alloc::Global;
 
 /// The greatest number of an entry.
 const GREATEST_NUMBER: usize = 2_147_483_647;
 
-/// The text that the bytes spell, if they are UTF-8.
-fn utf8_text(bytes: &[u8]) -> Option<&str>
-    ensures { MatchOption result (is_utf8 bytes.now ≡ false) (λ s. (s.now ≡ bytes.now) × (is_utf8 bytes.now ≡ true)) }
-{
-    str::from_utf8(bytes).ok()
-}
-
-/// The entries of a bib text, where they are served.
-fn read_library(
-    alloc: Global,
-    bib: &[u8],
-    sections: &[&str],
-    format: BufWriteFormat,
-) -> Result<Bibliography, CiteError>
-    ensures { Answers (λ (b : List Work). b) result (supported_stage bib.now (length sections.now) format) }
-{
-    if format.is_html() || !sections.is_empty() {
-        return Err(CiteError::NotYet);
-    }
-    let Some(text) = utf8_text(bib) else {
-        return Err(CiteError::BibText(BibTextError::Utf8));
-    };
-    if !is_first_profile(text) {
-        return Err(CiteError::NotYet);
-    }
-    match Bibliography::parse(alloc, text) {
-        Ok(library) => Ok(library),
-        Err(ParseError::Memory) => Err(CiteError::Memory),
-        Err(ParseError::DuplicateKey(key)) => {
-            let fault = ParseError::DuplicateKey(key);
-            Err(CiteError::BibText(BibTextError::Parse(fault)))
-        }
-    }
-}
-
 /// The citations of a document.
 fn read_document<'s>(alloc: Global, document: &'s [u8]) -> Result<Document<'s>, CiteError>
-    ensures { Answers parsed result (document_stage document.now) }
+    ensures { Gives parsed result (document_stage document.now) }
 {
     let Some(text) = utf8_text(document) else {
         return Err(CiteError::Document(DocumentTextError::Utf8));
@@ -73,17 +34,17 @@ fn read_document<'s>(alloc: Global, document: &'s [u8]) -> Result<Document<'s>, 
 #[tactic(auto, unfolding(crate::specs::Verdict::output_stage))]
 fn write_output(
     alloc: Global,
-    library: &Bibliography,
+    works: &Works,
     document: &Document<'_>,
 ) -> Result<String, CiteError>
-    ensures { Answers (λ s. string_bytes s) result (output_stage library.now (parsed document.now).0 (parsed document.now).1) }
+    ensures { Gives (λ s. string_bytes s) result (output_stage (works_in works.now) (parsed document.now).0 (parsed document.now).1) }
 {
-    let (mut output, order) = numbered_document(alloc, library, document)?;
+    let (mut output, order) = numbered_document(alloc, works, document)?;
     if order.len() > GREATEST_NUMBER {
         return Err(CiteError::Overflow);
     }
     output.push('\n')?;
-    order.write_bibliography(&mut output)?;
+    order.write_bibliography(alloc, &mut output)?;
     Ok(output)
 }
 
@@ -96,20 +57,23 @@ fn decide(
     sections: &[&str],
     format: BufWriteFormat,
 ) -> Result<String, CiteError>
-    ensures { Answers (λ s. string_bytes s) result (verdict bib.now document.now (length sections.now) format) }
+    ensures { Answers (λ s. string_bytes s) result (IsVerdict bib.now document.now (length sections.now) format) }
 {
-    let library = read_library(alloc, bib, sections, format)?;
+    if format.is_html() || !sections.is_empty() {
+        return Err(CiteError::NotYet);
+    }
+    let works = Works::read(alloc, bib)?;
     let document = read_document(alloc, document)?;
-    write_output(alloc, &library, &document)
+    write_output(alloc, &works, &document)
 }
 
 /// Replaces each marker of the document by its citation and writes the bibliography of the cited entries after it.
 ///
-/// `bib` is a BibLaTeX file of the first profile (`first_profile::is_first_profile`), `document` a text with markers `[@name]`;
-/// both are UTF-8. The style is plain numbers, the format plain text, and no section may be given.
+/// `bib` is a BibLaTeX file, `document` a text with markers `[@name]`; both are UTF-8. A name is the key of an entry or an alias in its
+/// `ids`. The style is plain numbers, the format plain text, and no section may be given.
 ///
 /// # Errors
-/// The first refusal in this order: `NotYet`; `BibText`; `Document`; `Name`; `Overflow`. `Memory` may stand in place of any
+/// The first refusal in this order: `NotYet`; `BibText`; `Fields`; `Document`; `Name`; `Overflow`. `Memory` may stand in place of any
 /// answer. After these nothing was written. `Write` where a call of the sink's `write` failed or took nothing: the sink then
 /// holds a beginning of the output.
 pub fn cite<W: Sink>(
@@ -123,13 +87,13 @@ pub fn cite<W: Sink>(
     sink: &mut W,
 ) -> Result<(), CiteError>
     // The sink has taken exactly the output.
-    ensures written { OnOk result (Writes (verdict bib.now document.now (length sections.now) format) (λ output. Appends (W.contents sink.old) (W.contents sink.new) output)) }
+    ensures written { OnOk result (Writes (IsVerdict bib.now document.now (length sections.now) format) (λ output. Appends (W.contents sink.old) (W.contents sink.new) output)) }
     // A refusal is the first one, with its fault.
-    ensures refused { IfErr result (λ e. IsRefusalUnlessWrite e (verdict bib.now document.now (length sections.now) format)) }
+    ensures refused { IfErr result (λ e. IsRefusalUnlessWrite e (IsVerdict bib.now document.now (length sections.now) format)) }
     // Nothing is written after any refusal but a failed write.
     ensures untouched { IfErr result (λ e. UnlessWrite e (sink.new ≡ sink.old)) }
     // After a failed write a beginning of the output stands, and some call of `write` failed or took nothing.
-    ensures cut_short { IfErr result (λ e. OnWrite e (Writes (verdict bib.now document.now (length sections.now) format) (λ output. AppendsFront (W.contents sink.old) (W.contents sink.new) output))) }
+    ensures cut_short { IfErr result (λ e. OnWrite e (Writes (IsVerdict bib.now document.now (length sections.now) format) (λ output. AppendsFront (W.contents sink.old) (W.contents sink.new) output))) }
     ensures cause { IfErr result (λ e. OnWrite e (HasFailed (W.failures sink.old) (W.failures sink.new))) }
     // No call of `write` failed before Ok, and none was tried after one that did.
     ensures quiet { OnOk result (W.failures sink.new ≡ W.failures sink.old) }

@@ -3,7 +3,8 @@
 ghost use Rattle.std.specs.Prelude.{◌≡◌};
 ghost use Rattle.cite.specs.declared.error.CiteError.TheVariants.{Memory};
 
-use first_profile::ParseError;
+use biblatex::ParseError;
+use interop::FieldFault;
 use sinks::SinkFault;
 use std::alloc::{AllocError, AllocFailed};
 use thiserror::Error;
@@ -36,10 +37,13 @@ pub enum CiteError {
     /// The bib text was refused.
     #[error("bib: {0}")]
     BibText(BibTextError),
+    /// All fields that cannot be read, in the order of the file.
+    #[error("fields that cannot be read")]
+    Fields(Vec<FieldFault>),
     /// The document was refused.
     #[error("document: {0}")]
     Document(DocumentTextError),
-    /// The first name in the document that means no entry.
+    /// The first name in the document that means no entry, or one of type `xdata`, which only lends its fields.
     #[error("unknown name {0}")]
     Name(String),
     /// A request for memory was refused.
@@ -51,7 +55,7 @@ pub enum CiteError {
     /// The sink did not take all of the output; it holds a beginning of it.
     #[error("write failed")]
     Write(SinkFault),
-    /// A section was given, the format is HTML, or the bib text is outside the first profile.
+    /// A section was given, or the format is HTML.
     #[error("not supported yet")]
     NotYet,
 }

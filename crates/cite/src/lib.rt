@@ -2,6 +2,8 @@
 //! after it. `cite` is the library's call, `run` is the program over any files and writers.
 #![tactic(auto)]
 
+mod bytes;
+mod closing;
 mod document;
 mod engine;
 mod error;
@@ -9,12 +11,15 @@ mod format;
 mod numbers;
 mod order;
 mod output;
+mod page;
 mod program;
 mod style;
+mod works;
 
 pub use engine::cite;
 pub use error::{BibTextError, CiteError, DocumentTextError};
 pub use format::BufWriteFormat;
+pub use interop::FieldFault;
 pub use program::run;
 pub use sinks::{ReadFault, ReadPath, Sink, SinkFault, Tap};
 pub use style::{Locale, Style, english, num};

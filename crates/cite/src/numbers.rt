@@ -3,30 +3,31 @@
 ghost use Rattle.std.specs.Prelude.{◌≡◌, IfOk, MatchOption, string_bytes, None, Some};
 ghost use Rattle.std.specs.Str.{chars};
 ghost use Rattle.laws.specs.Text.{text as text_of};
-ghost use Rattle.first_profile.specs.Works.{meaning};
-ghost use Rattle.first_profile.specs.Entries.{work};
-ghost use Rattle.cite.specs.Views.{parsed};
+ghost use Rattle.literature_entries.specs.Wholes.{whole};
+ghost use Rattle.cite.specs.Works.{meaning};
+ghost use Rattle.cite.specs.Views.{parsed, works_in};
 ghost use Rattle.cite.specs.Orders.{Numbers};
 
 use crate::document::Document;
 use crate::error::CiteError;
 use crate::order::Order;
 use crate::output::{push_citation, push_text};
-use first_profile::{Bibliography, Entry};
+use crate::works::Works;
+use literature_entries::Entry;
 use std::alloc::{AllocError, Global};
 
 /// The document with numbers for its citations, and the cited entries.
 pub(crate) fn numbered_document<'b>(
     alloc: Global,
-    library: &'b Bibliography,
+    works: &'b Works,
     document: &Document<'_>,
 ) -> Result<(String, Order<'b>), CiteError>
-    ensures { Numbers result library.now (parsed document.now).0 (parsed document.now).1 }
+    ensures { Numbers result (works_in works.now) (parsed document.now).0 (parsed document.now).1 }
 {
     let mut output = String::new(alloc);
     let mut order = Order::new(alloc);
     for citation in &document.citations {
-        let Some(entry) = meant(library, citation.name) else {
+        let Some(entry) = meant(works, citation.name) else {
             return Err(CiteError::Name(owned(alloc, citation.name)?));
         };
         let number = order.number(entry)?;
@@ -36,11 +37,11 @@ pub(crate) fn numbered_document<'b>(
     Ok((output, order))
 }
 
-/// The entry that a name of the document means.
-fn meant<'b>(library: &'b Bibliography, name: &str) -> Option<&'b Entry>
-    ensures { MatchOption result (meaning (text_of (chars name.now)) library.now ≡ None) (λ e. meaning (text_of (chars name.now)) library.now ≡ Some (work e.now)) }
+/// The work that a name of the document means.
+fn meant<'b>(works: &'b Works, name: &str) -> Option<&'b Entry>
+    ensures { MatchOption result (meaning (text_of (chars name.now)) (works_in works.now) ≡ None) (λ e. meaning (text_of (chars name.now)) (works_in works.now) ≡ Some (whole e.now)) }
 {
-    library.get(name)
+    works.get(name)
 }
 
 /// A text of its own.

@@ -1,13 +1,16 @@
 //! Writing the parts of an output.
 
-ghost use Rattle.std.specs.Prelude.{◌≡◌, ◌++◌, ◌∷◌, [], OnOk, string_bytes, Some};
-ghost use Rattle.std.specs.Option.{option_map};
+ghost use Rattle.std.specs.Prelude.{◌≡◌, ◌++◌, ◌∷◌, [], map, OnOk, string_bytes};
 ghost use Rattle.std.specs.Str.{chars};
 ghost use Rattle.laws.specs.Text.{text as text_of};
-ghost use Rattle.cite.specs.Output.{numbered, title_text};
-ghost use Rattle.cite.specs.Views.{spelled};
+ghost use Rattle.literature_entries.specs.Views.{lent};
+ghost use Rattle.literature_values.specs.TextViews.{chunk, format};
+ghost use Rattle.cite.specs.Output.{numbered};
+ghost use Rattle.cite.specs.Page.{printed, title_text};
 
-use std::alloc::AllocError;
+use crate::page::{Page, prints_any};
+use literature_values::{FormatString, StringChunk};
+use std::alloc::{AllocError, Global};
 use std::fmt::Write;
 
 /// Writes a text.
@@ -29,22 +32,31 @@ pub(crate) fn push_citation(
     write!(output, "[{number}]")
 }
 
-/// Writes a title and ends its line. A title that is white space alone is not printed.
-pub(crate) fn push_title(output: &mut String, title: Option<&str>) -> Result<(), AllocError>
-    ensures { OnOk result (string_bytes output.new ≡ string_bytes output.old ++ (title_text (option_map spelled title.entry) ++ 10 ∷ [])) }
+/// Writes a title and ends its line. A title of white space alone is not printed.
+pub(crate) fn push_title(
+    alloc: Global,
+    output: &mut String,
+    title: Option<&FormatString>,
+) -> Result<(), AllocError>
+    ensures { OnOk result (string_bytes output.new ≡ string_bytes output.old ++ (title_text (lent format title.entry) ++ 10 ∷ [])) }
 {
     if let Some(title) = title {
-        push_printed(output, title)?;
+        push_printed(alloc, output, &title.value.0)?;
     }
     output.push('\n')
 }
 
-/// Writes a text, where it is not white space alone.
-fn push_printed(output: &mut String, text: &str) -> Result<(), AllocError>
-    ensures { OnOk result (string_bytes output.new ≡ string_bytes output.old ++ title_text (Some (chars text.now))) }
+/// Writes pieces, where one of them prints.
+fn push_printed(
+    alloc: Global,
+    output: &mut String,
+    pieces: &[StringChunk],
+) -> Result<(), AllocError>
+    ensures { OnOk result (string_bytes output.new ≡ string_bytes output.old ++ text_of (printed (map chunk pieces.now))) }
 {
-    if text.chars().all(|c| c.is_whitespace()) {
+    if !prints_any(pieces) {
         return Ok(());
     }
-    output.push_str(text)
+    let page = Page::of(alloc, pieces)?;
+    page.push_to(output)
 }

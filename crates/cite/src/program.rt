@@ -1,16 +1,18 @@
 //! The program over any files and writers: words in, output and fault lines out.
 
-ghost use Rattle.std.specs.Prelude.{◌≡◌, ◌≤◌, ◌++◌, ◌∷◌, [], List, Option, None, ℕ, length, IfOk, IfErr, IfSome, OnOk, OnErr, is_some, string_bytes, ◌⊎◌};
+ghost use Rattle.std.specs.Prelude.{◌≡◌, ◌≤◌, ◌++◌, ◌∷◌, [], List, Option, None, ℕ, length, IfOk, IfErr, IfSome, OnOk, OnErr, is_some, map, string_bytes, ◌⊎◌};
 ghost use Rattle.std.specs.Str.{bytes_eq};
 ghost use Rattle.std.specs.Io.KnownBytes.{Appends};
 ghost use lib.Chars.{codes};
 ghost use Rattle.cite.specs.Answers.{IsRefusalUnlessWrite};
-ghost use Rattle.cite.specs.Program.{Serves, ServesFiles, IsUntouched, CannotRead, IsFileFault, IsFault, IsReason, Explains, IsSaid, IsLine, Says, said_of, fault_of, format_of};
+ghost use Rattle.interop.specs.Views.{fault};
+ghost use Rattle.cite.specs.Program.{Serves, ServesFiles, IsUntouched, CannotRead, IsFileFault, IsFault, IsReason, Explains, IsSaid, IsTold, AreLines, Says, one, line, lines, fault_said, said_of, fault_of, format_of};
 
 use crate::engine::cite;
 use crate::error::CiteError;
 use crate::format::BufWriteFormat;
 use crate::style::{Style, english, num};
+use interop::FieldFault;
 use sinks::{ReadFault, ReadPath, Sink, write_all};
 use std::alloc::{AllocError, Global};
 use std::fmt;
@@ -27,6 +29,7 @@ enum RunFault<'w> {
     Path(&'w str),
     Memory,
     Write,
+    Fields(Vec<FieldFault>),
     Refused(CiteError),
 }
 
@@ -42,6 +45,7 @@ impl fmt::Display for RunFault<'_> {
             RunFault::Path(path) => write!(f, "cannot read {path}"),
             RunFault::Memory => f.write_str("out of memory"),
             RunFault::Write => f.write_str("write failed"),
+            RunFault::Fields(_) => f.write_str("fields that cannot be read"),
             RunFault::Refused(error) => write!(f, "{error}"),
         }
     }
@@ -78,19 +82,59 @@ pub fn run<F: ReadPath, O: Sink, E: Sink>(
     }
 }
 
-/// Writes the line that says why not. A fault of `err` is passed over.
+/// Writes the lines that say why not. A fault of `err` is passed over.
 fn say<E: Sink>(alloc: Global, fault: &RunFault<'_>, err: &mut E)
-    ensures { Says (λ said. IsSaid fault.now said ⊎ (said ≡ codes "out of memory")) (E.contents err.old) (E.contents err.new) (E.failures err.old) (E.failures err.new) }
+    ensures { Says (λ said. IsSaid fault.now said ⊎ (said ≡ one (codes "out of memory"))) (E.contents err.old) (E.contents err.new) (E.failures err.old) (E.failures err.new) }
 {
-    let _ = match line_of(alloc, fault) {
-        Ok(line) => write_all(err, line.as_bytes()),
+    let _ = match lines_of(alloc, fault) {
+        Ok(text) => write_all(err, text.as_bytes()),
         Err(_) => write_all(err, NO_MEMORY.as_bytes()),
     };
 }
 
+/// The lines that say why not: one for each field that cannot be read, of other faults one.
+fn lines_of(alloc: Global, fault: &RunFault<'_>) -> Result<String, AllocError>
+    ensures { IfOk result (λ s. AreLines (λ said. IsSaid fault.now said) (string_bytes s)) }
+{
+    match fault {
+        RunFault::Fields(found) => field_lines(alloc, found),
+        _ => line_of(alloc, fault),
+    }
+}
+
+/// A line for each field that cannot be read.
+fn field_lines(alloc: Global, found: &[FieldFault]) -> Result<String, AllocError>
+    ensures { IfOk result (λ s. string_bytes s ≡ lines (map fault_said (map fault found.now))) }
+{
+    let mut written = String::new(alloc);
+    for field in found {
+        push_fault(&mut written, field)?;
+    }
+    Ok(written)
+}
+
+/// Puts the line of a field that cannot be read last.
+fn push_fault(written: &mut String, found: &FieldFault) -> Result<(), AllocError>
+    ensures { OnOk result (string_bytes written.new ≡ string_bytes written.old ++ line (fault_said (fault found.now))) }
+{
+    written.push_str("cite: ")?;
+    push_said(written, found)?;
+    written.push('\n')
+}
+
+/// Puts what is said of a field that cannot be read last.
+fn push_said(written: &mut String, found: &FieldFault) -> Result<(), AllocError>
+    ensures { OnOk result (string_bytes written.new ≡ string_bytes written.old ++ fault_said (fault found.now)) }
+{
+    written.push_str("fields: ")?;
+    written.push_str(found.key.as_str())?;
+    written.push_str(": ")?;
+    written.push_str(found.field)
+}
+
 /// The line that says why not.
 fn line_of(alloc: Global, fault: &RunFault<'_>) -> Result<String, AllocError>
-    ensures { IfOk result (λ s. IsLine (λ said. IsSaid fault.now said) (string_bytes s)) }
+    ensures { IfOk result (λ s. AreLines (IsTold (said_of fault.now)) (string_bytes s)) }
 {
     let text = fault.to_string(alloc)?;
     let mut line = String::new(alloc);
@@ -162,6 +206,7 @@ fn fault_of<'w>(error: CiteError) -> RunFault<'w>
     match error {
         CiteError::Memory => RunFault::Memory,
         CiteError::Write(_) => RunFault::Write,
+        CiteError::Fields(found) => RunFault::Fields(found),
         other => RunFault::Refused(other),
     }
 }
@@ -187,7 +232,7 @@ fn format_named(name: &str) -> Option<BufWriteFormat>
 /// The bytes at the path.
 fn read<'w, F: ReadPath>(alloc: Global, files: &F, path: &'w str) -> Result<Vec<u8>, RunFault<'w>>
     ensures bytes { IfOk result (λ bytes. IfSome (F.holds files.now path.now) (λ known. bytes.items ≡ known)) }
-    ensures fault { IfErr result (λ f. Explains f (λ said. CannotRead (F.holds files.now) path.now said ⊎ (said ≡ codes "out of memory"))) }
+    ensures fault { IfErr result (λ f. Explains f (λ said. CannotRead (F.holds files.now) path.now said ⊎ (said ≡ one (codes "out of memory")))) }
 {
     match files.read(alloc, path) {
         Ok(bytes) => Ok(bytes),

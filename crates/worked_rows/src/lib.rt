@@ -8,9 +8,9 @@ mod calls;
 #[cfg(test)]
 mod memory;
 #[cfg(test)]
-mod programs;
+mod pages;
 #[cfg(test)]
-mod reading;
+mod programs;
 #[cfg(test)]
 mod refusals;
 #[cfg(test)]

@@ -3,20 +3,19 @@
 
 use crate::calls::ONE_BOOK;
 use crate::programs::Files;
-use biblatex as whole;
+use biblatex::{Bibliography, Entry, EntryType, ParseError};
 use cite::{BufWriteFormat, CiteError, Tap, cite, english, num, run};
-use first_profile::{Bibliography, EntryType, ParseError, is_first_profile};
 use std::alloc::Global;
 use std::io;
 use std::io::{ErrorKind, Write};
 
 /// A writer that takes exactly the bytes that it waits for, and no memory.
 #[derive(Drop)]
-struct Waiting<'a> {
-    rest: &'a [u8],
+struct Waiting {
+    rest: &'static [u8],
 }
 
-impl Write for Waiting<'_> {
+impl Write for Waiting {
     fn write(&mut self, bytes: &[u8]) -> io::Result<usize> {
         let Some(rest) = self.rest.strip_prefix(bytes) else {
             return Err(io::Error::from(ErrorKind::InvalidData));
@@ -55,6 +54,27 @@ fn cite_answers_memory(rt: HostRuntime) {
 }
 
 #[test]
+fn fields_that_cannot_be_read_answer_memory(rt: HostRuntime) {
+    let mut out = Waiting { rest: b"no" };
+    let mut sink = Tap::new(&mut out);
+    let answer = cite(
+        rt.alloc(),
+        b"@misc{a, date={199-01}}",
+        b"",
+        &num(),
+        &english(),
+        &[],
+        BufWriteFormat::Plain,
+        &mut sink,
+    );
+    match answer {
+        Err(CiteError::Fields(faults)) => assert_eq!(rt; faults.len(), 1),
+        other => assert!(rt; matches!(other, Err(CiteError::Memory))),
+    }
+    assert_eq!(rt; out.rest, b"no".as_slice());
+}
+
+#[test]
 fn refusals_answer_memory(rt: HostRuntime) {
     let mut out = Waiting { rest: b"no" };
     let mut sink = Tap::new(&mut out);
@@ -73,16 +93,6 @@ fn refusals_answer_memory(rt: HostRuntime) {
         other => assert!(rt; matches!(other, Err(CiteError::Memory))),
     }
     assert_eq!(rt; out.rest, b"no".as_slice());
-}
-
-#[test]
-fn parse_answers_memory(rt: HostRuntime) {
-    let text = "@book{a, title={A}, author={B}, publisher={C}}@my{a}";
-    assert!(rt; is_first_profile(text));
-    match Bibliography::parse(rt.alloc(), text) {
-        Err(ParseError::DuplicateKey(key)) => assert_eq!(rt; key.as_str(), "a"),
-        other => assert!(rt; matches!(other, Err(ParseError::Memory))),
-    }
 }
 
 #[test]
@@ -120,24 +130,24 @@ pub(crate) const SMALL_TEXT: &str =
 
 #[test]
 fn whole_texts_answer_memory(rt: HostRuntime) {
-    match whole::Bibliography::parse(rt.alloc(), SMALL_TEXT) {
+    match Bibliography::parse(rt.alloc(), SMALL_TEXT) {
         Ok(found) => assert!(rt; found.len() == 2 && found.place("b") == Some(0)),
-        Err(error) => assert!(rt; matches!(error, whole::ParseError::Memory)),
+        Err(error) => assert!(rt; matches!(error, ParseError::Memory)),
     }
 }
 
 #[test]
 fn refused_texts_answer_memory(rt: HostRuntime) {
     let text = "@book{a, crossref={b}} @book{b, crossref={a}}";
-    match whole::Bibliography::parse(rt.alloc(), text) {
-        Err(whole::ParseError::Refused { span, .. }) => assert!(rt; span == (6..7)),
-        other => assert!(rt; matches!(other, Err(whole::ParseError::Memory))),
+    match Bibliography::parse(rt.alloc(), text) {
+        Err(ParseError::Refused { span, .. }) => assert!(rt; span == (6..7)),
+        other => assert!(rt; matches!(other, Err(ParseError::Memory))),
     }
 }
 
 /// Two books, or none for want of memory.
-fn two_books(alloc: Global) -> Option<whole::Bibliography> {
-    whole::Bibliography::parse(alloc, "@book{a, title={A}} @book{b, ids={x}}").ok()
+fn two_books(alloc: Global) -> Option<Bibliography> {
+    Bibliography::parse(alloc, "@book{a, title={A}} @book{b, ids={x}}").ok()
 }
 
 #[test]
@@ -153,9 +163,9 @@ fn an_alias_that_finds_no_memory_changes_nothing(rt: HostRuntime) {
 }
 
 /// A book without fields, or none for want of memory.
-fn book(alloc: Global, key: &str) -> Option<whole::Entry> {
+fn book(alloc: Global, key: &str) -> Option<Entry> {
     let key = String::from_str(alloc, key).ok()?;
-    Some(whole::Entry::new(alloc, key, whole::EntryType::Book))
+    Some(Entry::new(alloc, key, EntryType::Book))
 }
 
 #[test]

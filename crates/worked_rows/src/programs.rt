@@ -10,7 +10,7 @@ use std::io::{ErrorKind, Write};
 use std::process::Abort;
 
 /// Files: a.bib has one book, a.txt cites it, z.txt cites no entry, broken.txt has no marker, twice.bib has a key twice,
-/// other.bib is not of the first profile, bytes is not UTF-8, and for big there is no memory.
+/// faulty.bib has dates that cannot be read, bytes is not UTF-8, and for big there is no memory.
 #[derive(Drop)]
 pub(crate) struct Files;
 
@@ -24,7 +24,7 @@ impl ReadPath for Files {
             "z.txt" => b"x [@z]",
             "broken.txt" => b"x [@",
             "twice.bib" => b"@book{a, title={A}}@book{a, title={A}}",
-            "other.bib" => b"@book(a)",
+            "faulty.bib" => b"@misc{a, date={x}} @misc{b, urldate={y}, eventdate={z}}",
             "bytes" => b"\xff",
             "big" => return Err(ReadFault::Memory),
             _ => return Err(ReadFault::Unreadable),
@@ -77,8 +77,8 @@ const FAULTS: [(&[&str], &str); 19] = [
         "cite: not supported yet\n",
     ),
     (
-        &["num", "plain", "other.bib", "bytes"],
-        "cite: not supported yet\n",
+        &["num", "plain", "faulty.bib", "bytes"],
+        "cite: fields: a: date\ncite: fields: b: eventdate\ncite: fields: b: urldate\n",
     ),
     (
         &["num", "plain", "bytes", "bytes"],

@@ -3,6 +3,7 @@
 use crate::calls::{ONE_BOOK, refusal};
 use cite::{BufWriteFormat, CiteError, DocumentTextError, Tap, cite, english, num};
 use std::alloc::Global;
+use std::fmt::Write;
 use std::process::Abort;
 use std::test::Fail;
 
@@ -66,14 +67,61 @@ fn what_is_not_supported_comes_first(rt: HostRuntime) -> Result<(), Fail> {
     assert_eq!(rt; html.as_str(), wanted);
     let sections = refusal(rt.alloc(), b"\xff", b"\xff", &[""], BufWriteFormat::Plain)?;
     assert_eq!(rt; sections.as_str(), wanted);
+    Ok(())
+}
+
+#[test]
+fn bib_texts_are_refused(rt: HostRuntime) -> Result<(), Fail> {
     check(
         &rt,
         rt.alloc(),
         &[
-            (b"@book{a", b"\xff", wanted),
-            (b"@string{a = {A}}", b"", wanted),
+            (
+                b"@book{a, crossref={b}} @book{b, crossref={a}}",
+                b"x",
+                "bib: circular reference a",
+            ),
+            (
+                b"@book{a, title={A}",
+                b"\xff",
+                "bib: unexpected end of file",
+            ),
+            (
+                b"@book{a, date={199-01}}",
+                b"\xff",
+                "fields that cannot be read",
+            ),
+            (b"@xdata{x, title={X}}", b"[@x]", "unknown name x"),
+            (b"@xdata{x, date={199-01}}", b"[@x]", "unknown name x"),
         ],
     )
+}
+
+#[test]
+fn fields_that_cannot_be_read_are_named(rt: HostRuntime) -> Result<(), Fail> {
+    let bib = b"@misc{a, date={199-01}} @misc{b, urldate={2020-02-30}, eventdate={1999-13}}";
+    let mut sink = Tap::new(Vec::new(rt.alloc()));
+    let answer = cite(
+        rt.alloc(),
+        bib,
+        b"x [@",
+        &num(),
+        &english(),
+        &[],
+        BufWriteFormat::Plain,
+        &mut sink,
+    );
+    let mut said = String::new(rt.alloc());
+    if let Err(CiteError::Fields(faults)) = answer {
+        for fault in faults {
+            write!(&mut said, "{} {} {:?};", fault.key, fault.field, fault.kind)?;
+        }
+    }
+    assert_eq!(rt;
+        said.as_str(),
+        "a date WrongNumberOfDigits;b eventdate MonthOutOfRange;b urldate DayOutOfRange;"
+    );
+    Ok(())
 }
 
 #[test]

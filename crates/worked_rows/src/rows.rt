@@ -53,6 +53,62 @@ fn other_texts_are_text(rt: HostRuntime) -> Result<(), Fail> {
 }
 
 #[test]
+fn names_are_keys_and_aliases(rt: HostRuntime) -> Result<(), Fail> {
+    check(
+        &rt,
+        rt.alloc(),
+        &[
+            ("@book{a, ids={b}, title={A}}", "[@a] [@b]", "[1] [1]\nA\n"),
+            (
+                "@book{b, title={B}} @book{a, ids={b}, title={A}}",
+                "[@b] [@a]",
+                "[1] [1]\nA\n",
+            ),
+        ],
+    )
+}
+
+#[test]
+fn abbreviations_are_written_out(rt: HostRuntime) -> Result<(), Fail> {
+    check(
+        &rt,
+        rt.alloc(),
+        &[
+            (
+                "@string{p = \"P\"} @book{a, title = p # \"Q\"}",
+                "[@a]",
+                "[1]\nPQ\n",
+            ),
+            (
+                "@book{a, title={L\\^{e} {TIMES} a--b}}",
+                "[@a]",
+                "[1]\nLê TIMES a–b\n",
+            ),
+        ],
+    )
+}
+
+#[test]
+fn titles_are_not_lent(rt: HostRuntime) -> Result<(), Fail> {
+    check(
+        &rt,
+        rt.alloc(),
+        &[
+            (
+                "@inbook{c, title={C}, crossref={b}} @book{b, title={B}}",
+                "[@c]",
+                "[1]\nC\n",
+            ),
+            (
+                "@xdata{x, title={X}} @book{a, xdata={x}}",
+                "[@a]",
+                "[1]\n\n",
+            ),
+        ],
+    )
+}
+
+#[test]
 fn titles_are_tidied(rt: HostRuntime) -> Result<(), Fail> {
     check(
         &rt,
@@ -66,7 +122,7 @@ fn titles_are_tidied(rt: HostRuntime) -> Result<(), Fail> {
                 "[1]\nA\u{a0}\u{a0}b c\n",
             ),
             (
-                "@book{a, title={R&D <x> - \"%#\"}}",
+                "@book{a, title={R\\&D <x> - \"\\%\\#\"}}",
                 "[@a]",
                 "[1]\nR&D <x> - \"%#\"\n",
             ),

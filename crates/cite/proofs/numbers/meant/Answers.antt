@@ -1,10 +1,19 @@
-use Rattle.std.proofs.Common.{◌≡◌, ℕ, List, Some, None, sym, subst}
+use Rattle.std.proofs.Common.{◌≡◌, ℕ, List, Option, Some, None, refl, sym, ap, ◌∙◌}
 use Rattle.std.specs.Prelude.{MatchOption}
-use Rattle.first_profile.specs.Works.{meaning}
-use Rattle.first_profile.specs.Entries.{work}
+use Rattle.std.specs.Option.{option_map}
+use Rattle.std.specs.Borrow.{Bor}
+use Rattle.literature_entries.specs.Wholes.{Whole, whole}
+use Rattle.literature_entries.specs.declared.entry.Entry.{Entry}
 use Rattle.laws.proofs.Text.{text-chars}
+use Rattle.cite.specs.Works.{meaning}
+use Rattle.cite.specs.Views.{works_in}
 use Rattle.cite.proofs.numbers.meant.Goals as goal
+
+-- what an entry that was found is
+found : (o : Option (Bor Entry)) (m : Option Whole) → option_map (λ (e : Bor Entry). whole e.now) o ≡ m → MatchOption o (m ≡ None) (λ e. m ≡ Some (whole e.now))
+found None m is = sym is
+found (Some e) m is = sym is
 
 pub returns : goal.returns
 returns c =
-    subst (λ (n : List ℕ). MatchOption c.get.result (meaning n c.args.library.now ≡ None) (λ e. meaning n c.args.library.now ≡ Some (work e.now))) (sym (text-chars c.args.name.now c.utf8.name)) c.get.ensures
+    found c.get.result _ (c.get.ensures ∙ ap (λ (n : List ℕ). meaning n (works_in c.args.works.now)) (sym (text-chars c.args.name.now c.utf8.name)))

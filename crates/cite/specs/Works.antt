@@ -1,0 +1,21 @@
+-- The entries of a file and the works that they are, and what the names of a document mean.
+use Rattle.std.specs.Prelude.{ℕ, List, Option, None, if◌then◌else◌, option_and_then}
+use Rattle.biblatex.specs.Bibliographies.{Listed, entry_named}
+use Rattle.biblatex.specs.Entries.{Source}
+use Rattle.biblatex.specs.TypeNames.{written_type}
+use Rattle.literature_entries.specs.Wholes.{Whole}
+use Rattle.literature.specs.Keys.{with_key}
+use Rattle.interop.specs.Shelf.{key_of, is_xdata}
+
+-- a file, and the library that it comes to
+pub record Works : Type 0 where
+  pub file : Listed
+  pub library : List Whole
+
+-- the work that an entry of the file is, by its key; an entry that only lends its fields is none
+abbrev pub work_of : List Whole → Source → Option Whole
+work_of library e = if is_xdata (written_type e.entry_type) then None else with_key key_of e.key library
+
+-- the work that a name means
+abbrev pub meaning : List ℕ → Works → Option Whole
+meaning name works = option_and_then (work_of works.library) (entry_named name works.file)
