@@ -19,7 +19,7 @@ mod works;
 pub use engine::cite;
 pub use error::{BibTextError, CiteError, DocumentTextError};
 pub use format::BufWriteFormat;
-pub use interop::FieldFault;
+pub use interop::{DateField, FieldFault};
 pub use program::run;
 pub use sinks::{ReadFault, ReadPath, Sink, SinkFault, Tap};
 pub use style::{Locale, Style, english, num};

@@ -129,7 +129,7 @@ fn push_said(written: &mut String, found: &FieldFault) -> Result<(), AllocError>
     written.push_str("fields: ")?;
     written.push_str(found.key.as_str())?;
     written.push_str(": ")?;
-    written.push_str(found.field)
+    written.push_str(found.field.name())
 }
 
 /// The line that says why not.

@@ -5,7 +5,7 @@ use Rattle.literature_entries.specs.Fields.{Fields}
 use Rattle.literature_entries.specs.Views.{key, fields, parents}
 use Rattle.literature_entries.specs.Wholes.{Whole, Holding, wholes, whole}
 use Rattle.literature_entries.specs.declared.entry.Entry.{Entry, the_lemmas}
-use Rattle.interop.specs.Values.{first_or}
+use Rattle.interop_readings.specs.Values.{first_or}
 
 -- all that an entry holds
 pub whole_is : (e : Entry) → whole e ≡ Holding (key e) (fields e) (wholes (map whole (parents e)))

@@ -9,9 +9,9 @@ use Rattle.literature_values.specs.TextViews.{Format, Publishing}
 use Rattle.literature_values.specs.TypedViews.{Held}
 use Rattle.literature_dates.specs.declared.date.Date.{Date}
 use Rattle.literature_entries.specs.Fields.{Fields, nothing_but}
-use Rattle.interop.specs.Values.{Values, first_or}
+use Rattle.interop_readings.specs.Values.{Values, first_or}
 use Rattle.interop.specs.Fields.{own_fields, held_fields, also, issue_of, series_number, is_periodical}
-use Rattle.interop.specs.Readings.{title_of, format_under, people_under, number_under, total_under, pages_under, bytes_under, publisher_of, own_date, date_under, date_kept, address_of}
+use Rattle.interop_readings.specs.Readings.{title_of, format_under, people_under, number_under, total_under, pages_under, bytes_under, publisher_of, own_date, date_under, date_kept, address_of}
 use Rattle.interop.specs.Views.{IsBare}
 use Rattle.interop.proofs.Entries.{before_none}
 

@@ -1,8 +1,5 @@
-pub mod Parting
-pub mod Growing
 pub mod Faulty
 pub mod Entries
-pub mod Members
 pub mod FieldByField
 pub mod Lists
 pub mod Titled

@@ -8,7 +8,7 @@ use Rattle.literature.specs.Keys.{put}
 use Rattle.literature_entries.specs.Views.{key}
 use Rattle.literature_entries.specs.Wholes.{Whole, whole}
 use Rattle.literature_entries.specs.declared.entry.Entry.{Entry}
-use Rattle.interop.specs.Values.{values}
+use Rattle.interop_readings.specs.Values.{values}
 use Rattle.interop.specs.Bridge.{Fault, faults_of, work_of, unless_faulty}
 use Rattle.interop.specs.Shelf.{key_of, is_xdata, works_in, all_faults, all_works, put_behind, library_of, PutsBy, IsPut, AreAlike}
 use Rattle.interop.proofs.Entries.{whole_is}

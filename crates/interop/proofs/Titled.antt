@@ -10,7 +10,7 @@ use Rattle.literature_dates.specs.declared.date.Date.{Date}
 use Rattle.literature_types.specs.declared.entry_type.EntryType.{EntryType}
 use Rattle.literature_types.specs.declared.entry_type.EntryType.TheVariants as works
 use Rattle.literature_entries.specs.Fields.{nothing_but}
-use Rattle.interop.specs.Readings.{format_of}
+use Rattle.interop_readings.specs.Readings.{format_of}
 use Rattle.interop.specs.Bridge.{parent, titled, conference_of}
 
 -- a work of a title that was lent

@@ -10,8 +10,8 @@ use Rattle.literature_types.specs.declared.entry_type.EntryType.{EntryType}
 use Rattle.literature_types.specs.declared.entry_type.EntryType.TheVariants as works
 use Rattle.literature_entries.specs.Fields.{Fields, nothing_but}
 use Rattle.interop.specs.Kinds.{Container, row_of}
-use Rattle.interop.specs.Values.{Values, values}
-use Rattle.interop.specs.Readings.{ReadDate, format_of, people_under, own_date, date_under, date_kept}
+use Rattle.interop_readings.specs.Values.{Values, values}
+use Rattle.interop_readings.specs.Readings.{ReadDate, format_of, people_under, own_date, date_under, date_kept}
 use Rattle.interop.specs.Fields.{own_fields, held_fields}
 use Rattle.literature_entries.specs.Wholes.{Whole, Holding, wholes}
 

@@ -6,8 +6,8 @@ use Rattle.literature_entries.specs.Fields.{Fields, Serials, nothing_but}
 use Rattle.literature_values.specs.TypedViews.{Held}
 use Rattle.literature_numbers.specs.Numerics.{Numeral}
 use Rattle.literature_entries.specs.Names.{with_number}
-use Rattle.interop.specs.Values.{Values, first_or}
-use Rattle.interop.specs.Readings.{title_of, format_under, people_under, number_under, total_under, pages_under, bytes_under, publisher_of, own_date, date_under, date_kept, address_of}
+use Rattle.interop_readings.specs.Values.{Values, first_or}
+use Rattle.interop_readings.specs.Readings.{title_of, format_under, people_under, number_under, total_under, pages_under, bytes_under, publisher_of, own_date, date_under, date_kept, address_of}
 
 -- numbers with one more under the name of a scheme, if there is one
 abbrev pub also : List ℕ → Option (List ℕ) → Option Serials → Option Serials

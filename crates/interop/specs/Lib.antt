@@ -1,8 +1,6 @@
 pub mod Kinds
-pub mod Values
-pub mod Pieces
-pub mod Readings
 pub mod Fields
 pub mod Bridge
+pub mod DateFields
 pub mod Shelf
 pub mod Views

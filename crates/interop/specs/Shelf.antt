@@ -4,7 +4,7 @@ use Rattle.std.specs.List.{flat_map}
 use Rattle.biblatex_entries.specs.Entries.{Source}
 use Rattle.biblatex_entries.specs.TypeNames.{TypeName, is_one_of, written_type}
 use Rattle.literature.specs.Keys.{put}
-use Rattle.interop.specs.Values.{values}
+use Rattle.interop_readings.specs.Values.{values}
 use Rattle.literature_entries.specs.Wholes.{Whole, Holding}
 use Rattle.interop.specs.Bridge.{Fault, bridged, faults_of, work_of, unless_faulty}
 

@@ -5,21 +5,21 @@ ghost use Rattle.std.specs.Option.{option_map};
 ghost use Rattle.literature_entries.specs.Views as views;
 ghost use Rattle.literature_numbers.specs.Views.{numeral};
 ghost use Rattle.literature_values.specs.TypedViews.{held};
-ghost use Rattle.interop.specs.Values.{values};
+ghost use Rattle.interop_readings.specs.Values.{values};
 ghost use Rattle.interop.specs.Fields.{own_fields, is_periodical, issue_of, series_number, held_fields};
 ghost use Rattle.interop.specs.Views.{dates_of, IsBare};
 
 use crate::dates::Dates;
-use crate::readings::{
-    address, format_under, number_under, pages_under, people_under, publisher, text_under, title,
-    total_under,
-};
 use crate::setting::{
     set_author, set_chapter, set_date, set_edition, set_editor, set_issue, set_language, set_note,
     set_number, set_page_range, set_page_total, set_publisher, set_title, set_translator, set_url,
     set_volume, set_volume_total,
 };
 use biblatex_fields::Fields;
+use interop_readings::{
+    address, format_under, number_under, pages_under, people_under, publisher, text_under, title,
+    total_under,
+};
 use literature_entries::Entry;
 use literature_numbers::Numeric;
 use literature_types::EntryType;

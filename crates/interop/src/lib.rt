@@ -7,13 +7,9 @@ mod error;
 mod fields;
 mod kinds;
 mod parents;
-mod pieces;
-mod readings;
 mod setting;
 #[cfg(test)]
 mod tests;
-mod texts;
-mod values;
 
 pub use bridge::{entry, from_biblatex};
-pub use error::{BridgeError, FieldFault};
+pub use error::{BridgeError, DateField, FieldFault};

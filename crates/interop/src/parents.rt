@@ -4,19 +4,17 @@ ghost use Rattle.std.specs.Prelude.{◌≡◌, ◌||◌, ◌++◌, ◌∷◌, []
 ghost use Rattle.std.specs.Option.{option_map, is_some};
 ghost use Rattle.biblatex_content.specs.Views.{styled};
 ghost use Rattle.literature_types.specs.declared.entry_type.EntryType.TheVariants as works;
-ghost use Rattle.interop.specs.Values.{values};
+ghost use Rattle.interop_readings.specs.Values.{values};
 ghost use Rattle.literature_entries.specs.Wholes.{whole};
 ghost use Rattle.interop.specs.Bridge.{titled, titled_under, holding, conference_of, original_of, further};
 ghost use Rattle.interop.specs.Views.{dates_of};
 
 use crate::dates::Dates;
 use crate::fields::hold;
-use crate::readings::{format, format_if, people_under};
 use crate::setting::{set_author, set_date, set_title};
-use crate::texts::empty_text;
-use crate::values::value;
 use biblatex_content::{Chunk, Spanned};
 use biblatex_fields::Fields;
+use interop_readings::{empty_text, format, format_if, people_under, value};
 use literature_dates::Date;
 use literature_entries::Entry;
 use literature_types::EntryType;

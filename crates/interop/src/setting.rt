@@ -8,7 +8,7 @@ ghost use Rattle.literature_values.specs.TextViews.{format, publishing};
 ghost use Rattle.literature_entries.specs.Views.{people, fields, Sets};
 ghost use Rattle.literature_values.specs.OtherViews.{address};
 ghost use Rattle.literature_values.specs.TypedViews.{held};
-ghost use Rattle.interop.specs.Values.{first_or};
+ghost use Rattle.interop_readings.specs.Values.{first_or};
 ghost use Rattle.interop.specs.Fields.{also};
 
 use literature_dates::Date;

@@ -1,8 +1,8 @@
 //! Refusals: the first stage that refuses is named, and nothing is written.
 
 use crate::calls::{ONE_BOOK, refusal};
-use cite::{BufWriteFormat, CiteError, DocumentTextError, Tap, cite, english, num};
-use std::alloc::Global;
+use cite::{BufWriteFormat, CiteError, DocumentTextError, FieldFault, Tap, cite, english, num};
+use std::alloc::{AllocError, Global};
 use std::fmt::Write;
 use std::process::Abort;
 use std::test::Fail;
@@ -97,6 +97,14 @@ fn bib_texts_are_refused(rt: HostRuntime) -> Result<(), Fail> {
     )
 }
 
+/// Writes of each field that cannot be read the key of its entry, its name and why.
+fn write_faults(out: &mut String, faults: &[FieldFault]) -> Result<(), AllocError> {
+    for fault in faults {
+        write!(out, "{} {} {:?};", fault.key, fault.field, fault.kind)?;
+    }
+    Ok(())
+}
+
 #[test]
 fn fields_that_cannot_be_read_are_named(rt: HostRuntime) -> Result<(), Fail> {
     let bib = b"@misc{a, date={199-01}} @misc{b, urldate={2020-02-30}, eventdate={1999-13}}";
@@ -112,10 +120,8 @@ fn fields_that_cannot_be_read_are_named(rt: HostRuntime) -> Result<(), Fail> {
         &mut sink,
     );
     let mut said = String::new(rt.alloc());
-    if let Err(CiteError::Fields(faults)) = answer {
-        for fault in faults {
-            write!(&mut said, "{} {} {:?};", fault.key, fault.field, fault.kind)?;
-        }
+    if let Err(CiteError::Fields(faults)) = &answer {
+        write_faults(&mut said, faults)?;
     }
     assert_eq!(rt;
         said.as_str(),

@@ -1,6 +1,7 @@
 use Rattle.std.proofs.Common.{◌≡◌, ℕ, List, ◌++◌, rules, ap, ◌∙◌}
 use Rattle.std.specs.Prelude.{OnOk, string_bytes, codes}
 use Rattle.std.proofs.lemmas.Result.{on_ok_weaker}
+use Rattle.interop.specs.DateFields.{field_name}
 use Rattle.cite.proofs.Lines.{put_four}
 use Rattle.cite.proofs.program.push_said.Goals as goal
 
@@ -8,7 +9,7 @@ pub returns : goal.returns
 returns c =
     let old = string_bytes c.args.written.now in
     let key = string_bytes c.args.found.now.key in
-    let field = c.args.found.now.field.now in
+    let field = field_name c.args.found.now.field in
     let first : string_bytes c.push_str.new.self ≡ old ++ codes "fields: " = search rules in
     let second : string_bytes c.push_str-2.new.self ≡ string_bytes c.push_str.new.self ++ key = search rules in
     let third : string_bytes c.push_str-3.new.self ≡ string_bytes c.push_str-2.new.self ++ codes ": " = search rules in

@@ -5,7 +5,7 @@ use Rattle.literature_types.specs.declared.entry_type.EntryType.TheVariants as w
 use Rattle.literature_entries.specs.Views.{key, fields}
 use Rattle.literature_entries.specs.Wholes.{Whole, whole}
 use Rattle.literature_entries.specs.declared.entry.Entry.{Entry}
-use Rattle.interop.specs.Values.{values}
+use Rattle.interop_readings.specs.Values.{values}
 use Rattle.interop.specs.Fields.{held_fields}
 use Rattle.interop.specs.Bridge.{further, titled, titled_under}
 use Rattle.interop.proofs.Entries.{holds}

@@ -4,7 +4,7 @@ use Rattle.biblatex_entries.specs.Entries.{source}
 use Rattle.biblatex_entries.specs.TypeNames.{written_type}
 use Rattle.literature_entries.specs.Wholes.{Whole, whole}
 use Rattle.literature_entries.specs.declared.entry.Entry.{Entry}
-use Rattle.interop.specs.Values.{values}
+use Rattle.interop_readings.specs.Values.{values}
 use Rattle.interop.specs.Bridge.{bridged, faults_of, work_of, unless_faulty}
 use Rattle.interop.specs.declared.dates.Dates.{Dates}
 use Rattle.interop.specs.declared.error.BridgeError.{BridgeError}

@@ -2,7 +2,7 @@ use Rattle.std.proofs.Common.{[], ◌∷◌, ◌++◌, List, map, ap, ◌∙◌}
 use Rattle.literature_entries.specs.Views.{key, fields}
 use Rattle.literature_entries.specs.Wholes.{whole}
 use Rattle.literature_entries.specs.declared.entry.Entry.{Entry}
-use Rattle.interop.specs.Values.{values}
+use Rattle.interop_readings.specs.Values.{values}
 use Rattle.interop.specs.Bridge.{further}
 use Rattle.interop.proofs.Entries.{holds}
 use Rattle.interop.proofs.bridge.within.Goals as goal

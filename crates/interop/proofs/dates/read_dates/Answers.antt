@@ -1,8 +1,8 @@
 use Rattle.std.proofs.Common.{◌≡◌, ◌≢◌, [], List, ap, ◌++◌, ◌∙◌, map, codes, length, arith}
 use Rattle.std.specs.Vec.{vec_len}
 use Rattle.std.proofs.lemmas.Grind.{common_steps}
-use Rattle.interop.specs.Values.{values}
-use Rattle.interop.specs.Readings.{ReadDate, own_date, date_under}
+use Rattle.interop_readings.specs.Values.{values}
+use Rattle.interop_readings.specs.Readings.{ReadDate, own_date, date_under}
 use Rattle.interop.specs.Bridge.{fault_in}
 use Rattle.interop.specs.declared.error.FieldFault.{FieldFault}
 use Rattle.interop.specs.Views.{fault, dates_of}

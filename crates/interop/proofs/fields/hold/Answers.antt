@@ -6,7 +6,7 @@ use Rattle.literature_types.specs.declared.entry_type.EntryType.{EntryType}
 use Rattle.literature_values.specs.TextViews.{publishing}
 use Rattle.literature_values.specs.TypedViews.{held}
 use Rattle.literature_entries.specs.Views.{people, fields}
-use Rattle.interop.specs.Values.{values}
+use Rattle.interop_readings.specs.Values.{values}
 use Rattle.interop.specs.Fields.{is_periodical, issue_of, series_number}
 use Rattle.interop.proofs.FieldByField.{held_set, put_editor, put_publisher, put_volume, put_volume_total, put_edition, put_number, put_issue}
 use Rattle.interop.proofs.fields.hold.Goals as goal

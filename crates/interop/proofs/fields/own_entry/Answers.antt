@@ -6,8 +6,8 @@ use Rattle.literature_values.specs.OtherViews.{address}
 use Rattle.literature_values.specs.TextViews.{format}
 use Rattle.literature_values.specs.TypedViews.{held}
 use Rattle.literature_entries.specs.Views.{people}
-use Rattle.interop.specs.Values.{values}
-use Rattle.interop.specs.Readings.{address_of}
+use Rattle.interop_readings.specs.Values.{values}
+use Rattle.interop_readings.specs.Readings.{address_of}
 use Rattle.interop.specs.declared.dates.Dates.{Dates}
 use Rattle.interop.proofs.FieldByField.{own_set, put_title, put_author, put_translator, put_date, put_chapter, put_page_range, put_page_total, put_url, put_number, put_note, put_language}
 use Rattle.interop.proofs.fields.own_entry.Goals as goal

@@ -7,9 +7,9 @@ use Rattle.literature_entries.specs.Views.{people}
 use Rattle.literature_entries.specs.Wholes.{whole}
 use Rattle.literature_entries.specs.declared.entry.Entry.{Entry}
 use Rattle.literature_values.specs.TextViews.{format}
-use Rattle.interop.specs.Values.{values}
+use Rattle.interop_readings.specs.Values.{values}
 use Rattle.interop.specs.Fields.{held_fields}
-use Rattle.interop.specs.Readings.{format_of, people_under}
+use Rattle.interop_readings.specs.Readings.{format_of, people_under}
 use Rattle.interop.specs.Bridge.{titled, titled_under}
 use Rattle.interop.proofs.Entries.{holds, before_none}
 use Rattle.interop.proofs.FieldByField.{put_title, put_author}

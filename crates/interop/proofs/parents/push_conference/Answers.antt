@@ -6,7 +6,7 @@ use Rattle.literature_entries.specs.Fields.{nothing_but}
 use Rattle.literature_entries.specs.Wholes.{Whole, whole}
 use Rattle.literature_entries.specs.declared.entry.Entry.{Entry}
 use Rattle.literature_values.specs.TextViews.{format}
-use Rattle.interop.specs.Readings.{format_of}
+use Rattle.interop_readings.specs.Readings.{format_of}
 use Rattle.interop.specs.Bridge.{parent}
 use Rattle.interop.proofs.Entries.{holds, last, before_none}
 use Rattle.interop.proofs.FieldByField.{put_title, put_date}

@@ -5,8 +5,8 @@ use Rattle.biblatex_content.specs.Styled.{Member}
 use Rattle.biblatex_content.specs.Views.{styled}
 use Rattle.literature_types.specs.declared.entry_type.EntryType.TheVariants as works
 use Rattle.literature_entries.specs.Wholes.{Whole, whole}
-use Rattle.interop.specs.Values.{values}
-use Rattle.interop.specs.Readings.{date_under, date_kept}
+use Rattle.interop_readings.specs.Values.{values}
+use Rattle.interop_readings.specs.Readings.{date_under, date_kept}
 use Rattle.interop.specs.Bridge.{titled, titled_under, conference_of, original_of}
 use Rattle.interop.specs.declared.dates.Dates.{Dates}
 use Rattle.interop.proofs.Lists.{four_behind}

@@ -1,0 +1,17 @@
+//! The contents of fields of BibLaTeX entries as values of a library: by the names under which fields are written, the texts,
+//! people, numbers, page ranges, publishers, addresses and dates that stand under them.
+#![tactic(auto)]
+
+mod dates;
+mod pieces;
+mod readings;
+mod texts;
+mod values;
+
+pub use dates::{date_under, kept_date, own_date};
+pub use readings::{
+    address, format, format_if, format_under, number_under, pages_under, people_under, publisher,
+    text_under, title, total_under,
+};
+pub use texts::{empty_text, has_text, owned};
+pub use values::{text, value};
