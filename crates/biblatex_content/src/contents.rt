@@ -49,11 +49,20 @@ impl Contents {
         Ok(self.chunks.push(Spanned::new(chunk, span.start..span.end))?)
     }
 
+    /// Makes room for so many more chunks.
+    fn make_room(&mut self, count: usize) -> Result<(), AllocError>
+        ensures styled { OnOk result (so_far self.new ≡ so_far self.old) }
+        ensures placed { OnOk result (placed_so_far self.new ≡ placed_so_far self.old) }
+    {
+        self.chunks.reserve_exact(count)
+    }
+
     /// Puts the chunks of a piece at the span last.
     fn push_chunks(&mut self, span: &Span, chunks: Chunks) -> Result<(), AllocError>
         ensures styled { OnOk result (so_far self.new ≡ so_far self.old ++ styled chunks.items) }
         ensures placed { OnOk result (placed_so_far self.new ≡ placed_so_far self.old ++ all_at span.now.start span.now.end (styled chunks.items)) }
     {
+        self.make_room(chunks.len())?;
         for chunk in chunks {
             self.push_chunk(span, chunk.v)?;
         }

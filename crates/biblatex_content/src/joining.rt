@@ -1,6 +1,6 @@
 //! Text that is joined to chunks of one kind each.
 
-ghost use Rattle.std.specs.Prelude.{◌≡◌, ◌++◌, ◌∷◌, [], true, ℕ, max, if◌then◌else◌, List, IfOk, OnOk, Some, reverse};
+ghost use Rattle.std.specs.Prelude.{◌≡◌, ◌++◌, ◌∷◌, [], true, ℕ, max, if◌then◌else◌, List, IfOk, OnOk, Some, reverse, string_bytes};
 ghost use Rattle.std.specs.Str.{chars};
 ghost use Rattle.biblatex_text.specs.Raw.{At};
 ghost use Rattle.biblatex_content.specs.Styled.{Member, Letter, Math, letters};
@@ -13,6 +13,9 @@ use crate::chunk::{Chunk, Chunks, Kind, Span};
 use biblatex_text::Spanned;
 use std::alloc::{AllocError, Global};
 use std::mem;
+
+/// Room for a short run, in bytes.
+const SHORT_RUN: usize = 48;
 
 /// Chunks that are finished, and text of a kind that was begun, with where it stands.
 #[derive(Drop)]
@@ -43,10 +46,21 @@ pub(crate) fn has_text(text: &str) -> bool
     split_first(text).is_some()
 }
 
+/// Makes room for a short run in an empty text.
+fn make_room(text: &mut String) -> Result<(), AllocError>
+    ensures { OnOk result (string_bytes text.new ≡ string_bytes text.old) }
+{
+    if text.is_empty() {
+        return text.reserve(SHORT_RUN);
+    }
+    Ok(())
+}
+
 /// Puts a character last.
 pub(crate) fn push_character(text: &mut String, c: char) -> Result<(), AllocError>
     ensures { OnOk result (characters text.new ≡ characters text.old ++ c ∷ []) }
 {
+    make_room(text)?;
     text.push(c)
 }
 

@@ -14,6 +14,9 @@ use crate::character::{Class, split_first, split_run};
 use crate::error::{ContentError, Malformed};
 use std::alloc::{AllocError, Global};
 
+/// Room for the tokens of most texts.
+const FEW_TOKENS: usize = 16;
+
 /// What an ordinary field is made of.
 #[derive(Clone, Copy)]
 pub(crate) enum Token<'s> {
@@ -113,7 +116,7 @@ fn written_tokens<'s>(alloc: Global, text: &'s str) -> Result<Vec<Token<'s>>, Co
     ensures { Gives (λ v. tokens v.items) result (tokens_of (chars text.now)) }
 {
     let mut lexer = Lexer { rest: text };
-    let mut tokens = Vec::new(alloc);
+    let mut tokens = Vec::with_capacity(alloc, FEW_TOKENS)?;
     while let Some(token) = lexer.next_token()? {
         tokens.push(token)?;
     }
@@ -170,7 +173,7 @@ pub(crate) fn paired_tokens<'s>(
     let mut dollars = Dollars {
         groups: Vec::new(alloc),
     };
-    let mut paired = Vec::new(alloc);
+    let mut paired = Vec::with_capacity(alloc, tokens.len())?;
     while let Some(token) = tokens.pop() {
         paired.push(dollars.pass(token)?)?;
     }

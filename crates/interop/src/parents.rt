@@ -70,9 +70,21 @@ fn push_titled(
 ) -> Result<(), AllocError>
     ensures { OnOk result (map whole parents.new.items ≡ map whole parents.old.items ++ option_to_list (option_map (λ v. titled entry_type (styled v.now)) title.entry)) }
 {
-    let Some(title) = title else {
-        return Ok(());
-    };
+    match title {
+        Some(title) => push_work(alloc, parents, entry_type, title),
+        None => Ok(()),
+    }
+}
+
+/// Puts a work of a title alone last.
+fn push_work(
+    alloc: Global,
+    parents: &mut Vec<Entry>,
+    entry_type: EntryType,
+    title: &[Spanned<Chunk>],
+) -> Result<(), AllocError>
+    ensures { OnOk result (map whole parents.new.items ≡ map whole parents.old.items ++ titled entry_type (styled title.now) ∷ []) }
+{
     let mut work = Entry::new(empty_text(alloc), entry_type);
     set_title(&mut work, Some(format(alloc, title)?));
     Ok(parents.push(work)?)

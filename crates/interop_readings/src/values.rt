@@ -6,7 +6,8 @@ ghost use Rattle.std.specs.Map.{lookup};
 ghost use Rattle.std.specs.Str.{bytes_eq};
 ghost use Rattle.laws.specs.Text.{text as text_of};
 ghost use Rattle.biblatex_content.specs.Views.{styled, members, characters};
-ghost use Rattle.interop_readings.specs.Values.{filled, is_never_written, other_names, by_other_name, values, text_under};
+ghost use Rattle.biblatex_fields.specs.Fields.{value_named};
+ghost use Rattle.interop_readings.specs.Values.{filled, first_or, is_never_written, other_names, by_other_name, values, text_under};
 ghost use Rattle.interop_readings.specs.Views.{has_members};
 
 use crate::texts::{empty_text, has_text};
@@ -20,9 +21,17 @@ use std::alloc::{AllocError, Global};
 pub fn value<'f>(fields: &'f Fields, name: &str) -> Option<&'f [Spanned<Chunk>]>
     ensures { option_map (λ v. styled v.now) result ≡ values fields.now name.now }
 {
+    let value = by_either_name(fields, name)?;
     if is_never_written(name) {
         return None;
     }
+    Some(value)
+}
+
+/// The content of a field by its name, else by its other name.
+fn by_either_name<'f>(fields: &'f Fields, name: &str) -> Option<&'f [Spanned<Chunk>]>
+    ensures { option_map (λ v. styled v.now) result ≡ first_or (filled (value_named name.now fields.now)) (by_other_name name.now fields.now) }
+{
     match filled(fields.get(name)) {
         Some(value) => Some(value),
         None => by_other_name(fields, name),

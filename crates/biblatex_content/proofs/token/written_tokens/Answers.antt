@@ -9,7 +9,7 @@ use Rattle.biblatex_content.proofs.token.written_tokens.Goals as goal
 
 pub returns-in_err-token : goal.returns-in_err-token
 returns-in_err-token c =
-    let p = err_from_is_err_and c.from_residual.result c.from_residual.ensures.1 in
+    let p = err_from_is_err_and c.from_residual-in_err-token.result c.from_residual-in_err-token.ensures.1 in
     rw (p.1, p.2)
     (sym c.loop-tokens.invariant ∙ (gathered-err (tokens c.loop-tokens.tokens.items) (left c.loop-tokens.lexer) c.in_err-token.field-0.0 c.in_err-token.ensures ∙ ap (λ (f : Malformed). Err f) (only_malformed c.in_err-token.field-0.0)))
 

@@ -14,8 +14,8 @@ pub loop-chunk-init : goal.loop-chunk-init
 loop-chunk-init c =
     let e = c.into_iter-chunk-iterator.ensures.into_iter_gives in
     record {
-      text = ap (λ (x : List (Spanned Chunk)). so_far c.args.self.now ++ styled x) e.0;
-      members = ap (λ (x : List (Spanned Chunk)). placed_so_far c.args.self.now ++ all_at c.args.span.now.start c.args.span.now.end (styled x)) e.0;
+      text = rw (c.in_ok-make_room.ensures.styled) (ap (λ (x : List (Spanned Chunk)). so_far c.args.self.now ++ styled x) e.0);
+      members = rw (c.in_ok-make_room.ensures.placed) (ap (λ (x : List (Spanned Chunk)). placed_so_far c.args.self.now ++ all_at c.args.span.now.start c.args.span.now.end (styled x)) e.0);
       long = e.1 ∙ (c.args.chunks.ok.0 ∙ sym (ap length e.0));
     }
 

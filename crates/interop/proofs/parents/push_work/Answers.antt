@@ -1,8 +1,4 @@
-use Rattle.std.proofs.Common.{◌≡◌, [], ◌++◌, List, map, ap, sym, ◌∙◌, Option, Some, option_to_list}
-use Rattle.std.specs.Option.{option_map}
-use Rattle.std.specs.Borrow.{Bor}
-use Rattle.biblatex_content.specs.declared.chunk.Chunk.{Chunk}
-use Rattle.biblatex_text.specs.declared.spanned.Spanned.{Spanned}
+use Rattle.std.proofs.Common.{◌≡◌, [], List, map, ap, ◌∙◌, Some}
 use Rattle.biblatex_content.specs.Views.{styled}
 use Rattle.literature_entries.specs.Fields.{nothing_but}
 use Rattle.literature_entries.specs.Wholes.{whole}
@@ -12,16 +8,15 @@ use Rattle.interop_readings.specs.Readings.{format_of}
 use Rattle.interop.specs.Bridge.{titled}
 use Rattle.interop.proofs.Entries.{holds, last}
 use Rattle.interop.proofs.FieldByField.{put_title}
-use Rattle.interop.proofs.parents.push_titled.Goals as goal
+use Rattle.interop.proofs.parents.push_work.Goals as goal
 
 pub returns : goal.returns
 returns c =
-    let ms = styled c.in-Some.title.now in
+    let ms = styled c.args.title.now in
     let t = c.args.entry_type in
     let made : whole c.set_title.new.entry ≡ titled t ms = holds c.set_title.new.entry [] (record (nothing_but t) { title = Some (format_of ms) }) []
     (c.set_title.ensures.0 ∙ (c.new-work.ensures.key ∙ c.empty_text.ensures.bytes))
     (c.set_title.ensures.1 ∙ (ap (put_title (Some (format c.in_ok-format.field-0))) c.new-work.ensures.fields ∙ (λ i. record (nothing_but t) { title = Some (c.in_ok-format.ensures i) })))
     (ap (λ (es : List Entry). map whole es) (c.set_title.ensures.2 ∙ c.new-work.ensures.parents)) in
     ap (λ (es : List Entry). map whole es) c.in_ok-push.ensures.items
-    ∙ (last c.args.parents.now.items c.set_title.new.entry (titled t ms) made
-    ∙ ap (λ (x : Option (Bor (List (Spanned Chunk)))). map whole c.args.parents.now.items ++ option_to_list (option_map (λ v. titled t (styled v.now)) x)) (sym c.in-Some.is))
+    ∙ last c.args.parents.now.items c.set_title.new.entry (titled t ms) made
