@@ -123,7 +123,11 @@ fn split_plain(text: &str) -> (&str, &str)
 fn is_marked(c: char) -> bool
     ensures { result ≡ is_marked c }
 {
-    c.is_control() || matches!(c, '\\' | '$' | '{' | '}')
+    match c {
+        '\\' | '$' | '{' | '}' => true,
+        ' '..='~' => false,
+        _ => c.is_control(),
+    }
 }
 
 /// Shows the number of a character.

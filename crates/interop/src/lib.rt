@@ -1,6 +1,8 @@
 //! The bridge from entries of BibLaTeX files to a library.
 #![tactic(auto)]
 
+#[cfg(test)]
+mod allocating;
 mod bridge;
 mod dates;
 mod error;

@@ -30,6 +30,8 @@ fn ends_are_not_repeated(rt: HostRuntime) -> Result<(), Fail> {
             ("{12} 2", "12 2"),
             ("{12}2", "12"),
             ("{a}a", "aa"),
+            ("{é}é", "éé"),
+            ("{A.} .", "A. ."),
         ],
     )
 }
@@ -41,6 +43,7 @@ fn white_space_goes_before_what_closes(rt: HostRuntime) -> Result<(), Fail> {
         rt.alloc(),
         &[
             ("{A\u{a0}}, b", "A, b"),
+            ("{A }, b", "A, b"),
             ("{A\u{a0}}]", "A]"),
             ("{A\u{a0}}(b)", "A\u{a0}(b)"),
             ("A\u{a0}{.}", "A\u{a0}."),
