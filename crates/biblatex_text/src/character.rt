@@ -15,12 +15,11 @@ pub fn is_key(c: char) -> bool
 pub fn is_id_continue(c: char) -> bool
     ensures { result ≡ is_id_continue c }
 {
-    !(c.is_whitespace()
-        || c.is_control()
-        || matches!(
-            c,
-            '@' | '{' | '}' | '"' | '#' | '\'' | '(' | ')' | ',' | '=' | '%' | '\\' | '~'
-        ))
+    match c {
+        'a'..='z' | 'A'..='Z' | '0'..='9' => true,
+        '@' | '{' | '}' | '"' | '#' | '\'' | '(' | ')' | ',' | '=' | '%' | '\\' | '~' => false,
+        _ => !(c.is_whitespace() || c.is_control()),
+    }
 }
 
 /// Whether a kind or the name of a field may begin with the character: it may stand in an identifier, and is none of
