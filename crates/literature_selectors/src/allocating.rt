@@ -8,7 +8,7 @@ use std::alloc::{AllocError, Global};
 use std::test::Fail;
 
 /// A chapter of a book.
-fn chapter(alloc: Global) -> Result<Entry, AllocError> {
+pub(crate) fn chapter(alloc: Global) -> Result<Entry, AllocError> {
     let mut parents = Vec::new(alloc);
     parents.push(Entry::new(String::from_str(alloc, "book")?, EntryType::Book))?;
     let mut entry = Entry::new(String::from_str(alloc, "chapter")?, EntryType::Chapter);

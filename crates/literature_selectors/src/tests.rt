@@ -1,8 +1,10 @@
 //! Texts of selectors and what is read of them.
 
-use crate::{Selector, SelectorError};
+use crate::allocating::chapter;
+use crate::{Bindings, Selector, SelectorError};
 use std::alloc::{AllocError, Global};
 use std::fmt::Write;
+use std::test::Fail;
 
 /// What is read of the text, or why it is refused.
 pub(crate) fn described(alloc: Global, text: &str) -> Result<String, AllocError> {
@@ -367,4 +369,47 @@ fn reads_beginnings_of_parentheses(rt: HostRuntime) {
         let other = first_other_in_parentheses(rt.alloc(), count, fault).expect(&rt, "memory");
         assert_eq!(rt; other, None, "{fault}");
     }
+}
+
+/// The names one after the other.
+fn names_of(alloc: Global, bindings: Bindings<'_>) -> Result<String, AllocError> {
+    let mut out = String::new(alloc);
+    for name in bindings.keys() {
+        out.push_str(name.as_str())?;
+    }
+    Ok(out)
+}
+
+/// The names, each before the key of the entry that it is bound to.
+fn pairs_of(alloc: Global, bindings: Bindings<'_>) -> Result<String, AllocError> {
+    let mut out = String::new(alloc);
+    for (name, entry) in bindings.iter() {
+        out.push_str(name.as_str())?;
+        out.push_str(entry.key())?;
+    }
+    Ok(out)
+}
+
+#[test]
+fn lists_names(rt: HostRuntime) -> Result<(), Fail> {
+    let chapter = chapter(rt.alloc())?;
+    let selector = Selector::parse(rt.alloc(), "a:* > b:book")?;
+    let Some(bindings) = selector.apply(rt.alloc(), &chapter)? else {
+        return Err(Fail::from("no answer"));
+    };
+    let names = names_of(rt.alloc(), bindings)?;
+    assert_eq!(rt; names.as_str(), "ab");
+    Ok(())
+}
+
+#[test]
+fn lists_bindings(rt: HostRuntime) -> Result<(), Fail> {
+    let chapter = chapter(rt.alloc())?;
+    let selector = Selector::parse(rt.alloc(), "a:* > b:book")?;
+    let Some(bindings) = selector.apply(rt.alloc(), &chapter)? else {
+        return Err(Fail::from("no answer"));
+    };
+    let pairs = pairs_of(rt.alloc(), bindings)?;
+    assert_eq!(rt; pairs.as_str(), "achapterbbook");
+    Ok(())
 }
