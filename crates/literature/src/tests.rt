@@ -39,3 +39,51 @@ fn keeps_places(rt: HostRuntime) -> Result<(), Fail> {
     assert!(rt; library.nth(0).map(Entry::key) == Some("b"));
     Ok(())
 }
+
+/// The keys one after the other.
+fn keys_of(alloc: Global, library: Library) -> Result<String, AllocError> {
+    let mut out = String::new(alloc);
+    for key in library.keys() {
+        out.push_str(key.as_str())?;
+    }
+    Ok(out)
+}
+
+/// The keys of the entries, which are lent.
+fn lent_keys(alloc: Global, library: Library) -> Result<String, AllocError> {
+    let mut out = String::new(alloc);
+    for entry in &library {
+        out.push_str(entry.key())?;
+    }
+    Ok(out)
+}
+
+/// The keys of the entries, which are taken out.
+fn owned_keys(alloc: Global, library: Library) -> Result<String, AllocError> {
+    let mut out = String::new(alloc);
+    for entry in library {
+        out.push_str(entry.key())?;
+    }
+    Ok(out)
+}
+
+#[test]
+fn lists_keys(rt: HostRuntime) -> Result<(), Fail> {
+    let keys = keys_of(rt.alloc(), library(rt.alloc())?)?;
+    assert_eq!(rt; keys.as_str(), "ab");
+    Ok(())
+}
+
+#[test]
+fn lends_entries(rt: HostRuntime) -> Result<(), Fail> {
+    let keys = lent_keys(rt.alloc(), library(rt.alloc())?)?;
+    assert_eq!(rt; keys.as_str(), "ab");
+    Ok(())
+}
+
+#[test]
+fn hands_entries_out(rt: HostRuntime) -> Result<(), Fail> {
+    let keys = owned_keys(rt.alloc(), library(rt.alloc())?)?;
+    assert_eq!(rt; keys.as_str(), "ab");
+    Ok(())
+}
