@@ -1,6 +1,8 @@
 //! Entries of a library with the works that they are part of.
 #![tactic(auto)]
 
+#[cfg(test)]
+mod allocating;
 mod ancestors;
 mod details;
 mod entry;
