@@ -1,6 +1,8 @@
 //! Dates of bibliographic entries: read from one text or from year, month and day, and written.
 #![tactic(auto)]
 
+#[cfg(test)]
+mod allocating;
 mod date;
 mod datetime;
 mod error;
