@@ -1,6 +1,8 @@
 //! Lists in BibLaTeX fields: a value parted at the word `and`, and parts written as a value.
 #![tactic(auto)]
 
+#[cfg(test)]
+mod allocating;
 mod parting;
 mod plain;
 mod read_back;
