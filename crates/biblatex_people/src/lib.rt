@@ -1,6 +1,8 @@
 //! People in BibLaTeX fields: lists of names, read from a value and written as one.
 #![tactic(auto)]
 
+#[cfg(test)]
+mod allocating;
 mod name;
 mod pairs;
 mod person;
