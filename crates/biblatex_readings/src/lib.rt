@@ -2,6 +2,8 @@
 //! ranges of pages.
 #![tactic(auto)]
 
+#[cfg(test)]
+mod allocating;
 mod dates;
 mod editor_type;
 mod error;
