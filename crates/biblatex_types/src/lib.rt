@@ -1,6 +1,8 @@
 //! Typed readings of BibLaTeX fields: what the chunks of a field mean as a value of a type, and how a value is written.
 #![tactic(auto)]
 
+#[cfg(test)]
+mod allocating;
 mod classes;
 mod dates;
 mod error;
