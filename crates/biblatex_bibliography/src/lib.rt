@@ -1,11 +1,15 @@
 //! Bibliographies: entries in file order, found by their names.
 #![tactic(auto)]
 
+#[cfg(test)]
+mod allocating;
 mod bibliography;
 mod error;
 mod held;
 mod iterators;
 mod keys;
+#[cfg(test)]
+mod memory;
 mod parsing;
 mod places;
 mod reading;
