@@ -3,3 +3,5 @@
 
 #[cfg(test)]
 mod texts;
+#[cfg(test)]
+mod typed;
