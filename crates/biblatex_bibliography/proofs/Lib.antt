@@ -4,3 +4,4 @@ pub mod Names
 pub mod Lent
 pub mod Resolving
 pub mod Loading
+pub mod Unique

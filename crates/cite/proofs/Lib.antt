@@ -10,3 +10,4 @@ pub mod Ends
 pub mod Spelled
 pub mod Lines
 pub mod Verdicts
+pub mod Unique

@@ -21,7 +21,11 @@ fn closed_up<'l>(last: &'l str, next: &str) -> &'l str
     ensures value { chars result.now ≡ specs.closed_up (chars next.now) (chars last.now) }
     ensures front { result.now ≡ take (length result.now) last.now }
 {
-    if begins_close(next) { trimmed(last) } else { last }
+    if begins_close(next) {
+        trimmed(last)
+    } else {
+        last
+    }
 }
 
 /// The last text without an end that the next one, a text without letters, would repeat.
@@ -29,7 +33,11 @@ fn unrepeated<'l>(last: &'l str, next: &str) -> &'l str
     ensures value { chars result.now ≡ specs.unrepeated (chars next.now) (chars last.now) }
     ensures front { result.now ≡ take (length result.now) last.now }
 {
-    if has_letters(next) { last } else { without_end(last, trimmed(next)) }
+    if has_letters(next) {
+        last
+    } else {
+        without_end(last, trimmed(next))
+    }
 }
 
 /// A text without that end, where it has it.

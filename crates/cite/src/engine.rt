@@ -32,11 +32,7 @@ fn read_document<'s>(alloc: Global, document: &'s [u8]) -> Result<Document<'s>, 
 
 /// The output: the document with numbers for its citations, and the bibliography.
 #[tactic(auto, unfolding(crate::specs::Verdict::output_stage))]
-fn write_output(
-    alloc: Global,
-    works: &Works,
-    document: &Document<'_>,
-) -> Result<String, CiteError>
+fn write_output(alloc: Global, works: &Works, document: &Document<'_>) -> Result<String, CiteError>
     ensures { Gives (λ s. string_bytes s) result (output_stage (works_in works.now) (parsed document.now).0 (parsed document.now).1) }
 {
     let (mut output, order) = numbered_document(alloc, works, document)?;

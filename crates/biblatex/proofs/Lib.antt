@@ -1,0 +1,1 @@
+pub use Rattle.biblatex_bibliography.proofs.Unique
