@@ -2,8 +2,12 @@
 #![tactic(auto)]
 
 mod abbreviations;
+#[cfg(test)]
+mod allocating;
 mod error;
 mod fields;
+#[cfg(test)]
+mod memory;
 mod month;
 mod references;
 #[cfg(test)]
