@@ -2,12 +2,16 @@
 #![tactic(auto)]
 
 mod accent;
+#[cfg(test)]
+mod allocating;
 mod character;
 mod chunk;
 mod command;
 mod contents;
 mod error;
 mod joining;
+#[cfg(test)]
+mod memory;
 mod ordinary;
 #[cfg(test)]
 mod tests;
