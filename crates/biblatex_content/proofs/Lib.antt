@@ -1,8 +1,5 @@
 pub mod Characters
 pub mod Members
-pub mod Lexing
-pub mod Pairing
-pub mod Marks
 pub mod Shifting
 pub mod Pieces
 pub mod Neighbours

@@ -1,15 +1,16 @@
 -- Reading a piece of an ordinary field as a loop does.
 use Rattle.std.proofs.Common.{◌≡◌, ℕ, List, [], ◌∷◌, Result, Ok, Err, refl, sym, ap, ◌∙◌}
 use Rattle.laws.specs.Results.{◌>>=◌}
-use Rattle.biblatex_content.specs.declared.error.ContentError.{ContentError}
-use Rattle.biblatex_content.specs.declared.error.ContentError.TheVariants as errors
-use Rattle.biblatex_content.specs.declared.error.Malformed.{Malformed}
-use Rattle.biblatex_content.specs.declared.error.Malformed.TheVariants.{MalformedText}
+use Rattle.biblatex_content_tokens.specs.declared.error.ContentError.{ContentError}
+use Rattle.biblatex_content_tokens.specs.declared.error.ContentError.TheVariants as errors
+use Rattle.biblatex_content_tokens.specs.declared.error.Malformed.{Malformed}
+use Rattle.biblatex_content_tokens.specs.declared.error.Malformed.TheVariants.{MalformedText}
 use Rattle.biblatex_content.specs.Styled.{Member}
-use Rattle.biblatex_content.specs.Token.{Token, paired_of}
+use Rattle.biblatex_content_tokens.specs.Token.{Token, paired_of}
 use Rattle.biblatex_content.specs.Ordinary.{State, step, steps, begun, ended_in, ordinary}
 use Rattle.biblatex_content.specs.OrdinaryViews.{Moves}
-use Rattle.biblatex_content.specs.Views.{Gives, behind, joined}
+use Rattle.biblatex_content.specs.Views.{behind, joined}
+use Rattle.biblatex_content_tokens.specs.Results.{Gives}
 use Rattle.biblatex_content.proofs.Shifting.{onto, ordinary-behind}
 
 -- the tokens have a fault

@@ -4,7 +4,7 @@ use Rattle.biblatex_text.specs.Raw.{At}
 use Rattle.biblatex_content.specs.declared.chunk.Kind.{Kind}
 use Rattle.biblatex_content.specs.declared.tidy.Gap.{Gap}
 use Rattle.biblatex_content.specs.declared.tidy.Gap.TheVariants.{Beginning, Nothing, Space}
-use Rattle.biblatex_content.specs.Character.{is_blank}
+use Rattle.biblatex_content_tokens.specs.Character.{is_blank}
 use Rattle.biblatex_content.specs.Styled.{Member, Letter, Math}
 use Rattle.biblatex_content.specs.Tidy.{is_space}
 use Rattle.biblatex_content.specs.Places.{spaced_at, squeezed_at, without_last_space_at, owed_at, tidied_behind_at}

@@ -9,7 +9,7 @@ use Rattle.biblatex_content.specs.declared.chunk.Chunk.{Chunk}
 use Rattle.biblatex_content.specs.declared.chunk.Chunk.TheVariants as chunks
 use Rattle.biblatex_text.specs.declared.spanned.Spanned.{Spanned}
 use Rattle.biblatex_text.specs.Raw.{At}
-use Rattle.biblatex_content.specs.Character.{is_blank}
+use Rattle.biblatex_content_tokens.specs.Character.{is_blank}
 use Rattle.biblatex_content.specs.Styled.{Member, Letter, letters}
 use Rattle.biblatex_content.specs.Views.{characters}
 use Rattle.biblatex_content.specs.Tidy.{spaced, is_space, squeezed, without_last_space, tidied, stays, is_tidy, is_tidy_text}

@@ -1,11 +1,6 @@
-pub mod Character
 pub mod Styled
 pub mod Tidy
 pub mod Verbatim
-pub mod Token
-pub mod TokenViews
-pub mod Command
-pub mod Accent
 pub mod Ordinary
 pub mod OrdinaryViews
 pub mod Views

@@ -3,19 +3,19 @@ use Rattle.std.specs.Prelude.{ℕ, ◌-◌, ◌/◌, ◌%◌, Bool, true, false,
 use Rattle.laws.specs.Results.{◌>>=◌}
 use Rattle.laws.specs.Runs.{after}
 use Rattle.laws.specs.Text.{text}
-use Rattle.biblatex_content.specs.Character.{passes}
-use Rattle.biblatex_content.specs.declared.character.Class.TheVariants.{Blank}
+use Rattle.biblatex_content_tokens.specs.Character.{passes}
+use Rattle.biblatex_content_tokens.specs.declared.character.Class.TheVariants.{Blank}
 use Rattle.biblatex_content.specs.declared.chunk.Kind.{Kind}
 use Rattle.biblatex_content.specs.declared.chunk.Kind.TheVariants.{Normal, Verbatim}
-use Rattle.biblatex_content.specs.declared.error.Malformed.{Malformed}
-use Rattle.biblatex_content.specs.declared.error.Malformed.TheVariants.{MalformedText}
+use Rattle.biblatex_content_tokens.specs.declared.error.Malformed.{Malformed}
+use Rattle.biblatex_content_tokens.specs.declared.error.Malformed.TheVariants.{MalformedText}
 use Rattle.biblatex_content.specs.declared.ordinary.Mode.{Mode}
 use Rattle.biblatex_content.specs.declared.ordinary.Mode.TheVariants.{Free, Argument, Groups, InMath}
 use Rattle.biblatex_content.specs.declared.ordinary.Frame.{Frame}
 use Rattle.biblatex_content.specs.Styled.{Member, Math, letters}
-use Rattle.biblatex_content.specs.Accent.{marked}
-use Rattle.biblatex_content.specs.Command.{sign_mark, sign_text, letter_mark, letter_character}
-use Rattle.biblatex_content.specs.Token.{Token, Text, Hyphens, Tie, Open, Close, Dollar, Sign, Command, written, paired_of}
+use Rattle.biblatex_content_tokens.specs.Accent.{marked}
+use Rattle.biblatex_content_tokens.specs.Command.{sign_mark, sign_text, letter_mark, letter_character}
+use Rattle.biblatex_content_tokens.specs.Token.{Token, Text, Hyphens, Tie, Open, Close, Dollar, Sign, Command, written, paired_of}
 
 -- What has been read: the members so far, the kind that is read in, the groups that are open (the innermost first) with
 -- the kind and the mode around each, the marks that wait for a character (the last to come is the first to be put on),

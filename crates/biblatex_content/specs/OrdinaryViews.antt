@@ -1,9 +1,9 @@
 -- The reading of an ordinary field in the code, as the state that it stands for.
 use Rattle.std.specs.Prelude.{◌≡◌, reverse, Result, Ok, Err}
-use Rattle.biblatex_content.specs.declared.error.ContentError.{ContentError}
-use Rattle.biblatex_content.specs.declared.error.ContentError.TheVariants as errors
-use Rattle.biblatex_content.specs.declared.error.Malformed.{Malformed}
-use Rattle.biblatex_content.specs.declared.error.Malformed.TheVariants.{MalformedText}
+use Rattle.biblatex_content_tokens.specs.declared.error.ContentError.{ContentError}
+use Rattle.biblatex_content_tokens.specs.declared.error.ContentError.TheVariants as errors
+use Rattle.biblatex_content_tokens.specs.declared.error.Malformed.{Malformed}
+use Rattle.biblatex_content_tokens.specs.declared.error.Malformed.TheVariants.{MalformedText}
 use Rattle.biblatex_content.specs.declared.ordinary.Reading.{Reading}
 use Rattle.biblatex_content.specs.Ordinary.{State}
 use Rattle.biblatex_content.specs.Views.{characters, joined}

@@ -1,6 +1,6 @@
 -- What the code holds, as plain lists.
 use Rattle.std.specs.Global.{Global}
-use Rattle.std.specs.Prelude.{◌≡◌, ℕ, ◌-◌, max, length, slice_get, List, [], ◌∷◌, ◌++◌, flat_map, Result, Ok, Err, string_bytes, String}
+use Rattle.std.specs.Prelude.{ℕ, ◌-◌, max, length, slice_get, List, [], ◌∷◌, ◌++◌, flat_map, Result, Ok, string_bytes, String}
 use Rattle.std.specs.Option.{option_map_or}
 use Rattle.std.specs.Str.{chars}
 use Rattle.std.specs.Borrow.{Bor}
@@ -10,10 +10,7 @@ use Rattle.biblatex_content.specs.declared.chunk.Chunk.TheVariants as chunks
 use Rattle.biblatex_text.specs.declared.spanned.Spanned.{Spanned}
 use Rattle.biblatex_content.specs.declared.contents.Contents.{Contents}
 use Rattle.biblatex_content.specs.declared.joining.Joining.{Joining}
-use Rattle.biblatex_content.specs.declared.error.ContentError.{ContentError}
-use Rattle.biblatex_content.specs.declared.error.ContentError.TheVariants as errors
-use Rattle.biblatex_content.specs.declared.error.Malformed.{Malformed}
-use Rattle.biblatex_content.specs.declared.error.Malformed.TheVariants.{MalformedText}
+use Rattle.biblatex_content_tokens.specs.declared.error.Malformed.{Malformed}
 use Rattle.laws.specs.Results.{◌>>=◌}
 use Rattle.biblatex_content.specs.Styled.{Member, Math, letters}
 
@@ -59,12 +56,6 @@ so_far c = styled c.chunks.items
 -- the styled text that has been joined
 abbrev pub joined : Joining → List Member
 joined j = styled j.chunks.items ++ letters j.kind (characters j.run)
-
--- What was made, seen by view, or the refusal, is what reading gives; of want of memory nothing is said.
-abbrev pub Gives : {X Y : Type 0} → (X → Y) → Result X ContentError → Result Y Malformed → Type 0
-Gives view (Ok x) read = read ≡ Ok (view x)
-Gives view (Err errors.Memory) read = Unit {0}
-Gives view (Err errors.MalformedCommand) read = read ≡ Err MalformedText
 
 -- what reading gives, behind these members
 abbrev pub behind : List Member → Result (List Member) Malformed → Result (List Member) Malformed

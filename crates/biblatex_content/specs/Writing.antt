@@ -6,7 +6,7 @@ use Rattle.std.specs.Prelude.{String}
 use Rattle.biblatex_content.specs.declared.chunk.Kind.{Kind}
 use Rattle.biblatex_content.specs.declared.chunk.Kind.TheVariants.{Normal, Verbatim}
 use Rattle.biblatex_content.specs.Styled.{Member, Letter, Math}
-use Rattle.biblatex_content.specs.Token.{begins_command}
+use Rattle.biblatex_content_tokens.specs.Token.{begins_command}
 use Rattle.biblatex_content.specs.Verbatim.{is_escapable}
 use Rattle.biblatex_content.specs.Views.{characters}
 

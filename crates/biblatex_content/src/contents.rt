@@ -9,13 +9,14 @@ ghost use Rattle.biblatex_content.specs.Parted.{are_parted};
 ghost use Rattle.biblatex_content.specs.Places.{all_at, placed_so_far, behind_at, tidied_at, places, places_of};
 ghost use Rattle.biblatex_content.specs.Tidy.{tidied};
 ghost use Rattle.biblatex_content.specs.Verbatim.{verbatim_text};
-ghost use Rattle.biblatex_content.specs.Views.{so_far, styled, members, behind, Gives};
+ghost use Rattle.biblatex_content.specs.Views.{so_far, styled, members, behind};
+ghost use Rattle.biblatex_content_tokens.specs.Results.{Gives};
 
 use crate::chunk::{Chunk, Chunks, Span};
-use crate::error::ContentError;
 use crate::ordinary::{is_plain, read_ordinary};
 use crate::tidy::{are_done, tidy};
 use crate::verbatim::read_verbatim;
+use biblatex_content_tokens::ContentError;
 use biblatex_text::Spanned;
 use std::alloc::{AllocError, Global};
 

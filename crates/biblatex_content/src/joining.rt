@@ -8,8 +8,8 @@ ghost use Rattle.biblatex_content.specs.Parted.{is_filled, is_full, kind_of, is_
 ghost use Rattle.biblatex_content.specs.Places.{kind_in, places, places_of, places_with};
 ghost use Rattle.biblatex_content.specs.Views.{characters, members, joined, styled};
 
-use crate::character::split_first;
 use crate::chunk::{Chunk, Chunks, Kind, Span};
+use biblatex_content_tokens::split_first;
 use biblatex_text::Spanned;
 use std::alloc::{AllocError, Global};
 use std::mem;

@@ -1,14 +1,10 @@
 //! The contents of BibLaTeX fields: pieces of a field become chunks of normal text, verbatim text and math.
 #![tactic(auto)]
 
-mod accent;
 #[cfg(test)]
 mod allocating;
-mod character;
 mod chunk;
-mod command;
 mod contents;
-mod error;
 mod joining;
 #[cfg(test)]
 mod memory;
@@ -16,13 +12,12 @@ mod ordinary;
 #[cfg(test)]
 mod tests;
 mod tidy;
-mod token;
 mod verbatim;
 mod writing;
 
+pub use biblatex_content_tokens::ContentError;
 pub use biblatex_text::Spanned;
 pub use chunk::{Chunk, Chunks, ChunksExt, Kind, Span};
 pub use contents::Contents;
-pub use error::ContentError;
 pub use verbatim::{is_escapable, is_verbatim_field};
 pub use writing::push_biblatex;

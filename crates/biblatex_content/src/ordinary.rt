@@ -4,23 +4,23 @@ ghost use Rattle.std.specs.Prelude.{◌≡◌, ◌-◌, ◌++◌, ◌∷◌, [],
 ghost use Rattle.std.specs.Str.{chars};
 ghost use Rattle.laws.specs.Runs.{after};
 ghost use Rattle.laws.specs.Text.{text};
-ghost use Rattle.biblatex_content.specs.Character.{passes};
-ghost use Rattle.biblatex_content.specs.declared.character.Class.TheVariants.{Plain};
-ghost use Rattle.biblatex_content.specs.declared.error.ContentError.TheVariants.{Memory};
+ghost use Rattle.biblatex_content_tokens.specs.Character.{passes};
+ghost use Rattle.biblatex_content_tokens.specs.declared.character.Class.TheVariants.{Plain};
+ghost use Rattle.biblatex_content_tokens.specs.declared.error.ContentError.TheVariants.{Memory};
 ghost use Rattle.biblatex_content.specs.Ordinary.{kept_in, given, marked_behind, given_text, text_in, accented, opened, closed_to, closed_in, dollar, dashes, hyphens_in, sign, command, unit, in_math, step, begun, ended_in, ordinary};
-ghost use Rattle.biblatex_content.specs.Command.{sign_mark, letter_mark};
-ghost use Rattle.biblatex_content.specs.Token.{written};
-ghost use Rattle.biblatex_content.specs.TokenViews.{token};
-ghost use Rattle.biblatex_content.specs.Views.{characters, joined, styled, behind, Gives};
+ghost use Rattle.biblatex_content_tokens.specs.Command.{sign_mark, letter_mark};
+ghost use Rattle.biblatex_content_tokens.specs.Token.{written};
+ghost use Rattle.biblatex_content_tokens.specs.TokenViews.{token};
+ghost use Rattle.biblatex_content.specs.Views.{characters, joined, styled, behind};
+ghost use Rattle.biblatex_content_tokens.specs.Results.{Gives};
 ghost use Rattle.biblatex_content.specs.OrdinaryViews.{state, Moves};
 
-use crate::accent::{put_marks, reversed};
-use crate::character::{Class, split_first, split_run};
 use crate::chunk::{Chunks, Kind};
-use crate::command::{letter_character, letter_mark, sign_character, sign_mark};
-use crate::error::ContentError;
 use crate::joining::{Joining, empty_text, has_text, push_character, push_text, take_text};
-use crate::token::{Token, paired_tokens};
+use biblatex_content_tokens::{
+    Class, ContentError, Token, letter_character, letter_mark, paired_tokens, put_marks, reversed,
+    sign_character, sign_mark, split_first, split_run,
+};
 use std::alloc::{AllocError, Global};
 
 /// What comes next.

@@ -51,7 +51,7 @@ fn verbatim(alloc: Global, piece: &str) -> Result<String, Fail> {
 
 #[test]
 fn dashes_ties_and_escapes(rt: HostRuntime) -> Result<(), Fail> {
-    let rows = [
+    let rows = &[
         ("a---b--c-d~e", "a—b–c-d\u{a0}e"),
         ("-----", "—–"),
         ("------", "——"),
@@ -73,7 +73,7 @@ fn dashes_ties_and_escapes(rt: HostRuntime) -> Result<(), Fail> {
 
 #[test]
 fn accents(rt: HostRuntime) -> Result<(), Fail> {
-    let rows = [
+    let rows = &[
         ("\\`a\\'a\\^a\\~a\\=a\\.a\\\"a", "àáâãāȧä"),
         (
             "\\u a\\r{a}\\H o\\v{s}\\d{a}\\c c\\k{a}\\b{b}",
@@ -121,7 +121,7 @@ fn accents(rt: HostRuntime) -> Result<(), Fail> {
 
 #[test]
 fn commands(rt: HostRuntime) -> Result<(), Fail> {
-    let rows = [
+    let rows = &[
         (
             "\\ss\\ae\\AE\\oe\\OE\\o\\O\\aa\\AA\\l\\L\\i\\j\\dh\\DH\\th\\TH\\S\\P",
             "ßæÆœŒøØåÅłŁıȷðÐþÞ§¶",
@@ -157,7 +157,7 @@ fn commands(rt: HostRuntime) -> Result<(), Fail> {
 
 #[test]
 fn groups_and_math(rt: HostRuntime) -> Result<(), Fail> {
-    let rows = [
+    let rows = &[
         ("a {B} c", "a «B» c"),
         ("{a}{b}", "«ab»"),
         ("{a{b}c}", "«abc»"),
@@ -187,7 +187,7 @@ fn groups_and_math(rt: HostRuntime) -> Result<(), Fail> {
 
 #[test]
 fn tidied(rt: HostRuntime) -> Result<(), Fail> {
-    let rows = [
+    let rows = &[
         (" \t a \n\r\u{c} b  ", "a b"),
         ("A {} {\\ }{ B}", "A «B»"),
         ("a\\ \\ b", "a b"),
@@ -208,7 +208,7 @@ fn tidied(rt: HostRuntime) -> Result<(), Fail> {
 
 #[test]
 fn malformed(rt: HostRuntime) -> Result<(), Fail> {
-    let rows = [
+    let rows = &[
         "\\'", "\\' ", "\\'}", "{\\'}", "{", "}", "a\\", "{a}}", "\\c", "\\'{", "\\'\\u", "$a{$b",
         "}a{", "\\f{a",
     ];
@@ -316,7 +316,7 @@ fn pieces_out_of_order(rt: HostRuntime) -> Result<(), Fail> {
 
 #[test]
 fn verbatim_fields(rt: HostRuntime) -> Result<(), Fail> {
-    let rows = [
+    let rows = &[
         ("https://e.org/\\~a", "«https://e.org/~a»"),
         (
             "a\\{b\\}c\\\\d\\^e\\#f\\&g\\%h\\$i\\_j",
@@ -352,7 +352,7 @@ fn chunks_as_one_text(rt: HostRuntime) -> Result<(), Fail> {
 
 #[test]
 fn names_and_escapes(rt: HostRuntime) -> Result<(), Fail> {
-    let verbatim = [
+    let verbatim = &[
         "file", "doi", "uri", "eprint", "verba", "verbb", "verbc", "pdf", "url", "urlraw",
     ];
     for name in verbatim.iter() {
@@ -389,7 +389,7 @@ fn verbatim_again(alloc: Global, piece: &str) -> Result<String, Fail> {
 
 #[test]
 fn ordinary_fields_are_written(rt: HostRuntime) -> Result<(), Fail> {
-    let rows = [
+    let rows = &[
         ("{TIMES} R\\&D~x", "{TIMES} R\\&D~x"),
         ("X \\& Y", "X \\& Y"),
         ("\\{\\}\\#\\&\\%\\$\\_", "\\{\\}\\#\\&\\%\\$\\_"),
@@ -419,7 +419,7 @@ fn ordinary_fields_are_written(rt: HostRuntime) -> Result<(), Fail> {
 
 #[test]
 fn verbatim_fields_are_written(rt: HostRuntime) -> Result<(), Fail> {
-    let rows = [
+    let rows = &[
         ("a\\{b\\}c\\\\d", "a\\{b\\}c\\\\d"),
         ("https://e.org/\\~a\\_b", "https://e.org/~a_b"),
         ("a~b$c$^&#%", "a~b$c$^&#%"),
@@ -440,7 +440,7 @@ fn chunks_are_written_alone(rt: HostRuntime) -> Result<(), Fail> {
     let normal = Chunk::Normal(String::from_str(alloc, "{\u{a0}^")?);
     let verbatim = Chunk::Verbatim(String::from_str(alloc, "&x")?);
     let math = Chunk::Math(String::from_str(alloc, "x_{1}")?);
-    let rows = [
+    let rows = &[
         (&normal, "\\{~\\textasciicircum{}", "\\{\u{a0}^"),
         (&verbatim, "{{}\\&x}", "&x"),
         (&math, "$x_{1}$", "x_\\{1\\}"),

@@ -5,16 +5,16 @@ ghost use Rattle.std.specs.Str.{chars};
 ghost use Rattle.biblatex_text.specs.Raw.{At};
 ghost use Rattle.biblatex_text.specs.declared.spanned.Spanned.{Spanned};
 ghost use Rattle.biblatex_content.specs.declared.tidy.Gap.TheVariants.{Nothing};
-ghost use Rattle.biblatex_content.specs.Character.{is_blank};
+ghost use Rattle.biblatex_content_tokens.specs.Character.{is_blank};
 ghost use Rattle.biblatex_content.specs.Styled.{Member, Letter, Math, letters};
 ghost use Rattle.biblatex_content.specs.Parted.{IsReady};
 ghost use Rattle.biblatex_content.specs.Places.{all_at, placed, placed_in, places_of, tidied_at, places_with, owed_at, places_to_come, AreDone};
 ghost use Rattle.biblatex_content.specs.Tidy.{tidied, is_tidy, is_tidy_text, stays, owed, to_come};
 ghost use Rattle.biblatex_content.specs.Views.{joined, styled, members, characters};
 
-use crate::character::is_blank;
 use crate::chunk::{Chunk, Chunks, Kind, Span};
 use crate::joining::Joining;
+use biblatex_content_tokens::is_blank;
 use biblatex_text::Spanned;
 use std::alloc::{AllocError, Global};
 

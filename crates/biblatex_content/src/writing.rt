@@ -4,7 +4,7 @@ ghost use Rattle.std.specs.Prelude.{◌≡◌, ◌++◌, ◌∷◌, false, List,
 ghost use Rattle.std.specs.List.{flat_map};
 ghost use Rattle.std.specs.Str.{chars};
 ghost use Rattle.biblatex_content.specs.Styled.{Member, Letter, Math, letters};
-ghost use Rattle.biblatex_content.specs.Token.{begins_command};
+ghost use Rattle.biblatex_content_tokens.specs.Token.{begins_command};
 ghost use Rattle.biblatex_content.specs.Writing.{escaped, written_character, guard, closing, turning, is_grouped, written_ordinary, written_as_is, written_verbatim, written_content, written_behind};
 ghost use Rattle.biblatex_content.specs.Views.{characters, members, styled};
 

@@ -1,0 +1,18 @@
+//! What an ordinary BibLaTeX field is made of: its tokens, what commands stand for, and accents.
+#![tactic(auto)]
+
+mod accent;
+#[cfg(test)]
+mod allocating;
+mod character;
+mod command;
+mod error;
+#[cfg(test)]
+mod tests;
+mod token;
+
+pub use accent::{put_marks, reversed};
+pub use character::{Class, is_blank, split_first, split_run};
+pub use command::{letter_character, letter_mark, sign_character, sign_mark};
+pub use error::{ContentError, Malformed};
+pub use token::{Token, paired_tokens};
