@@ -38,6 +38,13 @@ Retrieves view (Err errors.Memory) read = Unit {0}
 Retrieves view (Err errors.Missing) read = read ≡ None
 Retrieves view (Err (errors.TypeError e)) read = read ≡ Some (Err e.kind)
 
+-- What was answered, seen by view, is the value; of want of memory nothing is said, and there is no other refusal.
+abbrev pub ComesBack : {X V : Type 0} → (X → V) → Result X RetrievalError → V → Type 0
+ComesBack view (Ok x) v = view x ≡ v
+ComesBack view (Err errors.Memory) v = Unit {0}
+ComesBack view (Err errors.Missing) v = ⊥
+ComesBack view (Err (errors.TypeError e)) v = ⊥
+
 -- A fault stands from where the first chunk begins to where the last one ends.
 abbrev pub IsAt : {X : Type 0} → Result X RetrievalError → List (Spanned Chunk) → Type 0
 IsAt (Ok x) cs = Unit {0}

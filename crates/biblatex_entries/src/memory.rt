@@ -56,10 +56,10 @@ fn refused_fields_are_not_added(rt: HostRuntime) {
     let Ok(mut entry) = with_field(rt.alloc(), "note", "a") else {
         return;
     };
-    let names = [
+    let names = &[
         "a", "b", "c", "d", "e", "f", "g", "h", "i", "j", "k", "l", "m",
     ];
-    let keeps = keeps_what_was_set(&mut entry, rt.alloc(), &names);
+    let keeps = keeps_what_was_set(&mut entry, rt.alloc(), names);
     assert!(rt; keeps);
     assert!(rt; has_text(&entry, "note", "a"));
 }

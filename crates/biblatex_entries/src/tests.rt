@@ -72,7 +72,7 @@ fn types_have_roles(rt: HostRuntime) -> Result<(), Fail> {
 
 #[test]
 fn older_types_are_written_as_newer_ones(rt: HostRuntime) -> Result<(), Fail> {
-    let rows = [
+    let rows = &[
         ("mastersthesis", EntryType::Thesis),
         ("PhDThesis", EntryType::Thesis),
         ("techreport", EntryType::Report),

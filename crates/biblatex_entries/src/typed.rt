@@ -13,7 +13,7 @@ ghost use Rattle.biblatex_readings.specs.Permissive.{reads_permissive};
 ghost use Rattle.biblatex_types.specs.Views.{permitted, reads_people};
 ghost use Rattle.biblatex_entries.specs.TypeNames.{type_name};
 ghost use Rattle.biblatex_entries.specs.Entries.{source};
-ghost use Rattle.biblatex_entries.specs.Typed.{Retrieves, IsAt, IsLent, read_as, sure, field_characters, date_of_parts, date_in_fields, type_or_editor, editors_in, people_and_type};
+ghost use Rattle.biblatex_entries.specs.Typed.{Retrieves, ComesBack, IsAt, IsLent, read_as, sure, field_characters, date_of_parts, date_in_fields, type_or_editor, editors_in, people_and_type};
 
 use crate::entry::Entry;
 use crate::error::RetrievalError;
@@ -33,7 +33,10 @@ impl Entry {
     /// `Missing` where there is no such field; `TypeError` with the span of its chunks where they are no value of the type;
     /// `Memory` where a request for memory was refused.
     pub fn get_as<T: FieldType>(&self, alloc: Global, name: &str) -> Result<T, RetrievalError>
-        ensures { Retrieves T.view result (read_as T.reads name.now self.now.fields) }
+        // What the field reads as, or its fault, or that it is missing.
+        ensures reading { Retrieves T.view result (read_as T.reads name.now self.now.fields) }
+        // Of what is written of a value of the type's class that value comes back.
+        ensures back { (v : T.View) → T.InClass v → value_named name.now self.now.fields ≡ Some (T.writes v) → ComesBack T.view result v }
     {
         match self.fields.get(name) {
             Some(value) => read_value(alloc, value.as_slice()),
@@ -42,6 +45,7 @@ impl Entry {
     }
 
     /// Gives the field of that name, in lower ASCII case, what is written of the value.
+    #[tactic(auto, using(crate::proofs::Stored::value_put))]
     pub fn set_as<T: FieldType>(
         &mut self,
         alloc: Global,
@@ -49,6 +53,8 @@ impl Entry {
         value: &T,
     ) -> Result<(), AllocError>
         ensures ok { OnOk result (source self.new ≡ record { key = string_bytes self.old.key; entry_type = type_name self.old.entry_type; fields = with_field self.old.fields (lowered (chars name.now)) (T.writes (T.view value.now)) }) }
+        // The field of that name has what is written of the value.
+        ensures written { OnOk result (value_named (lowered (chars name.now)) self.new.fields ≡ Some (T.writes (T.view value.now))) }
         ensures err { OnErr result (source self.new ≡ source self.old) }
     {
         let chunks = value.to_chunks(alloc)?;
