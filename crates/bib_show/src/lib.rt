@@ -2,6 +2,8 @@
 //! call, `run` is the program over any files and writers.
 #![tactic(auto)]
 
+#[cfg(test)]
+mod allocating;
 mod member;
 mod place;
 mod program;
@@ -9,7 +11,6 @@ mod refusal;
 mod shown;
 #[cfg(test)]
 mod tests;
-mod type_name;
 
 pub use program::run;
 pub use shown::show;

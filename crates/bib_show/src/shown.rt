@@ -7,7 +7,6 @@ ghost use Rattle.biblatex.specs.Entries.{source};
 ghost use Rattle.bib_show.specs.Shown.{shown, shown_entry, shown_field, AreAllInOrder};
 
 use crate::member::push_value;
-use crate::type_name::type_name;
 use biblatex::{Bibliography, Chunks, Entry, Fields};
 use std::alloc::{AllocError, Global};
 
@@ -33,7 +32,7 @@ fn push_entry(out: &mut String, entry: &Entry) -> Result<(), AllocError>
     ensures order { OnOk result (AreInOrder entry.now.fields) }
 {
     out.push('@')?;
-    out.push_str(type_name(&entry.entry_type))?;
+    out.push_str(entry.entry_type.name())?;
     out.push(' ')?;
     out.push_str(entry.key.as_str())?;
     out.push('\n')?;
