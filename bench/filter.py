@@ -8,39 +8,14 @@ fixed seed. For N = 1,000, 10,000 and 100,000 it prints the bytes of input, the 
 smaller two), the seconds, and the peak memory less that of a run on two empty files. Then, from the smaller two: the instructions for
 each byte of input (the difference over the difference) and the growth exponent of the instructions.
 """
-import os
-import random
-import sys
-import tempfile
-
 import mixed
-from measuring import WORDS, Table
-
-here = os.path.dirname(os.path.abspath(__file__))
-program = os.path.abspath(sys.argv[1] if len(sys.argv) > 1 else os.path.join(here, "../crates/cite_program/out/cite_program"))
+from measuring import measure_filter
 
 
-def document(chance, count):
-    """A text with a marker for each ten entries, in lines of 60 bytes."""
-    parts = []
+def draw_keys(chance, count):
+    """A key for each ten entries."""
     for _ in range(count // 10):
-        marker = f"[@{chance.choice('abcd')}{4 * chance.randrange(count // 4)}]"
-        text = ""
-        while len(text) + len(marker) < 59:
-            text += chance.choice(WORDS) + " "
-        parts.append(text[:59 - len(marker)] + marker + "\n")
-    return "".join(parts)
+        yield f"{chance.choice('abcd')}{4 * chance.randrange(count // 4)}"
 
 
-with tempfile.TemporaryDirectory() as folder:
-    bib, text = os.path.join(folder, "b.bib"), os.path.join(folder, "d.txt")
-    for path in (bib, text):
-        open(path, "w").close()
-    table = Table([program, "num", "plain", bib, text], folder)
-    for count in (1_000, 10_000, 100_000):
-        chance = random.Random(count)
-        mixed.write(bib, chance, count)
-        with open(text, "w") as out:
-            out.write(document(chance, count))
-        table.line(count, os.path.getsize(bib) + os.path.getsize(text))
-    table.growth()
+measure_filter(mixed.write, draw_keys)

@@ -9,15 +9,7 @@ evenly. Both come of a fixed seed. For N = 1,000, 10,000 and 100,000 it prints t
 Then, from the smaller two: the instructions for each byte of input (the difference over the difference) and the growth
 exponent of the instructions.
 """
-import os
-import random
-import sys
-import tempfile
-
-from measuring import WORDS, Table, title
-
-here = os.path.dirname(os.path.abspath(__file__))
-program = os.path.abspath(sys.argv[1] if len(sys.argv) > 1 else os.path.join(here, "../crates/cite_program/out/cite_program"))
+from measuring import WORDS, measure_filter, title
 
 
 def book(chance, key):
@@ -35,29 +27,16 @@ def book(chance, key):
             return text
 
 
-def document(chance, keys, count):
-    """A text with a marker for each 60 bytes."""
-    parts = []
+def write_books(path, chance, count):
+    """Writes so many books."""
+    with open(path, "w") as out:
+        out.write("".join(book(chance, f"k{place}") for place in range(count)))
+
+
+def draw_keys(chance, count):
+    """So many keys."""
     for _ in range(count):
-        marker = "[@" + chance.choice(keys) + "]"
-        text = ""
-        while len(text) + len(marker) < 59:
-            text += chance.choice(WORDS) + " "
-        parts.append(text[:59 - len(marker)] + marker + "\n")
-    return "".join(parts)
+        yield f"k{chance.randrange(count)}"
 
 
-with tempfile.TemporaryDirectory() as folder:
-    bib, text = os.path.join(folder, "b.bib"), os.path.join(folder, "d.txt")
-    for path in (bib, text):
-        open(path, "w").close()
-    table = Table([program, "num", "plain", bib, text], folder)
-    for count in (1_000, 10_000, 100_000):
-        chance = random.Random(count)
-        keys = [f"k{place}" for place in range(count)]
-        with open(bib, "w") as out:
-            out.write("".join(book(chance, key) for key in keys))
-        with open(text, "w") as out:
-            out.write(document(chance, keys, count))
-        table.line(count, os.path.getsize(bib) + os.path.getsize(text))
-    table.growth()
+measure_filter(write_books, draw_keys)

@@ -1,8 +1,10 @@
-"""What the measuring scripts share: words, and runs of a program that are timed, weighed and counted."""
+"""What the measuring scripts share: words, documents, and runs of a program that are timed, weighed and counted."""
 import math
 import os
+import random
 import subprocess
 import sys
+import tempfile
 import time
 
 WORDS = "of the art light field winter river letters house memory early stone public measure sea on time form".split()
@@ -15,6 +17,18 @@ def title(chance):
     while len(text) < wanted:
         text += " " + chance.choice(WORDS)
     return text[:wanted].rstrip().ljust(40, "s")
+
+
+def document(chance, keys):
+    """A text with a marker for each key, in lines of 60 bytes."""
+    lines = []
+    for key in keys:
+        marker = "[@" + key + "]"
+        text = ""
+        while len(text) + len(marker) < 59:
+            text += chance.choice(WORDS) + " "
+        lines.append(text[:59 - len(marker)] + marker + "\n")
+    return "".join(lines)
 
 
 def peak_and_seconds(words):
@@ -62,3 +76,22 @@ class Table:
         (small, few), (large, many) = self.counted
         print(f"instructions a byte: {(many - few) / (large - small):.1f}")
         print(f"growth exponent: {math.log(many / few) / math.log(large / small):.3f}")
+
+
+def measure_filter(write_bib, draw_keys):
+    """Measures the filter, which is the first word or the one that is built here, over files of three sizes: `write_bib` writes
+    so many entries to a path, and `draw_keys` draws the keys that a document of that size cites."""
+    built = os.path.join(os.path.dirname(os.path.abspath(__file__)), "../crates/cite_program/out/cite_program")
+    program = os.path.abspath(sys.argv[1] if len(sys.argv) > 1 else built)
+    with tempfile.TemporaryDirectory() as folder:
+        bib, text = os.path.join(folder, "b.bib"), os.path.join(folder, "d.txt")
+        for path in (bib, text):
+            open(path, "w").close()
+        table = Table([program, "num", "plain", bib, text], folder)
+        for count in (1_000, 10_000, 100_000):
+            chance = random.Random(count)
+            write_bib(bib, chance, count)
+            with open(text, "w") as out:
+                out.write(document(chance, draw_keys(chance, count)))
+            table.line(count, os.path.getsize(bib) + os.path.getsize(text))
+        table.growth()

@@ -1,0 +1,80 @@
+#!/usr/bin/env python3
+"""Runs the program that shows what was read over texts that nest deeply or refer on and on, with a stack of 8 MB.
+
+    bench/deep.py [PROGRAM]
+
+A title of 1,000,000 groups in one another, 10 MB of opening braces, 100,000 abbreviations of which each opens the next, 100,000
+entries of which each refers to the next, and as many of which the last one refers to the first. For each it prints the bytes of the text, the status and the one that is awaited, the
+seconds and the peak memory. It ends with status 1 where a status is another one.
+"""
+import os
+import resource
+import subprocess
+import sys
+import tempfile
+import time
+
+STACK = 8 << 20
+
+
+def groups(count):
+    """A title of so many groups in one another."""
+    return "@book{a, title={" + "{" * count + "x" + "}" * count + "}}\n"
+
+
+def braces(count):
+    """A value of so many opening braces, and no more."""
+    return "@book{a, title=" + "{" * count
+
+
+def abbreviations(count):
+    """So many abbreviations, each opening the next, and a note that opens the first."""
+    lines = [f"@string{{s{place} = s{place + 1}}}" for place in range(count - 1)]
+    return "\n".join(lines) + f"\n@string{{s{count - 1} = {{x}}}}\n@misc{{k, note = s0}}\n"
+
+
+def references(count):
+    """So many entries, each referring to the next; the last one has a date."""
+    lines = [f"@misc{{k{place}, crossref = {{k{place + 1}}}}}" for place in range(count - 1)]
+    return "\n".join(lines) + f"\n@misc{{k{count - 1}, date = {{2000}}}}\n"
+
+
+def circle(count):
+    """So many entries, each referring to the next, and the last one to the first."""
+    return "\n".join(f"@misc{{k{place}, crossref = {{k{(place + 1) % count}}}}}" for place in range(count)) + "\n"
+
+
+def run(words):
+    """The status, the seconds and the peak memory in bytes of one run."""
+    started = time.perf_counter()
+    limit = lambda: resource.setrlimit(resource.RLIMIT_STACK, (STACK, STACK))
+    running = subprocess.Popen(words, stdout=subprocess.DEVNULL, stderr=subprocess.DEVNULL, preexec_fn=limit)
+    _, status, usage = os.wait4(running.pid, 0)
+    return os.waitstatus_to_exitcode(status), time.perf_counter() - started, usage.ru_maxrss * 1024
+
+
+def main():
+    here = os.path.dirname(os.path.abspath(__file__))
+    built = os.path.join(here, "../crates/bib_show_program/out/bib_show_program")
+    program = os.path.abspath(sys.argv[1] if len(sys.argv) > 1 else built)
+    rows = [
+        ("groups in one another", groups(1_000_000), 0),
+        ("opening braces", braces(10_000_000), 1),
+        ("abbreviations in a chain", abbreviations(100_000), 0),
+        ("references in a chain", references(100_000), 0),
+        ("references in a circle", circle(100_000), 1),
+    ]
+    fails = 0
+    print(f"{'text':<26} {'bytes':>10} {'status':>6} {'awaited':>7} {'seconds':>8} {'memory':>12}")
+    with tempfile.TemporaryDirectory() as folder:
+        path = os.path.join(folder, "b.bib")
+        for name, text, awaited in rows:
+            with open(path, "w") as out:
+                out.write(text)
+            status, seconds, memory = run([program, path])
+            fails += status != awaited
+            print(f"{name:<26} {len(text):>10} {status:>6} {awaited:>7} {seconds:>8.3f} {memory:>12}")
+    sys.exit(1 if fails else 0)
+
+
+main()
