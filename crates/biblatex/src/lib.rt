@@ -2,6 +2,9 @@
 //! name it alone.
 #![tactic(auto)]
 
+#[cfg(test)]
+mod tests;
+
 pub use biblatex_bibliography::{
     Bibliography, Counted, Keys, ParseError, ParseErrorKind, parse_field,
 };
@@ -17,5 +20,5 @@ pub use biblatex_text::{
     Token, is_id_continue, is_id_start, is_key,
 };
 pub use biblatex_types::{
-    ChunksParse, EditorType, FieldType, FieldTypeError, Gender, PermissiveType, TypeError,
+    ChunksParse, EditorType, FieldType, FieldTypeError, Gender, PermissiveType, TypeError, reread,
 };

@@ -117,8 +117,8 @@ impl Bibliography {
         ensures* writes_back { sem 𝓛 (LendsEntry self.entry ((seen self.old).place name.now) result) }
         ensures value { option_map (λ e. source e.now) result ≡ entry_named name.now (seen self.old) }
     {
-        let place = place_in(&self.places, name)?;
-        self.entries.get_mut(place)
+        let meant = place_in(&self.places, name)?;
+        self.entries.get_mut(meant)
     }
 
     /// The entry at the place, to be changed. Names mean what they meant, whatever is changed.

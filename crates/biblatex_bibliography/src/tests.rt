@@ -5,6 +5,7 @@ use biblatex_content::{Chunk, Chunks, Spanned};
 use biblatex_entries::{Entry, EntryType, field_text};
 use std::alloc::{AllocError, Global};
 use std::fmt::Write;
+use std::test::Fail;
 
 /// What is done with a bibliography.
 #[derive(Clone, Copy)]
@@ -193,12 +194,12 @@ fn a_name_means_the_last_entry_that_has_it(rt: HostRuntime) {
 
 #[test]
 fn the_names_in_ids_are_parted_by_commas(rt: HostRuntime) {
-    let steps = [
+    let steps = &[
         Step::Push("a", " b c ,, d,\u{a0}e |,|f", ""),
         Step::Push("", "A,a,a", ""),
     ];
     let names = ["a", "b c", "b", "d", "e", " d", "f", "", "A"];
-    let found = described(rt.alloc(), &steps, &names).expect(&rt, "memory");
+    let found = described(rt.alloc(), steps, &names).expect(&rt, "memory");
     assert_eq!(rt;
         found.as_str(),
         "a,, a=1 b c=0a b=- d=0a e=0a  d=- f=0a =1 A=1"
@@ -207,13 +208,13 @@ fn the_names_in_ids_are_parted_by_commas(rt: HostRuntime) {
 
 #[test]
 fn an_entry_takes_the_place_and_the_names_of_another(rt: HostRuntime) {
-    let steps = [
+    let steps = &[
         Step::Push("a", "", ""),
         Step::Push("b", "x", ""),
         Step::Push("c", "", ""),
         Step::Insert("x", "y"),
     ];
-    let found = described(rt.alloc(), &steps, &["a", "b", "c", "x", "y"]).expect(&rt, "memory");
+    let found = described(rt.alloc(), steps, &["a", "b", "c", "x", "y"]).expect(&rt, "memory");
     assert_eq!(rt; found.as_str(), "(b)a,x,c, a=0a b=1x c=2c x=1x y=-");
 }
 
@@ -226,7 +227,7 @@ fn a_new_entry_goes_last_under_its_key_alone(rt: HostRuntime) {
 
 #[test]
 fn an_entry_is_taken_out_with_all_its_names(rt: HostRuntime) {
-    let steps = [
+    let steps = &[
         Step::Push("a", "", ""),
         Step::Push("b", "x,y", ""),
         Step::Push("c", "y,z", ""),
@@ -236,7 +237,7 @@ fn an_entry_is_taken_out_with_all_its_names(rt: HostRuntime) {
         Step::Remove("a"),
     ];
     let names = ["a", "b", "c", "d", "x", "y", "z"];
-    let found = described(rt.alloc(), &steps, &names).expect(&rt, "memory");
+    let found = described(rt.alloc(), steps, &names).expect(&rt, "memory");
     assert_eq!(rt;
         found.as_str(),
         "(b)()(a)c,d, a=- b=- c=0c d=1d x=- y=0c z=0c"
@@ -245,7 +246,7 @@ fn an_entry_is_taken_out_with_all_its_names(rt: HostRuntime) {
 
 #[test]
 fn one_more_name_for_an_entry(rt: HostRuntime) {
-    let steps = [
+    let steps = &[
         Step::Push("a", "", ""),
         Step::Push("b", "", ""),
         Step::Alias("a", "x"),
@@ -253,13 +254,13 @@ fn one_more_name_for_an_entry(rt: HostRuntime) {
         Step::Alias("c", "a"),
         Step::Alias("c", "d"),
     ];
-    let found = described(rt.alloc(), &steps, &["a", "b", "c", "d", "x"]).expect(&rt, "memory");
+    let found = described(rt.alloc(), steps, &["a", "b", "c", "d", "x"]).expect(&rt, "memory");
     assert_eq!(rt; found.as_str(), "a,b, a=0a b=0a c=- d=- x=0a");
 }
 
 #[test]
 fn an_entry_is_changed_in_its_place(rt: HostRuntime) {
-    let steps = [
+    let steps = &[
         Step::Push("a", "x", ""),
         Step::Push("b", "", ""),
         Step::Retitle("x", "X"),
@@ -267,13 +268,13 @@ fn an_entry_is_changed_in_its_place(rt: HostRuntime) {
         Step::RetitleAt(1, "B"),
         Step::RetitleAt(2, "D"),
     ];
-    let found = described(rt.alloc(), &steps, &["a"]).expect(&rt, "memory");
+    let found = described(rt.alloc(), steps, &["a"]).expect(&rt, "memory");
     assert_eq!(rt; found.as_str(), "aX,bB, a=0a");
 }
 
 #[test]
 fn references_by_names(rt: HostRuntime) {
-    let steps = [
+    let steps = &[
         Step::Push("a", "x", "c, nothing, b"),
         Step::Push("b", "y", "x,y"),
         Step::Push("c", "x", ""),
@@ -282,7 +283,7 @@ fn references_by_names(rt: HostRuntime) {
         Step::Push("e", "", ""),
         Step::Refer("e", "a,b"),
     ];
-    let found = referring(rt.alloc(), &steps).expect(&rt, "memory");
+    let found = referring(rt.alloc(), steps).expect(&rt, "memory");
     assert_eq!(rt; found.as_str(), "2,3,1,;2,1,;;1,0,0,;;");
 }
 
@@ -336,11 +337,34 @@ fn marked(alloc: Global, steps: &[Step], names: &[&str]) -> Result<String, Alloc
 
 #[test]
 fn each_entry_is_changed_in_its_place(rt: HostRuntime) {
-    let steps = [
+    let steps = &[
         Step::Push("a", "x", ""),
         Step::Push("b", "", ""),
         Step::Retitle("b", "B"),
     ];
-    let found = marked(rt.alloc(), &steps, &["a", "b", "x"]).expect(&rt, "memory");
+    let found = marked(rt.alloc(), steps, &["a", "b", "x"]).expect(&rt, "memory");
     assert_eq!(rt; found.as_str(), "a!!,B!!, a=0a b=1b x=0a");
+}
+
+/// Writes the keys of entries.
+fn write_keys(out: &mut String, entries: &[Entry]) -> Result<(), AllocError> {
+    for entry in entries {
+        write!(out, "{},", entry.key)?;
+    }
+    write!(out, ";")
+}
+
+#[test]
+fn entries_are_given_in_the_order_of_the_text(rt: HostRuntime) -> Result<(), Fail> {
+    let text = "@misc{c, crossref={b}} @book{a, ids={d}} @book{b, title={B}}";
+    let held = Bibliography::parse(rt.alloc(), text)?;
+    let mut out = String::new(rt.alloc());
+    for entry in held.iter() {
+        write!(out, "{},", entry.key)?;
+    }
+    write!(out, ";")?;
+    write_keys(&mut out, held.entries())?;
+    write_keys(&mut out, held.into_vec().as_slice())?;
+    assert_eq!(rt; out.as_str(), "c,a,b,;c,a,b,;c,a,b,;");
+    Ok(())
 }

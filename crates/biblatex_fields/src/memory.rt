@@ -27,10 +27,10 @@ fn keeps_what_was_put(fields: &mut Fields, alloc: Global, names: &[&str]) -> boo
 #[test]
 fn refused_fields_are_not_added(rt: HostRuntime) {
     let mut fields = Fields::new(rt.alloc());
-    let names = [
+    let names = &[
         "a", "b", "c", "d", "e", "f", "g", "h", "i", "j", "k", "l", "m",
     ];
-    let keeps = keeps_what_was_put(&mut fields, rt.alloc(), &names);
+    let keeps = keeps_what_was_put(&mut fields, rt.alloc(), names);
     assert!(rt; keeps);
 }
 

@@ -62,7 +62,7 @@ fn read(alloc: Global, source: &str) -> Result<String, Fail> {
 
 #[test]
 fn opens_abbreviations(rt: HostRuntime) -> Result<(), Fail> {
-    let rows = [
+    let rows = &[
         (
             "@string{abc={ABC}, hi={hello}, you={person}} @misc{k, note = abc # \"good {TIMES}\" # hi # you # \"last\"}",
             "note = ABCgood «TIMES»hellopersonlast;",
@@ -106,7 +106,7 @@ fn opens_abbreviations(rt: HostRuntime) -> Result<(), Fail> {
 
 #[test]
 fn refuses_the_first_fault(rt: HostRuntime) -> Result<(), Fail> {
-    let rows = [
+    let rows = &[
         ("@book{a, title = zz}", "unknown abbreviation zz at 17..19"),
         (
             "@book{a, title = {A} # Foo}",
@@ -133,6 +133,42 @@ fn refuses_the_first_fault(rt: HostRuntime) -> Result<(), Fail> {
             "@string{p = {\\'}} @book{a, url = p, title = p}",
             "malformed command at 13..15",
         ),
+    ];
+    for (source, wanted) in rows.iter() {
+        let found = read(rt.alloc(), source)?;
+        assert_eq!(rt; found.as_str(), *wanted, "{source}");
+    }
+    Ok(())
+}
+
+#[test]
+fn reads_what_is_written(rt: HostRuntime) -> Result<(), Fail> {
+    let rows = &[
+        // All written fields are read, also those that a later one replaces.
+        (
+            "@book{a, title = zz, title = {A}}",
+            "unknown abbreviation zz at 17..19",
+        ),
+        (
+            "@book{a, b = {B}, title = {A}, TITLE = {C}}",
+            "b = B;title = C;",
+        ),
+        // A name that is not opened is no fault.
+        (
+            "@string{p = p, q = zz} @preamble{p # zz} @book{a, title = {A}}",
+            "title = A;",
+        ),
+    ];
+    for (source, wanted) in rows.iter() {
+        let found = read(rt.alloc(), source)?;
+        assert_eq!(rt; found.as_str(), *wanted, "{source}");
+    }
+    Ok(())
+}
+
+#[test]
+fn refuses_circles_before_pieces(rt: HostRuntime) -> Result<(), Fail> {
+    let rows = &[
         // A circle is seen before the pieces of the name are read.
         (
             "@string{p = zz # p} @book{a, title = p}",
@@ -149,20 +185,6 @@ fn refuses_the_first_fault(rt: HostRuntime) -> Result<(), Fail> {
         (
             "@string{p = Q, q = P} @book{a, title = Q}",
             "abbreviation Q reaches itself at 39..40",
-        ),
-        // All written fields are read, also those that a later one replaces.
-        (
-            "@book{a, title = zz, title = {A}}",
-            "unknown abbreviation zz at 17..19",
-        ),
-        (
-            "@book{a, b = {B}, title = {A}, TITLE = {C}}",
-            "b = B;title = C;",
-        ),
-        // A name that is not opened is no fault.
-        (
-            "@string{p = p, q = zz} @preamble{p # zz} @book{a, title = {A}}",
-            "title = A;",
         ),
     ];
     for (source, wanted) in rows.iter() {
@@ -199,7 +221,7 @@ fn placed_title(alloc: Global, source: &str) -> Result<String, Fail> {
 
 #[test]
 fn chunks_stand_where_they_are_written(rt: HostRuntime) -> Result<(), Fail> {
-    let rows = [
+    let rows = &[
         ("@book{a, title = \"x\" # {y}}", "xy 18-25 all 18-25"),
         ("@book{a, title = {x {Y}}}", "x «Y» 18-23 18-23 all 18-23"),
         (

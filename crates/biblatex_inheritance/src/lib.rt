@@ -1,6 +1,8 @@
 //! What entries inherit from the entries that they refer to.
 #![tactic(auto)]
 
+#[cfg(test)]
+mod allocating;
 mod copy;
 mod dated;
 mod error;

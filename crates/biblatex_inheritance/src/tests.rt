@@ -16,7 +16,11 @@ fn value(alloc: Global, text: &str) -> Result<Chunks, AllocError> {
 }
 
 /// An entry of the type with these fields.
-fn entry(alloc: Global, kind: &str, fields: &[(&str, &str)]) -> Result<Entry, AllocError> {
+pub(crate) fn entry(
+    alloc: Global,
+    kind: &str,
+    fields: &[(&str, &str)],
+) -> Result<Entry, AllocError> {
     let mut entry = Entry::new(
         alloc,
         String::from_str(alloc, "k")?,
@@ -29,7 +33,7 @@ fn entry(alloc: Global, kind: &str, fields: &[(&str, &str)]) -> Result<Entry, Al
 }
 
 /// Two entries, the first of which refers to the second, resolved.
-fn pair(alloc: Global, first: Entry, second: Entry) -> Result<Vec<Entry>, ResolveError> {
+pub(crate) fn pair(alloc: Global, first: Entry, second: Entry) -> Result<Vec<Entry>, ResolveError> {
     let mut entries = Vec::new(alloc);
     entries.push(first)?;
     entries.push(second)?;
@@ -86,37 +90,37 @@ fn parts_of_books_take_titles_and_authors(rt: HostRuntime) -> Result<(), Fail> {
         &[("title", "B"), ("author", "Roe, Ann"), ("note", "N")],
     )?;
     let entries = pair(rt.alloc(), part, book)?;
-    let wanted = [
+    let wanted = &[
         ("author", "Roe, Ann"),
         ("bookauthor", "Roe, Ann"),
         ("booktitle", "B"),
     ];
-    check(&rt, rt.alloc(), &entries, 0, &wanted);
+    check(&rt, rt.alloc(), &entries, 0, wanted);
     Ok(())
 }
 
 #[test]
 fn own_fields_stay_and_dates_come(rt: HostRuntime) -> Result<(), Fail> {
-    let own = [
+    let own = &[
         ("author", "Roe, Ann"),
         ("title", "C"),
         ("date", "1995"),
         ("month", "2"),
     ];
-    let part = entry(rt.alloc(), "inbook", &own)?;
+    let part = entry(rt.alloc(), "inbook", own)?;
     let book = entry(
         rt.alloc(),
         "book",
         &[("title", "B"), ("date", "1990-05-06T10:20:30")],
     )?;
     let entries = pair(rt.alloc(), part, book)?;
-    let wanted = [
+    let wanted = &[
         ("author", "Roe, Ann"),
         ("title", "C"),
         ("booktitle", "B"),
         ("date", "1990-05-06"),
     ];
-    check(&rt, rt.alloc(), &entries, 0, &wanted);
+    check(&rt, rt.alloc(), &entries, 0, wanted);
     Ok(())
 }
 
@@ -145,14 +149,14 @@ fn sets_take_no_date(rt: HostRuntime) -> Result<(), Fail> {
 #[test]
 fn xdata_entries_take_any_field(rt: HostRuntime) -> Result<(), Fail> {
     let data = entry(rt.alloc(), "xdata", &[("publisher", "P")])?;
-    let fields = [
+    let fields = &[
         ("title", "T"),
         ("publisher", "Q"),
         ("year", "x"),
         ("keywords", "K"),
         ("crossref", "c"),
     ];
-    let periodical = entry(rt.alloc(), "periodical", &fields)?;
+    let periodical = entry(rt.alloc(), "periodical", fields)?;
     let entries = pair(rt.alloc(), data, periodical)?;
     let wanted = [("publisher", "P"), ("year", "x"), ("keywords", "K")];
     check(&rt, rt.alloc(), &entries, 0, &wanted);
@@ -165,12 +169,12 @@ fn articles_take_the_title_of_their_periodical(rt: HostRuntime) -> Result<(), Fa
     let fields = [("title", "T"), ("subtitle", "S"), ("journaltitle", "J")];
     let periodical = entry(rt.alloc(), "periodical", &fields)?;
     let entries = pair(rt.alloc(), article, periodical)?;
-    let wanted = [
+    let wanted = &[
         ("title", "A"),
         ("journaltitle", "T"),
         ("journalsubtitle", "S"),
     ];
-    check(&rt, rt.alloc(), &entries, 0, &wanted);
+    check(&rt, rt.alloc(), &entries, 0, wanted);
     Ok(())
 }
 

@@ -73,7 +73,7 @@ fn parted(alloc: Global, row: &str) -> Result<String, Fail> {
 
 #[test]
 fn parts_of_values(rt: HostRuntime) -> Result<(), Fail> {
-    let rows = [
+    let rows = &[
         ("A and B", "A|B|"),
         ("A AND B aNd C", "A|B|C|"),
         ("A and and B", "A||B|"),
@@ -101,7 +101,7 @@ fn parts_of_values(rt: HostRuntime) -> Result<(), Fail> {
 
 #[test]
 fn parts_are_trimmed(rt: HostRuntime) -> Result<(), Fail> {
-    let rows = [
+    let rows = &[
         ("  A  B  and\tC\n", "A  B|C|"),
         ("« »A and B« »", " A|B |"),
         ("\u{a0}A\u{a0}", "A|"),
@@ -116,7 +116,7 @@ fn parts_are_trimmed(rt: HostRuntime) -> Result<(), Fail> {
 
 #[test]
 fn texts_of_values(rt: HostRuntime) -> Result<(), Fail> {
-    let rows = [
+    let rows = &[
         ("A and and B", "A|B|"),
         ("", ""),
         (
@@ -151,7 +151,7 @@ fn written(alloc: Global, texts: &str) -> Result<Chunks, Fail> {
 
 #[test]
 fn values_of_texts(rt: HostRuntime) -> Result<(), Fail> {
-    let rows = [
+    let rows = &[
         ("", ""),
         ("A|", "A"),
         (

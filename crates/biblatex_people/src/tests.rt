@@ -75,7 +75,7 @@ fn read(alloc: Global, row: &str) -> Result<String, Fail> {
 
 #[test]
 fn without_commas(rt: HostRuntime) -> Result<(), Fail> {
-    let rows = [
+    let rows = &[
         ("Kevin Kwan", "Kwan/Kevin//|"),
         ("Kwan", "Kwan///|"),
         ("Kevin James Kwan", "Kwan/Kevin James//|"),
@@ -104,7 +104,7 @@ fn without_commas(rt: HostRuntime) -> Result<(), Fail> {
 
 #[test]
 fn with_commas(rt: HostRuntime) -> Result<(), Fail> {
-    let rows = [
+    let rows = &[
         ("Kwan, Kevin", "Kwan/Kevin//|"),
         ("Roe, Ann", "Roe/Ann//|"),
         (", Ann", "/Ann//|"),
@@ -128,7 +128,7 @@ fn with_commas(rt: HostRuntime) -> Result<(), Fail> {
 
 #[test]
 fn keys_and_values(rt: HostRuntime) -> Result<(), Fail> {
-    let rows = [
+    let rows = &[
         ("family=Roe", "Roe///|"),
         ("given=Ann, family=Roe", "Roe/Ann//|"),
         (
@@ -154,7 +154,7 @@ fn keys_and_values(rt: HostRuntime) -> Result<(), Fail> {
 
 #[test]
 fn lists(rt: HostRuntime) -> Result<(), Fail> {
-    let rows = [
+    let rows = &[
         ("Kevin Kwan and Roe, Ann", "Kwan/Kevin//|Roe/Ann//|"),
         ("A AND B", "A///|B///|"),
         ("A and and B", "A///|B///|"),
@@ -183,7 +183,7 @@ fn lists(rt: HostRuntime) -> Result<(), Fail> {
 
 #[test]
 fn lists_written(rt: HostRuntime) -> Result<(), Fail> {
-    let rows = [
+    let rows = &[
         ("", ""),
         ("Kevin Kwan", "Kwan, Kevin"),
         ("Kwan", "Kwan,"),

@@ -47,7 +47,7 @@ fn described(alloc: Global, source: &str) -> Result<String, AllocError> {
 
 #[test]
 fn reads_texts(rt: HostRuntime) {
-    let rows = [
+    let rows = &[
         ("", ""),
         ("@article{,}", "@article <>"),
         (
@@ -74,6 +74,16 @@ fn reads_texts(rt: HostRuntime) {
             "@book{a, title={A},} mail@book{b}",
             "@book <a>title = [A];@book <b>",
         ),
+    ];
+    for &(source, wanted) in rows {
+        let found = described(rt.alloc(), source).expect(&rt, "memory");
+        assert_eq!(rt; found.as_str(), wanted, "{source}");
+    }
+}
+
+#[test]
+fn reads_entries_and_values(rt: HostRuntime) {
+    let rows = &[
         (
             "@book(a, title={A}, url = \"{)}\") )",
             "@book <a>title = [A];url = [{)}];",
@@ -89,7 +99,7 @@ fn reads_texts(rt: HostRuntime) {
         ),
         ("@book{a, year = -5}", "@book <a>year = -5;"),
     ];
-    for (source, wanted) in rows {
+    for &(source, wanted) in rows {
         let found = described(rt.alloc(), source).expect(&rt, "memory");
         assert_eq!(rt; found.as_str(), wanted, "{source}");
     }
@@ -97,7 +107,7 @@ fn reads_texts(rt: HostRuntime) {
 
 #[test]
 fn reads_items_and_what_stands_between(rt: HostRuntime) {
-    let rows = [
+    let rows = &[
         // Between items a percent sign hides the rest of its line, which a line feed alone ends.
         ("%x\n@book{a}", "@book <a>"),
         ("%x\r@book{a}", ""),
@@ -128,7 +138,7 @@ fn reads_items_and_what_stands_between(rt: HostRuntime) {
         ("\u{feff}@book\u{85}{\u{3000}a\u{2028}}", "@book <a>"),
         ("@b\u{feff}k{\u{feff}}", "@b\u{feff}k <\u{feff}>"),
     ];
-    for (source, wanted) in rows {
+    for &(source, wanted) in rows {
         let found = described(rt.alloc(), source).expect(&rt, "memory");
         assert_eq!(rt; found.as_str(), wanted, "{source}");
     }
@@ -136,7 +146,7 @@ fn reads_items_and_what_stands_between(rt: HostRuntime) {
 
 #[test]
 fn refuses_what_no_text_begins_with(rt: HostRuntime) {
-    let rows = [
+    let rows = &[
         ("@", "unexpected end of file at 1"),
         ("@book{a, title={A}", "unexpected end of file at 18"),
         ("@book{a %x", "unexpected end of file at 10"),
@@ -165,7 +175,7 @@ fn refuses_what_no_text_begins_with(rt: HostRuntime) {
         ("@book{a, x = \"}\"}", "unexpected closing brace at 14"),
         ("@book{é, x = \"é{}é}\"}", "unexpected closing brace at 21"),
     ];
-    for (source, wanted) in rows {
+    for &(source, wanted) in rows {
         let found = described(rt.alloc(), source).expect(&rt, "memory");
         assert_eq!(rt; found.as_str(), wanted, "{source}");
     }

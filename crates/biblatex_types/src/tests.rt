@@ -76,7 +76,7 @@ fn comes_back<T: FieldType + PartialEq>(alloc: Global, value: &T) -> Result<bool
 
 #[test]
 fn reads_integers(rt: HostRuntime) -> Result<(), Fail> {
-    let rows = [
+    let rows = &[
         ("0", 0),
         ("-0", 0),
         ("12", 12),
@@ -94,7 +94,7 @@ fn reads_integers(rt: HostRuntime) -> Result<(), Fail> {
 
 #[test]
 fn refuses_integers(rt: HostRuntime) -> Result<(), Fail> {
-    let rows = [
+    let rows = &[
         "",
         "-",
         "+5",
@@ -139,7 +139,7 @@ fn reads_and_writes_texts(rt: HostRuntime) -> Result<(), Fail> {
 
 #[test]
 fn reads_genders(rt: HostRuntime) -> Result<(), Fail> {
-    let rows = [
+    let rows = &[
         ("sf", Gender::SingularFemale),
         ("sm", Gender::SingularMale),
         ("sn", Gender::SingularNeuter),
@@ -178,12 +178,12 @@ fn coalesces_genders(rt: HostRuntime) {
     assert!(rt; Gender::coalesce(&[Gender::PluralFemale]) == Some(Gender::PluralFemale));
     let women = [Gender::SingularFemale, Gender::PluralFemale];
     assert!(rt; Gender::coalesce(&women) == Some(Gender::PluralFemale));
-    let men = [
+    let men = &[
         Gender::SingularMale,
         Gender::SingularMale,
         Gender::PluralMale,
     ];
-    assert!(rt; Gender::coalesce(&men) == Some(Gender::PluralMale));
+    assert!(rt; Gender::coalesce(men) == Some(Gender::PluralMale));
     let mixed = [Gender::SingularFemale, Gender::SingularMale];
     assert!(rt; Gender::coalesce(&mixed) == Some(Gender::PluralNeuter));
     let neuter = [Gender::SingularNeuter, Gender::SingularNeuter];
@@ -192,7 +192,7 @@ fn coalesces_genders(rt: HostRuntime) {
 
 #[test]
 fn reads_editor_types(rt: HostRuntime) -> Result<(), Fail> {
-    let rows = [
+    let rows = &[
         ("editor", EditorType::Editor),
         ("Compiler", EditorType::Compiler),
         ("FOUNDER", EditorType::Founder),
@@ -221,7 +221,7 @@ fn keeps_other_editor_types(rt: HostRuntime) -> Result<(), Fail> {
 
 #[test]
 fn reads_ranges(rt: HostRuntime) -> Result<(), Fail> {
-    let rows = [
+    let rows = &[
         ("34", 34..34),
         ("37-39", 37..39),
         ("37\u{2013}39", 37..39),
@@ -239,7 +239,7 @@ fn reads_ranges(rt: HostRuntime) -> Result<(), Fail> {
 
 #[test]
 fn refuses_ranges(rt: HostRuntime) -> Result<(), Fail> {
-    let rows = [
+    let rows = &[
         "",
         "-",
         "1-",
@@ -293,7 +293,7 @@ fn reads_lists_of_ranges(rt: HostRuntime) -> Result<(), Fail> {
 
 #[test]
 fn refuses_lists_of_ranges(rt: HostRuntime) -> Result<(), Fail> {
-    let rows = [
+    let rows = &[
         "",
         ",",
         "1,",

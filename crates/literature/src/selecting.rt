@@ -69,7 +69,7 @@ fn bound_key<'e>(
 #[test]
 fn asks_the_entry(rt: HostRuntime) {
     let chapter = chapter(rt.alloc()).expect(&rt, "memory");
-    let rows = [
+    let rows = &[
         ("*", true),
         ("CHAPTER", true),
         ("book", false),
@@ -88,7 +88,7 @@ fn asks_the_entry(rt: HostRuntime) {
         ("chapter & chapter", false),
         ("!(chapter & chapter)", true),
     ];
-    for (text, wanted) in rows {
+    for &(text, wanted) in rows {
         let found = is_met(rt.alloc(), text, &chapter).expect(&rt, "a selector");
         assert_eq!(rt; found, wanted, "{text}");
     }
@@ -97,7 +97,7 @@ fn asks_the_entry(rt: HostRuntime) {
 #[test]
 fn asks_the_parents(rt: HostRuntime) {
     let chapter = chapter(rt.alloc()).expect(&rt, "memory");
-    let rows = [
+    let rows = &[
         ("chapter > report", true),
         ("chapter > web", false),
         ("book > report", false),
@@ -115,7 +115,7 @@ fn asks_the_parents(rt: HostRuntime) {
         ("chapter > n:(book & report)", false),
         ("chapter > !(book & web)", true),
     ];
-    for (text, wanted) in rows {
+    for &(text, wanted) in rows {
         let found = is_met(rt.alloc(), text, &chapter).expect(&rt, "a selector");
         assert_eq!(rt; found, wanted, "{text}");
     }
@@ -124,7 +124,7 @@ fn asks_the_parents(rt: HostRuntime) {
 #[test]
 fn takes_parents_in_turn(rt: HostRuntime) {
     let chapter = chapter(rt.alloc()).expect(&rt, "memory");
-    let rows = [
+    let rows = &[
         ("* > (book & report)", true),
         ("* > book & book", true),
         ("* > (report & book & book)", true),
@@ -140,7 +140,7 @@ fn takes_parents_in_turn(rt: HostRuntime) {
         ("* > ((* > *) & book)", true),
         ("* > (book & (* > *))", false),
     ];
-    for (text, wanted) in rows {
+    for &(text, wanted) in rows {
         let found = is_met(rt.alloc(), text, &chapter).expect(&rt, "a selector");
         assert_eq!(rt; found, wanted, "{text}");
     }
@@ -149,7 +149,7 @@ fn takes_parents_in_turn(rt: HostRuntime) {
 #[test]
 fn binds_names(rt: HostRuntime) {
     let chapter = chapter(rt.alloc()).expect(&rt, "memory");
-    let rows = [
+    let rows = &[
         ("a:*", "a", "chapter"),
         ("a:*", "b", "-"),
         ("a:book", "a", "-"),
@@ -172,7 +172,7 @@ fn binds_names(rt: HostRuntime) {
         ("* > (a:book)[parent]", "a", "first"),
         ("* > n:!book", "n", "second"),
     ];
-    for (text, name, wanted) in rows {
+    for &(text, name, wanted) in rows {
         let found = bound_key(rt.alloc(), text, &chapter, name).expect(&rt, "a selector");
         assert_eq!(rt; found, wanted, "{text} {name}");
     }
@@ -262,7 +262,7 @@ fn found(alloc: Global, library: &Library, text: &str) -> Result<String, AllocEr
 #[test]
 fn queries(rt: HostRuntime) {
     let library = library(rt.alloc()).expect(&rt, "memory");
-    let rows = [
+    let rows = &[
         ("*", "article -;chapter -;book -;"),
         ("article | a:book", "article -;book book;"),
         ("* > a:*", "article periodical;chapter first;"),
@@ -271,7 +271,7 @@ fn queries(rt: HostRuntime) {
         ("book >", "missing value"),
         ("foo", "unknown entry type foo"),
     ];
-    for (text, wanted) in rows {
+    for &(text, wanted) in rows {
         let answer = found(rt.alloc(), &library, text).expect(&rt, "memory");
         assert_eq!(rt; answer.as_str(), wanted, "{text}");
     }

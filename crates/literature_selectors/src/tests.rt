@@ -2,8 +2,10 @@
 
 use crate::allocating::chapter;
 use crate::{Bindings, Selector, SelectorError};
+use literature_entries::Entry;
 use std::alloc::{AllocError, Global};
 use std::fmt::Write;
+use std::process::Abort;
 use std::test::Fail;
 
 /// What is read of the text, or why it is refused.
@@ -36,93 +38,131 @@ fn nested(
     Ok(text)
 }
 
+/// Each text is read as is wanted, or refused so.
+fn check(rt: &impl Abort, alloc: Global, rows: &[(&str, &str)]) {
+    for (text, wanted) in rows {
+        let found = described(alloc, text).expect(rt, "memory");
+        assert_eq!(rt; found.as_str(), *wanted, "{text}");
+    }
+}
+
 #[test]
 fn reads_texts(rt: HostRuntime) {
-    let rows = [
-        ("book web", "Entry(Book)"),
-        ("", "missing value"),
-        ("book >", "missing value"),
-        ("*[]", "malformed attribute"),
-        ("*[title", "missing comma"),
-        ("(book", "unbalanced parentheses"),
-        ("f", "unknown entry type f"),
-        ("fo", "unknown entry type fo"),
-        ("foo", "unknown entry type foo"),
-        (
-            "article & article",
-            "Multi([Entry(Article), Entry(Article)])",
-        ),
-        ("book > !*", "Ancestry(Entry(Book), Not(Any))"),
-        (
-            "a:*[volume] | * > a:[volume]",
-            "Alternatives([Binding(\"a\", Attributes(Any, [\"volume\"])), Ancestry(Any, Binding(\"a\", Attributes(Any, [\"volume\"])))])",
-        ),
-        // Several members, and what binds closer.
-        (
-            "book|web | blog",
-            "Alternatives([Entry(Book), Entry(Web), Entry(Blog)])",
-        ),
-        (
-            "book & !web & a:blog > * | *",
-            "Alternatives([Ancestry(Multi([Entry(Book), Not(Entry(Web)), Binding(\"a\", Entry(Blog))]), Any), Any])",
-        ),
-        (
-            "book > web > blog",
-            "Ancestry(Entry(Book), Ancestry(Entry(Web), Entry(Blog)))",
-        ),
-        ("!a:!*", "Not(Binding(\"a\", Not(Any)))"),
-        // Parentheses alone change nothing, and they group.
-        ("x:((((book))))", "Binding(\"x\", Entry(Book))"),
-        (
-            "(book | web) & (book & web)",
-            "Multi([Alternatives([Entry(Book), Entry(Web)]), Multi([Entry(Book), Entry(Web)])])",
-        ),
-        ("(!*)[title]", "Attributes(Not(Any), [\"title\"])"),
-        ("!*[title]", "Not(Attributes(Any, [\"title\"]))"),
-        // Lists in a row are one, and a list alone stands behind a star.
-        (
-            "book[title, a-1_B][url] [doi]",
-            "Attributes(Entry(Book), [\"title\", \"a-1_B\", \"url\", \"doi\"])",
-        ),
-        ("[title]", "Attributes(Any, [\"title\"])"),
-        // Types are read in any case, other names are told as they are written.
-        ("BOOK", "Entry(Book)"),
-        ("(Foo", "unknown entry type Foo"),
-        ("(foo", "unknown entry type foo"),
-        ("-1", "unknown entry type -1"),
-        // A name before a colon binds, whatever it is.
-        ("book : web", "Binding(\"book\", Entry(Web))"),
-        ("book:", "missing value"),
-        // White space may stand between tokens.
-        (
-            "\u{2003}!\n( book\t)\u{85}[ title ]",
-            "Not(Attributes(Entry(Book), [\"title\"]))",
-        ),
-        // What follows the longest expression is passed over.
-        ("book )", "Entry(Book)"),
-        ("book ]", "Entry(Book)"),
-        ("* : x", "Any"),
-        ("book foo", "Entry(Book)"),
-        ("book é & (", "Entry(Book)"),
-        ("boöok", "unknown entry type bo"),
-        ("book & é", "missing value"),
-        // Faults, as they are met from the left.
-        ("*[title foo]", "missing comma"),
-        ("*[title,]", "malformed attribute"),
-        ("*[,", "malformed attribute"),
-        ("*[", "malformed attribute"),
-        ("*[title][", "malformed attribute"),
-        ("(book web)", "unbalanced parentheses"),
-        ("()", "missing value"),
-        ("!", "missing value"),
-        ("book |", "missing value"),
-        ("book & | web", "missing value"),
-        ("(foo) & *[", "unknown entry type foo"),
-    ];
-    for (text, wanted) in rows {
-        let found = described(rt.alloc(), text).expect(&rt, "memory");
-        assert_eq!(rt; found.as_str(), wanted, "{text}");
-    }
+    check(
+        &rt,
+        rt.alloc(),
+        &[
+            ("book web", "Entry(Book)"),
+            ("", "missing value"),
+            ("book >", "missing value"),
+            ("*[]", "malformed attribute"),
+            ("*[title", "missing comma"),
+            ("(book", "unbalanced parentheses"),
+            ("f", "unknown entry type f"),
+            ("fo", "unknown entry type fo"),
+            ("foo", "unknown entry type foo"),
+            (
+                "article & article",
+                "Multi([Entry(Article), Entry(Article)])",
+            ),
+            ("book > !*", "Ancestry(Entry(Book), Not(Any))"),
+            (
+                "a:*[volume] | * > a:[volume]",
+                "Alternatives([Binding(\"a\", Attributes(Any, [\"volume\"])), Ancestry(Any, Binding(\"a\", Attributes(Any, [\"volume\"])))])",
+            ),
+        ],
+    );
+}
+
+#[test]
+fn reads_members_and_groups(rt: HostRuntime) {
+    check(
+        &rt,
+        rt.alloc(),
+        &[
+            // Several members, and what binds closer.
+            (
+                "book|web | blog",
+                "Alternatives([Entry(Book), Entry(Web), Entry(Blog)])",
+            ),
+            (
+                "book & !web & a:blog > * | *",
+                "Alternatives([Ancestry(Multi([Entry(Book), Not(Entry(Web)), Binding(\"a\", Entry(Blog))]), Any), Any])",
+            ),
+            (
+                "book > web > blog",
+                "Ancestry(Entry(Book), Ancestry(Entry(Web), Entry(Blog)))",
+            ),
+            ("!a:!*", "Not(Binding(\"a\", Not(Any)))"),
+            // Parentheses alone change nothing, and they group.
+            ("x:((((book))))", "Binding(\"x\", Entry(Book))"),
+            (
+                "(book | web) & (book & web)",
+                "Multi([Alternatives([Entry(Book), Entry(Web)]), Multi([Entry(Book), Entry(Web)])])",
+            ),
+            ("(!*)[title]", "Attributes(Not(Any), [\"title\"])"),
+            ("!*[title]", "Not(Attributes(Any, [\"title\"]))"),
+        ],
+    );
+}
+
+#[test]
+fn reads_attributes_and_names(rt: HostRuntime) {
+    check(
+        &rt,
+        rt.alloc(),
+        &[
+            // Lists in a row are one, and a list alone stands behind a star.
+            (
+                "book[title, a-1_B][url] [doi]",
+                "Attributes(Entry(Book), [\"title\", \"a-1_B\", \"url\", \"doi\"])",
+            ),
+            ("[title]", "Attributes(Any, [\"title\"])"),
+            // Types are read in any case, other names are told as they are written.
+            ("BOOK", "Entry(Book)"),
+            ("(Foo", "unknown entry type Foo"),
+            ("(foo", "unknown entry type foo"),
+            ("-1", "unknown entry type -1"),
+            // A name before a colon binds, whatever it is.
+            ("book : web", "Binding(\"book\", Entry(Web))"),
+            ("book:", "missing value"),
+            // White space may stand between tokens.
+            (
+                "\u{2003}!\n( book\t)\u{85}[ title ]",
+                "Not(Attributes(Entry(Book), [\"title\"]))",
+            ),
+            // What follows the longest expression is passed over.
+            ("book )", "Entry(Book)"),
+            ("book ]", "Entry(Book)"),
+            ("* : x", "Any"),
+            ("book foo", "Entry(Book)"),
+            ("book é & (", "Entry(Book)"),
+            ("boöok", "unknown entry type bo"),
+            ("book & é", "missing value"),
+        ],
+    );
+}
+
+#[test]
+fn refuses_what_is_met_first(rt: HostRuntime) {
+    check(
+        &rt,
+        rt.alloc(),
+        &[
+            // Faults, as they are met from the left.
+            ("*[title foo]", "missing comma"),
+            ("*[title,]", "malformed attribute"),
+            ("*[,", "malformed attribute"),
+            ("*[", "malformed attribute"),
+            ("*[title][", "malformed attribute"),
+            ("(book web)", "unbalanced parentheses"),
+            ("()", "missing value"),
+            ("!", "missing value"),
+            ("book |", "missing value"),
+            ("book & | web", "missing value"),
+            ("(foo) & *[", "unknown entry type foo"),
+        ],
+    );
 }
 
 /// Whether such a nested text is read, or why it is refused.
@@ -144,7 +184,7 @@ fn verdict(
 
 #[test]
 fn counts_levels(rt: HostRuntime) {
-    let rows = [
+    let rows = &[
         (128, "(", "*", ")", "read"),
         (128, "!", "*", "", "read"),
         (128, "a:", "*", "", "read"),
@@ -165,7 +205,7 @@ fn counts_levels(rt: HostRuntime) {
         (1000, "", "*", "[a]", "read"),
         (1000, "*&", "*", "|*", "read"),
     ];
-    for (count, before, inside, after, wanted) in rows {
+    for &(count, before, inside, after, wanted) in rows {
         let found = verdict(rt.alloc(), count, before, inside, after).expect(&rt, "memory");
         assert_eq!(rt; found.as_str(), wanted, "{before}");
     }
@@ -190,7 +230,7 @@ fn first_other(alloc: Global, text: &str, wanted: &[&str]) -> Result<Option<usiz
 
 #[test]
 fn reads_each_beginning_of_words(rt: HostRuntime) {
-    let wanted = [
+    let wanted = &[
         "missing value",
         "unknown entry type b",
         "unknown entry type bo",
@@ -201,13 +241,13 @@ fn reads_each_beginning_of_words(rt: HostRuntime) {
         "Entry(Book)",
         "Entry(Book)",
     ];
-    let other = first_other(rt.alloc(), "book web", &wanted).expect(&rt, "memory");
+    let other = first_other(rt.alloc(), "book web", wanted).expect(&rt, "memory");
     assert_eq!(rt; other, None);
 }
 
 #[test]
 fn reads_each_beginning_of_parents(rt: HostRuntime) {
-    let wanted = [
+    let wanted = &[
         "missing value",
         "unknown entry type b",
         "unknown entry type bo",
@@ -219,13 +259,13 @@ fn reads_each_beginning_of_parents(rt: HostRuntime) {
         "missing value",
         "Ancestry(Entry(Book), Not(Any))",
     ];
-    let other = first_other(rt.alloc(), "book > !*", &wanted).expect(&rt, "memory");
+    let other = first_other(rt.alloc(), "book > !*", wanted).expect(&rt, "memory");
     assert_eq!(rt; other, None);
 }
 
 #[test]
 fn reads_each_beginning_of_lists(rt: HostRuntime) {
-    let wanted = [
+    let wanted = &[
         "missing value",
         "Any",
         "malformed attribute",
@@ -236,37 +276,37 @@ fn reads_each_beginning_of_lists(rt: HostRuntime) {
         "missing comma",
         "Attributes(Any, [\"title\"])",
     ];
-    let other = first_other(rt.alloc(), "*[title]", &wanted).expect(&rt, "memory");
+    let other = first_other(rt.alloc(), "*[title]", wanted).expect(&rt, "memory");
     assert_eq!(rt; other, None);
 }
 
 #[test]
 fn reads_each_beginning_of_an_empty_list(rt: HostRuntime) {
-    let wanted = [
+    let wanted = &[
         "missing value",
         "Any",
         "malformed attribute",
         "malformed attribute",
     ];
-    let other = first_other(rt.alloc(), "*[]", &wanted).expect(&rt, "memory");
+    let other = first_other(rt.alloc(), "*[]", wanted).expect(&rt, "memory");
     assert_eq!(rt; other, None);
 }
 
 #[test]
 fn reads_each_beginning_of_an_unknown_type(rt: HostRuntime) {
-    let wanted = [
+    let wanted = &[
         "missing value",
         "unknown entry type f",
         "unknown entry type fo",
         "unknown entry type foo",
     ];
-    let other = first_other(rt.alloc(), "foo", &wanted).expect(&rt, "memory");
+    let other = first_other(rt.alloc(), "foo", wanted).expect(&rt, "memory");
     assert_eq!(rt; other, None);
 }
 
 #[test]
 fn reads_each_beginning_of_a_parenthesis(rt: HostRuntime) {
-    let wanted = [
+    let wanted = &[
         "missing value",
         "missing value",
         "unknown entry type b",
@@ -274,13 +314,13 @@ fn reads_each_beginning_of_a_parenthesis(rt: HostRuntime) {
         "unknown entry type boo",
         "unbalanced parentheses",
     ];
-    let other = first_other(rt.alloc(), "(book", &wanted).expect(&rt, "memory");
+    let other = first_other(rt.alloc(), "(book", wanted).expect(&rt, "memory");
     assert_eq!(rt; other, None);
 }
 
 #[test]
 fn reads_each_beginning_of_bindings(rt: HostRuntime) {
-    let wanted = [
+    let wanted = &[
         "missing value",
         "unknown entry type a",
         "missing value",
@@ -311,7 +351,7 @@ fn reads_each_beginning_of_bindings(rt: HostRuntime) {
         "missing comma",
         "Alternatives([Binding(\"a\", Attributes(Any, [\"volume\"])), Ancestry(Any, Binding(\"a\", Attributes(Any, [\"volume\"])))])",
     ];
-    let other = first_other(rt.alloc(), "a:*[volume] | * > a:[volume]", &wanted).expect(
+    let other = first_other(rt.alloc(), "a:*[volume] | * > a:[volume]", wanted).expect(
         &rt, "memory",
     );
     assert_eq!(rt; other, None);
@@ -319,7 +359,7 @@ fn reads_each_beginning_of_bindings(rt: HostRuntime) {
 
 #[test]
 fn reads_each_beginning_of_members(rt: HostRuntime) {
-    let wanted = [
+    let wanted = &[
         "missing value",
         "unknown entry type a",
         "unknown entry type ar",
@@ -339,7 +379,7 @@ fn reads_each_beginning_of_members(rt: HostRuntime) {
         "unknown entry type articl",
         "Multi([Entry(Article), Entry(Article)])",
     ];
-    let other = first_other(rt.alloc(), "article & article", &wanted).expect(&rt, "memory");
+    let other = first_other(rt.alloc(), "article & article", wanted).expect(&rt, "memory");
     assert_eq!(rt; other, None);
 }
 
@@ -390,13 +430,22 @@ fn pairs_of(alloc: Global, bindings: Bindings<'_>) -> Result<String, AllocError>
     Ok(out)
 }
 
+/// Whether the selector of the text holds at the entry and binds no name.
+fn binds_nothing(alloc: Global, text: &str, entry: &Entry) -> Result<bool, SelectorError> {
+    let selector = Selector::parse(alloc, text)?;
+    let bindings = selector.apply(alloc, entry)?;
+    Ok(bindings.as_ref().map(|it| it.is_empty()) == Some(true))
+}
+
 #[test]
 fn lists_names(rt: HostRuntime) -> Result<(), Fail> {
     let chapter = chapter(rt.alloc())?;
+    assert!(rt; binds_nothing(rt.alloc(), "* > book", &chapter)?);
     let selector = Selector::parse(rt.alloc(), "a:* > b:book")?;
     let Some(bindings) = selector.apply(rt.alloc(), &chapter)? else {
         return Err(Fail::from("no answer"));
     };
+    assert!(rt; !bindings.is_empty());
     let names = names_of(rt.alloc(), bindings)?;
     assert_eq!(rt; names.as_str(), "ab");
     Ok(())

@@ -32,7 +32,7 @@ fn compares_types(rt: HostRuntime) {
 
 #[test]
 fn reads_and_writes_types(rt: HostRuntime) -> Result<(), Fail> {
-    let names = [
+    let names = &[
         "article",
         "chapter",
         "entry",
@@ -65,7 +65,7 @@ fn reads_and_writes_types(rt: HostRuntime) -> Result<(), Fail> {
         "exhibition",
     ];
     let mut written = String::new(rt.alloc());
-    for name in names {
+    for &name in names {
         let is_again = is_written_again(&mut written, name)?;
         assert!(rt; is_again, "{name}");
     }

@@ -1,7 +1,8 @@
 //! Bib texts of every form, read to entries with their references resolved.
 
-use biblatex_bibliography::{Bibliography, ParseError};
+use biblatex_bibliography::{Bibliography, ParseError, ParseErrorKind};
 use biblatex_content::{Chunk, Spanned};
+use biblatex_dates::TypeErrorKind;
 use biblatex_entries::Entry;
 use biblatex_text::RawBibliography;
 use std::alloc::{AllocError, Global};
@@ -59,6 +60,44 @@ fn abbreviations_are_opened(rt: HostRuntime) {
         "@string{abc={ABC}, hi={hello}, you={person}} @misc{k, note = abc # \"good {TIMES}\" # hi # you # \"last\"}";
     let found = read(rt.alloc(), text).expect(&rt, "memory");
     assert_eq!(rt; found.as_str(), "k: note=ABCgood {TIMES}hellopersonlast\n");
+}
+
+#[test]
+fn pieces_of_one_kind_are_one_chunk(rt: HostRuntime) -> Result<(), Fail> {
+    let text =
+        "@string{abc={ABC}, hi={hello}, you={person}} @misc{k, note = abc # \"good {TIMES}\" # hi # you # \"last\"}";
+    let bibliography = Bibliography::parse(rt.alloc(), text)?;
+    let entry = bibliography.get("k").ok_or("no entry")?;
+    let [first, second, third] = entry.get("note").ok_or("no note")?.as_slice() else {
+        return Err(Fail::from("not three chunks"));
+    };
+    match (&first.v, &second.v, &third.v) {
+        (Chunk::Normal(before), Chunk::Verbatim(inside), Chunk::Normal(behind)) => {
+            assert_eq!(rt; before.as_str(), "ABCgood ");
+            assert_eq!(rt; inside.as_str(), "TIMES");
+            assert_eq!(rt; behind.as_str(), "hellopersonlast");
+        }
+        _ => assert!(rt; false),
+    }
+    Ok(())
+}
+
+#[test]
+fn whole_texts_are_read(rt: HostRuntime) {
+    let rows = &[
+        (
+            "@string{pub=\"P\"} @book{a, title={A}, publisher=pub}",
+            "a: publisher=P title=A\n",
+        ),
+        (
+            "@inproceedings{c, title={C}, crossref={b}, author={Roe, Ann}} @proceedings{b, title={B}, date={1990}}",
+            "c: author=Roe, Ann booktitle=B crossref=b date=1990 title=C\nb: date=1990 title=B\n",
+        ),
+    ];
+    for &(text, wanted) in rows {
+        let found = read(rt.alloc(), text).expect(&rt, "memory");
+        assert_eq!(rt; found.as_str(), wanted);
+    }
 }
 
 #[test]
@@ -131,7 +170,7 @@ fn the_first_entry_that_reaches_itself_is_refused(rt: HostRuntime) {
 
 #[test]
 fn faults_are_found_in_order(rt: HostRuntime) {
-    let rows = [
+    let rows = &[
         (
             "@book{a, title={\\'}} @book{a, title = zz}",
             "malformed command at 16..18",
@@ -155,9 +194,23 @@ fn faults_are_found_in_order(rt: HostRuntime) {
             "unexpected end of file at 30..30",
         ),
     ];
-    for (text, wanted) in rows {
+    for &(text, wanted) in rows {
         let found = read(rt.alloc(), text).expect(&rt, "memory");
         assert_eq!(rt; found.as_str(), wanted);
+    }
+}
+
+#[test]
+fn the_year_of_an_inherited_date_has_four_digits(rt: HostRuntime) {
+    let text = "@book{a, crossref={b}} @book{b, date={1}}";
+    match Bibliography::parse(rt.alloc(), text) {
+        Err(
+            ParseError::Refused {
+                kind: ParseErrorKind::ResolutionError(kind),
+                ..
+            },
+        ) => assert_eq!(rt; kind, TypeErrorKind::WrongNumberOfDigits),
+        _ => assert!(rt; false),
     }
 }
 

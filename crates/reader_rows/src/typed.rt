@@ -4,6 +4,7 @@ use biblatex_bibliography::Bibliography;
 use biblatex_dates::{Date, DateValue, Datetime};
 use biblatex_types::PermissiveType;
 use std::alloc::Global;
+use std::ops::Range;
 use std::test::Fail;
 
 /// The date of the entry `k` of a text.
@@ -41,5 +42,14 @@ fn a_tilde_makes_a_date_approximate(rt: HostRuntime) -> Result<(), Fail> {
     assert!(rt; date.value == at(2014, None));
     assert!(rt; !date.uncertain && date.approximate);
     assert_eq!(rt; date.to_string(rt.alloc())?.as_str(), "2014~");
+    Ok(())
+}
+
+#[test]
+fn pages_are_ranges(rt: HostRuntime) -> Result<(), Fail> {
+    let books = Bibliography::parse(rt.alloc(), "@misc{k, pages={34,37--39}}")?;
+    let entry = books.get("k").ok_or("no entry")?;
+    let pages: Vec<Range<u32>> = entry.get_as(rt.alloc(), "pages")?;
+    assert!(rt; pages.as_slice() == [34..34, 37..39].as_slice());
     Ok(())
 }

@@ -2,6 +2,8 @@
 //! refers to.
 #![tactic(auto)]
 
+#[cfg(test)]
+mod allocating;
 mod order;
 mod search;
 #[cfg(test)]

@@ -15,7 +15,7 @@ invariant_of-self-lent c =
     let items = c.self.inside.entries.items in
     λ o. (
       (λ w. subst (λ (n : ℕ). AreWithin (meaning_in (names_in c.self.inside.places)) n)
-          (sym (length-map (slice_set items c.in_ok-place.place w) source ∙ (length-set items c.in_ok-place.place w ∙ sym (length-map items source))))
+          (sym (length-map (slice_set items c.in_ok-meant.meant w) source ∙ (length-set items c.in_ok-meant.meant w ∙ sym (length-map items source))))
           c.self.invariant),
       c.self.invariant,
     )
@@ -24,8 +24,8 @@ pub returns : goal.returns
 returns c =
     let items = c.self.inside.entries.items in
     let places = c.self.inside.places in (
-      (λ i. read_of (ghost_name_of c.get_mut.result) (λ w. written items places c.args.name.now c.in_ok-place.place c.args.self.now c.in_ok-place.ensures c.self.view_is w i) (c.self.view_is i)),
-      item items c.in_ok-place.place c.get_mut.result c.get_mut.ensures.item ∙ (sym (slice_get-map source items c.in_ok-place.place)
-          ∙ (ap (option_and_then (slice_get (sources items))) c.in_ok-place.ensures
+      (λ i. read_of (ghost_name_of c.get_mut.result) (λ w. written items places c.args.name.now c.in_ok-meant.meant c.args.self.now c.in_ok-meant.ensures c.self.view_is w i) (c.self.view_is i)),
+      item items c.in_ok-meant.meant c.get_mut.result c.get_mut.ensures.item ∙ (sym (slice_get-map source items c.in_ok-meant.meant)
+          ∙ (ap (option_and_then (slice_get (sources items))) c.in_ok-meant.ensures
           ∙ ap (λ (h : Held). entry_named c.args.name.now (seen h)) c.self.view_is)),
     )
