@@ -1,5 +1,5 @@
 -- A text means one thing.
-use Rattle.std.proofs.Common.{◌≡◌, ℕ, zero, suc, ◌<◌, ◌&&◌, Bool, true, false, true≢false, T, List, [], ◌∷◌, length, map, drop, get_or, slice_get, Less, Option, Some, None, Result, Ok, Err, refl, sym, ap, subst, ◌∙◌, arith, ◌⊎◌, inl, inr}
+use Rattle.std.proofs.Common.{◌≡◌, ℕ, suc, ◌<◌, ◌&&◌, Bool, true, false, true≢false, T, List, [], ◌∷◌, length, map, drop, get_or, slice_get, Less, Option, Some, None, Result, Ok, Err, refl, sym, ap, subst, ◌∙◌, arith, ◌⊎◌, inl, inr}
 use Rattle.std.specs.Prelude.{IfSome, IsTrue}
 use Rattle.std.specs.Option.{is_some}
 use Rattle.std.specs.List.{AllByRecursion}
@@ -14,7 +14,7 @@ use Rattle.std.proofs.lemmas.Map.Keys.{sorted_head, sorted_tail}
 use Rattle.std.proofs.lemmas.Map.Lookups.{exact_bytes}
 use Rattle.std.proofs.lemmas.Map.Text.{is_eq-slice_cmp}
 use Rattle.std.proofs.lemmas.Option.{slice_get_within}
-use Rattle.biblatex_text.specs.Raw.{At, Raw, Field}
+use Rattle.biblatex_text.specs.Raw.{Raw, Field}
 use Rattle.biblatex_text.specs.Items.{raw_of}
 use Rattle.biblatex_text.specs.declared.token.Fault.{Fault}
 use Rattle.biblatex_fields.specs.Fields.{Named, value_named, AreInOrder}
@@ -22,7 +22,7 @@ use Rattle.biblatex_fields.specs.Abbreviations.{Glossary, AreFlags}
 use Rattle.biblatex_entries.specs.Entries.{Source}
 use Rattle.biblatex_dates.specs.declared.error.TypeErrorKind.{TypeErrorKind}
 use Rattle.biblatex_inheritance.specs.Resolved.{Table, offers, offer_seen}
-use Rattle.biblatex_inheritance.specs.Solution.{NoneIsCircular, IsRefusedAs, fault_in, fault_at}
+use Rattle.biblatex_inheritance.specs.Solution.{IsRefusedAs, fault_in, fault_at}
 use Rattle.biblatex_inheritance.specs.declared.error.ResolveError.{ResolveError}
 use Rattle.biblatex_inheritance.specs.declared.error.ResolveError.TheVariants as errors
 use Rattle.reference_graph.specs.References.{references_of}

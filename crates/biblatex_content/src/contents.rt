@@ -1,11 +1,11 @@
 //! The content of a field while its pieces are read.
 
-ghost use Rattle.std.specs.Prelude.{◌≡◌, ◌++◌, [], true, IfOk, OnOk};
+ghost use Rattle.std.specs.Prelude.{◌≡◌, ◌↔◌, ◌++◌, [], true, IfOk, IsTrue, OnOk};
 ghost use Rattle.std.specs.Str.{chars};
 ghost use Rattle.biblatex_content.specs.declared.chunk.Kind.TheVariants.{Normal, Verbatim};
 ghost use Rattle.biblatex_content.specs.Styled.{letters};
 ghost use Rattle.biblatex_content.specs.Ordinary.{ordinary};
-ghost use Rattle.biblatex_content.specs.Parted.{are_parted};
+ghost use Rattle.biblatex_content.specs.Parted.{are_parted, is_full};
 ghost use Rattle.biblatex_content.specs.Places.{all_at, placed_so_far, behind_at, tidied_at, places, places_of};
 ghost use Rattle.biblatex_content.specs.Tidy.{tidied};
 ghost use Rattle.biblatex_content.specs.Verbatim.{verbatim_text};
@@ -13,12 +13,23 @@ ghost use Rattle.biblatex_content.specs.Views.{so_far, styled, members, behind};
 ghost use Rattle.biblatex_content_tokens.specs.Results.{Gives};
 
 use crate::chunk::{Chunk, Chunks, Span};
+use crate::joining::has_text;
 use crate::ordinary::{is_plain, read_ordinary};
 use crate::tidy::{are_done, tidy};
 use crate::verbatim::read_verbatim;
 use biblatex_content_tokens::ContentError;
 use biblatex_text::Spanned;
 use std::alloc::{AllocError, Global};
+
+/// Whether the chunk gives something: it is math, or has a character.
+fn is_full(chunk: &Chunk) -> bool
+    ensures { result ≡ is_full chunk.now }
+{
+    match chunk {
+        Chunk::Normal(text) | Chunk::Verbatim(text) => has_text(text.as_str()),
+        Chunk::Math(_) => true,
+    }
+}
 
 /// The content of a field, as far as its pieces have been read: the chunks of each piece, at its place.
 #[derive(Drop)]
@@ -39,6 +50,18 @@ impl Contents {
         }
     }
 
+    /// Whether the pieces that have been read give nothing; a blank counts, also where tidying drops it.
+    pub fn is_empty(&self) -> bool
+        ensures { IsTrue result ↔ (placed_so_far self.now ≡ []) }
+    {
+        for chunk in self.chunks.as_slice() {
+            if is_full(&chunk.v) {
+                return false;
+            }
+        }
+        true
+    }
+
     /// Puts a chunk of a piece at the span last.
     fn push_chunk(&mut self, span: &Span, chunk: Chunk) -> Result<(), AllocError>
         ensures styled { OnOk result (so_far self.new ≡ so_far self.old ++ members chunk) }
@@ -55,7 +78,10 @@ impl Contents {
         ensures styled { OnOk result (so_far self.new ≡ so_far self.old) }
         ensures placed { OnOk result (placed_so_far self.new ≡ placed_so_far self.old) }
     {
-        self.chunks.reserve_exact(count)
+        if self.chunks.is_empty() {
+            return self.chunks.reserve_exact(count);
+        }
+        self.chunks.reserve(count)
     }
 
     /// Puts the chunks of a piece at the span last.

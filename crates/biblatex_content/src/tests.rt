@@ -245,6 +245,28 @@ fn pieces_are_read_one_by_one(rt: HostRuntime) -> Result<(), Fail> {
     Ok(())
 }
 
+#[test]
+fn contents_that_give_nothing_are_empty(rt: HostRuntime) -> Result<(), Fail> {
+    let rows = &[
+        ("", true, true),
+        ("{}", true, true),
+        ("{{}{}}", true, true),
+        ("\\relax", true, false),
+        ("\\-", true, false),
+        (" ", false, false),
+        ("$$", false, false),
+        ("x", false, false),
+    ];
+    for (piece, is_ordinary_empty, is_verbatim_empty) in rows.iter() {
+        let ordinary = Contents::new(rt.alloc()).push_ordinary(Spanned::zero(*piece))?;
+        assert_eq!(rt; ordinary.is_empty(), *is_ordinary_empty, "of {piece}");
+        let verbatim = Contents::new(rt.alloc()).push_verbatim(Spanned::zero(*piece))?;
+        assert_eq!(rt; verbatim.is_empty(), *is_verbatim_empty, "of {piece}");
+    }
+    assert!(rt; Contents::new(rt.alloc()).is_empty());
+    Ok(())
+}
+
 /// What pieces of an ordinary field give that stand from these bytes to those, each chunk with where it stands.
 fn placed(alloc: Global, pieces: &[(&str, usize, usize)]) -> Result<String, Fail> {
     let mut contents = Contents::new(alloc);

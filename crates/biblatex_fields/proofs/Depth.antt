@@ -1,6 +1,6 @@
 -- How deep definitions go: on the way inwards none comes twice, so a rule may be taken one level deeper than there are
 -- definitions, or deeper, and gives the same.
-use Rattle.std.proofs.Common.{◌≡◌, ℕ, zero, suc, ◌<◌, ◌≤◌, ◌+◌, Bool, true, false, ◌||◌, List, [], ◌∷◌, length, get_or, eqb, All, Contains, Option, Some, None, Result, Ok, Err, refl, sym, subst, ◌∙◌, arith, ◌⊎◌, inl, inr}
+use Rattle.std.proofs.Common.{◌≡◌, ℕ, zero, suc, ◌<◌, ◌≤◌, ◌+◌, Bool, true, false, ◌||◌, List, [], ◌∷◌, length, get_or, eqb, All, Contains, Option, Some, None, refl, sym, subst, ◌∙◌, arith, ◌⊎◌, inl, inr}
 use Rattle.std.specs.List.{AllByRecursion, list_any, IsDistinct}
 use Rattle.std.proofs.lemmas.Bool.{eqb-true}
 use Rattle.std.proofs.lemmas.List.Elements.{All-nil, All-weaker, All-contains_itself}
@@ -9,18 +9,10 @@ use Rattle.std.proofs.lemmas.Map.Steps.{length-le_from_distinct_below}
 use Rattle.laws.specs.Text.{lowered}
 use Rattle.biblatex_text.specs.Raw.{At, Piece, normal, abbreviation}
 use Rattle.biblatex_fields.specs.Month.{month}
-use Rattle.biblatex_fields.specs.Abbreviations.{Refusal, Glossary, Sense, spelled, defined, sense, month_or_unknown, places, place_of, pieces_at, named, references, AreFlags}
+use Rattle.biblatex_fields.specs.Abbreviations.{Glossary, month_or_unknown, places, place_of, pieces_at, named, references, AreFlags}
+use Rattle.biblatex_fields.specs.Openings.{parts_in, parts}
 use Rattle.biblatex_fields.specs.Value.{deep}
 use Rattle.biblatex_fields.proofs.Graph.{Reaches, one_step, step_on, place_within, refers}
-
--- the pieces that a piece stands for
-abbrev pub parts_in : Result Sense Refusal → List (At Piece)
-parts_in (Ok (spelled cs)) = []
-parts_in (Ok (defined ps)) = ps
-parts_in (Err f) = []
-
-abbrev pub parts : Glossary → At Piece → List (At Piece)
-parts g p = parts_in (sense g p)
 
 -- a rule asks about the pieces alone that a piece stands for
 abbrev pub IsLocal : {A : Type 0} → Glossary → ((At Piece → A) → At Piece → A) → Type 0

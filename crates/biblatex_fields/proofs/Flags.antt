@@ -1,9 +1,10 @@
 -- Flags that are written one by one.
-use Rattle.std.proofs.Common.{◌≡◌, ℕ, zero, suc, ◌<◌, ◌+◌, Bool, false, List, [], ◌∷◌, ◌++◌, length, get_or, Result, Ok, Err, IfOk, Vec, Global, IsTrue, ◌↔◌, ◌⊎◌, inl, inr, refl, sym, ap, subst, ◌∙◌, arith, eq-or-lt_of_le}
+use Rattle.std.proofs.Common.{◌≡◌, ℕ, zero, suc, ◌<◌, ◌+◌, Bool, false, List, [], ◌∷◌, ◌++◌, All, length, get_or, Result, Ok, Err, IfOk, IsTrue, ◌↔◌, ◌⊎◌, inl, inr, refl, sym, ap, subst, ◌∙◌, arith, eq-or-lt_of_le}
+use Rattle.std.proofs.lemmas.List.{length-map}
 use Rattle.biblatex_text.specs.Raw.{Field}
 use Rattle.reference_graph.specs.References.{IsCircular}
-use Rattle.reference_graph.specs.Order.{is_marked, MarksCircular}
-use Rattle.biblatex_fields.specs.Abbreviations.{references, AreFlags, Copied}
+use Rattle.reference_graph.specs.Order.{Arranged, IsOrder, is_marked, MarksCircular}
+use Rattle.biblatex_fields.specs.Abbreviations.{references_of, references, AreFlags, Copied, IsArranged}
 
 pub copied_none : (flags marks : List Bool) → flags ≡ [] → Copied flags marks 0
 copied_none flags marks e = record { long = ap length e; same = λ i within. absurd (omega (arith, within)) }
@@ -39,14 +40,16 @@ copied_more flags marks count b c e = record {
         earlier flags b i (omega (arith, before, h)) ∙ c.same i before
 
 -- all of them
-pub copied_all : (flags marks : List Bool) (rs : List (List ℕ)) (ds : List Field) → rs ≡ references ds → MarksCircular rs marks → Copied flags marks (length ds) → AreFlags flags ds
-copied_all flags marks rs ds e marked c = record {
+pub copied_all : (flags marks : List Bool) (ds : List Field) → MarksCircular (references ds) marks → Copied flags marks (length ds) → AreFlags flags ds
+copied_all flags marks ds marked c = record {
   long = c.long;
-  exact = λ place within. subst (λ (b : Bool). IsTrue b ↔ IsCircular (references ds) place) (sym (c.same place within))
-      (subst (λ (x : List (List ℕ)). IsTrue (is_marked marks place) ↔ IsCircular x place) e (marked place));
+  exact = λ place within. subst (λ (b : Bool). IsTrue b ↔ IsCircular (references ds) place) (sym (c.same place within)) (marked place);
 }
 
-pub flags_result : {E : Type 0} (r : Result (Vec Bool Global) E) (marks : List Bool) (rs : List (List ℕ)) (ds : List Field) (count : ℕ) → count ≡ length ds → rs ≡ references ds → MarksCircular rs marks
-    → IfOk r (λ flags. Copied flags.items marks count) → IfOk r (λ flags. AreFlags flags.items ds)
-flags_result (Ok flags) marks rs ds count long e marked c = copied_all flags.items marks rs ds e marked (subst (λ (n : ℕ). Copied flags.items marks n) long c)
-flags_result (Err f) marks rs ds count long e marked c = tt
+-- what the search answers, of the definitions
+pub arranged : {E : Type 0} (r : Result Arranged E) (rs : List (List ℕ)) (ds : List Field) → rs ≡ references ds → IfOk r (λ o. MarksCircular rs o.circular) → IfOk r (λ o. IsOrder rs o.order) → IfOk r (IsArranged ds)
+arranged (Ok o) rs ds e marks order = record {
+  marks = subst (λ (x : List (List ℕ)). MarksCircular x o.circular) e marks;
+  within = subst (λ (n : ℕ). All (λ place. place < n) o.order) (ap length e ∙ length-map ds (λ (d : Field). references_of ds d.value.v)) order.below;
+}
+arranged (Err f) rs ds e marks order = tt

@@ -3,6 +3,8 @@ pub mod Depth
 pub mod Indexes
 pub mod Stack
 pub mod Effort
+pub mod Taken
+pub mod StandIns
 pub mod Frames
 pub mod Refused
 pub mod Entries

@@ -1,12 +1,12 @@
 -- The abbreviations of a text: what their names mean, which of them are circular, and what a piece of a value stands for.
 -- Names are compared in lower case, where only the ASCII letters have one.
-use Rattle.std.specs.Prelude.{◌≡◌, ◌↔◌, ℕ, suc, ◌<◌, Bool, false, IsTrue, List, [], ◌∷◌, map, length, get_or, slice_get, if◌then◌else◌, Option, Some, None, Result, Ok, Err}
+use Rattle.std.specs.Prelude.{◌≡◌, ◌↔◌, ℕ, suc, ◌<◌, Bool, false, IsTrue, List, [], ◌∷◌, All, map, length, get_or, slice_get, if◌then◌else◌, Option, Some, None, Result, Ok, Err}
 use Rattle.std.specs.Str.{bytes_eq, chars}
 use Rattle.std.specs.List.{flat_map}
 use Rattle.laws.specs.Text.{lowered}
 use Rattle.biblatex_text.specs.Raw.{At, Piece, normal, abbreviation, Field}
 use Rattle.reference_graph.specs.References.{IsCircular}
-use Rattle.reference_graph.specs.Order.{is_marked}
+use Rattle.reference_graph.specs.Order.{Arranged, MarksCircular, is_marked}
 use Rattle.biblatex_fields.specs.Month.{month}
 
 -- Why a field is refused: a name that means nothing, a circular name, each as it is written at the piece that is opened, or
@@ -54,6 +54,11 @@ references ds = map (λ d. references_of ds d.value.v) ds
 pub record AreFlags (flags : List Bool) (ds : List Field) : Type 0 where
   pub long : length flags ≡ length ds
   pub exact : (place : ℕ) → place < length ds → IsTrue (get_or flags place false) ↔ IsCircular (references ds) place
+
+-- definitions in an order, and marks that say which of all reach themselves
+pub record IsArranged (ds : List Field) (o : Arranged) : Type 0 where
+  pub marks : MarksCircular (references ds) o.circular
+  pub within : All (λ place. place < length ds) o.order
 
 -- so many flags, which are the first of the marks
 pub record Copied (flags marks : List Bool) (count : ℕ) : Type 0 where

@@ -27,7 +27,7 @@ text_read true start end cs done = Ok (done ++ all_at start end (letters Verbati
 text_read false start end cs done = placed start end (behind_at start end done (ordinary cs))
 
 -- pieces in order, up to the first fault
-abbrev pub in_order : (At Piece → Reading) → List (At Piece) → Reading
+abbrev pub in_order : {X : Type 0} → (X → Reading) → List X → Reading
 in_order read [] done = Ok done
 in_order read (p ∷ ps) done = read p done >>= λ ms. in_order read ps ms
 

@@ -4,18 +4,16 @@ use Rattle.std.specs.Prelude.{◌≡◌, ℕ, List, map, Result, Ok, Err, String
 use Rattle.std.specs.HashMap.{HashMap, get_by_text}
 use Rattle.std.specs.Str.{chars}
 use Rattle.std.specs.Borrow.{Bor}
-use Rattle.biblatex_text.specs.Raw.{At, Piece, Field}
-use Rattle.biblatex_text.specs.Views.{part, piece, field}
-use Rattle.biblatex_text.specs.declared.spanned.Spanned.{Spanned}
-use Rattle.biblatex_text.specs.declared.raw.RawChunk.{RawChunk}
+use Rattle.biblatex_text.specs.Raw.{Field}
+use Rattle.biblatex_text.specs.Views.{part, field}
 use Rattle.biblatex_text.specs.declared.raw.Pair.{Pair}
 use Rattle.biblatex_fields.specs.declared.error.FieldFault.{FieldFault}
 use Rattle.biblatex_fields.specs.declared.error.FieldFault.TheVariants as faults
 use Rattle.biblatex_fields.specs.declared.error.FieldError.{FieldError}
 use Rattle.biblatex_fields.specs.declared.error.FieldError.TheVariants as errors
-use Rattle.biblatex_fields.specs.declared.abbreviations.Sense.{Sense as Opened}
-use Rattle.biblatex_fields.specs.declared.abbreviations.Sense.TheVariants as senses
-use Rattle.biblatex_fields.specs.Abbreviations.{Refusal, unknown, circular, malformed, Sense, spelled, defined, place_of}
+use Rattle.biblatex_fields.specs.declared.glossary.Sense.{Sense as Opened}
+use Rattle.biblatex_fields.specs.declared.glossary.Sense.TheVariants as senses
+use Rattle.biblatex_fields.specs.Abbreviations.{Refusal, unknown, circular, malformed, Sense, spelled, defined, pieces_at, place_of}
 
 abbrev pub refusal : FieldFault → Refusal
 refusal (faults.UnknownAbbreviation name) = unknown (part name)
@@ -28,13 +26,9 @@ Gives view (Ok x) read = read ≡ Ok (view x)
 Gives view (Err errors.Memory) read = Unit {0}
 Gives view (Err (errors.Fault fault)) read = read ≡ Err (refusal fault)
 
--- pieces in order
-abbrev pub frame : Bor (List (Spanned RawChunk)) → List (At Piece)
-frame ps = map piece ps.now
-
-abbrev pub sense_seen : Opened → Sense
-sense_seen (senses.Spelled text) = spelled (chars text.now)
-sense_seen (senses.Defined pieces) = defined (frame pieces)
+abbrev pub sense_seen : List Field → Opened → Sense
+sense_seen ds (senses.Spelled text) = spelled (chars text.now)
+sense_seen ds (senses.Defined place) = defined (pieces_at ds place)
 
 -- the definitions in order
 abbrev pub all_of : Bor (List Pair) → List Field

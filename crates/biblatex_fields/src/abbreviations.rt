@@ -1,82 +1,44 @@
-//! Abbreviations: what their names mean.
+//! Abbreviations: what their names mean, and what is read where they are opened.
 
-ghost use Rattle.std.specs.Prelude.{◌≡◌, ◌<◌, length, map, IfOk, string_bytes};
-ghost use Rattle.std.specs.Str.{chars};
-ghost use Rattle.laws.specs.Text.{lowered};
-ghost use Rattle.biblatex_text.specs.Views.{field, part, piece};
-ghost use Rattle.biblatex_fields.specs.Month.{month};
-ghost use Rattle.biblatex_fields.specs.Abbreviations.{Glossary, AreFlags, place_of, month_or_unknown, sense, sense_of};
+ghost use Rattle.std.specs.Prelude.{◌≡◌, ◌<◌, length, map, false, true, IfOk};
+ghost use Rattle.biblatex_text.specs.Views.{field, piece};
+ghost use Rattle.biblatex_fields.specs.Abbreviations.{Glossary, AreFlags, sense};
+ghost use Rattle.biblatex_fields.specs.Openings.{AreOpenings, AreResolved, StandIn, piece_seen, resolved_sense, unresolved_at};
 ghost use Rattle.biblatex_fields.specs.Value.{ReadsByTheRule};
-ghost use Rattle.biblatex_fields.specs.Views.{Gives, IsIndex, all_of, sense_seen};
+ghost use Rattle.biblatex_fields.specs.Views.{Gives, sense_seen};
 
-use crate::error::{FieldError, FieldFault};
-use crate::month::month;
-use crate::references::circular;
+use crate::error::FieldError;
+use crate::glossary::{Glossary, Sense, places_of};
+use crate::openings::{Opening, ResolvedPiece};
+use crate::references::{circular_in, order_of};
 use biblatex_text::{Pair, RawChunk, Spanned};
 use std::alloc::{AllocError, Global};
-use std::collections::HashMap;
 use std::marker::Model;
 
 /// The abbreviations of a text. Names are compared without ASCII case, and the last definition of a name counts; the names
 /// `jan` to `dec` stand for the months' English names where they have no definition.
 #[derive(Drop)]
 pub struct Abbreviations<'r, 's> {
-    definitions: &'r [Pair<'s>],
-    places: HashMap<String, usize>,
-    circular: Vec<bool>,
+    glossary: Glossary<'r, 's>,
+    /// The pieces of each definition.
+    resolved: Vec<Vec<ResolvedPiece<'s>>>,
+    /// What is read in ordinary fields in place of the pieces of each definition.
+    ordinary: Vec<Opening<'s>>,
+    /// The same in verbatim fields.
+    verbatim: Vec<Opening<'s>>,
 }
 
 impl<'r, 's> Model for Abbreviations<'r, 's> {
     ghost Value = { Glossary };
 
-    ghost view = { λ a. record { definitions = all_of a.definitions; flags = a.circular.items } };
+    ghost view = { λ a. a.glossary };
 
-    ghost invariant = { λ a. IsIndex a.places (all_of a.definitions) × AreFlags a.circular.items (all_of a.definitions) };
-}
-
-/// What a piece of a value stands for.
-pub(crate) enum Sense<'a, 's> {
-    /// A text.
-    Spelled(&'s str),
-    /// The pieces of a definition.
-    Defined(&'a [Spanned<RawChunk<'s>>]),
-}
-
-/// The text in lower ASCII case.
-pub(crate) fn lowered(alloc: Global, text: &str) -> Result<String, AllocError>
-    ensures { IfOk result (λ s. string_bytes s ≡ lowered (chars text.now)) }
-{
-    text.to_ascii_lowercase(alloc)
-}
-
-/// The place of the last definition of each name.
-fn places_of(alloc: Global, definitions: &[Pair]) -> Result<HashMap<String, usize>, AllocError>
-    ensures { IfOk result (λ index. IsIndex index (map field definitions.now)) }
-{
-    let mut places = HashMap::new(alloc);
-    for place in 0..definitions.len() {
-        let name = lowered(alloc, definitions[place].key.v)?;
-        places.insert(name, place)?;
-    }
-    Ok(places)
-}
-
-/// The month of that name in lower case, or the fault that the name means nothing.
-fn month_or_unknown<'a, 's>(
-    lowered: &str,
-    name: Spanned<&'s str>,
-) -> Result<Sense<'a, 's>, FieldError<'s>>
-    ensures { Gives sense_seen result (month_or_unknown (part name.entry) (month lowered.now)) }
-{
-    match month(lowered) {
-        Some(text) => Ok(Sense::Spelled(text)),
-        None => Err(FieldError::Fault(FieldFault::UnknownAbbreviation(name))),
-    }
+    ghost invariant = { λ a. AreResolved a.glossary a.resolved.items × AreOpenings a.glossary false a.resolved.items a.ordinary.items × AreOpenings a.glossary true a.resolved.items a.verbatim.items };
 }
 
 impl<'r, 's> Abbreviations<'r, 's> {
     /// The abbreviations in the order of their text.
-    #[tactic(auto, using(crate::proofs::Stack::by_the_rule))]
+    #[tactic(auto, using(crate::proofs::Stack::by_the_rule, crate::proofs::Flags::copied_all))]
     pub fn new(
         alloc: Global,
         definitions: &'r [Pair<'s>],
@@ -86,38 +48,22 @@ impl<'r, 's> Abbreviations<'r, 's> {
         ensures rule { IfOk result ReadsByTheRule }
     {
         let places = places_of(alloc, definitions)?;
-        let circular = circular(alloc, &places, definitions)?;
-        Ok(Abbreviations {
+        let order = order_of(alloc, &places, definitions)?;
+        let circular = circular_in(alloc, &order, definitions.len())?;
+        let glossary = Glossary {
             definitions,
             places,
             circular,
+        };
+        let resolved = glossary.resolved(alloc)?;
+        let ordinary = glossary.openings(alloc, false, &resolved, order.order())?;
+        let verbatim = glossary.openings(alloc, true, &resolved, order.order())?;
+        Ok(Abbreviations {
+            glossary,
+            resolved,
+            ordinary,
+            verbatim,
         })
-    }
-
-    /// What the definition at the place stands for, where the name is opened.
-    fn defined(&self, place: usize, name: Spanned<&'s str>) -> Result<Sense<'_, 's>, FieldError<'s>>
-        requires { place < length self.now.definitions }
-        ensures { Gives sense_seen result (sense_of self.now (part name.entry) (Some place)) }
-    {
-        if self.circular[place] {
-            return Err(FieldError::Fault(FieldFault::AbbreviationCycle(name)));
-        }
-        Ok(Sense::Defined(self.definitions[place].value.v.as_slice()))
-    }
-
-    /// What the name stands for, where it is opened.
-    fn sense_of(
-        &self,
-        alloc: Global,
-        name: Spanned<&'s str>,
-    ) -> Result<Sense<'_, 's>, FieldError<'s>>
-        ensures { Gives sense_seen result (sense_of self.now (part name.entry) (place_of (lowered (chars name.entry.v.now)) self.now.definitions)) }
-    {
-        let lowered = lowered(alloc, name.v)?;
-        match self.places.get(lowered.as_str()) {
-            Some(&place) => self.defined(place, name),
-            None => month_or_unknown(lowered.as_str(), name),
-        }
     }
 
     /// What the piece stands for.
@@ -125,16 +71,38 @@ impl<'r, 's> Abbreviations<'r, 's> {
         &self,
         alloc: Global,
         raw: &Spanned<RawChunk<'s>>,
-    ) -> Result<Sense<'_, 's>, FieldError<'s>>
-        ensures sense { Gives sense_seen result (sense self.now (piece raw.now)) }
+    ) -> Result<Sense<'s>, FieldError<'s>>
+        ensures sense { Gives (sense_seen self.now.definitions) result (sense self.now (piece raw.now)) }
         ensures flags { AreFlags self.now.flags self.now.definitions }
     {
-        let _flags_are_exact = &self.circular;
-        match raw.v {
-            RawChunk::Normal(text) => Ok(Sense::Spelled(text)),
-            RawChunk::Abbreviation(name) => {
-                self.sense_of(alloc, Spanned::new(name, raw.span.start..raw.span.end))
-            }
+        self.glossary.sense(alloc, raw)
+    }
+
+    /// What the piece of a definition stands for.
+    pub(crate) fn resolved_sense(
+        &self,
+        alloc: Global,
+        piece: &ResolvedPiece<'s>,
+    ) -> Result<Sense<'s>, FieldError<'s>>
+        ensures { Gives (sense_seen self.now.definitions) result (resolved_sense self.now (piece_seen piece.now)) }
+    {
+        match piece.place {
+            Some(place) => Ok(Sense::Defined(place)),
+            None => self.sense(alloc, &piece.raw),
         }
+    }
+
+    /// What is read of the definition at the place.
+    pub(crate) fn pieces<'a>(&'a self, is_verbatim: bool, place: usize) -> &'a [ResolvedPiece<'s>]
+        ensures stand_in { StandIn self.now is_verbatim (map piece_seen result.now) (unresolved_at self.now.definitions place) }
+        ensures flags { AreFlags self.now.flags self.now.definitions }
+    {
+        let openings = if is_verbatim {
+            self.verbatim.as_slice()
+        } else {
+            self.ordinary.as_slice()
+        };
+        self.glossary
+            .pieces(is_verbatim, &self.resolved, openings, place)
     }
 }

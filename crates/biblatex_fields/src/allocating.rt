@@ -55,10 +55,10 @@ fn values_are_read(rt: HostRuntime) -> Result<(), Fail> {
 
 #[test]
 fn definitions_are_read(rt: HostRuntime) -> Result<(), Fail> {
-    let raw = RawBibliography::parse(rt.alloc(), "@string{p={A},q=p}")?;
+    let raw = RawBibliography::parse(rt.alloc(), "@string{p={A},q=p,r={}#q}")?;
     let abbreviations = Abbreviations::new(rt.alloc(), raw.abbreviations.as_slice())?;
     match raw.abbreviations.as_slice() {
-        [_, last] => assert!(rt; is_text(Some(&abbreviations.read(rt.alloc(), last)?), "A")),
+        [_, _, last] => assert!(rt; is_text(Some(&abbreviations.read(rt.alloc(), last)?), "A")),
         _ => assert!(rt; false),
     }
     Ok(())

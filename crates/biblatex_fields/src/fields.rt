@@ -8,8 +8,9 @@ ghost use Rattle.biblatex_content.specs.Views.{styled};
 ghost use Rattle.biblatex_fields.specs.Fields.{Named, named_of, value_named, with_field, without_field, AreInOrder, fields_of};
 ghost use Rattle.biblatex_fields.specs.Views.{Gives};
 
-use crate::abbreviations::{Abbreviations, lowered};
+use crate::abbreviations::Abbreviations;
 use crate::error::FieldError;
+use crate::glossary::lowered;
 use biblatex_content::Chunks;
 use biblatex_text::RawEntry;
 use std::alloc::{AllocError, Global};

@@ -4,10 +4,10 @@ ghost use Rattle.std.specs.Prelude.{◌≡◌, List, map, IfOk};
 ghost use Rattle.biblatex_text.specs.Raw.{Field};
 ghost use Rattle.biblatex_text.specs.Views.{chunk, field, piece};
 ghost use Rattle.reference_graph.specs.References.{lists};
-ghost use Rattle.biblatex_fields.specs.Abbreviations.{places, named, references_of, references, AreFlags, Copied};
+ghost use Rattle.biblatex_fields.specs.Abbreviations.{places, named, references_of, references, Copied, IsArranged};
 ghost use Rattle.biblatex_fields.specs.Views.{IsIndex};
 
-use crate::abbreviations::lowered;
+use crate::glossary::lowered;
 use biblatex_text::{Pair, RawChunk, Spanned};
 use reference_graph::{ReferenceOrder, reference_order};
 use std::alloc::{AllocError, Global};
@@ -63,7 +63,11 @@ pub(crate) fn references(
 }
 
 /// Of each number below the count, whether it is circular in the order.
-fn circular_in(alloc: Global, order: &ReferenceOrder, count: usize) -> Result<Vec<bool>, AllocError>
+pub(crate) fn circular_in(
+    alloc: Global,
+    order: &ReferenceOrder,
+    count: usize,
+) -> Result<Vec<bool>, AllocError>
     ensures { IfOk result (λ flags. Copied flags.items order.now.circular count) }
 {
     let mut circular = Vec::with_capacity(alloc, count)?;
@@ -73,15 +77,14 @@ fn circular_in(alloc: Global, order: &ReferenceOrder, count: usize) -> Result<Ve
     Ok(circular)
 }
 
-/// Of each definition, whether it reaches itself through the names in its pieces.
-pub(crate) fn circular(
+/// Which definitions reach themselves through the names in their pieces, and an order of all.
+pub(crate) fn order_of(
     alloc: Global,
     index: &HashMap<String, usize>,
     definitions: &[Pair],
-) -> Result<Vec<bool>, AllocError>
-    ensures { IsIndex index.now (map field definitions.now) → IfOk result (λ flags. AreFlags flags.items (map field definitions.now)) }
+) -> Result<ReferenceOrder, AllocError>
+    ensures { IsIndex index.now (map field definitions.now) → IfOk result (IsArranged (map field definitions.now)) }
 {
     let references = references(alloc, index, definitions)?;
-    let order = reference_order(alloc, references.as_slice())?;
-    circular_in(alloc, &order, definitions.len())
+    reference_order(alloc, references.as_slice())
 }

@@ -41,7 +41,7 @@ fn write_fault(out: &mut String, fault: &FieldFault) -> Result<(), AllocError> {
 }
 
 /// The fields of all entries of a text, or the first fault.
-fn read(alloc: Global, source: &str) -> Result<String, Fail> {
+pub(crate) fn read(alloc: Global, source: &str) -> Result<String, Fail> {
     let mut out = String::new(alloc);
     let Ok(raw) = RawBibliography::parse(alloc, source) else {
         return Ok(String::from_str(alloc, "not of the grammar")?);
@@ -235,6 +235,10 @@ fn chunks_stand_where_they_are_written(rt: HostRuntime) -> Result<(), Fail> {
         (
             "@string{p = {{P}}} @book{a, title = p # {x}}",
             "«P»x 13-16 41-42 all 13-42",
+        ),
+        (
+            "@string{p = {P}, q = p} @book{a, title = q # {x}}",
+            "Px 13-47 all 13-47",
         ),
         ("@book{a, title = 7}", "7 17-18 all 17-18"),
     ];

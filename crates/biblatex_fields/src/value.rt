@@ -6,61 +6,74 @@ ghost use Rattle.biblatex_text.specs.Views.{field, piece};
 ghost use Rattle.biblatex_content.specs.Parted.{are_parted};
 ghost use Rattle.biblatex_content.specs.Places.{placed_so_far, places};
 ghost use Rattle.biblatex_content.specs.Views.{styled};
-ghost use Rattle.biblatex_fields.specs.Value.{text_read, in_order, read, content_of, value_of, places_in, places_of_field};
+ghost use Rattle.biblatex_fields.specs.Abbreviations.{pieces_at};
+ghost use Rattle.biblatex_fields.specs.Value.{in_order, read, content_of, value_of, places_in, places_of_field};
 ghost use Rattle.biblatex_fields.specs.Views.{Gives};
 
-use crate::abbreviations::{Abbreviations, Sense, lowered};
-use crate::error::{FieldError, FieldFault};
-use biblatex_content::{Chunks, ContentError, Contents, Span, is_verbatim_field};
+use crate::abbreviations::Abbreviations;
+use crate::error::FieldError;
+use crate::glossary::{Sense, lowered};
+use crate::text::push_text;
+use biblatex_content::{Chunks, Contents, is_verbatim_field};
 use biblatex_text::{Pair, RawChunk, Spanned};
 use std::alloc::Global;
 
-/// Puts what a text gives behind what was read. The text is of the piece at the span.
-fn push_text<'s>(
-    contents: Contents,
-    is_verbatim: bool,
-    span: &Span,
-    text: &str,
-) -> Result<Contents, FieldError<'s>>
-    ensures { Gives placed_so_far result (text_read is_verbatim span.now.start span.now.end (chars text.now) (placed_so_far contents)) }
-{
-    let piece = Spanned::new(text, span.start..span.end);
-    if is_verbatim {
-        return Ok(contents.push_verbatim(piece)?);
-    }
-    match contents.push_ordinary(piece) {
-        Ok(contents) => Ok(contents),
-        Err(ContentError::Memory) => Err(FieldError::Memory),
-        Err(ContentError::MalformedCommand) => Err(FieldError::Fault(FieldFault::MalformedCommand(
-            span.start..span.end,
-        ))),
-    }
-}
-
 impl<'r, 's> Abbreviations<'r, 's> {
-    /// What the pieces give, one behind the other.
-    fn contents<'a>(
+    /// The contents with what the definition at the place gives behind them.
+    fn push_definition<'a>(
         &'a self,
         alloc: Global,
         is_verbatim: bool,
-        pieces: &'a [Spanned<RawChunk<'s>>],
+        mut contents: Contents,
+        place: usize,
     ) -> Result<Contents, FieldError<'s>>
-        ensures { Gives placed_so_far result (in_order (read self.now is_verbatim) (map piece pieces.now) []) }
+        ensures { Gives placed_so_far result (in_order (read self.now is_verbatim) (pieces_at self.now.definitions place) (placed_so_far contents)) }
     {
-        let mut contents = Contents::new(alloc);
         let mut frames = Vec::with_capacity(alloc, 1)?;
-        frames.push(pieces)?;
+        frames.push(self.pieces(is_verbatim, place))?;
         while let Some(frame) = frames.pop() {
             let Some((next, rest)) = frame.split_first() else {
                 continue;
             };
             frames.push(rest)?;
-            match self.sense(alloc, next)? {
+            match self.resolved_sense(alloc, next)? {
                 Sense::Spelled(text) => {
-                    contents = push_text(contents, is_verbatim, &next.span, text)?;
+                    contents = push_text(contents, is_verbatim, &next.raw.span, text)?;
                 }
-                Sense::Defined(pieces) => frames.push(pieces)?,
+                Sense::Defined(place) => frames.push(self.pieces(is_verbatim, place))?,
             }
+        }
+        Ok(contents)
+    }
+
+    /// The contents with what the piece gives behind them.
+    fn push_piece(
+        &self,
+        alloc: Global,
+        is_verbatim: bool,
+        contents: Contents,
+        raw: &Spanned<RawChunk<'s>>,
+    ) -> Result<Contents, FieldError<'s>>
+        ensures { Gives placed_so_far result (read self.now is_verbatim (piece raw.now) (placed_so_far contents)) }
+    {
+        match self.sense(alloc, raw)? {
+            Sense::Spelled(text) => push_text(contents, is_verbatim, &raw.span, text),
+            Sense::Defined(place) => self.push_definition(alloc, is_verbatim, contents, place),
+        }
+    }
+
+    /// What the pieces give, one behind the other.
+    fn contents(
+        &self,
+        alloc: Global,
+        is_verbatim: bool,
+        pieces: &[Spanned<RawChunk<'s>>],
+    ) -> Result<Contents, FieldError<'s>>
+        ensures { Gives placed_so_far result (in_order (read self.now is_verbatim) (map piece pieces.now) []) }
+    {
+        let mut contents = Contents::new(alloc);
+        for raw in pieces.iter() {
+            contents = self.push_piece(alloc, is_verbatim, contents, raw)?;
         }
         Ok(contents)
     }

@@ -1,6 +1,6 @@
 -- Entries are equal exactly where what is seen of them is one.
 use Rattle.std.specs.Global.{Global}
-use Rattle.std.proofs.Common.{◌≡◌, ℕ, zero, suc, ◌≤◌, max, Bool, true, false, List, [], ◌∷◌, map, Option, Vec, ◌&&◌, refl, sym, ap, subst, ◌∙◌, string_bytes, string_eq, true≢false, arith, rules}
+use Rattle.std.proofs.Common.{◌≡◌, ℕ, zero, suc, ◌≤◌, Bool, true, false, List, [], ◌∷◌, map, Vec, ◌&&◌, refl, sym, ap, ◌∙◌, string_bytes, string_eq, true≢false, arith, rules}
 use Rattle.std.specs.Bool.{Decides}
 use Rattle.std.specs.Cmp.Lexicographic.{bytes_decides, pointwise}
 use Rattle.std.specs.Option.{option_eq, option_map}

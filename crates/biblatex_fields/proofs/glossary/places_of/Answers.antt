@@ -5,7 +5,7 @@ use Rattle.biblatex_text.specs.Views.{field}
 use Rattle.biblatex_text.specs.declared.raw.Pair.{Pair}
 use Rattle.biblatex_fields.specs.Abbreviations.{place_of}
 use Rattle.biblatex_fields.proofs.Indexes.{index_put}
-use Rattle.biblatex_fields.proofs.abbreviations.places_of.Goals as goal
+use Rattle.biblatex_fields.proofs.glossary.places_of.Goals as goal
 
 pub loop-place-preserved : goal.loop-place-preserved
 loop-place-preserved c = λ q.

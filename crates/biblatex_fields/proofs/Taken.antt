@@ -1,0 +1,8 @@
+-- What has been gone over, with one element more.
+use Rattle.std.proofs.Common.{◌≡◌, ◌<◌, ◌+◌, ℕ, List, [], ◌∷◌, ◌++◌, map, take, get_or, length, ap, ◌∙◌, add-one, take-suc}
+use Rattle.std.proofs.lemmas.List.{map_push}
+
+pub one_more : {X Y : Type 0} (f : X → Y) (xs : List X) (i : ℕ) (d : X) → i < length xs → map f (take (i + 1) xs) ≡ map f (take i xs) ++ f (get_or xs i d) ∷ []
+one_more {X} f xs i d within =
+    let longer : take (i + 1) xs ≡ take i xs ++ get_or xs i d ∷ [] = rw (add-one i) (take-suc xs i d within) in
+    ap (map f) longer ∙ map_push f (take i xs) (get_or xs i d)

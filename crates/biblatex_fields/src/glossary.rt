@@ -1,0 +1,121 @@
+//! What the names of abbreviations mean.
+
+ghost use Rattle.std.specs.Prelude.{◌≡◌, ◌<◌, List, length, map, IfOk, Some, string_bytes};
+ghost use Rattle.std.specs.Str.{chars};
+ghost use Rattle.laws.specs.Text.{lowered};
+ghost use Rattle.biblatex_text.specs.Raw.{Field};
+ghost use Rattle.biblatex_text.specs.Views.{field, part, piece};
+ghost use Rattle.biblatex_fields.specs.Month.{month};
+ghost use Rattle.biblatex_fields.specs.Abbreviations.{Glossary, AreFlags, place_of, month_or_unknown, sense, sense_of, spelled};
+ghost use Rattle.biblatex_fields.specs.Views.{Gives, IsIndex, all_of, sense_seen};
+
+use crate::error::{FieldError, FieldFault};
+use crate::month::month;
+use biblatex_text::{Pair, RawChunk, Spanned};
+use std::alloc::{AllocError, Global};
+use std::collections::HashMap;
+use std::marker::Model;
+
+/// The definitions of a text, what their names mean, and which of them reach themselves. Names are compared without ASCII
+/// case, and the last definition of a name counts; the names `jan` to `dec` stand for the months' English names where they
+/// have no definition.
+#[derive(Drop)]
+pub(crate) struct Glossary<'r, 's> {
+    pub definitions: &'r [Pair<'s>],
+    pub places: HashMap<String, usize>,
+    pub circular: Vec<bool>,
+}
+
+impl<'r, 's> Model for Glossary<'r, 's> {
+    ghost Value = { Glossary };
+
+    ghost view = { λ g. record { definitions = all_of g.definitions; flags = g.circular.items } };
+
+    ghost invariant = { λ g. IsIndex g.places (all_of g.definitions) × AreFlags g.circular.items (all_of g.definitions) };
+}
+
+/// What a piece of a value stands for.
+#[derive(Drop)]
+pub(crate) enum Sense<'s> {
+    /// A text.
+    Spelled(&'s str),
+    /// The pieces of the definition at the place.
+    Defined(usize),
+}
+
+/// The text in lower ASCII case.
+pub(crate) fn lowered(alloc: Global, text: &str) -> Result<String, AllocError>
+    ensures { IfOk result (λ s. string_bytes s ≡ lowered (chars text.now)) }
+{
+    text.to_ascii_lowercase(alloc)
+}
+
+/// The place of the last definition of each name.
+pub(crate) fn places_of(
+    alloc: Global,
+    definitions: &[Pair],
+) -> Result<HashMap<String, usize>, AllocError>
+    ensures { IfOk result (λ index. IsIndex index (map field definitions.now)) }
+{
+    let mut places = HashMap::new(alloc);
+    for place in 0..definitions.len() {
+        let name = lowered(alloc, definitions[place].key.v)?;
+        places.insert(name, place)?;
+    }
+    Ok(places)
+}
+
+/// The month of that name in lower case, or the fault that the name means nothing.
+fn month_or_unknown<'s>(
+    lowered: &str,
+    name: Spanned<&'s str>,
+) -> Result<&'static str, FieldError<'s>>
+    ensures { Gives (λ text. spelled (chars text.now)) result (month_or_unknown (part name.entry) (month lowered.now)) }
+{
+    match month(lowered) {
+        Some(text) => Ok(text),
+        None => Err(FieldError::Fault(FieldFault::UnknownAbbreviation(name))),
+    }
+}
+
+impl<'r, 's> Glossary<'r, 's> {
+    /// What the definition at the place stands for, where the name is opened.
+    fn defined(&self, place: usize, name: Spanned<&'s str>) -> Result<Sense<'s>, FieldError<'s>>
+        requires { place < length self.now.definitions }
+        ensures { Gives (sense_seen self.now.definitions) result (sense_of self.now (part name.entry) (Some place)) }
+    {
+        if self.circular[place] {
+            return Err(FieldError::Fault(FieldFault::AbbreviationCycle(name)));
+        }
+        Ok(Sense::Defined(place))
+    }
+
+    /// What the name stands for, where it is opened.
+    fn sense_of(&self, alloc: Global, name: Spanned<&'s str>) -> Result<Sense<'s>, FieldError<'s>>
+        ensures { Gives (sense_seen self.now.definitions) result (sense_of self.now (part name.entry) (place_of (lowered (chars name.entry.v.now)) self.now.definitions)) }
+    {
+        let lowered = lowered(alloc, name.v)?;
+        match self.places.get(lowered.as_str()) {
+            Some(&place) => self.defined(place, name),
+            None => Ok(Sense::Spelled(month_or_unknown(lowered.as_str(), name)?)),
+        }
+    }
+
+    /// What the piece stands for.
+    pub fn sense(
+        &self,
+        alloc: Global,
+        raw: &Spanned<RawChunk<'s>>,
+    ) -> Result<Sense<'s>, FieldError<'s>>
+        ensures sense { Gives (sense_seen self.now.definitions) result (sense self.now (piece raw.now)) }
+        ensures flags { AreFlags self.now.flags self.now.definitions }
+    {
+        let _flags_are_exact = &self.circular;
+        match raw.v {
+            RawChunk::Normal(text) => Ok(Sense::Spelled(text)),
+            RawChunk::Abbreviation(name) => {
+                self.sense_of(alloc, Spanned::new(name, raw.span.start..raw.span.end))
+            }
+        }
+    }
+}
