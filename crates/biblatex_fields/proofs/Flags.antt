@@ -4,6 +4,7 @@ use Rattle.std.proofs.lemmas.List.{length-map}
 use Rattle.biblatex_text.specs.Raw.{Field}
 use Rattle.reference_graph.specs.References.{IsCircular}
 use Rattle.reference_graph.specs.Order.{Arranged, IsOrder, is_marked, MarksCircular}
+use Rattle.biblatex_fields.proofs.Taken.{one_longer}
 use Rattle.biblatex_fields.specs.Abbreviations.{references_of, references, AreFlags, Copied, IsArranged}
 
 pub copied_none : (flags marks : List Bool) → flags ≡ [] → Copied flags marks 0
@@ -18,13 +19,9 @@ newest : (flags : List Bool) (b : Bool) → get_or (flags ++ b ∷ []) (length f
 newest [] b = refl
 newest (x ∷ flags) b = newest flags b
 
-long_last : (flags : List Bool) (b : Bool) → length (flags ++ b ∷ []) ≡ length flags + 1
-long_last [] b = omega arith
-long_last (x ∷ flags) b = let more = long_last flags b in omega (arith, more)
-
 pub copied_more : (flags marks : List Bool) (count : ℕ) (b : Bool) → Copied flags marks count → b ≡ is_marked marks count → Copied (flags ++ b ∷ []) marks (count + 1)
 copied_more flags marks count b c e = record {
-  long = let l = long_last flags b in let h = c.long in omega (arith, l, h);
+  long = let l = one_longer flags b in let h = c.long in omega (arith, l, h);
   same = λ i within. by_place i (last_or_before i within);
 }
   where

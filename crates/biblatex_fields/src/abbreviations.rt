@@ -1,6 +1,6 @@
 //! Abbreviations: what their names mean, and what is read where they are opened.
 
-ghost use Rattle.std.specs.Prelude.{◌≡◌, ◌<◌, length, map, false, true, IfOk};
+ghost use Rattle.std.specs.Prelude.{◌≡◌, map, false, true, IfOk};
 ghost use Rattle.biblatex_text.specs.Views.{field, piece};
 ghost use Rattle.biblatex_fields.specs.Abbreviations.{Glossary, AreFlags, sense};
 ghost use Rattle.biblatex_fields.specs.Openings.{AreOpenings, AreResolved, StandIn, piece_seen, resolved_sense, unresolved_at};

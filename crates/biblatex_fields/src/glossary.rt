@@ -1,9 +1,8 @@
 //! What the names of abbreviations mean.
 
-ghost use Rattle.std.specs.Prelude.{◌≡◌, ◌<◌, List, length, map, IfOk, Some, string_bytes};
+ghost use Rattle.std.specs.Prelude.{◌≡◌, ◌<◌, length, map, IfOk, Some, string_bytes};
 ghost use Rattle.std.specs.Str.{chars};
 ghost use Rattle.laws.specs.Text.{lowered};
-ghost use Rattle.biblatex_text.specs.Raw.{Field};
 ghost use Rattle.biblatex_text.specs.Views.{field, part, piece};
 ghost use Rattle.biblatex_fields.specs.Month.{month};
 ghost use Rattle.biblatex_fields.specs.Abbreviations.{Glossary, AreFlags, place_of, month_or_unknown, sense, sense_of, spelled};

@@ -1,19 +1,14 @@
-use Rattle.std.proofs.Common.{◌≡◌, ◌+◌, ℕ, List, [], ◌∷◌, ◌++◌, map, take, length, sym, ap, subst, ◌∙◌, arith, length-take-le, Vec, Global}
+use Rattle.std.proofs.Common.{◌≡◌, ◌+◌, ℕ, List, [], ◌∷◌, ◌++◌, map, take, length, sym, ap, subst, ◌∙◌, arith, length-take-le}
 use Rattle.std.proofs.lemmas.List.{length-map, take_all}
 use Rattle.biblatex_text.specs.Views.{field, piece}
 use Rattle.biblatex_text.specs.declared.raw.Pair.{Pair}
 use Rattle.biblatex_text.specs.declared.spanned.Spanned.{Spanned}
 use Rattle.biblatex_text.specs.declared.raw.RawChunk.{RawChunk}
-use Rattle.biblatex_fields.specs.declared.openings.ResolvedPiece.{ResolvedPiece}
 use Rattle.biblatex_fields.specs.Abbreviations.{Glossary, AreFlags}
 use Rattle.biblatex_fields.specs.Openings.{StandIn, piece_seen, resolved_at, unresolved, unresolved_at}
 use Rattle.biblatex_fields.proofs.StandIns.{stand_same, resolved_more}
-use Rattle.biblatex_fields.proofs.Taken.{one_more}
+use Rattle.biblatex_fields.proofs.Taken.{one_longer, one_more}
 use Rattle.biblatex_fields.proofs.glossary.Glossary.resolved.Goals as goal
-
-one_longer : (vs : List (Vec ResolvedPiece Global)) (v : Vec ResolvedPiece Global) → length (vs ++ v ∷ []) ≡ length vs + 1
-one_longer [] v = omega arith
-one_longer (w ∷ vs) v = let more = one_longer vs v in omega (arith, more)
 
 pub loop-definition-init : goal.loop-definition-init
 loop-definition-init c = record {
