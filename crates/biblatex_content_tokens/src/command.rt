@@ -1,7 +1,7 @@
 //! What the commands of an ordinary field stand for.
 
 ghost use Rattle.std.specs.Prelude.{◌≡◌, option_to_list};
-ghost use Rattle.biblatex_content_tokens.specs.Command.{sign_mark, letter_mark, letter_character, sign_text};
+ghost use Rattle.biblatex_content_tokens.specs.Command.{sign_mark, letter_mark, letter_character, ligature, letter, symbol, text_symbol, sign_text};
 
 use crate::character::is_blank;
 
@@ -59,16 +59,37 @@ pub fn letter_mark(name: &str) -> Option<char>
 pub fn letter_character(name: &str) -> Option<char>
     ensures { result ≡ letter_character name.now }
 {
+    ligature(name)
+        .or(letter(name))
+        .or(symbol(name))
+        .or(text_symbol(name))
+}
+
+/// Ligatures, and letters with a ring.
+#[tactic(auto, unfolding(crate::specs::Command::ligature))]
+fn ligature(name: &str) -> Option<char>
+    ensures { result ≡ ligature name.now }
+{
     match name {
         "ss" => Some('ß'),
         "ae" => Some('æ'),
         "AE" => Some('Æ'),
         "oe" => Some('œ'),
         "OE" => Some('Œ'),
-        "o" => Some('ø'),
-        "O" => Some('Ø'),
         "aa" => Some('å'),
         "AA" => Some('Å'),
+        _ => None,
+    }
+}
+
+/// Letters with a stroke or without a dot, and Icelandic letters.
+#[tactic(auto, unfolding(crate::specs::Command::letter))]
+fn letter(name: &str) -> Option<char>
+    ensures { result ≡ letter name.now }
+{
+    match name {
+        "o" => Some('ø'),
+        "O" => Some('Ø'),
         "l" => Some('ł'),
         "L" => Some('Ł'),
         "i" => Some('ı'),
@@ -77,11 +98,31 @@ pub fn letter_character(name: &str) -> Option<char>
         "DH" => Some('Ð'),
         "th" => Some('þ'),
         "TH" => Some('Þ'),
+        _ => None,
+    }
+}
+
+/// Signs with names of their own.
+#[tactic(auto, unfolding(crate::specs::Command::symbol))]
+fn symbol(name: &str) -> Option<char>
+    ensures { result ≡ symbol name.now }
+{
+    match name {
         "S" => Some('§'),
         "P" => Some('¶'),
         "copyright" => Some('©'),
         "pounds" => Some('£'),
         "ldots" | "dots" | "textellipsis" => Some('…'),
+        _ => None,
+    }
+}
+
+/// Signs whose names begin with `text`.
+#[tactic(auto, unfolding(crate::specs::Command::text_symbol))]
+fn text_symbol(name: &str) -> Option<char>
+    ensures { result ≡ text_symbol name.now }
+{
+    match name {
         "textendash" => Some('–'),
         "textemdash" => Some('—'),
         "textquoteleft" => Some('‘'),

@@ -38,7 +38,6 @@ impl<'r, 's> Model for Abbreviations<'r, 's> {
 
 impl<'r, 's> Abbreviations<'r, 's> {
     /// The abbreviations in the order of their text.
-    #[tactic(auto, using(crate::proofs::Stack::by_the_rule, crate::proofs::Flags::copied_all))]
     pub fn new(
         alloc: Global,
         definitions: &'r [Pair<'s>],

@@ -67,6 +67,14 @@ is_book Book = true
 is_book MultiVolumeBook = true
 is_book _ = false
 
+-- The name under which the field of a book or volume stands in the reference, where the entry is a part of it.
+unfoldable pub renamed_in_part : Role → Role → List ℕ → List ℕ
+renamed_in_part to from name =
+    if (is_part to && is_volume from) && bytes_eq name (codes "booktitle") then codes "title"
+    else (if (is_part to && is_volume from) && bytes_eq name (codes "booksubtitle") then codes "subtitle"
+    else (if (is_part_of_book to && is_book from) && bytes_eq name (codes "bookauthor") then codes "author"
+    else name))
+
 -- The name under which the field stands in the reference. Titles of the reference become those of what the entry is part of,
 -- and authors of a book those of the book that the entry is part of.
 abbrev pub renamed : Role → Role → List ℕ → List ℕ
@@ -75,10 +83,7 @@ renamed to from name =
     else (if is_periodical from && bytes_eq name (codes "journalsubtitle") then codes "subtitle"
     else (if is_multi_volume from && bytes_eq name (codes "maintitle") then codes "title"
     else (if is_multi_volume from && bytes_eq name (codes "mainsubtitle") then codes "subtitle"
-    else (if (is_part to && is_volume from) && bytes_eq name (codes "booktitle") then codes "title"
-    else (if (is_part to && is_volume from) && bytes_eq name (codes "booksubtitle") then codes "subtitle"
-    else (if (is_part_of_book to && is_book from) && bytes_eq name (codes "bookauthor") then codes "author"
-    else name))))))
+    else renamed_in_part to from name)))
 
 -- fields that come to xdata entries or from them keep their names
 abbrev pub source_name : Role → Role → List ℕ → List ℕ

@@ -2,7 +2,7 @@
 
 ghost use Rattle.std.specs.Prelude.{◌≡◌, ◌||◌};
 ghost use Rattle.biblatex_entries.specs.Roles.{is_multi_volume};
-ghost use Rattle.biblatex_inheritance.specs.Table.{is_among, never, is_part, is_volume, is_book, is_part_of_book, is_xdata, is_periodical, renamed, source_name};
+ghost use Rattle.biblatex_inheritance.specs.Table.{is_among, never, is_part, is_volume, is_book, is_part_of_book, is_xdata, is_periodical, renamed, renamed_in_part, source_name};
 
 use biblatex_entries::Role;
 
@@ -76,6 +76,16 @@ fn renamed<'n>(to: Role, from: Role, name: &'n str) -> &'n str
         "journalsubtitle" if is_periodical(from) => "subtitle",
         "maintitle" if is_multi_volume(from) => "title",
         "mainsubtitle" if is_multi_volume(from) => "subtitle",
+        _ => renamed_in_part(to, from, name),
+    }
+}
+
+/// The same where the entry is a part of a book or volume.
+#[tactic(auto, unfolding(crate::specs::Table::renamed_in_part))]
+fn renamed_in_part<'n>(to: Role, from: Role, name: &'n str) -> &'n str
+    ensures { result.now ≡ renamed_in_part to from name.now }
+{
+    match name {
         "booktitle" if is_part(to) && is_volume(from) => "title",
         "booksubtitle" if is_part(to) && is_volume(from) => "subtitle",
         "bookauthor" if is_part_of_book(to) && is_book(from) => "author",

@@ -1,9 +1,10 @@
 //! One person's name.
 
-ghost use Rattle.std.specs.Prelude.{◌≡◌, IfOk};
+ghost use Rattle.std.specs.Prelude.{◌≡◌, [], IfOk, flat_map};
 ghost use Rattle.biblatex_lists.specs.Parts.{lent};
 ghost use Rattle.biblatex_people.specs.Reading.{by_parts, by_last_word, by_small_words, person_in, with_commas, without_commas};
 ghost use Rattle.biblatex_people.specs.Views.{named};
+ghost use Rattle.biblatex_people.specs.Words.{words};
 
 use crate::pairs::{are_pairs, person_of_pairs};
 use crate::person::Person;
@@ -75,6 +76,32 @@ fn with_commas(
     })
 }
 
+/// A name with a comma, from the parts around it.
+fn with_given(
+    alloc: Global,
+    name: &[StyledChar],
+    given: &[StyledChar],
+) -> Result<Person, AllocError>
+    ensures { IfOk result (λ p. named p ≡ with_commas (words name.now) [] (words given.now)) }
+{
+    let words = words_in(alloc, name)?;
+    with_commas(alloc, &words, &[], &words_in(alloc, given)?)
+}
+
+/// A name with two commas or more, from its first two parts and the others.
+fn with_suffix(
+    alloc: Global,
+    name: &[StyledChar],
+    suffix: &[StyledChar],
+    given: &[&[StyledChar]],
+) -> Result<Person, AllocError>
+    ensures { IfOk result (λ p. named p ≡ with_commas (words name.now) (words suffix.now) (flat_map words (lent given.now))) }
+{
+    let words = words_in(alloc, name)?;
+    let suffix = words_in(alloc, suffix)?;
+    with_commas(alloc, &words, &suffix, &words_of(alloc, given)?)
+}
+
 /// A person, from the parts between commas.
 #[tactic(auto, using(crate::proofs::Lists::by_three_parts))]
 fn by_parts(alloc: Global, parts: &[&[StyledChar]]) -> Result<Person, AllocError>
@@ -83,16 +110,8 @@ fn by_parts(alloc: Global, parts: &[&[StyledChar]]) -> Result<Person, AllocError
     match parts {
         [] => Ok(Person::nobody(alloc)),
         [name] => without_commas(alloc, &words_in(alloc, name)?),
-        [name, given] => {
-            let words = words_in(alloc, name)?;
-            with_commas(alloc, &words, &[], &words_in(alloc, given)?)
-        }
-        [name, suffix, _, ..] => {
-            let words = words_in(alloc, name)?;
-            let suffix = words_in(alloc, suffix)?;
-            let (_, given) = parts.split_at(2);
-            with_commas(alloc, &words, &suffix, &words_of(alloc, given)?)
-        }
+        [name, given] => with_given(alloc, name, given),
+        [name, suffix, _, ..] => with_suffix(alloc, name, suffix, parts.split_at(2).1),
     }
 }
 

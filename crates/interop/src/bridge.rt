@@ -92,10 +92,23 @@ fn by_itself(
     ensures { IfOk result (λ e. whole e ≡ Holding (views.key entry) (held_fields (values fields.now) (views.fields entry)) (wholes (further (titled_under works.Anthology (codes "series") (values fields.now)) (values fields.now)))) }
 {
     hold(alloc, &mut entry, fields)?;
-    let mut parents = Vec::new(alloc);
-    push_further(alloc, &mut parents, fields, value(fields, "series"), dates)?;
+    let parents = series_and_further(alloc, fields, dates)?;
     entry.set_parents(parents);
     Ok(entry)
+}
+
+/// What an entry is part of that no other work holds.
+fn series_and_further(
+    alloc: Global,
+    fields: &Fields,
+    dates: Dates,
+) -> Result<Vec<Entry>, AllocError>
+    requires { dates ≡ dates_of (values fields.now) }
+    ensures { IfOk result (λ es. map whole es.items ≡ further (titled_under works.Anthology (codes "series") (values fields.now)) (values fields.now)) }
+{
+    let mut parents = Vec::new(alloc);
+    push_further(alloc, &mut parents, fields, value(fields, "series"), dates)?;
+    Ok(parents)
 }
 
 /// The type of the container and its title, where the title is there.

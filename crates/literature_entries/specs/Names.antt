@@ -1,5 +1,6 @@
 -- Names of fields, and whether an entry has them. Names are bytes.
 use Rattle.std.specs.Prelude.{ℕ, Bool, true, false, List, [], ◌∷◌, Option, Some, None, is_some, codes}
+use Rattle.std.specs.Option.{option_or, unwrap_or}
 use Rattle.std.specs.Str.{bytes_eq}
 use Rattle.std.specs.Ordering.{nat_cmp}
 use Rattle.std.specs.Cmp.Lexicographic.{slice_cmp}
@@ -30,39 +31,46 @@ abbrev pub are_some : {X : Type 0} → List X → Bool
 are_some [] = false
 are_some (x ∷ xs) = true
 
--- the names that are known, each with whether the field is set; parents are told apart
-abbrev pub is_set : Fields → Bool → List (List ℕ × Bool)
-is_set fs has_parents =
+-- What the names that are known say, each whether the field is set. First those of what the work is and who made it;
+unfoldable pub of_work : List ℕ → Fields → Option Bool
+of_work name fs = lookup (bytes_eq name) (
     (codes "title", is_some fs.title) ∷
     (codes "author", is_some fs.author) ∷
     (codes "editor", is_some fs.editor) ∷
     (codes "translator", is_some fs.translator) ∷
     (codes "date", is_some fs.date) ∷
-    (codes "publisher", is_some fs.publisher) ∷
+    (codes "publisher", is_some fs.publisher) ∷ [])
+
+-- of what part of others it is;
+unfoldable pub of_part : List ℕ → Fields → Option Bool
+of_part name fs = lookup (bytes_eq name) (
     (codes "volume", is_some fs.volume) ∷
     (codes "volume-total", is_some fs.volume_total) ∷
     (codes "issue", is_some fs.issue) ∷
     (codes "chapter", is_some fs.chapter) ∷
     (codes "edition", is_some fs.edition) ∷
     (codes "page-range", is_some fs.page_range) ∷
-    (codes "page-total", is_some fs.page_total) ∷
+    (codes "page-total", is_some fs.page_total) ∷ [])
+
+-- of where it is found, and of parents, which are told apart;
+unfoldable pub of_address : List ℕ → Fields → Bool → Option Bool
+of_address name fs has_parents = lookup (bytes_eq name) (
     (codes "url", is_some fs.url) ∷
     (codes "serial-number", is_some fs.serial_number) ∷
     (codes "note", is_some fs.note) ∷
     (codes "language", is_some fs.language) ∷
+    (codes "parent", has_parents) ∷ [])
+
+-- and of its serial numbers by their schemes.
+unfoldable pub of_scheme : List ℕ → Fields → Option Bool
+of_scheme name fs = lookup (bytes_eq name) (
     (codes "doi", is_some (serial (codes "doi") fs)) ∷
     (codes "isbn", is_some (serial (codes "isbn") fs)) ∷
     (codes "issn", is_some (serial (codes "issn") fs)) ∷
     (codes "pmid", is_some (serial (codes "pmid") fs)) ∷
     (codes "pmcid", is_some (serial (codes "pmcid") fs)) ∷
-    (codes "arxiv", is_some (serial (codes "arxiv") fs)) ∷
-    (codes "parent", has_parents) ∷ []
+    (codes "arxiv", is_some (serial (codes "arxiv") fs)) ∷ [])
 
--- what the table says of a name; another name is no field's
-abbrev pub said_of : Option Bool → Bool
-said_of None = false
-said_of (Some b) = b
-
--- whether the field of that name is set
+-- whether the field of that name is set; another name is no field's
 abbrev pub has : List ℕ → Fields → Bool → Bool
-has name fs has_parents = said_of (lookup (bytes_eq name) (is_set fs has_parents))
+has name fs has_parents = unwrap_or (option_or (option_or (option_or (of_work name fs) (of_part name fs)) (of_address name fs has_parents)) (of_scheme name fs)) false

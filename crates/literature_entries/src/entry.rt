@@ -2,7 +2,7 @@
 
 ghost use Rattle.std.specs.Prelude.{◌≡◌, [], string_bytes};
 ghost use Rattle.literature_entries.specs.Fields.{nothing_but};
-ghost use Rattle.literature_entries.specs.Names.{has, are_some};
+ghost use Rattle.literature_entries.specs.Names.{has, of_work, of_part, of_address, of_scheme, are_some};
 ghost use Rattle.literature_entries.specs.Views as views;
 
 use crate::details::Details;
@@ -70,33 +70,77 @@ impl Entry {
     pub fn has(&self, name: &str) -> bool
         ensures { result ≡ has name.now (views.fields self.now) (are_some (views.parents self.now)) }
     {
+        self.has_of_work(name)
+            .or(self.has_of_part(name))
+            .or(self.has_of_address(name))
+            .or(self.has_of_scheme(name))
+            .unwrap_or(false)
+    }
+
+    /// Whether a field is set that says what the work is and who made it; none where no such field has the name.
+    #[tactic(auto, unfolding(crate::specs::Names::of_work))]
+    fn has_of_work(&self, name: &str) -> Option<bool>
+        ensures { result ≡ of_work name.now (views.fields self.now) }
+    {
         let details = &self.details;
         match name {
-            "title" => details.title.is_some(),
-            "author" => details.author.is_some(),
-            "editor" => details.editor.is_some(),
-            "translator" => details.translator.is_some(),
-            "date" => details.date.is_some(),
-            "publisher" => details.publisher.is_some(),
-            "volume" => details.volume.is_some(),
-            "volume-total" => details.volume_total.is_some(),
-            "issue" => details.issue.is_some(),
-            "chapter" => details.chapter.is_some(),
-            "edition" => details.edition.is_some(),
-            "page-range" => details.page_range.is_some(),
-            "page-total" => details.page_total.is_some(),
-            "url" => details.url.is_some(),
-            "serial-number" => details.serial_number.is_some(),
-            "note" => details.note.is_some(),
-            "language" => details.language.is_some(),
-            "doi" => self.doi().is_some(),
-            "isbn" => self.isbn().is_some(),
-            "issn" => self.issn().is_some(),
-            "pmid" => self.pmid().is_some(),
-            "pmcid" => self.pmcid().is_some(),
-            "arxiv" => self.arxiv().is_some(),
-            "parent" => !self.parents.is_empty(),
-            _ => false,
+            "title" => Some(details.title.is_some()),
+            "author" => Some(details.author.is_some()),
+            "editor" => Some(details.editor.is_some()),
+            "translator" => Some(details.translator.is_some()),
+            "date" => Some(details.date.is_some()),
+            "publisher" => Some(details.publisher.is_some()),
+            _ => None,
+        }
+    }
+
+    /// The same of a field that says what part of others the work is.
+    #[tactic(auto, unfolding(crate::specs::Names::of_part))]
+    fn has_of_part(&self, name: &str) -> Option<bool>
+        ensures { result ≡ of_part name.now (views.fields self.now) }
+    {
+        let details = &self.details;
+        match name {
+            "volume" => Some(details.volume.is_some()),
+            "volume-total" => Some(details.volume_total.is_some()),
+            "issue" => Some(details.issue.is_some()),
+            "chapter" => Some(details.chapter.is_some()),
+            "edition" => Some(details.edition.is_some()),
+            "page-range" => Some(details.page_range.is_some()),
+            "page-total" => Some(details.page_total.is_some()),
+            _ => None,
+        }
+    }
+
+    /// The same of a field that says where the work is found, and of parents.
+    #[tactic(auto, unfolding(crate::specs::Names::of_address))]
+    fn has_of_address(&self, name: &str) -> Option<bool>
+        ensures { result ≡ of_address name.now (views.fields self.now) (are_some (views.parents self.now)) }
+    {
+        let details = &self.details;
+        match name {
+            "url" => Some(details.url.is_some()),
+            "serial-number" => Some(details.serial_number.is_some()),
+            "note" => Some(details.note.is_some()),
+            "language" => Some(details.language.is_some()),
+            "parent" => Some(!self.parents.is_empty()),
+            _ => None,
+        }
+    }
+
+    /// The same of a serial number by the name of its scheme.
+    #[tactic(auto, unfolding(crate::specs::Names::of_scheme))]
+    fn has_of_scheme(&self, name: &str) -> Option<bool>
+        ensures { result ≡ of_scheme name.now (views.fields self.now) }
+    {
+        match name {
+            "doi" => Some(self.doi().is_some()),
+            "isbn" => Some(self.isbn().is_some()),
+            "issn" => Some(self.issn().is_some()),
+            "pmid" => Some(self.pmid().is_some()),
+            "pmcid" => Some(self.pmcid().is_some()),
+            "arxiv" => Some(self.arxiv().is_some()),
+            _ => None,
         }
     }
 }

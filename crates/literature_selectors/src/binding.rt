@@ -92,7 +92,6 @@ impl Node {
 
     /// At the first of the entries at which it holds.
     #[cycle(binding)]
-    #[tactic(auto, using(crate::proofs::Adding::search_finds, crate::proofs::Adding::search_goes_on, crate::proofs::Adding::search_ends))]
     fn bind_at_first<'s, 'e>(
         &'s self,
         entries: &'e [Entry],
@@ -151,7 +150,7 @@ fn bind_ancestry<'s, 'e>(
 
 /// The first of the selectors that holds at the entry.
 #[cycle(binding)]
-#[tactic(auto, using(crate::proofs::Weights::heft_at, crate::proofs::Adding::search_finds, crate::proofs::Adding::search_goes_on, crate::proofs::Adding::search_ends))]
+#[tactic(auto, using(crate::proofs::Weights::heft_at))]
 fn bind_first_side<'s, 'e>(
     selectors: &'s [Node],
     entry: &'e Entry,
@@ -169,7 +168,7 @@ fn bind_first_side<'s, 'e>(
 
 /// The first of the selectors that the parents satisfy.
 #[cycle(binding)]
-#[tactic(auto, using(crate::proofs::Weights::heft_at, crate::proofs::Adding::search_finds, crate::proofs::Adding::search_goes_on, crate::proofs::Adding::search_ends))]
+#[tactic(auto, using(crate::proofs::Weights::heft_at))]
 fn bind_first_side_above<'s, 'e>(
     selectors: &'s [Node],
     parents: &'e [Entry],

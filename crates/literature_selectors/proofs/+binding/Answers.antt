@@ -3,7 +3,7 @@ use Rattle.literature_selectors.specs.Holding.{meaning}
 use Rattle.literature_selectors.specs.Bindings.{binds}
 use Rattle.literature_selectors.specs.Found.{borrowed}
 use Rattle.literature_selectors.specs.Views.{tree}
-use Rattle.literature_selectors.proofs.Adding.{choice_adds, choice_adds_above, members_add, name_adds, name_withdrawn, ancestry_withdrawn}
+use Rattle.literature_selectors.proofs.Adding.{search_finds, search_goes_on, search_ends, choice_adds, choice_adds_above, members_add, name_adds, name_withdrawn, ancestry_withdrawn}
 use Rattle.literature_selectors.proofs.Turns.{tries_find, tries_add, tries_go_on, lent_at, within, turns_withdrawn, turns_taken}
 use Rattle.literature_selectors.proofs.+binding.Goals as goal
 
@@ -62,3 +62,39 @@ pub node::Node::bind_name-returns-then-not-holds : goal.node::Node::bind_name-re
 node::Node::bind_name-returns-then-not-holds t c =
     name_withdrawn _ _ _ c.args.found.now.items c.push.new.self.items c.bind.new.found.items c.truncate.new.self.items _ c.len-before.result c.in_ok-holds.holds
     (omega (arith, c.len-before.ensures, c.args.found.now.ok.0)) c.in_ok-push.ensures.items c.in_ok-holds.ensures c.truncate.ensures.items c.if-not-holds.true
+
+pub node::Node::bind_at_first-returns-then-branch : goal.node::Node::bind_at_first-returns-then-branch
+node::Node::bind_at_first-returns-then-branch t c =
+    search_finds (meaning (tree c.args.self.now)).at (binds (tree c.args.self.now)).at c.args.entries.now c.loop-entry.entry-index c.entry-item.result c.args.found.now.items c.loop-entry.found.items c.bind.new.found.items c.in_ok-bind.field-0 c.loop-entry.invariant c.loop-entry-test.true c.entry-item.is c.in_ok-bind.ensures c.if-branch.true
+
+pub node::Node::bind_at_first-loop-entry-preserved : goal.node::Node::bind_at_first-loop-entry-preserved
+node::Node::bind_at_first-loop-entry-preserved t c =
+    search_goes_on (meaning (tree c.args.self.now)).at (binds (tree c.args.self.now)).at c.args.entries.now c.loop-entry.entry-index c.entry-item.result c.args.found.now.items c.loop-entry.found.items c.bind.new.found.items c.in_ok-bind.field-0 c.loop-entry.invariant c.loop-entry-test.true c.entry-item.is c.in_ok-bind.ensures c.if-branch.false
+
+pub node::Node::bind_at_first-returns : goal.node::Node::bind_at_first-returns
+node::Node::bind_at_first-returns t c =
+    search_ends (meaning (tree c.args.self.now)).at (binds (tree c.args.self.now)).at c.args.entries.now c.loop-entry.entry-index c.args.found.now.items c.loop-entry.found.items c.loop-entry.invariant c.loop-entry-test.false
+
+pub binding::bind_first_side-returns-then-branch : goal.binding::bind_first_side-returns-then-branch
+binding::bind_first_side-returns-then-branch t c =
+    search_finds (λ x. (meaning (tree x)).at c.args.entry.now) (λ x. (binds (tree x)).at c.args.entry.now) c.args.selectors.now c.loop-selector.selector-index c.selector-item.result c.args.found.now.items c.loop-selector.found.items c.bind.new.found.items c.in_ok-bind.field-0 c.loop-selector.invariant c.loop-selector-test.true c.selector-item.is c.in_ok-bind.ensures c.if-branch.true
+
+pub binding::bind_first_side-loop-selector-preserved : goal.binding::bind_first_side-loop-selector-preserved
+binding::bind_first_side-loop-selector-preserved t c =
+    search_goes_on (λ x. (meaning (tree x)).at c.args.entry.now) (λ x. (binds (tree x)).at c.args.entry.now) c.args.selectors.now c.loop-selector.selector-index c.selector-item.result c.args.found.now.items c.loop-selector.found.items c.bind.new.found.items c.in_ok-bind.field-0 c.loop-selector.invariant c.loop-selector-test.true c.selector-item.is c.in_ok-bind.ensures c.if-branch.false
+
+pub binding::bind_first_side-returns : goal.binding::bind_first_side-returns
+binding::bind_first_side-returns t c =
+    search_ends (λ x. (meaning (tree x)).at c.args.entry.now) (λ x. (binds (tree x)).at c.args.entry.now) c.args.selectors.now c.loop-selector.selector-index c.args.found.now.items c.loop-selector.found.items c.loop-selector.invariant c.loop-selector-test.false
+
+pub binding::bind_first_side_above-returns-then-branch : goal.binding::bind_first_side_above-returns-then-branch
+binding::bind_first_side_above-returns-then-branch t c =
+    search_finds (λ x. (meaning (tree x)).above c.args.parents.now) (λ x. (binds (tree x)).above c.args.parents.now) c.args.selectors.now c.loop-selector.selector-index c.selector-item.result c.args.found.now.items c.loop-selector.found.items c.bind_above.new.found.items c.in_ok-bind_above.field-0 c.loop-selector.invariant c.loop-selector-test.true c.selector-item.is c.in_ok-bind_above.ensures c.if-branch.true
+
+pub binding::bind_first_side_above-loop-selector-preserved : goal.binding::bind_first_side_above-loop-selector-preserved
+binding::bind_first_side_above-loop-selector-preserved t c =
+    search_goes_on (λ x. (meaning (tree x)).above c.args.parents.now) (λ x. (binds (tree x)).above c.args.parents.now) c.args.selectors.now c.loop-selector.selector-index c.selector-item.result c.args.found.now.items c.loop-selector.found.items c.bind_above.new.found.items c.in_ok-bind_above.field-0 c.loop-selector.invariant c.loop-selector-test.true c.selector-item.is c.in_ok-bind_above.ensures c.if-branch.false
+
+pub binding::bind_first_side_above-returns : goal.binding::bind_first_side_above-returns
+binding::bind_first_side_above-returns t c =
+    search_ends (λ x. (meaning (tree x)).above c.args.parents.now) (λ x. (binds (tree x)).above c.args.parents.now) c.args.selectors.now c.loop-selector.selector-index c.args.found.now.items c.loop-selector.found.items c.loop-selector.invariant c.loop-selector-test.false

@@ -1,25 +1,18 @@
-use Rattle.std.proofs.Common.{◌++◌, List, map, ap, ◌∙◌, codes, option_to_list}
-use Rattle.std.specs.Option.{option_map}
-use Rattle.biblatex_content.specs.Views.{styled}
+use Rattle.std.proofs.Common.{List, map, ap, ◌∙◌, codes}
 use Rattle.literature_types.specs.declared.entry_type.EntryType.TheVariants as works
 use Rattle.literature_entries.specs.Views.{key, fields}
-use Rattle.literature_entries.specs.Wholes.{Whole, whole}
+use Rattle.literature_entries.specs.Wholes.{whole}
 use Rattle.literature_entries.specs.declared.entry.Entry.{Entry}
 use Rattle.interop_readings.specs.Values.{values}
 use Rattle.interop.specs.Fields.{held_fields}
-use Rattle.interop.specs.Bridge.{further, titled, titled_under}
+use Rattle.interop.specs.Bridge.{further, titled_under}
 use Rattle.interop.proofs.Entries.{holds}
-use Rattle.interop.proofs.Titled.{lent_title}
 use Rattle.interop.proofs.bridge.by_itself.Goals as goal
 
 pub returns : goal.returns
 returns c =
     let v = values c.args.fields.now in
     let entry = c.args.entry in
-    let given = option_to_list (option_map (λ v. titled works.Anthology (styled v.now)) c.value.result) in
     holds c.set_parents.new.self (key entry) (held_fields v (fields entry)) (further (titled_under works.Anthology (codes "series") v) v)
     (c.set_parents.ensures.key ∙ c.in_ok-hold.ensures.0) (c.set_parents.ensures.fields ∙ c.in_ok-hold.ensures.1)
-    (ap (λ (es : List Entry). map whole es) c.set_parents.ensures.parents
-    ∙ (c.in_ok-push_further.ensures
-    ∙ (ap (λ (es : List Entry). map whole es ++ further given v) c.new-parents.ensures.items
-    ∙ ap (λ (series : List Whole). further series v) (lent_title works.Anthology c.value.result (v (codes "series")) c.value.ensures))))
+    (ap (λ (es : List Entry). map whole es) c.set_parents.ensures.parents ∙ c.in_ok-parents.ensures)

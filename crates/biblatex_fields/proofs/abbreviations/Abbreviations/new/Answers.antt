@@ -13,3 +13,10 @@ returns-clause-rule c =
     let marks = c.in_ok-order.order.circular in
     let copied = subst (λ (n : ℕ). Copied flags marks n) (sym (length-map c.args.definitions.now field)) c.in_ok-circular.ensures in
     by_the_rule (record { definitions = ds; flags = flags }) (copied_all flags marks ds (c.in_ok-order.ensures c.in_ok-places.ensures).marks copied)
+
+pub returns-clause-flags : goal.returns-clause-flags
+returns-clause-flags c =
+    let flags = c.in_ok-circular.circular.items in
+    let marks = c.in_ok-order.order.circular in
+    let copied = subst (λ (n : ℕ). Copied flags marks n) (sym (length-map c.args.definitions.now field)) c.in_ok-circular.ensures in
+    copied_all flags marks (map field c.args.definitions.now) (c.in_ok-order.ensures c.in_ok-places.ensures).marks copied
