@@ -2,15 +2,11 @@
 //! call, `run` is the program over any files and writers.
 #![tactic(auto)]
 
-#[cfg(test)]
-mod allocating;
 mod member;
 mod place;
 mod program;
 mod refusal;
 mod shown;
-#[cfg(test)]
-mod tests;
 
 pub use program::run;
 pub use shown::show;

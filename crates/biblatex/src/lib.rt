@@ -2,9 +2,6 @@
 //! name it alone.
 #![tactic(auto)]
 
-#[cfg(test)]
-mod tests;
-
 pub use biblatex_bibliography::{
     Bibliography, Counted, Keys, ParseError, ParseErrorKind, parse_field,
 };

@@ -1,20 +1,14 @@
 //! Bibliographies: entries in file order, found by their names.
 #![tactic(auto)]
 
-#[cfg(test)]
-mod allocating;
 mod bibliography;
 mod error;
 mod held;
 mod iterators;
 mod keys;
-#[cfg(test)]
-mod memory;
 mod parsing;
 mod places;
 mod reading;
-#[cfg(test)]
-mod tests;
 
 pub use bibliography::Bibliography;
 pub use error::{ParseError, ParseErrorKind};

@@ -1,16 +1,10 @@
 //! The contents of BibLaTeX fields: pieces of a field become chunks of normal text, verbatim text and math.
 #![tactic(auto)]
 
-#[cfg(test)]
-mod allocating;
 mod chunk;
 mod contents;
 mod joining;
-#[cfg(test)]
-mod memory;
 mod ordinary;
-#[cfg(test)]
-mod tests;
 mod tidy;
 mod verbatim;
 mod writing;

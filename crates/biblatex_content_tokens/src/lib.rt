@@ -2,13 +2,9 @@
 #![tactic(auto)]
 
 mod accent;
-#[cfg(test)]
-mod allocating;
 mod character;
 mod command;
 mod error;
-#[cfg(test)]
-mod tests;
 mod token;
 
 pub use accent::{put_marks, reversed};

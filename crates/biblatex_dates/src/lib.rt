@@ -1,16 +1,12 @@
 //! Dates of bibliographic entries: read from one text or from year, month and day, and written.
 #![tactic(auto)]
 
-#[cfg(test)]
-mod allocating;
 mod date;
 mod datetime;
 mod error;
 mod parts;
 mod shape;
 mod side;
-#[cfg(test)]
-mod tests;
 mod written;
 
 pub use date::{Date, DateValue};

@@ -1,17 +1,11 @@
 //! Entries of bibliographies: their types, their fields and their names.
 #![tactic(auto)]
 
-#[cfg(test)]
-mod allocating;
 mod entry;
 mod entry_type;
 mod error;
-#[cfg(test)]
-mod memory;
 mod names;
 mod role;
-#[cfg(test)]
-mod tests;
 mod typed;
 
 pub use entry::{Entry, field_text, value_text};

@@ -2,20 +2,12 @@
 #![tactic(auto)]
 
 mod abbreviations;
-#[cfg(test)]
-mod allocating;
-#[cfg(test)]
-mod doubling;
 mod error;
 mod fields;
 mod glossary;
-#[cfg(test)]
-mod memory;
 mod month;
 mod openings;
 mod references;
-#[cfg(test)]
-mod tests;
 mod text;
 mod value;
 

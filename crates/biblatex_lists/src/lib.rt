@@ -1,14 +1,10 @@
 //! Lists in BibLaTeX fields: a value parted at the word `and`, and parts written as a value.
 #![tactic(auto)]
 
-#[cfg(test)]
-mod allocating;
 mod parting;
 mod plain;
 mod read_back;
 mod styled_char;
-#[cfg(test)]
-mod tests;
 mod texts;
 mod writing;
 

@@ -1,15 +1,11 @@
 //! People in BibLaTeX fields: lists of names, read from a value and written as one.
 #![tactic(auto)]
 
-#[cfg(test)]
-mod allocating;
 mod name;
 mod pairs;
 mod person;
 mod read_back;
 mod reading;
-#[cfg(test)]
-mod tests;
 mod words;
 mod writing;
 

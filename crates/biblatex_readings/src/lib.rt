@@ -2,8 +2,6 @@
 //! ranges of pages.
 #![tactic(auto)]
 
-#[cfg(test)]
-mod allocating;
 mod dates;
 mod editor_type;
 mod error;

@@ -1,23 +1,17 @@
 //! The raw grammar of BibLaTeX texts: items with their keys, fields and abbreviations, which borrow the source.
 #![tactic(auto)]
 
-#[cfg(test)]
-mod allocating;
 mod bracket;
 mod character;
 mod cursor;
 mod error;
 mod fields;
 mod items;
-#[cfg(test)]
-mod memory;
 mod parser;
 mod raw;
 mod reader;
 mod run;
 mod spanned;
-#[cfg(test)]
-mod tests;
 mod token;
 mod value;
 

@@ -1,8 +1,6 @@
 //! Typed readings of BibLaTeX fields: what the chunks of a field mean as a value of a type, and how a value is written.
 #![tactic(auto)]
 
-#[cfg(test)]
-mod allocating;
 mod classes;
 mod dates;
 mod error;
@@ -11,8 +9,6 @@ mod lists;
 mod parsing;
 mod people;
 mod permissive;
-#[cfg(test)]
-mod tests;
 mod texts;
 
 pub use biblatex_dates::TypeErrorKind;

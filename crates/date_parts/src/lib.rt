@@ -4,8 +4,6 @@
 
 mod calendar;
 mod parts;
-#[cfg(test)]
-mod tests;
 mod written;
 
 pub use calendar::has_day;

@@ -1,16 +1,8 @@
 //! Libraries of entries, with what entries are made of and the selectors that choose among them.
 #![tactic(auto)]
 
-#[cfg(test)]
-mod allocating;
 mod library;
-#[cfg(test)]
-mod memory;
 mod query;
-#[cfg(test)]
-mod selecting;
-#[cfg(test)]
-mod tests;
 
 pub use library::Library;
 pub use literature_entries::Entry;

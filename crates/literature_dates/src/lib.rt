@@ -2,7 +2,7 @@
 #![tactic(auto)]
 
 mod date;
-#[cfg(test)]
-mod tests;
+mod equal;
 
 pub use date::{Date, DateError};
+pub use equal::are_equal_dates;

@@ -1,8 +1,6 @@
 //! The texts of the selector language, the trees that they spell, and the entries at which these hold.
 #![tactic(auto)]
 
-#[cfg(test)]
-mod allocating;
 mod binding;
 mod bindings;
 mod character;
@@ -13,8 +11,6 @@ mod parser;
 mod reader;
 mod select;
 mod selector;
-#[cfg(test)]
-mod tests;
 mod token;
 
 pub use bindings::Bindings;

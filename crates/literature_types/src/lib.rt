@@ -2,7 +2,7 @@
 #![tactic(auto)]
 
 mod entry_type;
-#[cfg(test)]
-mod tests;
+mod equal;
 
 pub use entry_type::EntryType;
+pub use equal::are_equal_types;

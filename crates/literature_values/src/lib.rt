@@ -2,15 +2,18 @@
 //! dates are handed on.
 #![tactic(auto)]
 
+mod equal;
 mod maybe_typed;
 mod person;
 mod publisher;
 mod qualified_url;
 mod serial_number;
-#[cfg(test)]
-mod tests;
 mod text;
 
+pub use equal::{
+    are_equal_addresses, are_equal_numbers, are_equal_people, are_equal_publishers,
+    are_equal_serials, are_equal_texts,
+};
 pub use literature_dates::{Date, DateError};
 pub use literature_numbers::{
     Numeric, NumericDelimiter, NumericError, NumericValue, PageRanges, PageRangesError,

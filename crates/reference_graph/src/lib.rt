@@ -2,11 +2,7 @@
 //! refers to.
 #![tactic(auto)]
 
-#[cfg(test)]
-mod allocating;
 mod order;
 mod search;
-#[cfg(test)]
-mod tests;
 
 pub use order::{ReferenceOrder, reference_order};

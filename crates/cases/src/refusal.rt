@@ -1,0 +1,28 @@
+use std::alloc::{AllocError, AllocFailed};
+
+/// Why a line has no answer.
+#[derive(Debug, Drop)]
+pub enum Refusal {
+    /// No memory was left for a request.
+    Memory,
+    /// The line is no JSON object, or it nests too deep.
+    NoObject,
+    /// No kind of cases has this name.
+    UnknownKind(String),
+    /// The kind has no member of this name.
+    UnknownMember(String),
+    /// What the member of the first name has to be is said by the second text.
+    Wanted(&'static str, &'static str),
+}
+
+impl From<AllocError> for Refusal {
+    fn from(_refused: AllocError) -> Refusal {
+        Refusal::Memory
+    }
+}
+
+impl<T: Drop> From<AllocFailed<T>> for Refusal {
+    fn from(_refused: AllocFailed<T>) -> Refusal {
+        Refusal::Memory
+    }
+}

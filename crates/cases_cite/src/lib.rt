@@ -1,0 +1,33 @@
+//! Cases of the bridge from BibLaTeX files to libraries, of documents with their citations, and of the programs.
+#![tactic(auto)]
+
+mod bridge;
+mod bytes;
+mod document;
+mod files;
+mod limits;
+mod program;
+mod refusals;
+mod show;
+mod source;
+mod taker;
+
+use cases::{Refusal, Value, Writer};
+use std::alloc::Global;
+
+/// Writes the members of the answer to a case of this kind; false where the kind is none of these.
+pub fn answer(
+    alloc: Global,
+    kind: &str,
+    case: &Value<'_>,
+    out: &mut Writer,
+) -> Result<bool, Refusal> {
+    match kind {
+        "bridge" => bridge::answer_bridge(alloc, case, out)?,
+        "document" => document::answer_document(alloc, case, out)?,
+        "program" => program::answer_program(alloc, case, out)?,
+        "show" => show::answer_show(alloc, case, out)?,
+        _ => return Ok(false),
+    }
+    Ok(true)
+}

@@ -1,0 +1,99 @@
+//! Why entries are not bridged and documents not cited, as members of an answer. Want of memory has no answer.
+
+use cases::{Refusal, Value, Writer, is_set};
+use cases_entries::{put_parse_error, type_error_name};
+use cases_text::put_string;
+use cite::{BibTextError, CiteError, DocumentTextError, FieldFault, SinkFault};
+use std::alloc::{AllocError, Global};
+use std::fmt::Display;
+
+/// Writes what is said of a refusal, where the case asks for it.
+pub(crate) fn put_message<E: Display>(
+    alloc: Global,
+    case: &Value<'_>,
+    out: &mut Writer,
+    error: &E,
+) -> Result<(), Refusal> {
+    if is_set(case, "message")? {
+        let message = format!(in alloc; "{error}")?;
+        put_string(out, "message", message.as_str())?;
+    }
+    Ok(())
+}
+
+/// Writes a name that means no entry.
+pub(crate) fn put_unknown(out: &mut Writer, name: &str) -> Result<(), AllocError> {
+    put_string(out, "refused", "Name")?;
+    put_string(out, "entry", name)
+}
+
+/// Writes the fields that cannot be read.
+pub(crate) fn put_faults(out: &mut Writer, faults: &[FieldFault]) -> Result<(), AllocError> {
+    put_string(out, "refused", "Fields")?;
+    out.key("faults")?;
+    out.begin_array()?;
+    for fault in faults {
+        put_fault(out, fault)?;
+    }
+    out.end_array()
+}
+
+/// Writes a field that cannot be read: the key of its entry, its name and why.
+fn put_fault(out: &mut Writer, fault: &FieldFault) -> Result<(), AllocError> {
+    out.begin_array()?;
+    out.string(fault.key.as_str())?;
+    out.string(fault.field.name())?;
+    out.string(type_error_name(fault.kind))?;
+    out.end_array()
+}
+
+/// Writes why a document was not cited, with the stage of what several stages refuse.
+pub(crate) fn put_cite_error(
+    alloc: Global,
+    case: &Value<'_>,
+    out: &mut Writer,
+    error: &CiteError,
+) -> Result<(), Refusal> {
+    match error {
+        CiteError::Memory => return Err(Refusal::Memory),
+        CiteError::BibText(error) => put_bib_error(alloc, out, error)?,
+        CiteError::Fields(faults) => put_faults(out, faults)?,
+        CiteError::Document(error) => put_document_error(out, error)?,
+        CiteError::Name(name) => put_unknown(out, name.as_str())?,
+        CiteError::Overflow => put_string(out, "refused", "Overflow")?,
+        CiteError::Write(fault) => put_write_error(out, *fault)?,
+        CiteError::NotYet => put_string(out, "refused", "NotYet")?,
+    }
+    put_message(alloc, case, out, error)
+}
+
+/// Writes why the bib text of a document was refused. What is said of it is said of the document's refusal alone.
+fn put_bib_error(alloc: Global, out: &mut Writer, error: &BibTextError) -> Result<(), Refusal> {
+    match error {
+        BibTextError::Utf8 => put_string(out, "refused", "Utf8")?,
+        BibTextError::Parse(error) => put_parse_error(alloc, &Value::Null, out, error)?,
+    }
+    Ok(put_string(out, "stage", "BibText")?)
+}
+
+/// Writes why a document was refused.
+fn put_document_error(out: &mut Writer, error: &DocumentTextError) -> Result<(), AllocError> {
+    match error {
+        DocumentTextError::Utf8 => put_string(out, "refused", "Utf8")?,
+        DocumentTextError::Marker { offset } => {
+            put_string(out, "refused", "Marker")?;
+            out.key("offset")?;
+            out.u64(*offset as u64)?;
+        }
+    }
+    put_string(out, "stage", "Document")
+}
+
+/// Writes what a sink did that did not take all.
+fn put_write_error(out: &mut Writer, fault: SinkFault) -> Result<(), AllocError> {
+    put_string(out, "refused", "Write")?;
+    match fault {
+        SinkFault::Failed => put_string(out, "fault", "Failed"),
+        SinkFault::TookNothing => put_string(out, "fault", "TookNothing"),
+    }
+}

@@ -1,0 +1,116 @@
+//! One entry: what changes it, and what is asked of it.
+
+use crate::data::{read_entry, set_field};
+use crate::fields::{get_as, set_as};
+use crate::getters::show;
+use crate::printing::put_value;
+use crate::refusals::put_parse_error;
+use biblatex::{Bibliography, Entry};
+use cases::{Refusal, Value, Writer, items, maybe_text, only, text};
+use std::alloc::Global;
+
+/// Answers a case of the kind `entry`.
+pub(crate) fn answer_entry(
+    alloc: Global,
+    case: &Value<'_>,
+    out: &mut Writer,
+) -> Result<(), Refusal> {
+    only(
+        alloc,
+        case,
+        &[
+            "case", "name", "bib", "entry", "key", "type", "fields", "steps", "places", "show",
+            "message",
+        ],
+    )?;
+    let Some(bib) = maybe_text(case, "bib")? else {
+        let mut entry = read_entry(alloc, case)?;
+        return answer_of(alloc, case, &mut entry, out);
+    };
+    match Bibliography::parse(alloc, bib) {
+        Ok(bibliography) => answer_in(alloc, case, bibliography, out),
+        Err(error) => put_parse_error(alloc, case, out, &error),
+    }
+}
+
+/// Answers a case of an entry of a bibliography: that of the member `entry`, or the first.
+fn answer_in(
+    alloc: Global,
+    case: &Value<'_>,
+    bibliography: Bibliography,
+    out: &mut Writer,
+) -> Result<(), Refusal> {
+    let mut held = bibliography;
+    let entry = match maybe_text(case, "entry")? {
+        Some(name) => held.get_mut(name),
+        None => held.entry_mut(0),
+    };
+    match entry {
+        Some(entry) => answer_of(alloc, case, entry, out),
+        None => {
+            out.key("entry")?;
+            out.null()?;
+            Ok(())
+        }
+    }
+}
+
+/// Takes the steps of a case, and shows what it asks for.
+fn answer_of(
+    alloc: Global,
+    case: &Value<'_>,
+    entry: &mut Entry,
+    out: &mut Writer,
+) -> Result<(), Refusal> {
+    take_steps(alloc, case, entry, out)?;
+    show(alloc, case, entry, out)
+}
+
+/// Takes steps, and writes what each gives back.
+fn take_steps(
+    alloc: Global,
+    case: &Value<'_>,
+    entry: &mut Entry,
+    out: &mut Writer,
+) -> Result<(), Refusal> {
+    let Some(steps) = items(case, "steps")? else {
+        return Ok(());
+    };
+    out.key("steps")?;
+    out.begin_array()?;
+    for step in steps {
+        take_step(alloc, step, entry, out)?;
+    }
+    out.end_array()?;
+    Ok(())
+}
+
+/// Takes a step, and writes what it gives back.
+fn take_step(
+    alloc: Global,
+    step: &Value<'_>,
+    entry: &mut Entry,
+    out: &mut Writer,
+) -> Result<(), Refusal> {
+    match text(step, "step")? {
+        "set" => {
+            only(alloc, step, &["step", "field", "value"])?;
+            set_field(alloc, step, entry)?;
+            out.null()?;
+            Ok(())
+        }
+        "set_as" => set_as(alloc, step, entry, out),
+        "remove" => {
+            only(alloc, step, &["step", "field"])?;
+            put_value(out, entry.remove(text(step, "field")?).as_ref())?;
+            Ok(())
+        }
+        "get" => {
+            only(alloc, step, &["step", "field"])?;
+            put_value(out, entry.get(text(step, "field")?))?;
+            Ok(())
+        }
+        "get_as" => get_as(alloc, step, entry, out),
+        _ => Err(Refusal::Wanted("step", "set, set_as, remove, get or get_as")),
+    }
+}

@@ -1,0 +1,49 @@
+//! Cases of numbers, dates, people, entries, selectors and libraries.
+#![tactic(auto)]
+
+mod answers;
+mod copying;
+mod dates;
+mod entry_steps;
+mod fields;
+mod given_entries;
+mod initials;
+mod libraries;
+mod numbers;
+mod pages;
+mod people;
+mod reading;
+mod selectors;
+mod sources;
+mod texts;
+mod written_entries;
+
+use cases::{Refusal, Value, Writer};
+pub use given_entries::entry_of;
+pub use people::put_person;
+use std::alloc::Global;
+pub use written_entries::put_entry;
+
+/// How deep entries may be parts of one another.
+pub const ENTRY_DEPTH: u32 = 400;
+
+/// Writes the members of the answer to a case of this kind; false where the kind is none of these.
+pub fn answer(
+    alloc: Global,
+    kind: &str,
+    case: &Value<'_>,
+    out: &mut Writer,
+) -> Result<bool, Refusal> {
+    match kind {
+        "read" => reading::read(alloc, case, out)?,
+        "print" => reading::print(alloc, case, out)?,
+        "initials" => initials::initials(alloc, case, out)?,
+        "library_entry" => entry_steps::library_entry(alloc, case, out)?,
+        "equal_entries" => entry_steps::equal_entries(alloc, case, out)?,
+        "selector" => selectors::selector(alloc, case, out)?,
+        "query" => selectors::query(alloc, case, out)?,
+        "library" => libraries::library(alloc, case, out)?,
+        _ => return Ok(false),
+    }
+    Ok(true)
+}

@@ -1,0 +1,39 @@
+//! Cases of texts of BibLaTeX files and contents of fields.
+#![tactic(auto)]
+
+mod characters;
+mod chunks;
+mod content;
+mod items;
+mod places;
+mod showing;
+mod telling;
+
+use cases::{Refusal, Value, Writer};
+use characters::{answer_characters, answer_verbatim_field};
+pub use chunks::{put_chunks, read_chunks};
+use content::answer_content;
+use items::answer_items;
+pub use items::token_name;
+pub use places::{maybe_place, put_place, put_string};
+pub use showing::{is_shown, shown};
+use std::alloc::Global;
+use telling::answer_chunks;
+
+/// Writes the members of the answer to a case of this kind; false where the kind is none of these.
+pub fn answer(
+    alloc: Global,
+    kind: &str,
+    case: &Value<'_>,
+    out: &mut Writer,
+) -> Result<bool, Refusal> {
+    match kind {
+        "items" => answer_items(alloc, case, out)?,
+        "content" => answer_content(alloc, case, out)?,
+        "chunks" => answer_chunks(alloc, case, out)?,
+        "characters" => answer_characters(alloc, case, out)?,
+        "verbatim_field" => answer_verbatim_field(alloc, case, out)?,
+        _ => return Ok(false),
+    }
+    Ok(true)
+}

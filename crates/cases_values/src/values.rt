@@ -1,0 +1,148 @@
+//! Integers, texts, editor types, ranges of pages, and values that may be chunks, in cases and in answers.
+
+use crate::case_value::CaseValue;
+use biblatex::{EditorType, PermissiveType};
+use cases::{Refusal, Value, Writer, only, text};
+use cases_text::{put_chunks, read_chunks};
+use std::alloc::{AllocError, Global};
+use std::ops::Range;
+
+impl CaseValue for i64 {
+    fn given(_alloc: Global, value: &Value<'_>) -> Result<i64, Refusal> {
+        match value.as_i64() {
+            Some(number) => Ok(number),
+            None => Err(Refusal::Wanted("value", "an integer")),
+        }
+    }
+
+    fn put(&self, out: &mut Writer) -> Result<(), AllocError> {
+        out.i64(*self)
+    }
+}
+
+impl CaseValue for String {
+    fn given(alloc: Global, value: &Value<'_>) -> Result<String, Refusal> {
+        match value.as_str() {
+            Some(text) => Ok(String::from_str(alloc, text)?),
+            None => Err(Refusal::Wanted("value", "a text")),
+        }
+    }
+
+    fn put(&self, out: &mut Writer) -> Result<(), AllocError> {
+        out.string(self.as_str())
+    }
+}
+
+/// The editor type of a word that is known.
+fn known(word: &str) -> Option<EditorType> {
+    match word {
+        "editor" => Some(EditorType::Editor),
+        "compiler" => Some(EditorType::Compiler),
+        "founder" => Some(EditorType::Founder),
+        "continuator" => Some(EditorType::Continuator),
+        "redactor" => Some(EditorType::Redactor),
+        "reviser" => Some(EditorType::Reviser),
+        "collaborator" => Some(EditorType::Collaborator),
+        "organizer" => Some(EditorType::Organizer),
+        "director" => Some(EditorType::Director),
+        _ => None,
+    }
+}
+
+/// The word of a known editor type; of another it is `unknown`.
+fn word(editor_type: &EditorType) -> &'static str {
+    match editor_type {
+        EditorType::Editor => "editor",
+        EditorType::Compiler => "compiler",
+        EditorType::Founder => "founder",
+        EditorType::Continuator => "continuator",
+        EditorType::Redactor => "redactor",
+        EditorType::Reviser => "reviser",
+        EditorType::Collaborator => "collaborator",
+        EditorType::Organizer => "organizer",
+        EditorType::Director => "director",
+        EditorType::Unknown(_) => "unknown",
+    }
+}
+
+/// The editor type of an object with the name of one that is not known.
+fn unknown(alloc: Global, value: &Value<'_>) -> Result<EditorType, Refusal> {
+    only(alloc, value, &["unknown"])?;
+    let name = text(value, "unknown")?;
+    Ok(EditorType::Unknown(String::from_str(alloc, name)?))
+}
+
+/// A known editor type is its word, another one an object with its name.
+impl CaseValue for EditorType {
+    fn given(alloc: Global, value: &Value<'_>) -> Result<EditorType, Refusal> {
+        match value.as_str().and_then(known) {
+            Some(editor_type) => Ok(editor_type),
+            None => unknown(alloc, value),
+        }
+    }
+
+    fn put(&self, out: &mut Writer) -> Result<(), AllocError> {
+        let EditorType::Unknown(name) = self else {
+            return out.string(word(self));
+        };
+        out.begin_object()?;
+        out.key("unknown")?;
+        out.string(name.as_str())?;
+        out.end_object()
+    }
+}
+
+/// A page.
+fn page(value: &Value<'_>) -> Option<u32> {
+    u32::try_from(value.as_u64()?).ok()
+}
+
+/// The first page and the last one.
+fn pages(value: &Value<'_>) -> Option<Range<u32>> {
+    let Value::Array(ends) = value else {
+        return None;
+    };
+    let [first, last] = ends.as_slice() else {
+        return None;
+    };
+    Some(page(first)?..page(last)?)
+}
+
+/// A range of pages is a list of its first page and its last one.
+impl CaseValue for Range<u32> {
+    fn given(_alloc: Global, value: &Value<'_>) -> Result<Range<u32>, Refusal> {
+        match pages(value) {
+            Some(range) => Ok(range),
+            None => Err(Refusal::Wanted("value", "[first page, last page]")),
+        }
+    }
+
+    fn put(&self, out: &mut Writer) -> Result<(), AllocError> {
+        out.begin_array()?;
+        out.u64(u64::from(self.start))?;
+        out.u64(u64::from(self.end))?;
+        out.end_array()
+    }
+}
+
+/// A value of the type, or an object with the chunks.
+impl<T: CaseValue> CaseValue for PermissiveType<T> {
+    fn given(alloc: Global, value: &Value<'_>) -> Result<PermissiveType<T>, Refusal> {
+        if value.get("chunks").is_some() {
+            return Ok(PermissiveType::Chunks(read_chunks(alloc, value, "chunks")?));
+        }
+        Ok(PermissiveType::Typed(T::given(alloc, value)?))
+    }
+
+    fn put(&self, out: &mut Writer) -> Result<(), AllocError> {
+        match self {
+            PermissiveType::Typed(value) => value.put(out),
+            PermissiveType::Chunks(chunks) => {
+                out.begin_object()?;
+                out.key("chunks")?;
+                put_chunks(out, chunks.as_slice(), true)?;
+                out.end_object()
+            }
+        }
+    }
+}
