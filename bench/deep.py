@@ -16,6 +16,9 @@ import sys
 import tempfile
 import time
 
+import results
+from measuring import built
+
 STACK = 8 << 20
 
 
@@ -80,9 +83,7 @@ def run(words):
 
 
 def main():
-    here = os.path.dirname(os.path.abspath(__file__))
-    built = os.path.join(here, "../crates/bib_show_program/out/bib_show_program")
-    program = os.path.abspath(sys.argv[1] if len(sys.argv) > 1 else built)
+    program = built("bib_show_program")
     rows = [
         ("groups in one another", groups(1_000_000), 0),
         ("opening braces", braces(10_000_000), 1),
@@ -96,7 +97,7 @@ def main():
         ("references in a chain", references(100_000), 0),
         ("references in a circle", circle(100_000), 1),
     ]
-    fails = 0
+    fails, found = 0, []
     print(f"{'text':<26} {'bytes':>10} {'status':>6} {'awaited':>7} {'seconds':>8} {'memory':>12}")
     with tempfile.TemporaryDirectory() as folder:
         path = os.path.join(folder, "b.bib")
@@ -105,8 +106,11 @@ def main():
                 out.write(text)
             status, seconds, memory = run([program, path])
             fails += status != awaited
+            found.append({"text": name, "bytes": len(text), "status": status, "seconds": round(seconds, 2), "memory": memory})
             print(f"{name:<26} {len(text):>10} {status:>6} {awaited:>7} {seconds:>8.3f} {memory:>12}")
-    sys.exit(1 if fails else 0)
+    if fails:
+        sys.exit(1)
+    results.record("deep", {"rows": found})
 
 
 main()

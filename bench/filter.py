@@ -18,4 +18,4 @@ def draw_keys(chance, count):
         yield f"{chance.choice('abcd')}{4 * chance.randrange(count // 4)}"
 
 
-measure_filter(mixed.write, draw_keys)
+measure_filter("filter", {"rate": 350, "exponent": 1.05, "memory": 30}, mixed.write, draw_keys)

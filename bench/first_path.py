@@ -39,4 +39,4 @@ def draw_keys(chance, count):
         yield f"k{chance.randrange(count)}"
 
 
-measure_filter(write_books, draw_keys)
+measure_filter("books", None, write_books, draw_keys)

@@ -7,6 +7,8 @@ import sys
 import tempfile
 import time
 
+import results
+
 WORDS = "of the art light field winter river letters house memory early stone public measure sea on time form".split()
 
 
@@ -58,7 +60,7 @@ class Table:
     """Measures a program at several sizes, prints a line for each, and at last the growth between the smaller two."""
 
     def __init__(self, words, folder):
-        self.words, self.folder, self.counted = words, folder, []
+        self.words, self.folder, self.rows = words, folder, []
         self.empty, _ = peak_and_seconds(words)
         print(f"{'N':>7} {'bytes':>10} {'instructions':>14} {'seconds':>8} {'memory':>11} {'times input':>11}")
 
@@ -66,32 +68,39 @@ class Table:
         """One size: the instructions of the smaller ones, the seconds, and the memory less that of the empty run."""
         peak, seconds = peak_and_seconds(self.words)
         ran = instructions(self.words, self.folder) if count < 100_000 else None
-        if ran:
-            self.counted.append((size, ran))
         more = peak - self.empty
+        self.rows.append({"N": count, "bytes": size, "instructions": ran, "seconds": round(seconds, 2), "memory": more})
         print(f"{count:>7} {size:>10} {ran or '-':>14} {seconds:>8.3f} {more:>11} {more / size:>11.2f}")
 
-    def growth(self):
-        """Instructions for each byte, and the growth exponent."""
-        (small, few), (large, many) = self.counted
-        print(f"instructions a byte: {(many - few) / (large - small):.1f}")
-        print(f"growth exponent: {math.log(many / few) / math.log(large / small):.3f}")
+    def finish(self, name, wanted):
+        """Prints the instructions for each byte and the growth exponent, and writes all down with the figures that are wanted."""
+        small, large = [row for row in self.rows if row["instructions"]]
+        few, many = small["instructions"], large["instructions"]
+        rate = (many - few) / (large["bytes"] - small["bytes"])
+        exponent = math.log(many / few) / math.log(large["bytes"] / small["bytes"])
+        print(f"instructions a byte: {rate:.1f}")
+        print(f"growth exponent: {exponent:.3f}")
+        results.record(name, {"script": os.path.basename(sys.argv[0]), "rows": self.rows, "rate": round(rate), "exponent": round(exponent, 2), "wanted": wanted})
 
 
-def measure_filter(write_bib, draw_keys):
-    """Measures the filter, which is the first word or the one that is built here, over files of three sizes: `write_bib` writes
-    so many entries to a path, and `draw_keys` draws the keys that a document of that size cites."""
-    built = os.path.join(os.path.dirname(os.path.abspath(__file__)), "../crates/cite_program/out/cite_program")
-    program = os.path.abspath(sys.argv[1] if len(sys.argv) > 1 else built)
+def built(name):
+    """The path of a program: the first word, or the one that is built here."""
+    here = os.path.dirname(os.path.abspath(__file__))
+    return os.path.abspath(sys.argv[1] if len(sys.argv) > 1 else os.path.join(here, f"../crates/{name}/out/{name}"))
+
+
+def measure_filter(name, wanted, write_bib, draw_keys):
+    """Measures the filter over files of three sizes: `write_bib` writes so many entries to a path, and `draw_keys` draws the keys
+    that a document of that size cites."""
     with tempfile.TemporaryDirectory() as folder:
         bib, text = os.path.join(folder, "b.bib"), os.path.join(folder, "d.txt")
         for path in (bib, text):
             open(path, "w").close()
-        table = Table([program, "num", "plain", bib, text], folder)
+        table = Table([built("cite_program"), "num", "plain", bib, text], folder)
         for count in (1_000, 10_000, 100_000):
             chance = random.Random(count)
             write_bib(bib, chance, count)
             with open(text, "w") as out:
                 out.write(document(chance, draw_keys(chance, count)))
             table.line(count, os.path.getsize(bib) + os.path.getsize(text))
-        table.growth()
+        table.finish(name, wanted)

@@ -11,20 +11,16 @@ input and the growth exponent of the instructions.
 """
 import os
 import random
-import sys
 import tempfile
 
 import mixed
-from measuring import Table
-
-here = os.path.dirname(os.path.abspath(__file__))
-program = os.path.abspath(sys.argv[1] if len(sys.argv) > 1 else os.path.join(here, "../crates/bib_show_program/out/bib_show_program"))
+from measuring import Table, built
 
 with tempfile.TemporaryDirectory() as folder:
     bib = os.path.join(folder, "b.bib")
     open(bib, "w").close()
-    table = Table([program, bib], folder)
+    table = Table([built("bib_show_program"), bib], folder)
     for count in (1_000, 10_000, 100_000):
         mixed.write(bib, random.Random(count), count)
         table.line(count, os.path.getsize(bib))
-    table.growth()
+    table.finish("reader", {"rate": 250, "exponent": 1.05, "memory": 25})

@@ -18,13 +18,21 @@ pub fn only(alloc: Global, object: &Value<'_>, names: &[&str]) -> Result<(), Ref
 }
 
 /// Whether the name is one of the names.
-fn is_among(names: &[&str], wanted: &str) -> bool {
+pub fn is_among(names: &[&str], wanted: &str) -> bool {
     for name in names {
         if *name == wanted {
             return true;
         }
     }
     false
+}
+
+/// The value of a member, where there is one that is not `null`.
+pub fn member<'v, 'a>(object: &'v Value<'a>, name: &str) -> Option<&'v Value<'a>> {
+    match object.get(name) {
+        None | Some(Value::Null) => None,
+        Some(value) => Some(value),
+    }
 }
 
 /// The text of a member that may be left out.
@@ -72,6 +80,41 @@ pub fn number(object: &Value<'_>, name: &'static str) -> Result<i64, Refusal> {
     }
 }
 
+/// The number of a member, which has 32 bits.
+pub fn small_number(object: &Value<'_>, name: &'static str) -> Result<i32, Refusal> {
+    match i32::try_from(number(object, name)?) {
+        Ok(number) => Ok(number),
+        Err(_) => Err(Refusal::Wanted(name, "an integer of 32 bits")),
+    }
+}
+
+/// The number of a member that is between 0 and 255, where there is one.
+pub fn maybe_byte(object: &Value<'_>, name: &'static str) -> Result<Option<u8>, Refusal> {
+    let Some(number) = maybe_number(object, name)? else {
+        return Ok(None);
+    };
+    match u8::try_from(number) {
+        Ok(number) => Ok(Some(number)),
+        Err(_) => Err(Refusal::Wanted(name, "an integer from 0 to 255")),
+    }
+}
+
+/// The number of a member that is between 0 and 255; one that is left out is 0.
+pub fn byte(object: &Value<'_>, name: &'static str) -> Result<u8, Refusal> {
+    match maybe_byte(object, name)? {
+        Some(number) => Ok(number),
+        None => Ok(0),
+    }
+}
+
+/// The number of a member that counts from 0.
+pub fn count(object: &Value<'_>, name: &'static str) -> Result<usize, Refusal> {
+    match usize::try_from(number(object, name)?) {
+        Ok(number) => Ok(number),
+        Err(_) => Err(Refusal::Wanted(name, "an integer from 0")),
+    }
+}
+
 /// The items of a list that may be left out.
 pub fn items<'v, 'a>(
     object: &'v Value<'a>,
@@ -103,4 +146,25 @@ pub fn texts<'a>(
         texts.push(text)?;
     }
     Ok(texts)
+}
+
+/// A text of its own of a member.
+pub fn owned_text(
+    alloc: Global,
+    object: &Value<'_>,
+    name: &'static str,
+) -> Result<String, Refusal> {
+    Ok(String::from_str(alloc, text(object, name)?)?)
+}
+
+/// A text of its own of a member that may be left out.
+pub fn maybe_owned_text(
+    alloc: Global,
+    object: &Value<'_>,
+    name: &'static str,
+) -> Result<Option<String>, Refusal> {
+    match maybe_text(object, name)? {
+        Some(text) => Ok(Some(String::from_str(alloc, text)?)),
+        None => Ok(None),
+    }
 }

@@ -1,8 +1,8 @@
 //! Entries of BibLaTeX files as entries of a library.
 
 use crate::refusals::{put_faults, put_message, put_unknown};
-use crate::source::read_source;
-use biblatex::Bibliography;
+use crate::source::{Source, read_source};
+use biblatex::{Bibliography, Entry};
 use cases::{Refusal, Value, Writer, maybe_text, only};
 use cases_entries::put_parse_error;
 use cases_literature::{ENTRY_DEPTH, put_entry};
@@ -21,8 +21,8 @@ pub(crate) fn answer_bridge(
 ) -> Result<(), Refusal> {
     only(alloc, case, &MEMBERS)?;
     match read_source(alloc, case)? {
-        Err(error) => put_parse_error(alloc, case, out, &error),
-        Ok(bibliography) => put_bridged(alloc, case, out, &bibliography),
+        Source::Entries(bibliography) => put_bridged(alloc, case, out, &bibliography),
+        Source::Refused(error) => put_parse_error(alloc, case, out, &error),
     }
 }
 
@@ -33,45 +33,44 @@ fn put_bridged(
     out: &mut Writer,
     bibliography: &Bibliography,
 ) -> Result<(), Refusal> {
-    let bridged = match maybe_text(case, "entry")? {
-        Some(name) => put_work(alloc, out, bibliography, name)?,
-        None => put_library(alloc, out, bibliography)?,
+    let Some(name) = maybe_text(case, "entry")? else {
+        return put_library(alloc, case, out, bibliography);
     };
-    match bridged {
-        Ok(()) => Ok(()),
+    match bibliography.get(name) {
+        Some(read) => put_work(alloc, case, out, read),
+        None => Ok(put_unknown(out, name)?),
+    }
+}
+
+/// Writes what an entry comes to.
+fn put_work(
+    alloc: Global,
+    case: &Value<'_>,
+    out: &mut Writer,
+    read: &Entry,
+) -> Result<(), Refusal> {
+    match entry(alloc, read) {
+        Ok(work) => put_member(out, &work),
         Err(error) => put_bridge_error(alloc, case, out, &error),
     }
 }
 
-/// Writes what the entry of that name comes to.
-fn put_work(
-    alloc: Global,
-    out: &mut Writer,
-    bibliography: &Bibliography,
-    name: &str,
-) -> Result<Result<(), BridgeError>, Refusal> {
-    let Some(read) = bibliography.get(name) else {
-        put_unknown(out, name)?;
-        return Ok(Ok(()));
-    };
-    match entry(alloc, read) {
-        Ok(work) => {
-            out.key("entry")?;
-            Ok(Ok(put_entry(out, &work, ENTRY_DEPTH)?))
-        }
-        Err(error) => Ok(Err(error)),
-    }
+/// Writes the entry of a library.
+fn put_member(out: &mut Writer, work: &literature::Entry) -> Result<(), Refusal> {
+    out.key("entry")?;
+    put_entry(out, work, ENTRY_DEPTH)
 }
 
 /// Writes the entries of the library that a file comes to.
 fn put_library(
     alloc: Global,
+    case: &Value<'_>,
     out: &mut Writer,
     bibliography: &Bibliography,
-) -> Result<Result<(), BridgeError>, Refusal> {
+) -> Result<(), Refusal> {
     match from_biblatex(alloc, bibliography) {
-        Ok(library) => Ok(Ok(put_entries(out, &library)?)),
-        Err(error) => Ok(Err(error)),
+        Ok(library) => put_entries(out, &library),
+        Err(error) => put_bridge_error(alloc, case, out, &error),
     }
 }
 

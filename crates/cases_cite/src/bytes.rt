@@ -1,5 +1,6 @@
 //! Bytes in cases and answers: a text where they are UTF-8, a list of numbers where they need not be.
 
+use crate::taker::Taker;
 use cases::{Refusal, Value, Writer};
 use std::alloc::{AllocError, Global};
 
@@ -52,7 +53,7 @@ fn byte(item: &Value<'_>, name: &'static str) -> Result<u8, Refusal> {
 }
 
 /// Writes bytes.
-pub(crate) fn put_bytes(out: &mut Writer, bytes: &[u8]) -> Result<(), AllocError> {
+fn put_bytes(out: &mut Writer, bytes: &[u8]) -> Result<(), AllocError> {
     match str::from_utf8(bytes) {
         Ok(text) => out.string(text),
         Err(_) => put_list(out, bytes),
@@ -66,4 +67,10 @@ fn put_list(out: &mut Writer, bytes: &[u8]) -> Result<(), AllocError> {
         out.u64(u64::from(*byte))?;
     }
     out.end_array()
+}
+
+/// Writes the bytes that a writer took as the member of the name.
+pub(crate) fn put_taken(out: &mut Writer, name: &str, taker: &Taker) -> Result<(), AllocError> {
+    out.key(name)?;
+    put_bytes(out, &taker.taken)
 }

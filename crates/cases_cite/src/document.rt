@@ -1,6 +1,6 @@
 //! Documents with their citations.
 
-use crate::bytes::{bytes, put_bytes};
+use crate::bytes::{bytes, put_taken};
 use crate::limits::read_taker;
 use crate::refusals::put_cite_error;
 use crate::taker::Taker;
@@ -21,21 +21,39 @@ pub(crate) fn answer_document(
 ) -> Result<(), Refusal> {
     only(alloc, case, &MEMBERS)?;
     let mut taker = read_taker(alloc, case, "sink")?;
-    let outcome = cite_into(alloc, case, &mut taker)?;
+    answer_into(alloc, case, &mut taker, out)
+}
+
+/// Cites the document of a case into a writer, and writes what came of it.
+fn answer_into(
+    alloc: Global,
+    case: &Value<'_>,
+    taker: &mut Taker,
+    out: &mut Writer,
+) -> Result<(), Refusal> {
+    let outcome = cite_into(alloc, case, taker)?;
     if taker.lacks_memory {
         return Err(Refusal::Memory);
     }
-    match outcome {
-        Ok(()) => out.key("output")?,
-        Err(error) => {
-            put_cite_error(alloc, case, out, &error)?;
-            if !matches!(error, CiteError::Write(_)) {
-                return Ok(());
-            }
-            out.key("taken")?;
-        }
+    match &outcome {
+        Ok(()) => Ok(put_taken(out, "output", taker)?),
+        Err(error) => put_failure(alloc, case, error, taker, out),
     }
-    Ok(put_bytes(out, &taker.taken)?)
+}
+
+/// Writes why a document was refused, and what the writer took where it was the one that failed.
+fn put_failure(
+    alloc: Global,
+    case: &Value<'_>,
+    error: &CiteError,
+    taker: &Taker,
+    out: &mut Writer,
+) -> Result<(), Refusal> {
+    put_cite_error(alloc, case, out, error)?;
+    match error {
+        CiteError::Write(_) => Ok(put_taken(out, "taken", taker)?),
+        _ => Ok(()),
+    }
 }
 
 /// Cites the document of a case.
@@ -44,11 +62,11 @@ fn cite_into(
     case: &Value<'_>,
     taker: &mut Taker,
 ) -> Result<Result<(), CiteError>, Refusal> {
-    let bib = bytes(alloc, case, "bib")?;
-    let document = bytes(alloc, case, "document")?;
     let style = style(case)?;
     let format = format(case)?;
     let sections = texts(alloc, case, "sections")?;
+    let bib = bytes(alloc, case, "bib")?;
+    let document = bytes(alloc, case, "document")?;
     Ok(cite(
         alloc,
         &bib,

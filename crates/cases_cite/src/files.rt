@@ -3,7 +3,7 @@
 ghost use Rattle.std.specs.Prelude.{None};
 
 use crate::bytes::bytes_of;
-use cases::{Refusal, Value, texts};
+use cases::{Refusal, Value, is_among, member, texts};
 use cite::{ReadFault, ReadPath};
 use std::alloc::Global;
 use std::cell::Cell;
@@ -28,15 +28,10 @@ struct File<'c> {
 impl<'c> Files<'c> {
     /// The files of a case: `files` by their paths, and the paths in `no_memory_for`.
     pub(crate) fn read(alloc: Global, case: &Value<'c>) -> Result<Files<'c>, Refusal> {
-        let mut files = Vec::new(alloc);
-        match case.get("files") {
-            None => {}
-            Some(Value::Object(members)) => push_files(alloc, &mut files, members)?,
-            Some(_) => return Err(Refusal::Wanted("files", "an object")),
-        }
+        let refused = texts(alloc, case, "no_memory_for")?;
         Ok(Files {
-            files,
-            refused: texts(alloc, case, "no_memory_for")?,
+            files: read_files(alloc, case)?,
+            refused,
             is_refused: Cell::new(false),
         })
     }
@@ -72,28 +67,25 @@ impl ReadPath for Files<'_> {
     }
 }
 
-/// Whether the path is one of the paths.
-fn is_among(paths: &[&str], wanted: &str) -> bool {
-    for path in paths {
-        if *path == wanted {
-            return true;
-        }
-    }
-    false
+/// A file of an object.
+fn read_file<'c>(alloc: Global, path: &'c str, bytes: &Value<'c>) -> Result<File<'c>, Refusal> {
+    Ok(File {
+        path,
+        bytes: bytes_of(alloc, bytes, "files")?,
+    })
 }
 
-/// Puts the files of an object last.
-fn push_files<'c>(
-    alloc: Global,
-    files: &mut Vec<File<'c>>,
-    members: &[(&'c str, Value<'c>)],
-) -> Result<(), Refusal> {
+/// The files of a case.
+fn read_files<'c>(alloc: Global, case: &Value<'c>) -> Result<Vec<File<'c>>, Refusal> {
+    let mut files = Vec::new(alloc);
+    let Some(object) = member(case, "files") else {
+        return Ok(files);
+    };
+    let Value::Object(members) = object else {
+        return Err(Refusal::Wanted("files", "an object"));
+    };
     for member in members {
-        let bytes = bytes_of(alloc, &member.1, "files")?;
-        files.push(File {
-            path: member.0,
-            bytes,
-        })?;
+        files.push(read_file(alloc, member.0, &member.1)?)?;
     }
-    Ok(())
+    Ok(files)
 }

@@ -1,12 +1,12 @@
 //! Runs of the programs over files in memory.
 
-use crate::bytes::put_bytes;
+use crate::bytes::put_taken;
 use crate::files::Files;
 use crate::limits::read_taker;
 use crate::taker::Taker;
-use cases::{Refusal, Value, Writer, only, text, texts};
+use cases::{Refusal, Value, Writer, only, put_number, text, texts};
 use cite::Tap;
-use std::alloc::{AllocError, Global};
+use std::alloc::Global;
 
 /// The members of a case.
 const MEMBERS: [&str; 8] = [
@@ -27,32 +27,37 @@ pub(crate) fn answer_program(
     out: &mut Writer,
 ) -> Result<(), Refusal> {
     only(alloc, case, &MEMBERS)?;
-    let program = text(case, "program")?;
     let files = Files::read(alloc, case)?;
-    let mut first = read_taker(alloc, case, "out_sink")?;
-    let mut second = read_taker(alloc, case, "err_sink")?;
-    let words = texts(alloc, case, "words")?;
-    let status = run(alloc, program, &words, &files, &mut first, &mut second)?;
-    let lacks_memory = first.lacks_memory || second.lacks_memory;
-    if lacks_memory || (says_no_memory(&second.taken) && !files.is_refused()) {
-        return Err(Refusal::Memory);
-    }
-    Ok(put_run(out, status, &first.taken, &second.taken)?)
+    answer_run(alloc, case, &files, out)
 }
 
-/// Runs the program of that name.
+/// Runs the program of a case over files, and writes what came of it.
+fn answer_run(
+    alloc: Global,
+    case: &Value<'_>,
+    files: &Files<'_>,
+    out: &mut Writer,
+) -> Result<(), Refusal> {
+    let mut first = read_taker(alloc, case, "out_sink")?;
+    let mut second = read_taker(alloc, case, "err_sink")?;
+    let status = run(alloc, case, files, &mut first, &mut second)?;
+    put_run(files, status, &first, &second, out)
+}
+
+/// Runs the program of a case.
 fn run(
     alloc: Global,
-    program: &str,
-    words: &[&str],
+    case: &Value<'_>,
     files: &Files<'_>,
     first: &mut Taker,
     second: &mut Taker,
 ) -> Result<u8, Refusal> {
+    let program = text(case, "program")?;
+    let words = texts(alloc, case, "words")?;
     let (mut out, mut err) = (Tap::new(first), Tap::new(second));
     match program {
-        "cite" => Ok(cite::run(alloc, words, files, &mut out, &mut err)),
-        "bib_show" => Ok(bib_show::run(alloc, words, files, &mut out, &mut err)),
+        "cite" => Ok(cite::run(alloc, &words, files, &mut out, &mut err)),
+        "bib_show" => Ok(bib_show::run(alloc, &words, files, &mut out, &mut err)),
         _ => Err(Refusal::Wanted("program", "cite or bib_show")),
     }
 }
@@ -63,11 +68,18 @@ fn says_no_memory(said: &[u8]) -> bool {
 }
 
 /// Writes the status, and what was taken.
-fn put_run(out: &mut Writer, status: u8, first: &[u8], second: &[u8]) -> Result<(), AllocError> {
-    out.key("status")?;
-    out.u64(u64::from(status))?;
-    out.key("out")?;
-    put_bytes(out, first)?;
-    out.key("err")?;
-    put_bytes(out, second)
+fn put_run(
+    files: &Files<'_>,
+    status: u8,
+    first: &Taker,
+    second: &Taker,
+    out: &mut Writer,
+) -> Result<(), Refusal> {
+    let lacks_memory = first.lacks_memory || second.lacks_memory;
+    if lacks_memory || (says_no_memory(&second.taken) && !files.is_refused()) {
+        return Err(Refusal::Memory);
+    }
+    put_number(out, "status", i64::from(status))?;
+    put_taken(out, "out", first)?;
+    Ok(put_taken(out, "err", second)?)
 }

@@ -1,8 +1,8 @@
 //! Why entries are not bridged and documents not cited, as members of an answer. Want of memory has no answer.
 
-use cases::{Refusal, Value, Writer, is_set};
-use cases_entries::{put_parse_error, type_error_name};
-use cases_text::put_string;
+use cases::{Refusal, Value, Writer, is_set, put_count, put_refused, put_text};
+use cases_entries::put_parse_error;
+use cases_values::type_error_name;
 use cite::{BibTextError, CiteError, DocumentTextError, FieldFault, SinkFault};
 use std::alloc::{AllocError, Global};
 use std::fmt::Display;
@@ -14,22 +14,21 @@ pub(crate) fn put_message<E: Display>(
     out: &mut Writer,
     error: &E,
 ) -> Result<(), Refusal> {
-    if is_set(case, "message")? {
-        let message = format!(in alloc; "{error}")?;
-        put_string(out, "message", message.as_str())?;
+    if !is_set(case, "message")? {
+        return Ok(());
     }
-    Ok(())
+    Ok(put_text(out, "message", error.to_string(alloc)?.as_str())?)
 }
 
 /// Writes a name that means no entry.
 pub(crate) fn put_unknown(out: &mut Writer, name: &str) -> Result<(), AllocError> {
-    put_string(out, "refused", "Name")?;
-    put_string(out, "entry", name)
+    put_refused(out, "Name")?;
+    put_text(out, "entry", name)
 }
 
 /// Writes the fields that cannot be read.
 pub(crate) fn put_faults(out: &mut Writer, faults: &[FieldFault]) -> Result<(), AllocError> {
-    put_string(out, "refused", "Fields")?;
+    put_refused(out, "Fields")?;
     out.key("faults")?;
     out.begin_array()?;
     for fault in faults {
@@ -60,9 +59,9 @@ pub(crate) fn put_cite_error(
         CiteError::Fields(faults) => put_faults(out, faults)?,
         CiteError::Document(error) => put_document_error(out, error)?,
         CiteError::Name(name) => put_unknown(out, name.as_str())?,
-        CiteError::Overflow => put_string(out, "refused", "Overflow")?,
+        CiteError::Overflow => put_refused(out, "Overflow")?,
         CiteError::Write(fault) => put_write_error(out, *fault)?,
-        CiteError::NotYet => put_string(out, "refused", "NotYet")?,
+        CiteError::NotYet => put_refused(out, "NotYet")?,
     }
     put_message(alloc, case, out, error)
 }
@@ -70,30 +69,29 @@ pub(crate) fn put_cite_error(
 /// Writes why the bib text of a document was refused. What is said of it is said of the document's refusal alone.
 fn put_bib_error(alloc: Global, out: &mut Writer, error: &BibTextError) -> Result<(), Refusal> {
     match error {
-        BibTextError::Utf8 => put_string(out, "refused", "Utf8")?,
+        BibTextError::Utf8 => put_refused(out, "Utf8")?,
         BibTextError::Parse(error) => put_parse_error(alloc, &Value::Null, out, error)?,
     }
-    Ok(put_string(out, "stage", "BibText")?)
+    Ok(put_text(out, "stage", "BibText")?)
 }
 
 /// Writes why a document was refused.
 fn put_document_error(out: &mut Writer, error: &DocumentTextError) -> Result<(), AllocError> {
     match error {
-        DocumentTextError::Utf8 => put_string(out, "refused", "Utf8")?,
+        DocumentTextError::Utf8 => put_refused(out, "Utf8")?,
         DocumentTextError::Marker { offset } => {
-            put_string(out, "refused", "Marker")?;
-            out.key("offset")?;
-            out.u64(*offset as u64)?;
+            put_refused(out, "Marker")?;
+            put_count(out, "offset", *offset)?;
         }
     }
-    put_string(out, "stage", "Document")
+    put_text(out, "stage", "Document")
 }
 
 /// Writes what a sink did that did not take all.
 fn put_write_error(out: &mut Writer, fault: SinkFault) -> Result<(), AllocError> {
-    put_string(out, "refused", "Write")?;
+    put_refused(out, "Write")?;
     match fault {
-        SinkFault::Failed => put_string(out, "fault", "Failed"),
-        SinkFault::TookNothing => put_string(out, "fault", "TookNothing"),
+        SinkFault::Failed => put_text(out, "fault", "Failed"),
+        SinkFault::TookNothing => put_text(out, "fault", "TookNothing"),
     }
 }

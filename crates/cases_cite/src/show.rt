@@ -1,10 +1,10 @@
 //! What is shown of entries.
 
-use crate::source::read_source;
+use crate::source::{Source, read_source};
 use bib_show::show;
-use cases::{Refusal, Value, Writer, only};
+use biblatex::Bibliography;
+use cases::{Refusal, Value, Writer, only, put_text};
 use cases_entries::put_parse_error;
-use cases_text::put_string;
 use std::alloc::Global;
 
 /// Writes what is shown of entries, or why their bib text was refused.
@@ -15,10 +15,13 @@ pub(crate) fn answer_show(
 ) -> Result<(), Refusal> {
     only(alloc, case, &["case", "name", "bib", "entries", "message"])?;
     match read_source(alloc, case)? {
-        Ok(bibliography) => {
-            let shown = show(alloc, &bibliography)?;
-            Ok(put_string(out, "shown", shown.as_str())?)
-        }
-        Err(error) => put_parse_error(alloc, case, out, &error),
+        Source::Entries(bibliography) => put_shown(alloc, out, &bibliography),
+        Source::Refused(error) => put_parse_error(alloc, case, out, &error),
     }
+}
+
+/// Writes what is shown of entries.
+fn put_shown(alloc: Global, out: &mut Writer, bibliography: &Bibliography) -> Result<(), Refusal> {
+    let shown = show(alloc, bibliography)?;
+    Ok(put_text(out, "shown", shown.as_str())?)
 }

@@ -3,9 +3,11 @@
 use crate::data::{read_entry, set_field};
 use crate::printing::put_entry;
 use crate::refusals::{put_parse_error, put_raw_error};
-use biblatex::{Bibliography, Counted, Entry, RawBibliography};
-use cases::{Refusal, Value, Writer, is_set, items, maybe_text, number, only, text};
-use cases_text::{is_shown, shown};
+use biblatex::{Bibliography, Entry, RawBibliography};
+use cases::{
+    Refusal, Value, Writer, count, is_set, is_shown, items, maybe_text, only, only_shown,
+    put_count, put_text, text,
+};
 use std::alloc::{AllocError, Global};
 
 /// Answers a case of the kind `bibliography`.
@@ -26,7 +28,7 @@ pub(crate) fn answer_bibliography(
         return answer_counted(alloc, case, bib, out);
     }
     match Bibliography::parse(alloc, bib) {
-        Ok(bibliography) => answer_read(alloc, case, bibliography, out),
+        Ok(mut bibliography) => answer_read(alloc, case, &mut bibliography, out),
         Err(error) => put_parse_error(alloc, case, out, &error),
     }
 }
@@ -38,20 +40,23 @@ fn answer_counted(
     bib: &str,
     out: &mut Writer,
 ) -> Result<(), Refusal> {
-    let raw = match RawBibliography::parse(alloc, bib) {
-        Ok(raw) => raw,
-        Err(error) => return put_raw_error(alloc, case, out, &error),
-    };
+    match RawBibliography::parse(alloc, bib) {
+        Ok(raw) => answer_raw(alloc, case, raw, out),
+        Err(error) => put_raw_error(alloc, case, out, &error),
+    }
+}
+
+/// Answers a case of what the grammar reads of a text, with the number of entries that were made.
+fn answer_raw(
+    alloc: Global,
+    case: &Value<'_>,
+    raw: RawBibliography<'_>,
+    out: &mut Writer,
+) -> Result<(), Refusal> {
     match Bibliography::from_raw_counted(alloc, raw) {
-        Ok(
-            Counted {
-                bibliography,
-                count,
-            },
-        ) => {
-            out.key("count")?;
-            out.u64(count as u64)?;
-            answer_read(alloc, case, bibliography, out)
+        Ok(mut counted) => {
+            put_count(out, "count", counted.count)?;
+            answer_read(alloc, case, &mut counted.bibliography, out)
         }
         Err(error) => put_parse_error(alloc, case, out, &error),
     }
@@ -61,19 +66,18 @@ fn answer_counted(
 fn answer_read(
     alloc: Global,
     case: &Value<'_>,
-    bibliography: Bibliography,
+    bibliography: &mut Bibliography,
     out: &mut Writer,
 ) -> Result<(), Refusal> {
-    let mut held = bibliography;
-    take_steps(alloc, case, &mut held, out)?;
-    show(alloc, case, &held, out)
+    take_steps(alloc, case, bibliography, out)?;
+    show(alloc, case, bibliography, out)
 }
 
 /// Takes steps, and writes what each gives back.
 fn take_steps(
     alloc: Global,
     case: &Value<'_>,
-    held: &mut Bibliography,
+    bibliography: &mut Bibliography,
     out: &mut Writer,
 ) -> Result<(), Refusal> {
     let Some(steps) = items(case, "steps")? else {
@@ -82,7 +86,7 @@ fn take_steps(
     out.key("steps")?;
     out.begin_array()?;
     for step in steps {
-        take_step(alloc, step, held, out)?;
+        take_step(alloc, step, bibliography, out)?;
     }
     out.end_array()?;
     Ok(())
@@ -92,18 +96,18 @@ fn take_steps(
 fn take_step(
     alloc: Global,
     step: &Value<'_>,
-    held: &mut Bibliography,
+    bibliography: &mut Bibliography,
     out: &mut Writer,
 ) -> Result<(), Refusal> {
     match text(step, "step")? {
-        "push" => push(alloc, step, held, out),
-        "insert" => insert(alloc, step, held, out),
-        "remove" => remove(alloc, step, held, out),
-        "alias" => alias(alloc, step, held, out),
-        "get" => get(alloc, step, held, out),
-        "set" => set(alloc, step, held, out),
-        "set_at" => set_at(alloc, step, held, out),
-        "set_each" => set_each(alloc, step, held, out),
+        "push" => push(alloc, step, bibliography, out),
+        "insert" => insert(alloc, step, bibliography, out),
+        "remove" => remove(alloc, step, bibliography, out),
+        "alias" => alias(alloc, step, bibliography, out),
+        "get" => get(alloc, step, bibliography, out),
+        "set" => set(alloc, step, bibliography, out),
+        "set_at" => set_at(alloc, step, bibliography, out),
+        "set_each" => set_each(alloc, step, bibliography, out),
         _ => Err(Refusal::Wanted(
             "step",
             "push, insert, remove, alias, get, set, set_at or set_each",
@@ -115,11 +119,11 @@ fn take_step(
 fn push(
     alloc: Global,
     step: &Value<'_>,
-    held: &mut Bibliography,
+    bibliography: &mut Bibliography,
     out: &mut Writer,
 ) -> Result<(), Refusal> {
     only(alloc, step, &["step", "key", "type", "fields"])?;
-    held.push(read_entry(alloc, step)?)?;
+    bibliography.push(read_entry(alloc, step)?)?;
     out.null()?;
     Ok(())
 }
@@ -128,11 +132,11 @@ fn push(
 fn insert(
     alloc: Global,
     step: &Value<'_>,
-    held: &mut Bibliography,
+    bibliography: &mut Bibliography,
     out: &mut Writer,
 ) -> Result<(), Refusal> {
     only(alloc, step, &["step", "key", "type", "fields"])?;
-    let old = held.insert(read_entry(alloc, step)?)?;
+    let old = bibliography.insert(read_entry(alloc, step)?)?;
     put_key(out, old)
 }
 
@@ -140,68 +144,68 @@ fn insert(
 fn remove(
     alloc: Global,
     step: &Value<'_>,
-    held: &mut Bibliography,
+    bibliography: &mut Bibliography,
     out: &mut Writer,
 ) -> Result<(), Refusal> {
     only(alloc, step, &["step", "entry"])?;
-    let old = held.remove(text(step, "entry")?);
+    let old = bibliography.remove(text(step, "entry")?);
     put_key(out, old)
 }
 
 /// Writes the key of an entry that is given back, or null.
 fn put_key(out: &mut Writer, entry: Option<Entry>) -> Result<(), Refusal> {
-    match entry {
-        Some(entry) => out.string(entry.key.as_str())?,
-        None => out.null()?,
-    }
-    Ok(())
+    let written = match &entry {
+        Some(entry) => out.string(entry.key.as_str()),
+        None => out.null(),
+    };
+    Ok(written?)
 }
 
 /// Lets one more name mean an entry.
 fn alias(
     alloc: Global,
     step: &Value<'_>,
-    held: &mut Bibliography,
+    bibliography: &mut Bibliography,
     out: &mut Writer,
 ) -> Result<(), Refusal> {
     only(alloc, step, &["step", "entry", "alias"])?;
-    held.alias(alloc, text(step, "entry")?, text(step, "alias")?)?;
+    bibliography.alias(alloc, text(step, "entry")?, text(step, "alias")?)?;
     out.null()?;
     Ok(())
+}
+
+/// Writes a place and the key of the entry there.
+fn put_found(out: &mut Writer, place: usize, entry: &Entry) -> Result<(), AllocError> {
+    out.begin_object()?;
+    put_count(out, "place", place)?;
+    put_text(out, "key", entry.key.as_str())?;
+    out.end_object()
 }
 
 /// Writes the place and the key of the entry that a name means, or null.
 fn get(
     alloc: Global,
     step: &Value<'_>,
-    held: &Bibliography,
+    bibliography: &Bibliography,
     out: &mut Writer,
 ) -> Result<(), Refusal> {
     only(alloc, step, &["step", "entry"])?;
     let name = text(step, "entry")?;
-    match (held.place(name), held.get(name)) {
-        (Some(place), Some(entry)) => {
-            out.begin_object()?;
-            out.key("place")?;
-            out.u64(place as u64)?;
-            out.key("key")?;
-            out.string(entry.key.as_str())?;
-            out.end_object()?;
-        }
-        _ => out.null()?,
+    match (bibliography.place(name), bibliography.get(name)) {
+        (Some(place), Some(entry)) => Ok(put_found(out, place, entry)?),
+        _ => Ok(out.null()?),
     }
-    Ok(())
 }
 
 /// Gives the entry that a name means a field.
 fn set(
     alloc: Global,
     step: &Value<'_>,
-    held: &mut Bibliography,
+    bibliography: &mut Bibliography,
     out: &mut Writer,
 ) -> Result<(), Refusal> {
     only(alloc, step, &["step", "entry", "field", "value"])?;
-    let entry = held.get_mut(text(step, "entry")?);
+    let entry = bibliography.get_mut(text(step, "entry")?);
     set_in(alloc, step, entry, out)
 }
 
@@ -209,14 +213,16 @@ fn set(
 fn set_at(
     alloc: Global,
     step: &Value<'_>,
-    held: &mut Bibliography,
+    bibliography: &mut Bibliography,
     out: &mut Writer,
 ) -> Result<(), Refusal> {
     only(alloc, step, &["step", "place", "field", "value"])?;
-    let Ok(place) = usize::try_from(number(step, "place")?) else {
-        return Err(Refusal::Wanted("place", "a place from 0"));
-    };
-    set_in(alloc, step, held.entry_mut(place), out)
+    set_in(
+        alloc,
+        step,
+        bibliography.entry_mut(count(step, "place")?),
+        out,
+    )
 }
 
 /// Gives an entry a field, and writes whether there is one.
@@ -238,11 +244,11 @@ fn set_in(
 fn set_each(
     alloc: Global,
     step: &Value<'_>,
-    held: &mut Bibliography,
+    bibliography: &mut Bibliography,
     out: &mut Writer,
 ) -> Result<(), Refusal> {
     only(alloc, step, &["step", "field", "value"])?;
-    for entry in held.iter_mut() {
+    for entry in bibliography.iter_mut() {
         set_field(alloc, step, entry)?;
     }
     out.null()?;
@@ -253,39 +259,42 @@ fn set_each(
 fn show(
     alloc: Global,
     case: &Value<'_>,
-    held: &Bibliography,
+    bibliography: &Bibliography,
     out: &mut Writer,
 ) -> Result<(), Refusal> {
-    let shown = shown(alloc, case, &["entries", "keys", "references"])?;
-    if shown.is_empty() || is_shown(&shown, "entries") {
-        put_entries(out, held, is_set(case, "places")?)?;
+    only_shown(case, &["entries", "keys", "references"])?;
+    if is_shown(case, "entries", true)? {
+        put_entries(out, bibliography, is_set(case, "places")?)?;
     }
-    if is_shown(&shown, "keys") {
-        put_keys(out, held)?;
+    if is_shown(case, "keys", false)? {
+        put_keys(out, bibliography)?;
     }
-    if is_shown(&shown, "references") {
-        put_references(out, held.references(alloc)?.as_slice())?;
+    if is_shown(case, "references", false)? {
+        put_references(out, bibliography.references(alloc)?.as_slice())?;
     }
     Ok(())
 }
 
 /// Writes the member `entries`: each entry in its order.
-fn put_entries(out: &mut Writer, held: &Bibliography, has_places: bool) -> Result<(), AllocError> {
+fn put_entries(
+    out: &mut Writer,
+    bibliography: &Bibliography,
+    has_places: bool,
+) -> Result<(), AllocError> {
     out.key("entries")?;
     out.begin_array()?;
-    for entry in held.iter() {
+    for entry in bibliography.iter() {
         put_entry(out, entry, has_places)?;
     }
     out.end_array()
 }
 
 /// Writes how many entries there are, and their keys in their order.
-fn put_keys(out: &mut Writer, held: &Bibliography) -> Result<(), AllocError> {
-    out.key("len")?;
-    out.u64(held.len() as u64)?;
+fn put_keys(out: &mut Writer, bibliography: &Bibliography) -> Result<(), AllocError> {
+    put_count(out, "len", bibliography.len())?;
     out.key("keys")?;
     out.begin_array()?;
-    for key in held.keys() {
+    for key in bibliography.keys() {
         out.string(key)?;
     }
     out.end_array()

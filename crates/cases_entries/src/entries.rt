@@ -23,12 +23,21 @@ pub(crate) fn answer_entry(
             "message",
         ],
     )?;
-    let Some(bib) = maybe_text(case, "bib")? else {
-        let mut entry = read_entry(alloc, case)?;
-        return answer_of(alloc, case, &mut entry, out);
-    };
+    match maybe_text(case, "bib")? {
+        Some(bib) => answer_parsed(alloc, case, bib, out),
+        None => answer_of(alloc, case, &mut read_entry(alloc, case)?, out),
+    }
+}
+
+/// Answers a case of an entry of a text.
+fn answer_parsed(
+    alloc: Global,
+    case: &Value<'_>,
+    bib: &str,
+    out: &mut Writer,
+) -> Result<(), Refusal> {
     match Bibliography::parse(alloc, bib) {
-        Ok(bibliography) => answer_in(alloc, case, bibliography, out),
+        Ok(mut bibliography) => answer_in(alloc, case, &mut bibliography, out),
         Err(error) => put_parse_error(alloc, case, out, &error),
     }
 }
@@ -37,20 +46,18 @@ pub(crate) fn answer_entry(
 fn answer_in(
     alloc: Global,
     case: &Value<'_>,
-    bibliography: Bibliography,
+    bibliography: &mut Bibliography,
     out: &mut Writer,
 ) -> Result<(), Refusal> {
-    let mut held = bibliography;
     let entry = match maybe_text(case, "entry")? {
-        Some(name) => held.get_mut(name),
-        None => held.entry_mut(0),
+        Some(name) => bibliography.get_mut(name),
+        None => bibliography.entry_mut(0),
     };
     match entry {
         Some(entry) => answer_of(alloc, case, entry, out),
         None => {
             out.key("entry")?;
-            out.null()?;
-            Ok(())
+            Ok(out.null()?)
         }
     }
 }
@@ -93,24 +100,41 @@ fn take_step(
     out: &mut Writer,
 ) -> Result<(), Refusal> {
     match text(step, "step")? {
-        "set" => {
-            only(alloc, step, &["step", "field", "value"])?;
-            set_field(alloc, step, entry)?;
-            out.null()?;
-            Ok(())
-        }
+        "set" => set(alloc, step, entry, out),
         "set_as" => set_as(alloc, step, entry, out),
-        "remove" => {
-            only(alloc, step, &["step", "field"])?;
-            put_value(out, entry.remove(text(step, "field")?).as_ref())?;
-            Ok(())
-        }
-        "get" => {
-            only(alloc, step, &["step", "field"])?;
-            put_value(out, entry.get(text(step, "field")?))?;
-            Ok(())
-        }
+        "remove" => remove(alloc, step, entry, out),
+        "get" => get(alloc, step, entry, out),
         "get_as" => get_as(alloc, step, entry, out),
         _ => Err(Refusal::Wanted("step", "set, set_as, remove, get or get_as")),
     }
+}
+
+/// Gives an entry a field.
+fn set(
+    alloc: Global,
+    step: &Value<'_>,
+    entry: &mut Entry,
+    out: &mut Writer,
+) -> Result<(), Refusal> {
+    only(alloc, step, &["step", "field", "value"])?;
+    set_field(alloc, step, entry)?;
+    Ok(out.null()?)
+}
+
+/// Takes a field out, and writes its value, or null.
+fn remove(
+    alloc: Global,
+    step: &Value<'_>,
+    entry: &mut Entry,
+    out: &mut Writer,
+) -> Result<(), Refusal> {
+    only(alloc, step, &["step", "field"])?;
+    let value = entry.remove(text(step, "field")?);
+    Ok(put_value(out, value.as_ref())?)
+}
+
+/// Writes the value of a field, or null.
+fn get(alloc: Global, step: &Value<'_>, entry: &Entry, out: &mut Writer) -> Result<(), Refusal> {
+    only(alloc, step, &["step", "field"])?;
+    Ok(put_value(out, entry.get(text(step, "field")?))?)
 }

@@ -1,10 +1,8 @@
 //! The types of entries.
 
-use crate::printing::put_flag;
 use biblatex::{EntryType, Role};
-use cases::{Refusal, Value, Writer, only, text};
-use cases_text::put_string;
-use std::alloc::Global;
+use cases::{Refusal, Value, Writer, only, put_bool, put_text, text};
+use std::alloc::{AllocError, Global};
 
 /// Answers a case of the kind `entry_type`.
 pub(crate) fn answer_entry_type(
@@ -14,15 +12,18 @@ pub(crate) fn answer_entry_type(
 ) -> Result<(), Refusal> {
     only(alloc, case, &["case", "name", "type"])?;
     let entry_type = EntryType::new(alloc, text(case, "type")?)?;
-    let written = entry_type.to_biblatex()?;
-    put_string(out, "type", entry_type.name())?;
-    put_flag(out, "known", !matches!(&entry_type, EntryType::Unknown(_)))?;
-    put_string(out, "role", role_name(entry_type.role()))?;
-    put_flag(out, "multi_volume", entry_type.is_multi_volume())?;
-    put_flag(out, "collection", entry_type.is_collection())?;
-    put_string(out, "written", written.name())?;
-    put_string(out, "written_name", entry_type.written_name())?;
-    Ok(())
+    Ok(put_entry_type(out, &entry_type)?)
+}
+
+/// Writes what is asked of a type of entries.
+fn put_entry_type(out: &mut Writer, entry_type: &EntryType) -> Result<(), AllocError> {
+    put_text(out, "type", entry_type.name())?;
+    put_bool(out, "known", !matches!(entry_type, EntryType::Unknown(_)))?;
+    put_text(out, "role", role_name(entry_type.role()))?;
+    put_bool(out, "multi_volume", entry_type.is_multi_volume())?;
+    put_bool(out, "collection", entry_type.is_collection())?;
+    put_text(out, "written", entry_type.to_biblatex()?.name())?;
+    put_text(out, "written_name", entry_type.written_name())
 }
 
 /// The word for a role.

@@ -1,9 +1,9 @@
 //! Fields of an entry as values of types.
 
-use crate::getters::put_found;
+use crate::getters::put_value;
 use biblatex::{Date, EditorType, Entry, FieldType, Gender, Person};
 use cases::{Refusal, Value, Writer, only, text};
-use cases_values::CaseValue;
+use cases_values::{CaseValue, given};
 use std::alloc::Global;
 use std::ops::Range;
 
@@ -17,15 +17,15 @@ pub(crate) fn get_as(
     only(alloc, step, &["step", "field", "type"])?;
     let field = text(step, "field")?;
     match text(step, "type")? {
-        "integer" => put_found(out, entry.get_as::<i64>(alloc, field)),
-        "text" => put_found(out, entry.get_as::<String>(alloc, field)),
-        "gender" => put_found(out, entry.get_as::<Gender>(alloc, field)),
-        "editor-type" => put_found(out, entry.get_as::<EditorType>(alloc, field)),
-        "range" => put_found(out, entry.get_as::<Range<u32>>(alloc, field)),
-        "ranges" => put_found(out, entry.get_as::<Vec<Range<u32>>>(alloc, field)),
-        "texts" => put_found(out, entry.get_as::<Vec<String>>(alloc, field)),
-        "people" => put_found(out, entry.get_as::<Vec<Person>>(alloc, field)),
-        "date" => put_found(out, entry.get_as::<Date>(alloc, field)),
+        "integer" => put_value(out, entry.get_as::<i64>(alloc, field)),
+        "text" => put_value(out, entry.get_as::<String>(alloc, field)),
+        "gender" => put_value(out, entry.get_as::<Gender>(alloc, field)),
+        "editor-type" => put_value(out, entry.get_as::<EditorType>(alloc, field)),
+        "range" => put_value(out, entry.get_as::<Range<u32>>(alloc, field)),
+        "ranges" => put_value(out, entry.get_as::<Vec<Range<u32>>>(alloc, field)),
+        "texts" => put_value(out, entry.get_as::<Vec<String>>(alloc, field)),
+        "people" => put_value(out, entry.get_as::<Vec<Person>>(alloc, field)),
+        "date" => put_value(out, entry.get_as::<Date>(alloc, field)),
         _ => Err(Refusal::Wanted("type", "a type of values")),
     }
 }
@@ -38,20 +38,29 @@ pub(crate) fn set_as(
     out: &mut Writer,
 ) -> Result<(), Refusal> {
     only(alloc, step, &["step", "field", "type", "value"])?;
-    match text(step, "type")? {
-        "integer" => set_value::<i64>(alloc, step, entry)?,
-        "text" => set_value::<String>(alloc, step, entry)?,
-        "gender" => set_value::<Gender>(alloc, step, entry)?,
-        "editor-type" => set_value::<EditorType>(alloc, step, entry)?,
-        "range" => set_value::<Range<u32>>(alloc, step, entry)?,
-        "ranges" => set_value::<Vec<Range<u32>>>(alloc, step, entry)?,
-        "texts" => set_value::<Vec<String>>(alloc, step, entry)?,
-        "people" => set_value::<Vec<Person>>(alloc, step, entry)?,
-        "date" => set_value::<Date>(alloc, step, entry)?,
-        _ => return Err(Refusal::Wanted("type", "a type of values")),
+    set_typed(alloc, step, text(step, "type")?, entry)?;
+    Ok(out.null()?)
+}
+
+/// Gives an entry a field, as the value of the type of that name that a step gives.
+fn set_typed(
+    alloc: Global,
+    step: &Value<'_>,
+    type_name: &str,
+    entry: &mut Entry,
+) -> Result<(), Refusal> {
+    match type_name {
+        "integer" => set_value::<i64>(alloc, step, entry),
+        "text" => set_value::<String>(alloc, step, entry),
+        "gender" => set_value::<Gender>(alloc, step, entry),
+        "editor-type" => set_value::<EditorType>(alloc, step, entry),
+        "range" => set_value::<Range<u32>>(alloc, step, entry),
+        "ranges" => set_value::<Vec<Range<u32>>>(alloc, step, entry),
+        "texts" => set_value::<Vec<String>>(alloc, step, entry),
+        "people" => set_value::<Vec<Person>>(alloc, step, entry),
+        "date" => set_value::<Date>(alloc, step, entry),
+        _ => Err(Refusal::Wanted("type", "a type of values")),
     }
-    out.null()?;
-    Ok(())
 }
 
 /// Gives an entry a field, as the value of the type that a step gives.
@@ -60,10 +69,8 @@ fn set_value<T: FieldType + CaseValue>(
     step: &Value<'_>,
     entry: &mut Entry,
 ) -> Result<(), Refusal> {
-    let Some(value) = step.get("value") else {
-        return Err(Refusal::Wanted("value", "a value of the type"));
-    };
-    let value = T::given(alloc, value)?;
-    entry.set_as(alloc, text(step, "field")?, &value)?;
+    let field = text(step, "field")?;
+    let value: T = given(alloc, step, "value")?;
+    entry.set_as(alloc, field, &value)?;
     Ok(())
 }

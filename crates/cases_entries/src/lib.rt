@@ -16,7 +16,7 @@ use cases::{Refusal, Value, Writer};
 pub use data::read_entry;
 use entries::answer_entry;
 use entry_types::answer_entry_type;
-pub use refusals::{put_parse_error, type_error_name};
+pub use refusals::put_parse_error;
 use std::alloc::Global;
 use values::{answer_abbreviations, answer_field};
 

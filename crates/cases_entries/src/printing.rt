@@ -1,15 +1,9 @@
 //! Entries, their fields and their values, as they are written in answers.
 
 use biblatex::{Chunks, Entry, Fields};
-use cases::Writer;
-use cases_text::{put_chunks, put_string};
+use cases::{Writer, put_text};
+use cases_text::put_chunks;
 use std::alloc::AllocError;
-
-/// Writes a member that is true or false.
-pub(crate) fn put_flag(out: &mut Writer, name: &str, is_true: bool) -> Result<(), AllocError> {
-    out.key(name)?;
-    out.boolean(is_true)
-}
 
 /// Writes an entry: its key, its type and its fields, of which chunks have their places if that is asked.
 pub(crate) fn put_entry(
@@ -18,8 +12,8 @@ pub(crate) fn put_entry(
     has_places: bool,
 ) -> Result<(), AllocError> {
     out.begin_object()?;
-    put_string(out, "key", entry.key.as_str())?;
-    put_string(out, "type", entry.entry_type.name())?;
+    put_text(out, "key", entry.key.as_str())?;
+    put_text(out, "type", entry.entry_type.name())?;
     put_fields(out, &entry.fields, has_places)?;
     out.end_object()
 }
@@ -41,13 +35,4 @@ pub(crate) fn put_value(out: &mut Writer, value: Option<&Chunks>) -> Result<(), 
         Some(value) => put_chunks(out, value.as_slice(), false),
         None => out.null(),
     }
-}
-
-/// Writes a list of texts.
-pub(crate) fn put_texts(out: &mut Writer, texts: &[String]) -> Result<(), AllocError> {
-    out.begin_array()?;
-    for text in texts {
-        out.string(text.as_str())?;
-    }
-    out.end_array()
 }

@@ -1,8 +1,9 @@
 //! What is refused, and where it stands.
 
-use biblatex::{Fault, ParseError, ParseErrorKind, RawError, RetrievalError, Span, TypeErrorKind};
-use cases::{Refusal, Value, Writer, is_set};
-use cases_text::{put_place, put_string, token_name};
+use biblatex::{Fault, ParseError, ParseErrorKind, RawError, RetrievalError};
+use cases::{Refusal, Value, Writer, is_set, put_refused, put_text};
+use cases_text::{put_span, token_name};
+use cases_values::type_error_name;
 use std::alloc::{AllocError, Global};
 
 /// Writes the members that say why a text was not read, and what is said of it where the case asks for that.
@@ -18,7 +19,7 @@ pub fn put_parse_error(
     put_kind(out, kind)?;
     put_span(out, span)?;
     if is_set(case, "message")? {
-        put_string(out, "message", error.to_string(alloc)?.as_str())?;
+        put_text(out, "message", error.to_string(alloc)?.as_str())?;
     }
     Ok(())
 }
@@ -36,7 +37,7 @@ pub(crate) fn put_raw_error(
     put_fault(out, fault)?;
     put_span(out, &(*at..*at))?;
     if is_set(case, "message")? {
-        put_string(out, "message", error.to_string(alloc)?.as_str())?;
+        put_text(out, "message", error.to_string(alloc)?.as_str())?;
     }
     Ok(())
 }
@@ -47,7 +48,7 @@ pub(crate) fn put_retrieval_error(out: &mut Writer, error: &RetrievalError) -> R
         RetrievalError::Memory => return Err(Refusal::Memory),
         RetrievalError::Missing => {
             out.begin_object()?;
-            put_string(out, "refused", "Missing")?;
+            put_refused(out, "Missing")?;
         }
         RetrievalError::TypeError(error) => {
             out.begin_object()?;
@@ -59,24 +60,16 @@ pub(crate) fn put_retrieval_error(out: &mut Writer, error: &RetrievalError) -> R
     Ok(())
 }
 
-/// Writes where something stands, unless it is of no source.
-fn put_span(out: &mut Writer, span: &Span) -> Result<(), AllocError> {
-    if span.start == usize::MAX {
-        return Ok(());
-    }
-    put_place(out, "at", span)
-}
-
 /// Writes why something is refused, and one member more.
 fn put_refused_for(out: &mut Writer, word: &str, name: &str, text: &str) -> Result<(), AllocError> {
-    put_string(out, "refused", word)?;
-    put_string(out, name, text)
+    put_refused(out, word)?;
+    put_text(out, name, text)
 }
 
 /// Writes why a text was not read.
 fn put_kind(out: &mut Writer, kind: &ParseErrorKind) -> Result<(), AllocError> {
     match kind {
-        ParseErrorKind::UnexpectedEof => put_string(out, "refused", "UnexpectedEof"),
+        ParseErrorKind::UnexpectedEof => put_refused(out, "UnexpectedEof"),
         ParseErrorKind::Unexpected(token) => {
             put_refused_for(out, "Unexpected", "token", token_name(*token))
         }
@@ -89,7 +82,7 @@ fn put_kind(out: &mut Writer, kind: &ParseErrorKind) -> Result<(), AllocError> {
         ParseErrorKind::AbbreviationCycle(name) => {
             put_refused_for(out, "AbbreviationCycle", "abbreviation", name.as_str())
         }
-        ParseErrorKind::MalformedCommand => put_string(out, "refused", "MalformedCommand"),
+        ParseErrorKind::MalformedCommand => put_refused(out, "MalformedCommand"),
         ParseErrorKind::DuplicateKey(key) => {
             put_refused_for(out, "DuplicateKey", "key", key.as_str())
         }
@@ -105,21 +98,10 @@ fn put_kind(out: &mut Writer, kind: &ParseErrorKind) -> Result<(), AllocError> {
 /// Writes why a text is not of the grammar.
 fn put_fault(out: &mut Writer, fault: &Fault) -> Result<(), AllocError> {
     match fault {
-        Fault::UnexpectedEof => put_string(out, "refused", "UnexpectedEof"),
+        Fault::UnexpectedEof => put_refused(out, "UnexpectedEof"),
         Fault::Unexpected(token) => {
             put_refused_for(out, "Unexpected", "token", token_name(*token))
         }
         Fault::Expected(token) => put_refused_for(out, "Expected", "token", token_name(*token)),
-    }
-}
-
-/// The name of a fault of a typed reading.
-pub fn type_error_name(kind: TypeErrorKind) -> &'static str {
-    match kind {
-        TypeErrorKind::InvalidFormat => "InvalidFormat",
-        TypeErrorKind::WrongNumberOfDigits => "WrongNumberOfDigits",
-        TypeErrorKind::MonthOutOfRange => "MonthOutOfRange",
-        TypeErrorKind::DayOutOfRange => "DayOutOfRange",
-        TypeErrorKind::Unreadable => "Unreadable",
     }
 }

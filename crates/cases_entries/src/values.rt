@@ -2,11 +2,11 @@
 
 use crate::refusals::{put_parse_error, put_raw_error};
 use biblatex::{
-    Abbreviations, Chunks, ParseError, RawBibliography, RawChunk, Spanned, parse_field,
+    Abbreviations, Chunk, Chunks, Pair, ParseError, RawBibliography, RawChunk, Spanned, parse_field,
 };
-use cases::{Refusal, Value, Writer, items, maybe_text, only, text};
-use cases_text::{put_chunks, put_string};
-use std::alloc::Global;
+use cases::{Refusal, Value, Writer, items, maybe_text, only, put_text, text};
+use cases_text::put_chunks;
+use std::alloc::{AllocError, Global};
 
 /// Answers a case of the kind `field`.
 pub(crate) fn answer_field(
@@ -19,15 +19,46 @@ pub(crate) fn answer_field(
         case,
         &["case", "name", "bib", "field", "pieces", "message"],
     )?;
-    let raw = match RawBibliography::parse(alloc, maybe_text(case, "bib")?.unwrap_or("")) {
-        Ok(raw) => raw,
-        Err(error) => return put_raw_error(alloc, case, out, &error),
-    };
-    let abbreviations = Abbreviations::new(alloc, raw.abbreviations.as_slice())?;
+    match RawBibliography::parse(alloc, maybe_text(case, "bib")?.unwrap_or("")) {
+        Ok(raw) => put_field(alloc, case, out, &raw),
+        Err(error) => put_raw_error(alloc, case, out, &error),
+    }
+}
+
+/// Writes what the pieces of a case are read as, with the abbreviations of a text.
+fn put_field(
+    alloc: Global,
+    case: &Value<'_>,
+    out: &mut Writer,
+    raw: &RawBibliography<'_>,
+) -> Result<(), Refusal> {
     let pieces = read_pieces(alloc, case)?;
-    let field = text(case, "field")?;
-    let found = parse_field(alloc, field, pieces.as_slice(), &abbreviations);
-    put_found(alloc, case, out, found)
+    put_value(
+        alloc,
+        case,
+        out,
+        raw,
+        text(case, "field")?,
+        pieces.as_slice(),
+    )
+}
+
+/// Writes what pieces are read as in a field, with the abbreviations of a text.
+fn put_value(
+    alloc: Global,
+    case: &Value<'_>,
+    out: &mut Writer,
+    raw: &RawBibliography<'_>,
+    field: &str,
+    pieces: &[Spanned<RawChunk<'_>>],
+) -> Result<(), Refusal> {
+    let abbreviations = Abbreviations::new(alloc, raw.abbreviations.as_slice())?;
+    put_found(
+        alloc,
+        case,
+        out,
+        parse_field(alloc, field, pieces, &abbreviations),
+    )
 }
 
 /// The pieces of a value. They are of no source.
@@ -50,6 +81,12 @@ fn read_piece<'a>(item: &Value<'a>) -> Result<RawChunk<'a>, Refusal> {
     }
 }
 
+/// Writes the member `chunks`.
+fn put_read(out: &mut Writer, chunks: &[Spanned<Chunk>]) -> Result<(), AllocError> {
+    out.key("chunks")?;
+    put_chunks(out, chunks, false)
+}
+
 /// Writes the member `chunks`, or why there are none.
 fn put_found(
     alloc: Global,
@@ -58,11 +95,7 @@ fn put_found(
     found: Result<Chunks, ParseError>,
 ) -> Result<(), Refusal> {
     match found {
-        Ok(value) => {
-            out.key("chunks")?;
-            put_chunks(out, value.as_slice(), false)?;
-            Ok(())
-        }
+        Ok(value) => Ok(put_read(out, value.as_slice())?),
         Err(error) => put_parse_error(alloc, case, out, &error),
     }
 }
@@ -74,32 +107,52 @@ pub(crate) fn answer_abbreviations(
     out: &mut Writer,
 ) -> Result<(), Refusal> {
     only(alloc, case, &["case", "name", "bib", "message"])?;
-    let raw = match RawBibliography::parse(alloc, text(case, "bib")?) {
-        Ok(raw) => raw,
-        Err(error) => return put_raw_error(alloc, case, out, &error),
-    };
-    out.key("abbreviations")?;
-    out.begin_array()?;
-    put_definitions(alloc, case, out, &raw)?;
-    out.end_array()?;
-    Ok(())
+    match RawBibliography::parse(alloc, text(case, "bib")?) {
+        Ok(raw) => put_abbreviations(alloc, case, out, &raw),
+        Err(error) => put_raw_error(alloc, case, out, &error),
+    }
 }
 
 /// Writes each definition of a text with what it gives.
-fn put_definitions(
+fn put_abbreviations(
     alloc: Global,
     case: &Value<'_>,
     out: &mut Writer,
     raw: &RawBibliography<'_>,
 ) -> Result<(), Refusal> {
-    let abbreviations = Abbreviations::new(alloc, raw.abbreviations.as_slice())?;
-    for definition in raw.abbreviations.iter() {
-        out.begin_object()?;
-        put_string(out, "name", definition.key.v)?;
-        let pieces = definition.value.v.as_slice();
-        let found = parse_field(alloc, definition.key.v, pieces, &abbreviations);
-        put_found(alloc, case, out, found)?;
-        out.end_object()?;
+    let definitions = raw.abbreviations.as_slice();
+    let abbreviations = Abbreviations::new(alloc, definitions)?;
+    put_definitions(alloc, case, out, definitions, &abbreviations)
+}
+
+/// Writes each definition with what it gives.
+fn put_definitions(
+    alloc: Global,
+    case: &Value<'_>,
+    out: &mut Writer,
+    definitions: &[Pair<'_>],
+    abbreviations: &Abbreviations<'_, '_>,
+) -> Result<(), Refusal> {
+    out.key("abbreviations")?;
+    out.begin_array()?;
+    for definition in definitions {
+        put_definition(alloc, case, out, definition, abbreviations)?;
     }
-    Ok(())
+    Ok(out.end_array()?)
+}
+
+/// Writes a definition with what it gives.
+fn put_definition(
+    alloc: Global,
+    case: &Value<'_>,
+    out: &mut Writer,
+    definition: &Pair<'_>,
+    abbreviations: &Abbreviations<'_, '_>,
+) -> Result<(), Refusal> {
+    out.begin_object()?;
+    put_text(out, "name", definition.key.v)?;
+    let pieces = definition.value.v.as_slice();
+    let found = parse_field(alloc, definition.key.v, pieces, abbreviations);
+    put_found(alloc, case, out, found)?;
+    Ok(out.end_object()?)
 }

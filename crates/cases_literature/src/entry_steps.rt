@@ -1,14 +1,14 @@
 //! What is asked of entries one by one, and set in them.
 
 use crate::ENTRY_DEPTH;
-use crate::answers::{member, put_bool, put_text_or_null};
-use crate::copying::copied;
-use crate::dates::put_date;
+use crate::copies::put_copies;
 use crate::given_entries::entry_of;
-use crate::sources::put_url;
 use crate::written_entries::put_entry;
-use cases::{Refusal, Value, Writer, items, only, text};
-use literature::{Date, Entry, QualifiedUrl};
+use cases::{
+    Refusal, Value, Writer, items, maybe_owned_text, member, only, put_bool, put_text_or_null, text,
+};
+use cases_values::put_or_null;
+use literature::Entry;
 use std::alloc::{AllocError, Global};
 use std::hash::{DefaultHasher, Hash, Hasher};
 
@@ -37,6 +37,17 @@ fn put_equal(out: &mut Writer, one: &Entry, other: &Entry) -> Result<(), AllocEr
     put_bool(out, "hashes_alike", hash_of(one) == hash_of(other))
 }
 
+/// Writes how an entry compares with that of the member `other`.
+fn put_compared(
+    alloc: Global,
+    case: &Value<'_>,
+    one: &Entry,
+    out: &mut Writer,
+) -> Result<(), Refusal> {
+    let other = entry_member(alloc, case, "other")?;
+    Ok(put_equal(out, one, &other)?)
+}
+
 /// `equal_entries`: whether two entries are equal, and whether their hashes are.
 pub(crate) fn equal_entries(
     alloc: Global,
@@ -45,30 +56,7 @@ pub(crate) fn equal_entries(
 ) -> Result<(), Refusal> {
     only(alloc, case, &["case", "name", "one", "other"])?;
     let one = entry_member(alloc, case, "one")?;
-    let other = entry_member(alloc, case, "other")?;
-    put_equal(out, &one, &other)?;
-    Ok(())
-}
-
-/// A text of its own of the member `number`.
-fn number_of(alloc: Global, step: &Value<'_>) -> Result<String, Refusal> {
-    Ok(String::from_str(alloc, text(step, "number")?)?)
-}
-
-/// Writes a date, or null.
-fn put_maybe_date(out: &mut Writer, date: Option<&Date>) -> Result<(), AllocError> {
-    match date {
-        Some(date) => put_date(out, date),
-        None => out.null(),
-    }
-}
-
-/// Writes an address, or null.
-fn put_maybe_url(out: &mut Writer, url: Option<&QualifiedUrl>) -> Result<(), AllocError> {
-    match url {
-        Some(url) => put_url(out, url),
-        None => out.null(),
-    }
+    put_compared(alloc, case, &one, out)
 }
 
 /// The key of the first entry that has the field, of the entry and its ancestors.
@@ -89,26 +77,35 @@ fn first_parent_with<'e>(entry: &'e Entry, field: &str) -> Result<Option<&'e str
     })
 }
 
-/// Writes the answer of a step that sets a serial number; false where it is none.
-fn set_number(
+/// Sets the serial number of a scheme that has a call of its own; false where the step is none of these calls.
+fn set_number(name: &str, number: String, entry: &mut Entry) -> Result<bool, AllocError> {
+    match name {
+        "set_doi" => entry.set_doi(number)?,
+        "set_isbn" => entry.set_isbn(number)?,
+        "set_issn" => entry.set_issn(number)?,
+        "set_pmid" => entry.set_pmid(number)?,
+        "set_pmcid" => entry.set_pmcid(number)?,
+        "set_arxiv" => entry.set_arxiv(number)?,
+        _ => return Ok(false),
+    }
+    Ok(true)
+}
+
+/// Takes a step that sets a serial number; false where it is none.
+fn take_number(
     alloc: Global,
     step: &Value<'_>,
     name: &str,
     entry: &mut Entry,
 ) -> Result<bool, Refusal> {
-    match name {
-        "set_doi" => entry.set_doi(number_of(alloc, step)?)?,
-        "set_isbn" => entry.set_isbn(number_of(alloc, step)?)?,
-        "set_issn" => entry.set_issn(number_of(alloc, step)?)?,
-        "set_pmid" => entry.set_pmid(number_of(alloc, step)?)?,
-        "set_pmcid" => entry.set_pmcid(number_of(alloc, step)?)?,
-        "set_arxiv" => entry.set_arxiv(number_of(alloc, step)?)?,
-        "set_keyed_serial_number" => {
-            entry.set_keyed_serial_number(text(step, "scheme")?, number_of(alloc, step)?)?
-        }
-        _ => return Ok(false),
+    let Some(number) = maybe_owned_text(alloc, step, "number")? else {
+        return Ok(false);
+    };
+    if name == "set_keyed_serial_number" {
+        entry.set_keyed_serial_number(text(step, "scheme")?, number)?;
+        return Ok(true);
     }
-    Ok(true)
+    Ok(set_number(name, number, entry)?)
 }
 
 /// Writes the answer of a step that asks for a serial number; false where it is none.
@@ -133,15 +130,8 @@ fn put_number(
     Ok(true)
 }
 
-/// Writes a copy of an entry.
-fn put_copy(alloc: Global, entry: &Entry, out: &mut Writer) -> Result<(), Refusal> {
-    let copy = copied(alloc, entry, ENTRY_DEPTH)?;
-    put_entry(out, &copy, ENTRY_DEPTH)
-}
-
 /// Writes the answer of a step that asks for anything else; false where it is none.
 fn put_found(
-    alloc: Global,
     step: &Value<'_>,
     name: &str,
     entry: &Entry,
@@ -151,10 +141,10 @@ fn put_found(
         "has" => out.boolean(entry.has(text(step, "field")?))?,
         "map" => put_text_or_null(out, first_with(entry, text(step, "field")?)?)?,
         "map_parents" => put_text_or_null(out, first_parent_with(entry, text(step, "field")?)?)?,
-        "date_any" => put_maybe_date(out, entry.date_any()?)?,
-        "url_any" => put_maybe_url(out, entry.url_any()?)?,
+        "date_any" => put_or_null(out, entry.date_any()?)?,
+        "url_any" => put_or_null(out, entry.url_any()?)?,
         "entry" => put_entry(out, entry, ENTRY_DEPTH)?,
-        "clone" => put_copy(alloc, entry, out)?,
+        "copies" => put_copies(out, entry)?,
         _ => return Ok(false),
     }
     Ok(true)
@@ -168,11 +158,10 @@ fn put_answer(
     entry: &mut Entry,
     out: &mut Writer,
 ) -> Result<(), Refusal> {
-    if set_number(alloc, step, name, entry)? {
-        out.null()?;
-        return Ok(());
+    if take_number(alloc, step, name, entry)? {
+        return Ok(out.null()?);
     }
-    if put_number(step, name, entry, out)? || put_found(alloc, step, name, entry, out)? {
+    if put_number(step, name, entry, out)? || put_found(step, name, entry, out)? {
         return Ok(());
     }
     Err(Refusal::Wanted("step", "the name of a call"))
@@ -202,6 +191,17 @@ fn take_steps(
     Ok(())
 }
 
+/// Takes the steps at the entry of a case.
+fn take_at_given(
+    alloc: Global,
+    case: &Value<'_>,
+    steps: &Vec<Value<'_>>,
+    out: &mut Writer,
+) -> Result<(), Refusal> {
+    let mut entry = entry_member(alloc, case, "entry")?;
+    take_steps(alloc, steps, &mut entry, out)
+}
+
 /// `library_entry`: what calls of an entry answer, one after the other.
 pub(crate) fn library_entry(
     alloc: Global,
@@ -209,13 +209,12 @@ pub(crate) fn library_entry(
     out: &mut Writer,
 ) -> Result<(), Refusal> {
     only(alloc, case, &["case", "name", "entry", "steps"])?;
-    let mut entry = entry_member(alloc, case, "entry")?;
     let Some(steps) = items(case, "steps")? else {
         return Err(Refusal::Wanted("steps", "a list"));
     };
     out.key("steps")?;
     out.begin_array()?;
-    take_steps(alloc, steps, &mut entry, out)?;
+    take_at_given(alloc, case, steps, out)?;
     out.end_array()?;
     Ok(())
 }

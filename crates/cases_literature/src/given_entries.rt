@@ -1,7 +1,7 @@
 //! Entries, read from JSON.
 
 use crate::fields::set_fields;
-use cases::{Refusal, Value, items, only, text};
+use cases::{Refusal, Value, items, only, owned_text, text};
 use literature::{Entry, EntryType};
 use std::alloc::Global;
 
@@ -41,8 +41,7 @@ fn type_of(given: &Value<'_>) -> Result<EntryType, Refusal> {
 fn bare(alloc: Global, given: &Value<'_>) -> Result<Entry, Refusal> {
     only(alloc, given, &MEMBERS)?;
     let entry_type = type_of(given)?;
-    let key = String::from_str(alloc, text(given, "key")?)?;
-    Ok(Entry::new(key, entry_type))
+    Ok(Entry::new(owned_text(alloc, given, "key")?, entry_type))
 }
 
 /// An entry without its parents.

@@ -1,15 +1,14 @@
 //! The initials of given names.
 
-use crate::answers::{owned, put_text};
-use cases::{Refusal, Value, Writer, is_set, maybe_text, only};
+use cases::{Refusal, Value, Writer, is_set, maybe_owned_text, maybe_text, only, put_text};
 use literature::Person;
-use std::alloc::{AllocError, Global};
+use std::alloc::Global;
 
-/// A person with a given name, or with none.
-fn person(alloc: Global, given_name: Option<&str>) -> Result<Person, AllocError> {
+/// A person with the given name of a case, or with none.
+fn person_of(alloc: Global, case: &Value<'_>) -> Result<Person, Refusal> {
     Ok(Person {
         name: String::new(alloc),
-        given_name: owned(alloc, given_name)?,
+        given_name: maybe_owned_text(alloc, case, "given_name")?,
         prefix: None,
         suffix: None,
     })
@@ -29,6 +28,18 @@ fn initials_of(
     }
 }
 
+/// Writes the initials of a person.
+fn put_initials(
+    alloc: Global,
+    case: &Value<'_>,
+    person: &Person,
+    out: &mut Writer,
+) -> Result<(), Refusal> {
+    let delimiter = maybe_text(case, "delimiter")?;
+    let written = initials_of(alloc, person, delimiter, is_set(case, "hyphen")?)?;
+    Ok(put_text(out, "text", written.as_str())?)
+}
+
 /// `initials`: those of a person of a given name.
 pub(crate) fn initials(alloc: Global, case: &Value<'_>, out: &mut Writer) -> Result<(), Refusal> {
     only(
@@ -36,10 +47,6 @@ pub(crate) fn initials(alloc: Global, case: &Value<'_>, out: &mut Writer) -> Res
         case,
         &["case", "name", "given_name", "delimiter", "hyphen"],
     )?;
-    let delimiter = maybe_text(case, "delimiter")?;
-    let with_hyphen = is_set(case, "hyphen")?;
-    let person = person(alloc, maybe_text(case, "given_name")?)?;
-    let written = initials_of(alloc, &person, delimiter, with_hyphen)?;
-    put_text(out, "text", written.as_str())?;
-    Ok(())
+    let person = person_of(alloc, case)?;
+    put_initials(alloc, case, &person, out)
 }

@@ -1,26 +1,19 @@
 //! Cases of numbers, dates, people, entries, selectors and libraries.
 #![tactic(auto)]
 
-mod answers;
-mod copying;
-mod dates;
+mod asked;
+mod copies;
 mod entry_steps;
 mod fields;
 mod given_entries;
 mod initials;
 mod libraries;
-mod numbers;
-mod pages;
-mod people;
 mod reading;
 mod selectors;
-mod sources;
-mod texts;
 mod written_entries;
 
 use cases::{Refusal, Value, Writer};
 pub use given_entries::entry_of;
-pub use people::put_person;
 use std::alloc::Global;
 pub use written_entries::put_entry;
 

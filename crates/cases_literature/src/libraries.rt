@@ -4,7 +4,7 @@ use crate::ENTRY_DEPTH;
 use crate::entry_steps::entry_member;
 use crate::given_entries::entry_of;
 use crate::written_entries::put_entry;
-use cases::{Refusal, Value, Writer, items, number, only, text};
+use cases::{Refusal, Value, Writer, count, items, only, text};
 use literature::{Entry, Library};
 use std::alloc::{AllocError, Global};
 
@@ -38,35 +38,27 @@ fn put_entry_keys(out: &mut Writer, library: &Library) -> Result<(), AllocError>
     out.end_array()
 }
 
-/// Writes the key of an entry that was taken out of a library.
-fn put_taken_key(out: &mut Writer, entry: Entry) -> Result<(), AllocError> {
-    out.string(entry.key())
+/// Writes the keys of entries.
+fn put_keys_of(out: &mut Writer, entries: &[Entry]) -> Result<(), AllocError> {
+    out.key("entries")?;
+    out.begin_array()?;
+    for entry in entries {
+        out.string(entry.key())?;
+    }
+    out.end_array()
 }
 
-/// Writes the keys of entries that are taken out of a library.
-fn put_taken_keys(out: &mut Writer, library: Library) -> Result<(), AllocError> {
-    for entry in library {
-        put_taken_key(out, entry)?;
-    }
-    Ok(())
+/// Writes the keys of the entries that are taken out of a library.
+fn put_taken_keys(alloc: Global, library: Library, out: &mut Writer) -> Result<(), Refusal> {
+    let entries: Vec<Entry> = library.into_iter().collect(alloc)?;
+    Ok(put_keys_of(out, entries.as_slice())?)
 }
 
 /// Writes an entry, or null.
 fn put_maybe_entry(out: &mut Writer, entry: Option<&Entry>) -> Result<(), Refusal> {
     match entry {
         Some(entry) => put_entry(out, entry, ENTRY_DEPTH),
-        None => {
-            out.null()?;
-            Ok(())
-        }
-    }
-}
-
-/// The place of a step.
-fn place_of(step: &Value<'_>) -> Result<usize, Refusal> {
-    match usize::try_from(number(step, "place")?) {
-        Ok(place) => Ok(place),
-        Err(_) => Err(Refusal::Wanted("place", "an integer from 0")),
+        None => Ok(out.null()?),
     }
 }
 
@@ -88,7 +80,7 @@ fn put_found(
 ) -> Result<(), Refusal> {
     match name {
         "get" => put_maybe_entry(out, library.get(text(step, "key")?)),
-        "nth" => put_maybe_entry(out, library.nth(place_of(step)?)),
+        "nth" => put_maybe_entry(out, library.nth(count(step, "place")?)),
         "len" => put_len(out, library),
         "is_empty" => Ok(out.boolean(library.is_empty())?),
         "keys" => Ok(put_keys(out, library)?),
@@ -121,8 +113,7 @@ fn put_answer(
     match name {
         "push" => {
             push(alloc, step, library)?;
-            out.null()?;
-            Ok(())
+            Ok(out.null()?)
         }
         "remove" => put_removed(out, text(step, "key")?, library),
         _ => put_found(step, name, library, out),
@@ -165,10 +156,7 @@ fn put_steps(
     if let Some(steps) = items(case, "steps")? {
         take_steps(alloc, steps, library, out)?;
     }
-    out.end_array()?;
-    out.key("entries")?;
-    out.begin_array()?;
-    Ok(())
+    Ok(out.end_array()?)
 }
 
 /// `library`: what calls of a library answer, one after the other, and the keys of the entries that it has at last.
@@ -176,7 +164,5 @@ pub(crate) fn library(alloc: Global, case: &Value<'_>, out: &mut Writer) -> Resu
     only(alloc, case, &["case", "name", "entries", "steps"])?;
     let mut library = library_of(alloc, case)?;
     put_steps(alloc, case, &mut library, out)?;
-    put_taken_keys(out, library)?;
-    out.end_array()?;
-    Ok(())
+    put_taken_keys(alloc, library, out)
 }

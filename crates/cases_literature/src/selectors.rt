@@ -1,11 +1,11 @@
 //! Selectors at entries, and queries.
 
-use crate::answers::{
-    is_shown, member, only_shown, put_bool, put_refused, put_text, put_text_or_null,
-};
 use crate::entry_steps::entry_member;
 use crate::libraries::library_of;
-use cases::{Refusal, Value, Writer, only, text, texts};
+use cases::{
+    Refusal, Value, Writer, is_shown, member, only, only_shown, put_bool, put_refused, put_text,
+    put_text_or_null, text, texts,
+};
 use literature::{Bindings, BoundSelect, Entry, Library, Selected, Selector, SelectorError};
 use std::alloc::{AllocError, Global};
 
@@ -65,11 +65,11 @@ fn put_applied(
     out: &mut Writer,
 ) -> Result<(), Refusal> {
     out.key("bindings")?;
-    match selector.apply(alloc, entry)? {
-        Some(bindings) => put_bindings(out, &bindings)?,
-        None => out.null()?,
-    }
-    Ok(())
+    let written = match selector.apply(alloc, entry)? {
+        Some(bindings) => put_bindings(out, &bindings),
+        None => out.null(),
+    };
+    Ok(written?)
 }
 
 /// Writes for each of the names the key of the entry that is bound to it, or null.
@@ -105,10 +105,10 @@ fn put_at_entry(
         put_applied(alloc, selector, entry, out)?;
     }
     let names = texts(alloc, case, "names")?;
-    if !names.is_empty() {
-        put_each_bound(alloc, selector, entry, names.as_slice(), out)?;
+    if names.is_empty() {
+        return Ok(());
     }
-    Ok(())
+    put_each_bound(alloc, selector, entry, names.as_slice(), out)
 }
 
 /// Writes what is asked of a selector at the entry of the case.

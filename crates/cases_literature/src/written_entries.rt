@@ -1,94 +1,49 @@
 //! Entries, written as JSON.
 
-use crate::answers::{put_maybe_text, put_text};
-use crate::dates::put_date;
-use crate::numbers::{put_maybe_numeric, put_numeric};
-use crate::pages::put_maybe_pages;
-use crate::people::put_maybe_people;
-use crate::sources::{put_serials, put_url};
-use crate::texts::{put_maybe_format, put_publisher};
-use cases::{Refusal, Writer};
-use literature::{Entry, MaybeTyped, Numeric};
+use cases::{Refusal, Writer, put_maybe_text, put_text};
+use cases_values::{put_list, put_maybe};
+use literature::{Entry, Person};
 use std::alloc::AllocError;
 
-/// Writes a member that is a number or a text that spells none, where there is one.
-fn put_maybe_number(
-    out: &mut Writer,
-    name: &str,
-    number: Option<&MaybeTyped<Numeric>>,
-) -> Result<(), AllocError> {
-    match number {
-        Some(number) => {
+/// Writes a member that is a list of people, where there is one.
+fn put_people(out: &mut Writer, name: &str, people: Option<&[Person]>) -> Result<(), AllocError> {
+    match people {
+        Some(people) => {
             out.key(name)?;
-            put_maybe_numeric(out, number)
+            put_list(out, people)
         }
         None => Ok(()),
     }
 }
 
-/// Writes a member that is a number, where there is one.
-fn put_maybe_total(
-    out: &mut Writer,
-    name: &str,
-    number: Option<&Numeric>,
-) -> Result<(), AllocError> {
-    match number {
-        Some(number) => {
-            out.key(name)?;
-            put_numeric(out, number)
-        }
-        None => Ok(()),
-    }
-}
-
-/// Writes key, type, title and people.
+/// Writes key, type, title, people, date and publisher.
 fn put_head(out: &mut Writer, entry: &Entry) -> Result<(), AllocError> {
     put_text(out, "key", entry.key())?;
     put_text(out, "type", entry.entry_type().name())?;
-    put_maybe_format(out, "title", entry.title())?;
-    put_maybe_people(out, "author", entry.author())?;
-    put_maybe_people(out, "editor", entry.editor())?;
-    put_maybe_people(out, "translator", entry.translator())
-}
-
-/// Writes the date and the publisher.
-fn put_publication(out: &mut Writer, entry: &Entry) -> Result<(), AllocError> {
-    if let Some(date) = entry.date() {
-        out.key("date")?;
-        put_date(out, date)?;
-    }
-    if let Some(publisher) = entry.publisher() {
-        out.key("publisher")?;
-        put_publisher(out, publisher)?;
-    }
-    Ok(())
+    put_maybe(out, "title", entry.title())?;
+    put_people(out, "author", entry.author())?;
+    put_people(out, "editor", entry.editor())?;
+    put_people(out, "translator", entry.translator())?;
+    put_maybe(out, "date", entry.date())?;
+    put_maybe(out, "publisher", entry.publisher())
 }
 
 /// Writes the numbers, and the pages.
 fn put_numbers(out: &mut Writer, entry: &Entry) -> Result<(), AllocError> {
-    put_maybe_number(out, "volume", entry.volume())?;
-    put_maybe_total(out, "volume_total", entry.volume_total())?;
-    put_maybe_number(out, "issue", entry.issue())?;
-    put_maybe_number(out, "chapter", entry.chapter())?;
-    put_maybe_number(out, "edition", entry.edition())?;
-    if let Some(pages) = entry.page_range() {
-        out.key("page_range")?;
-        put_maybe_pages(out, pages)?;
-    }
-    put_maybe_total(out, "page_total", entry.page_total())
+    put_maybe(out, "volume", entry.volume())?;
+    put_maybe(out, "volume_total", entry.volume_total())?;
+    put_maybe(out, "issue", entry.issue())?;
+    put_maybe(out, "chapter", entry.chapter())?;
+    put_maybe(out, "edition", entry.edition())?;
+    put_maybe(out, "page_range", entry.page_range())?;
+    put_maybe(out, "page_total", entry.page_total())
 }
 
 /// Writes address, serial numbers, note and language.
 fn put_rest(out: &mut Writer, entry: &Entry) -> Result<(), AllocError> {
-    if let Some(url) = entry.url() {
-        out.key("url")?;
-        put_url(out, url)?;
-    }
-    if let Some(numbers) = entry.serial_number() {
-        out.key("serial_number")?;
-        put_serials(out, numbers)?;
-    }
-    put_maybe_format(out, "note", entry.note())?;
+    put_maybe(out, "url", entry.url())?;
+    put_maybe(out, "serial_number", entry.serial_number())?;
+    put_maybe(out, "note", entry.note())?;
     put_maybe_text(out, "language", entry.language())
 }
 
@@ -97,7 +52,6 @@ fn put_rest(out: &mut Writer, entry: &Entry) -> Result<(), AllocError> {
 pub fn put_entry(out: &mut Writer, entry: &Entry, depth: u32) -> Result<(), Refusal> {
     out.begin_object()?;
     put_head(out, entry)?;
-    put_publication(out, entry)?;
     put_numbers(out, entry)?;
     put_rest(out, entry)?;
     put_parents(out, entry.parents(), depth)?;

@@ -1,8 +1,7 @@
 //! Classes of characters, and names of verbatim fields.
 
-use crate::places::put_string;
 use biblatex::{is_escapable, is_id_continue, is_id_start, is_key, is_verbatim_field};
-use cases::{Refusal, Value, Writer, is_set, only, text};
+use cases::{Refusal, Value, Writer, is_set, only, put_bool, put_text, text};
 use std::alloc::{AllocError, Global};
 
 /// What characters are asked for.
@@ -71,7 +70,7 @@ pub(crate) fn answer_characters(
     )?;
     let class = read_class(case)?;
     let found = those_of(alloc, class, text(case, "text")?)?;
-    Ok(put_string(out, "text", found.as_str())?)
+    Ok(put_text(out, "text", found.as_str())?)
 }
 
 /// A name: whether it is that of a verbatim field.
@@ -81,7 +80,5 @@ pub(crate) fn answer_verbatim_field(
     out: &mut Writer,
 ) -> Result<(), Refusal> {
     only(alloc, case, &["case", "name", "field"])?;
-    let field = text(case, "field")?;
-    out.key("verbatim")?;
-    Ok(out.boolean(is_verbatim_field(field))?)
+    Ok(put_bool(out, "verbatim", is_verbatim_field(text(case, "field")?))?)
 }

@@ -1,9 +1,10 @@
 //! Chunks, as they are read from a case and written to an answer.
 
-use crate::places::{maybe_place, put_place, put_string};
+use crate::places::{maybe_place, put_span};
 use biblatex::{Chunk, Chunks, Spanned};
-use cases::{Refusal, Value, Writer, items, maybe_text, only};
+use cases::{Refusal, Value, Writer, items, maybe_text, only, put_text};
 use std::alloc::{AllocError, Global};
+use std::ops::Range;
 
 /// Writes a chunk as the member of its kind.
 fn put_chunk(out: &mut Writer, chunk: &Chunk) -> Result<(), AllocError> {
@@ -12,19 +13,19 @@ fn put_chunk(out: &mut Writer, chunk: &Chunk) -> Result<(), AllocError> {
         Chunk::Verbatim(_) => "verbatim",
         Chunk::Math(_) => "math",
     };
-    put_string(out, kind, chunk.get())
+    put_text(out, kind, chunk.get())
 }
 
 /// Writes a chunk as an object, with its place where that is asked for and the chunk has one.
-fn put_placed(
+fn put_object(
     out: &mut Writer,
     chunk: &Spanned<Chunk>,
     has_places: bool,
 ) -> Result<(), AllocError> {
     out.begin_object()?;
     put_chunk(out, &chunk.v)?;
-    if has_places && !chunk.is_detached() {
-        put_place(out, "at", &chunk.span)?;
+    if has_places {
+        put_span(out, &chunk.span)?;
     }
     out.end_object()
 }
@@ -37,7 +38,7 @@ pub fn put_chunks(
 ) -> Result<(), AllocError> {
     out.begin_array()?;
     for chunk in chunks.iter() {
-        put_placed(out, chunk, has_places)?;
+        put_object(out, chunk, has_places)?;
     }
     out.end_array()
 }
@@ -63,26 +64,35 @@ fn kind_and_text<'a>(object: &Value<'a>) -> Result<(Kind, &'a str), Refusal> {
     }
 }
 
-/// The chunk that an object says.
-fn read_chunk(alloc: Global, object: &Value<'_>) -> Result<Chunk, Refusal> {
-    let (kind, text) = kind_and_text(object)?;
-    let text = String::from_str(alloc, text)?;
-    match kind {
-        Kind::Normal => Ok(Chunk::Normal(text)),
-        Kind::Verbatim => Ok(Chunk::Verbatim(text)),
-        Kind::Math => Ok(Chunk::Math(text)),
+/// A chunk, at its place; one without a place is of no source.
+fn placed(chunk: Chunk, place: Option<Range<usize>>) -> Spanned<Chunk> {
+    match place {
+        Some(place) => Spanned::new(chunk, place),
+        None => Spanned::detached(chunk),
     }
 }
 
-/// The chunk that an object says, at its place; one without a place is of no source.
-fn read_placed(alloc: Global, object: &Value<'_>) -> Result<Spanned<Chunk>, Refusal> {
+/// The chunk that an object says, at its place.
+fn read_chunk(alloc: Global, object: &Value<'_>) -> Result<Spanned<Chunk>, Refusal> {
     only(alloc, object, &["normal", "verbatim", "math", "at"])?;
     let place = maybe_place(object)?;
-    let chunk = read_chunk(alloc, object)?;
-    match place {
-        Some(place) => Ok(Spanned::new(chunk, place)),
-        None => Ok(Spanned::detached(chunk)),
+    let (kind, text) = kind_and_text(object)?;
+    let text = String::from_str(alloc, text)?;
+    let chunk = match kind {
+        Kind::Normal => Chunk::Normal(text),
+        Kind::Verbatim => Chunk::Verbatim(text),
+        Kind::Math => Chunk::Math(text),
+    };
+    Ok(placed(chunk, place))
+}
+
+/// The chunks that objects say.
+pub fn read_chunks_in(alloc: Global, items: &[Value<'_>]) -> Result<Chunks, Refusal> {
+    let mut chunks = Vec::new(alloc);
+    for item in items {
+        chunks.push(read_chunk(alloc, item)?)?;
     }
+    Ok(chunks)
 }
 
 /// The chunks of the list of the name; one that is left out is empty.
@@ -91,12 +101,19 @@ pub fn read_chunks(
     object: &Value<'_>,
     name: &'static str,
 ) -> Result<Chunks, Refusal> {
-    let mut chunks = Vec::new(alloc);
-    let Some(items) = items(object, name)? else {
-        return Ok(chunks);
-    };
-    for item in items {
-        chunks.push(read_placed(alloc, item)?)?;
+    match items(object, name)? {
+        Some(items) => read_chunks_in(alloc, items.as_slice()),
+        None => Ok(Vec::new(alloc)),
     }
+}
+
+/// One chunk of normal text, at a place or of no source.
+pub fn normal_chunks(
+    alloc: Global,
+    text: &str,
+    place: Option<Range<usize>>,
+) -> Result<Chunks, Refusal> {
+    let mut chunks = Vec::new(alloc);
+    chunks.push(placed(Chunk::Normal(String::from_str(alloc, text)?), place))?;
     Ok(chunks)
 }

@@ -1,11 +1,12 @@
 //! Contents of fields: what their pieces give.
 
-use crate::places::{maybe_place, put_string};
-use crate::showing::{is_shown, shown};
+use crate::places::maybe_place;
 use crate::telling::Told;
 use biblatex::Spanned;
 use biblatex_content::{ContentError, Contents};
-use cases::{Refusal, Value, Writer, is_set, items, only, text};
+use cases::{
+    Refusal, Value, Writer, is_set, is_shown, items, only, only_shown, put_bool, put_refused, text,
+};
 use std::alloc::Global;
 
 /// The text of a piece, at its place; one without a place stands before the first byte.
@@ -73,14 +74,8 @@ fn put_contents(
 ) -> Result<(), Refusal> {
     let is_verbatim = is_set(case, "verbatim")?;
     let has_places = is_set(case, "places")?;
-    let names = shown(
-        alloc,
-        case,
-        &["empty", "chunks", "written", "each", "text", "at"],
-    )?;
-    if is_shown(&names, "empty") {
-        out.key("empty")?;
-        out.boolean(contents.is_empty())?;
+    if is_shown(case, "empty", false)? {
+        put_bool(out, "empty", contents.is_empty())?;
     }
     let chunks = contents.finish()?;
     let told = Told {
@@ -89,10 +84,7 @@ fn put_contents(
         has_places,
         before: None,
     };
-    if names.is_empty() {
-        told.put_all(alloc, out, &["chunks"])?;
-    }
-    Ok(told.put_all(alloc, out, names.as_slice())?)
+    told.put_shown(alloc, case, "chunks", out)
 }
 
 /// Pieces of a field, verbatim or ordinary: the chunks that they give.
@@ -106,12 +98,11 @@ pub(crate) fn answer_content(
         case,
         &["case", "name", "pieces", "verbatim", "places", "show"],
     )?;
+    only_shown(case, &["empty", "chunks", "written", "each", "text", "at"])?;
     let pieces = read_pieces(alloc, case)?;
     match contents_of(alloc, pieces, is_set(case, "verbatim")?) {
         Ok(contents) => put_contents(alloc, case, out, contents),
         Err(ContentError::Memory) => Err(Refusal::Memory),
-        Err(ContentError::MalformedCommand) => {
-            Ok(put_string(out, "refused", "MalformedCommand")?)
-        }
+        Err(ContentError::MalformedCommand) => Ok(put_refused(out, "MalformedCommand")?),
     }
 }

@@ -1,11 +1,11 @@
 //! Texts of files, as their raw grammar reads them.
 
-use crate::places::{put_place, put_string};
+use crate::places::put_place;
 use biblatex::{
     BiblatexParser, Fault, Field, Pair, RawBibliography, RawChunk, RawEntry, RawError, Spanned,
     Token,
 };
-use cases::{Refusal, Value, Writer, is_set, only, text};
+use cases::{Refusal, Value, Writer, is_set, only, put_refused, put_text, text};
 use std::alloc::{AllocError, Global};
 
 /// The name of a mark of the grammar.
@@ -22,14 +22,14 @@ pub fn token_name(token: Token) -> &'static str {
 }
 
 /// Writes a text as the member of the name, and its place where that is asked for.
-fn put_text(
+fn put_placed(
     out: &mut Writer,
     name: &str,
     place_name: &str,
     text: &Spanned<&str>,
     has_places: bool,
 ) -> Result<(), AllocError> {
-    put_string(out, name, text.v)?;
+    put_text(out, name, text.v)?;
     if has_places {
         put_place(out, place_name, &text.span)?;
     }
@@ -47,7 +47,7 @@ fn put_piece(
         RawChunk::Normal(text) => ("text", text),
         RawChunk::Abbreviation(name) => ("abbreviation", name),
     };
-    put_string(out, kind, text)?;
+    put_text(out, kind, text)?;
     if has_places {
         put_place(out, "at", &piece.span)?;
     }
@@ -75,7 +75,7 @@ fn put_value(
 /// Writes a field or an abbreviation as an object.
 fn put_pair(out: &mut Writer, pair: &Pair<'_>, has_places: bool) -> Result<(), AllocError> {
     out.begin_object()?;
-    put_text(out, "name", "name_at", &pair.key, has_places)?;
+    put_placed(out, "name", "name_at", &pair.key, has_places)?;
     put_value(out, &pair.value, has_places)?;
     out.end_object()
 }
@@ -96,8 +96,8 @@ fn put_entry(
     has_places: bool,
 ) -> Result<(), AllocError> {
     out.begin_object()?;
-    put_text(out, "kind", "kind_at", &entry.v.kind, has_places)?;
-    put_text(out, "key", "key_at", &entry.v.key, has_places)?;
+    put_placed(out, "kind", "kind_at", &entry.v.kind, has_places)?;
+    put_placed(out, "key", "key_at", &entry.v.key, has_places)?;
     out.key("fields")?;
     put_pairs(out, entry.v.fields.as_slice(), has_places)?;
     if has_places {
@@ -129,15 +129,15 @@ fn put_fault(out: &mut Writer, fault: Fault) -> Result<(), AllocError> {
         Fault::Unexpected(token) => ("Unexpected", Some(token)),
         Fault::Expected(token) => ("Expected", Some(token)),
     };
-    put_string(out, "refused", name)?;
+    put_refused(out, name)?;
     match token {
         None => Ok(()),
-        Some(token) => put_string(out, "token", token_name(token)),
+        Some(token) => put_text(out, "token", token_name(token)),
     }
 }
 
 /// Writes why a text is refused and where, and what is said of it where that is asked for.
-fn put_refused(
+fn put_refusal(
     alloc: Global,
     out: &mut Writer,
     error: RawError,
@@ -150,7 +150,7 @@ fn put_refused(
     put_place(out, "at", &(at..at))?;
     if has_message {
         let message = error.to_string(alloc)?;
-        put_string(out, "message", message.as_str())?;
+        put_text(out, "message", message.as_str())?;
     }
     Ok(())
 }
@@ -174,6 +174,6 @@ pub(crate) fn answer_items(
     };
     match read {
         Ok(raw) => Ok(put_raw(out, &raw, is_set(case, "places")?)?),
-        Err(error) => put_refused(alloc, out, error, is_set(case, "message")?),
+        Err(error) => put_refusal(alloc, out, error, is_set(case, "message")?),
     }
 }

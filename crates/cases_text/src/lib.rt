@@ -6,17 +6,15 @@ mod chunks;
 mod content;
 mod items;
 mod places;
-mod showing;
 mod telling;
 
 use cases::{Refusal, Value, Writer};
 use characters::{answer_characters, answer_verbatim_field};
-pub use chunks::{put_chunks, read_chunks};
+pub use chunks::{normal_chunks, put_chunks, read_chunks, read_chunks_in};
 use content::answer_content;
 use items::answer_items;
 pub use items::token_name;
-pub use places::{maybe_place, put_place, put_string};
-pub use showing::{is_shown, shown};
+pub use places::{maybe_place, put_place, put_span};
 use std::alloc::Global;
 use telling::answer_chunks;
 

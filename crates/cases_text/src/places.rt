@@ -1,14 +1,8 @@
-//! Members of an answer that are texts, and places in a source: the first byte, and the one behind the last.
+//! Places in a source: the first byte, and the one behind the last.
 
 use cases::{Refusal, Value, Writer, items};
 use std::alloc::AllocError;
 use std::ops::Range;
-
-/// Writes a text as the member of the name.
-pub fn put_string(out: &mut Writer, name: &str, text: &str) -> Result<(), AllocError> {
-    out.key(name)?;
-    out.string(text)
-}
 
 /// Writes a place as the member of the name.
 pub fn put_place(out: &mut Writer, name: &str, place: &Range<usize>) -> Result<(), AllocError> {
@@ -17,6 +11,14 @@ pub fn put_place(out: &mut Writer, name: &str, place: &Range<usize>) -> Result<(
     out.u64(place.start as u64)?;
     out.u64(place.end as u64)?;
     out.end_array()
+}
+
+/// Writes the member `at`, unless the place is of no source.
+pub fn put_span(out: &mut Writer, place: &Range<usize>) -> Result<(), AllocError> {
+    if place.start == usize::MAX {
+        return Ok(());
+    }
+    put_place(out, "at", place)
 }
 
 /// The place that the member `at` says, which may be left out.

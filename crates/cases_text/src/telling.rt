@@ -1,10 +1,9 @@
 //! What an answer tells of the chunks of a field.
 
 use crate::chunks::{put_chunks, read_chunks};
-use crate::places::{put_place, put_string};
-use crate::showing::shown;
+use crate::places::put_place;
 use biblatex::{Chunk, Chunks, ChunksExt, Spanned, push_biblatex};
-use cases::{Refusal, Value, Writer, is_set, maybe_text, only};
+use cases::{Refusal, Value, Writer, is_set, is_shown, maybe_text, only, only_shown, put_text};
 use std::alloc::{AllocError, Global};
 
 /// The chunks of a field, and how they are told of.
@@ -23,6 +22,7 @@ pub(crate) struct Told<'c> {
 impl Told<'_> {
     /// Writes what each chunk alone is written as.
     fn put_each(self, alloc: Global, out: &mut Writer) -> Result<(), AllocError> {
+        out.key("each")?;
         out.begin_array()?;
         for chunk in self.chunks.iter() {
             let text = chunk.v.to_biblatex_string(alloc, self.is_verbatim)?;
@@ -50,26 +50,26 @@ impl Told<'_> {
                 out.key("chunks")?;
                 put_chunks(out, self.chunks, self.has_places)
             }
-            "written" => put_string(out, "written", self.written(alloc)?.as_str()),
-            "each" => {
-                out.key("each")?;
-                self.put_each(alloc, out)
-            }
-            "text" => put_string(out, "text", self.chunks.format_verbatim(alloc)?.as_str()),
+            "written" => put_text(out, "written", self.written(alloc)?.as_str()),
+            "each" => self.put_each(alloc, out),
+            "text" => put_text(out, "text", self.chunks.format_verbatim(alloc)?.as_str()),
             "at" => put_place(out, "at", &self.chunks.span()),
             _ => Ok(()),
         }
     }
 
-    /// Writes the members of the names, in their order.
-    pub(crate) fn put_all(
+    /// Writes the members that a case asks for; where it asks for none, the usual one.
+    pub(crate) fn put_shown(
         self,
         alloc: Global,
+        case: &Value<'_>,
+        usual: &str,
         out: &mut Writer,
-        names: &[&str],
-    ) -> Result<(), AllocError> {
-        for name in names.iter() {
-            self.put(alloc, out, name)?;
+    ) -> Result<(), Refusal> {
+        for name in ["chunks", "written", "each", "text", "at"] {
+            if is_shown(case, name, name == usual)? {
+                self.put(alloc, out, name)?;
+            }
         }
         Ok(())
     }
@@ -105,10 +105,10 @@ pub(crate) fn answer_chunks(
             "case", "name", "chunks", "verbatim", "places", "before", "append", "show",
         ],
     )?;
+    only_shown(case, &["written", "each", "chunks", "text", "at"])?;
     let is_verbatim = is_set(case, "verbatim")?;
     let has_places = is_set(case, "places")?;
     let before = maybe_text(case, "before")?;
-    let names = shown(alloc, case, &["written", "each", "chunks", "text", "at"])?;
     let chunks = read_appended(alloc, case)?;
     let told = Told {
         chunks: chunks.as_slice(),
@@ -116,8 +116,5 @@ pub(crate) fn answer_chunks(
         has_places,
         before,
     };
-    if names.is_empty() {
-        told.put_all(alloc, out, &["written"])?;
-    }
-    Ok(told.put_all(alloc, out, names.as_slice())?)
+    told.put_shown(alloc, case, "written", out)
 }

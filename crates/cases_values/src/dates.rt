@@ -1,111 +1,77 @@
 //! Dates in cases and in answers. Months and days count from zero.
 
-use crate::case_value::CaseValue;
-use crate::numbers::{byte, maybe_byte};
+use crate::case_value::{
+    CaseValue, given, maybe_given, put_list, put_maybe, put_member, put_or_null,
+};
 use biblatex::{Date, DateValue, Datetime, Time, TimeOffset};
-use cases::{Refusal, Value, Writer, is_set, items, maybe_text, number, only, text};
+use cases::{
+    Refusal, Value, Writer, byte, is_set, items, maybe_byte, maybe_text, only, put_bool,
+    put_maybe_byte, put_number, small_number, text,
+};
 use std::alloc::{AllocError, Global};
 
-/// Writes the member of a number.
-fn put_number(name: &str, number: u8, out: &mut Writer) -> Result<(), AllocError> {
-    out.key(name)?;
-    out.u64(u64::from(number))
-}
-
-/// Writes the member of a number, where there is one.
-fn put_maybe_number(name: &str, number: Option<u8>, out: &mut Writer) -> Result<(), AllocError> {
-    match number {
-        Some(number) => put_number(name, number, out),
-        None => Ok(()),
-    }
-}
-
 /// Writes a member that is true, where it is.
-fn put_if_set(name: &str, is_set: bool, out: &mut Writer) -> Result<(), AllocError> {
+fn put_if_set(out: &mut Writer, name: &str, is_set: bool) -> Result<(), AllocError> {
     if !is_set {
         return Ok(());
     }
-    out.key(name)?;
-    out.boolean(true)
+    put_bool(out, name, true)
+}
+
+/// Writes an offset from UTC as an object.
+fn put_offset(out: &mut Writer, positive: bool, hours: u8, minutes: u8) -> Result<(), AllocError> {
+    out.begin_object()?;
+    put_bool(out, "positive", positive)?;
+    put_number(out, "hours", i64::from(hours))?;
+    put_number(out, "minutes", i64::from(minutes))?;
+    out.end_object()
 }
 
 /// The offset of a time.
-fn offset(alloc: Global, value: &Value<'_>) -> Result<TimeOffset, Refusal> {
-    if value.as_str() == Some("utc") {
-        return Ok(TimeOffset::Utc);
+impl CaseValue for TimeOffset {
+    fn given(alloc: Global, value: &Value<'_>) -> Result<TimeOffset, Refusal> {
+        if value.as_str() == Some("utc") {
+            return Ok(TimeOffset::Utc);
+        }
+        only(alloc, value, &["positive", "hours", "minutes"])?;
+        Ok(TimeOffset::Offset {
+            positive: is_set(value, "positive")?,
+            hours: byte(value, "hours")?,
+            minutes: byte(value, "minutes")?,
+        })
     }
-    only(alloc, value, &["positive", "hours", "minutes"])?;
-    Ok(TimeOffset::Offset {
-        positive: is_set(value, "positive")?,
-        hours: byte(value, "hours")?,
-        minutes: byte(value, "minutes")?,
-    })
-}
 
-/// Writes the offset of a time.
-fn put_offset(offset: TimeOffset, out: &mut Writer) -> Result<(), AllocError> {
-    match offset {
-        TimeOffset::Utc => out.string("utc"),
-        TimeOffset::Offset {
-            positive,
-            hours,
-            minutes,
-        } => {
-            out.begin_object()?;
-            out.key("positive")?;
-            out.boolean(positive)?;
-            put_number("hours", hours, out)?;
-            put_number("minutes", minutes, out)?;
-            out.end_object()
+    fn put(&self, out: &mut Writer) -> Result<(), AllocError> {
+        match self {
+            TimeOffset::Utc => out.string("utc"),
+            TimeOffset::Offset {
+                positive,
+                hours,
+                minutes,
+            } => put_offset(out, *positive, *hours, *minutes),
         }
     }
 }
 
-/// The offset of a time, where there is one.
-fn maybe_offset(alloc: Global, time: &Value<'_>) -> Result<Option<TimeOffset>, Refusal> {
-    match time.get("offset") {
-        Some(value) => Ok(Some(offset(alloc, value)?)),
-        None => Ok(None),
-    }
-}
-
 /// A time of day.
-fn time(alloc: Global, value: &Value<'_>) -> Result<Time, Refusal> {
-    only(alloc, value, &["hour", "minute", "second", "offset"])?;
-    Ok(Time {
-        hour: byte(value, "hour")?,
-        minute: byte(value, "minute")?,
-        second: byte(value, "second")?,
-        offset: maybe_offset(alloc, value)?,
-    })
-}
-
-/// Writes a time of day.
-fn put_time(time: Time, out: &mut Writer) -> Result<(), AllocError> {
-    out.begin_object()?;
-    put_number("hour", time.hour, out)?;
-    put_number("minute", time.minute, out)?;
-    put_number("second", time.second, out)?;
-    if let Some(offset) = time.offset {
-        out.key("offset")?;
-        put_offset(offset, out)?;
+impl CaseValue for Time {
+    fn given(alloc: Global, value: &Value<'_>) -> Result<Time, Refusal> {
+        only(alloc, value, &["hour", "minute", "second", "offset"])?;
+        Ok(Time {
+            hour: byte(value, "hour")?,
+            minute: byte(value, "minute")?,
+            second: byte(value, "second")?,
+            offset: maybe_given(alloc, value, "offset")?,
+        })
     }
-    out.end_object()
-}
 
-/// The time of a point in time, where there is one.
-fn maybe_time(alloc: Global, point: &Value<'_>) -> Result<Option<Time>, Refusal> {
-    match point.get("time") {
-        Some(value) => Ok(Some(time(alloc, value)?)),
-        None => Ok(None),
-    }
-}
-
-/// The year of a point in time.
-fn year(point: &Value<'_>) -> Result<i32, Refusal> {
-    match i32::try_from(number(point, "year")?) {
-        Ok(year) => Ok(year),
-        Err(_) => Err(Refusal::Wanted("year", "of 32 bits")),
+    fn put(&self, out: &mut Writer) -> Result<(), AllocError> {
+        out.begin_object()?;
+        put_number(out, "hour", i64::from(self.hour))?;
+        put_number(out, "minute", i64::from(self.minute))?;
+        put_number(out, "second", i64::from(self.second))?;
+        put_maybe(out, "offset", self.offset.as_ref())?;
+        out.end_object()
     }
 }
 
@@ -114,23 +80,19 @@ impl CaseValue for Datetime {
     fn given(alloc: Global, value: &Value<'_>) -> Result<Datetime, Refusal> {
         only(alloc, value, &["year", "month", "day", "time"])?;
         Ok(Datetime {
-            year: year(value)?,
+            year: small_number(value, "year")?,
             month: maybe_byte(value, "month")?,
             day: maybe_byte(value, "day")?,
-            time: maybe_time(alloc, value)?,
+            time: maybe_given(alloc, value, "time")?,
         })
     }
 
     fn put(&self, out: &mut Writer) -> Result<(), AllocError> {
         out.begin_object()?;
-        out.key("year")?;
-        out.i64(i64::from(self.year))?;
-        put_maybe_number("month", self.month, out)?;
-        put_maybe_number("day", self.day, out)?;
-        if let Some(time) = self.time {
-            out.key("time")?;
-            put_time(time, out)?;
-        }
+        put_number(out, "year", i64::from(self.year))?;
+        put_maybe_byte(out, "month", self.month)?;
+        put_maybe_byte(out, "day", self.day)?;
+        put_maybe(out, "time", self.time.as_ref())?;
         out.end_object()
     }
 }
@@ -149,36 +111,27 @@ fn between(alloc: Global, date: &Value<'_>) -> Result<DateValue, Refusal> {
 
 /// One point in time, or a range of which one end may be open.
 fn sides(alloc: Global, date: &Value<'_>) -> Result<DateValue, Refusal> {
-    if let Some(point) = date.get("point") {
-        return Ok(DateValue::At(Datetime::given(alloc, point)?));
+    if let Some(point) = maybe_given(alloc, date, "point")? {
+        return Ok(DateValue::At(point));
     }
-    if let Some(start) = date.get("after") {
-        return Ok(DateValue::After(Datetime::given(alloc, start)?));
+    if let Some(start) = maybe_given(alloc, date, "after")? {
+        return Ok(DateValue::After(start));
     }
-    match date.get("before") {
-        Some(end) => Ok(DateValue::Before(Datetime::given(alloc, end)?)),
+    match maybe_given(alloc, date, "before")? {
+        Some(end) => Ok(DateValue::Before(end)),
         None => between(alloc, date),
     }
-}
-
-/// Writes the member of a point in time.
-fn put_point(name: &str, point: Datetime, out: &mut Writer) -> Result<(), AllocError> {
-    out.key(name)?;
-    point.put(out)
 }
 
 /// Writes the member of one point in time or a range.
 fn put_sides(value: DateValue, out: &mut Writer) -> Result<(), AllocError> {
     match value {
-        DateValue::At(point) => put_point("point", point, out),
-        DateValue::After(start) => put_point("after", start, out),
-        DateValue::Before(end) => put_point("before", end, out),
+        DateValue::At(point) => put_member(out, "point", &point),
+        DateValue::After(start) => put_member(out, "after", &start),
+        DateValue::Before(end) => put_member(out, "before", &end),
         DateValue::Between(first, last) => {
             out.key("between")?;
-            out.begin_array()?;
-            first.put(out)?;
-            last.put(out)?;
-            out.end_array()
+            put_list(out, &[first, last])
         }
     }
 }
@@ -205,8 +158,8 @@ impl CaseValue for Date {
     fn put(&self, out: &mut Writer) -> Result<(), AllocError> {
         out.begin_object()?;
         put_sides(self.value, out)?;
-        put_if_set("uncertain", self.uncertain, out)?;
-        put_if_set("approximate", self.approximate, out)?;
+        put_if_set(out, "uncertain", self.uncertain)?;
+        put_if_set(out, "approximate", self.approximate)?;
         out.end_object()
     }
 }
@@ -222,11 +175,7 @@ pub(crate) fn answer_of_parts(
     let day = maybe_text(case, "day")?;
     let date = Date::from_parts(text(case, "year")?, month, day);
     out.key("date")?;
-    match date {
-        Some(date) => date.put(out)?,
-        None => out.null()?,
-    }
-    Ok(())
+    Ok(put_or_null(out, date.as_ref())?)
 }
 
 /// A date without its times.
@@ -236,11 +185,6 @@ pub(crate) fn answer_without_time(
     out: &mut Writer,
 ) -> Result<(), Refusal> {
     only(alloc, case, &["case", "name", "date"])?;
-    let Some(date) = case.get("date") else {
-        return Err(Refusal::Wanted("date", "a date"));
-    };
-    let date = Date::given(alloc, date)?;
-    out.key("date")?;
-    date.without_time().put(out)?;
-    Ok(())
+    let date: Date = given(alloc, case, "date")?;
+    Ok(put_member(out, "date", &date.without_time())?)
 }

@@ -1,6 +1,6 @@
 //! Genders in cases and in answers.
 
-use crate::case_value::CaseValue;
+use crate::case_value::{CaseValue, given, put_member, put_or_null};
 use biblatex::Gender;
 use cases::{Refusal, Value, Writer, only};
 use std::alloc::{AllocError, Global};
@@ -43,23 +43,12 @@ impl CaseValue for Gender {
     }
 }
 
-/// What a case gives under a name.
-fn member<'v, 'a>(case: &'v Value<'a>, name: &'static str) -> Result<&'v Value<'a>, Refusal> {
-    match case.get(name) {
-        Some(value) => Ok(value),
-        None => Err(Refusal::Wanted(name, "there")),
-    }
-}
-
 /// The singular and the plural of a gender.
 pub(crate) fn answer(alloc: Global, case: &Value<'_>, out: &mut Writer) -> Result<(), Refusal> {
     only(alloc, case, &["case", "name", "gender"])?;
-    let gender = Gender::given(alloc, member(case, "gender")?)?;
-    out.key("singular")?;
-    gender.singular().put(out)?;
-    out.key("plural")?;
-    gender.plural().put(out)?;
-    Ok(())
+    let gender: Gender = given(alloc, case, "gender")?;
+    put_member(out, "singular", &gender.singular())?;
+    Ok(put_member(out, "plural", &gender.plural())?)
 }
 
 /// The gender of a list together.
@@ -69,11 +58,7 @@ pub(crate) fn answer_together(
     out: &mut Writer,
 ) -> Result<(), Refusal> {
     only(alloc, case, &["case", "name", "genders"])?;
-    let genders: Vec<Gender> = Vec::given(alloc, member(case, "genders")?)?;
+    let genders: Vec<Gender> = given(alloc, case, "genders")?;
     out.key("gender")?;
-    match Gender::coalesce(genders.as_slice()) {
-        Some(gender) => gender.put(out)?,
-        None => out.null()?,
-    }
-    Ok(())
+    Ok(put_or_null(out, Gender::coalesce(genders.as_slice()).as_ref())?)
 }

@@ -1,16 +1,24 @@
-//! Cases of values of fields: what contents are read as, how values are written, genders, and dates of their parts.
+//! Values of both libraries in cases and in answers, and cases of values of fields: what contents are read as, how values are
+//! written, genders, and dates of their parts.
 #![tactic(auto)]
 
 mod case_value;
 mod dates;
 mod genders;
-mod numbers;
+mod maybe_typed;
 mod people;
 mod reading;
 mod values;
+mod work_dates;
+mod work_numbers;
+mod work_pages;
+mod work_people;
+mod work_sources;
+mod work_texts;
 
-pub use case_value::CaseValue;
+pub use case_value::{CaseValue, given, maybe_given, put_list, put_maybe, put_member, put_or_null};
 use cases::{Refusal, Value, Writer};
+pub use reading::type_error_name;
 use std::alloc::Global;
 
 /// Writes the members of the answer to a case of this kind; false where the kind is none of these.

@@ -2,7 +2,7 @@
 
 use crate::case_value::CaseValue;
 use biblatex::Person;
-use cases::{Refusal, Value, Writer, maybe_text, only};
+use cases::{Refusal, Value, Writer, maybe_text, only, put_text};
 use std::alloc::{AllocError, Global};
 
 /// A part of a name; one that is left out is empty.
@@ -14,12 +14,11 @@ fn part(alloc: Global, person: &Value<'_>, name: &'static str) -> Result<String,
 }
 
 /// Writes a part of a name, if it is not empty.
-fn put_part(name: &str, text: &str, out: &mut Writer) -> Result<(), AllocError> {
+fn put_part(out: &mut Writer, name: &str, text: &str) -> Result<(), AllocError> {
     if text.is_empty() {
         return Ok(());
     }
-    out.key(name)?;
-    out.string(text)
+    put_text(out, name, text)
 }
 
 /// A person; parts of the name that are empty may be left out, and are not written but for the name.
@@ -36,11 +35,10 @@ impl CaseValue for Person {
 
     fn put(&self, out: &mut Writer) -> Result<(), AllocError> {
         out.begin_object()?;
-        out.key("name")?;
-        out.string(self.name.as_str())?;
-        put_part("given_name", self.given_name.as_str(), out)?;
-        put_part("prefix", self.prefix.as_str(), out)?;
-        put_part("suffix", self.suffix.as_str(), out)?;
+        put_text(out, "name", self.name.as_str())?;
+        put_part(out, "given_name", self.given_name.as_str())?;
+        put_part(out, "prefix", self.prefix.as_str())?;
+        put_part(out, "suffix", self.suffix.as_str())?;
         out.end_object()
     }
 }

@@ -1,13 +1,16 @@
 //! Contents of fields as values of types, and values as contents.
 
-use crate::case_value::CaseValue;
+use crate::case_value::{CaseValue, put_member};
 use biblatex::{
     Abbreviations, Chunk, Chunks, ChunksParse, Date, EditorType, FieldType, FieldTypeError, Gender,
     ParseError, PermissiveType, Person, RawChunk, Span, Spanned, TypeErrorKind, parse_field,
     reread,
 };
-use cases::{Refusal, Value, Writer, is_set, maybe_text, only, text};
-use cases_text::{is_shown, maybe_place, put_chunks, put_place, read_chunks, shown};
+use cases::{
+    Refusal, Value, Writer, is_set, is_shown, maybe_text, only, only_shown, put_bool, put_refused,
+    put_text, text,
+};
+use cases_text::{maybe_place, normal_chunks, put_chunks, put_span, read_chunks};
 use std::alloc::{AllocError, Global};
 use std::ops::Range;
 
@@ -16,14 +19,6 @@ use std::ops::Range;
 enum Given {
     Chunks(Chunks),
     Malformed(Span),
-}
-
-/// One chunk of normal text.
-fn normal_chunk(alloc: Global, text: &str, place: Span) -> Result<Chunks, Refusal> {
-    let chunk = Chunk::Normal(String::from_str(alloc, text)?);
-    let mut chunks = Vec::new(alloc);
-    chunks.push(Spanned::new(chunk, place))?;
-    Ok(chunks)
 }
 
 /// The content of an ordinary field without abbreviations, as it is written there.
@@ -49,7 +44,7 @@ fn place(case: &Value<'_>, length: usize) -> Result<Span, Refusal> {
 fn given_content(alloc: Global, case: &Value<'_>) -> Result<Given, Refusal> {
     if let Some(text) = maybe_text(case, "text")? {
         let place = place(case, text.len())?;
-        return Ok(Given::Chunks(normal_chunk(alloc, text, place)?));
+        return Ok(Given::Chunks(normal_chunks(alloc, text, Some(place))?));
     }
     if let Some(written) = maybe_text(case, "content")? {
         let place = place(case, written.len())?;
@@ -61,26 +56,6 @@ fn given_content(alloc: Global, case: &Value<'_>) -> Result<Given, Refusal> {
     Ok(Given::Chunks(read_chunks(alloc, case, "chunks")?))
 }
 
-/// The members of an answer that a case asks for.
-#[derive(Clone, Copy)]
-struct Asked {
-    value: bool,
-    written: bool,
-    comes_back: bool,
-    message: bool,
-}
-
-/// The members that a case asks for; where it names none, the value alone.
-fn members_asked(alloc: Global, case: &Value<'_>) -> Result<Asked, Refusal> {
-    let names = shown(alloc, case, &["value", "written", "comes_back", "message"])?;
-    Ok(Asked {
-        value: names.is_empty() || is_shown(&names, "value"),
-        written: is_shown(&names, "written"),
-        comes_back: is_shown(&names, "comes_back"),
-        message: is_shown(&names, "message"),
-    })
-}
-
 /// Whether the value comes back from what is written of it.
 fn comes_back<T: FieldType + PartialEq>(alloc: Global, value: &T) -> Result<bool, Refusal> {
     match reread(alloc, value) {
@@ -90,30 +65,33 @@ fn comes_back<T: FieldType + PartialEq>(alloc: Global, value: &T) -> Result<bool
     }
 }
 
+/// Writes what is written of a value.
+fn put_written<T: FieldType>(alloc: Global, value: &T, out: &mut Writer) -> Result<(), Refusal> {
+    out.key("written")?;
+    Ok(put_chunks(out, value.to_chunks(alloc)?.as_slice(), true)?)
+}
+
 /// Writes a value, what is written of it, and whether it comes back.
 fn put_value<T: FieldType + PartialEq + CaseValue>(
     alloc: Global,
-    asked: Asked,
+    case: &Value<'_>,
     value: &T,
     out: &mut Writer,
 ) -> Result<(), Refusal> {
-    if asked.value {
-        out.key("value")?;
-        value.put(out)?;
+    if is_shown(case, "value", true)? {
+        put_member(out, "value", value)?;
     }
-    if asked.written {
-        out.key("written")?;
-        put_chunks(out, value.to_chunks(alloc)?.as_slice(), true)?;
+    if is_shown(case, "written", false)? {
+        put_written(alloc, value, out)?;
     }
-    if asked.comes_back {
-        out.key("comes_back")?;
-        out.boolean(comes_back(alloc, value)?)?;
+    if is_shown(case, "comes_back", false)? {
+        put_bool(out, "comes_back", comes_back(alloc, value)?)?;
     }
     Ok(())
 }
 
 /// The name of a fault.
-fn kind_name(kind: TypeErrorKind) -> &'static str {
+pub fn type_error_name(kind: TypeErrorKind) -> &'static str {
     match kind {
         TypeErrorKind::InvalidFormat => "InvalidFormat",
         TypeErrorKind::WrongNumberOfDigits => "WrongNumberOfDigits",
@@ -123,69 +101,56 @@ fn kind_name(kind: TypeErrorKind) -> &'static str {
     }
 }
 
-/// Writes a place; what is of no source has none.
-fn put_at(place: &Span, out: &mut Writer) -> Result<(), AllocError> {
-    if place.start == usize::MAX {
-        return Ok(());
-    }
-    put_place(out, "at", place)
-}
-
 /// Writes why content is no value of the type.
 fn put_fault(
     alloc: Global,
-    asked: Asked,
+    case: &Value<'_>,
     fault: &FieldTypeError,
     out: &mut Writer,
 ) -> Result<(), Refusal> {
     let FieldTypeError::TypeError(error) = fault else {
         return Err(Refusal::Memory);
     };
-    out.key("refused")?;
-    out.string("TypeError")?;
-    out.key("kind")?;
-    out.string(kind_name(error.kind))?;
-    put_at(&error.span, out)?;
-    if asked.message {
-        out.key("message")?;
-        out.string(fault.to_string(alloc)?.as_str())?;
+    put_refused(out, "TypeError")?;
+    put_text(out, "kind", type_error_name(error.kind))?;
+    put_span(out, &error.span)?;
+    if is_shown(case, "message", false)? {
+        put_text(out, "message", fault.to_string(alloc)?.as_str())?;
     }
     Ok(())
 }
 
 /// Writes that a text is no content of a field.
 fn put_malformed(span: &Span, out: &mut Writer) -> Result<(), AllocError> {
-    out.key("refused")?;
-    out.string("MalformedCommand")?;
-    put_at(span, out)
+    put_refused(out, "MalformedCommand")?;
+    put_span(out, span)
 }
 
-/// What chunks are as a value of the type.
+/// Writes what chunks are as a value of the type.
 fn answer_chunks<T: FieldType + PartialEq + CaseValue>(
     alloc: Global,
-    asked: Asked,
+    case: &Value<'_>,
     chunks: &Chunks,
     out: &mut Writer,
 ) -> Result<(), Refusal> {
-    let read: Result<T, FieldTypeError> = chunks.as_slice().parse(alloc);
-    match &read {
-        Ok(value) => put_value(alloc, asked, value, out),
-        Err(fault) => put_fault(alloc, asked, fault, out),
+    match chunks.as_slice().parse::<T>(alloc) {
+        Ok(value) => put_value(alloc, case, &value, out),
+        Err(fault) => put_fault(alloc, case, &fault, out),
     }
 }
 
-/// What the content of a case is as a value of the type, or what is written of the value that it gives.
+/// Writes what the content of a case is as a value of the type, or what is written of the value that it gives.
 fn answer_as<T: FieldType + PartialEq + CaseValue>(
     alloc: Global,
     case: &Value<'_>,
     out: &mut Writer,
 ) -> Result<(), Refusal> {
-    let asked = members_asked(alloc, case)?;
+    only_shown(case, &["value", "written", "comes_back", "message"])?;
     if let Some(value) = case.get("value") {
-        return put_value(alloc, asked, &T::given(alloc, value)?, out);
+        return put_value(alloc, case, &T::given(alloc, value)?, out);
     }
     match &given_content(alloc, case)? {
-        Given::Chunks(chunks) => answer_chunks::<T>(alloc, asked, chunks, out),
+        Given::Chunks(chunks) => answer_chunks::<T>(alloc, case, chunks, out),
         Given::Malformed(span) => Ok(put_malformed(span, out)?),
     }
 }

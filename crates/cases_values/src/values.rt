@@ -2,7 +2,7 @@
 
 use crate::case_value::CaseValue;
 use biblatex::{EditorType, PermissiveType};
-use cases::{Refusal, Value, Writer, only, text};
+use cases::{Refusal, Value, Writer, only, owned_text, put_text};
 use cases_text::{put_chunks, read_chunks};
 use std::alloc::{AllocError, Global};
 use std::ops::Range;
@@ -17,19 +17,6 @@ impl CaseValue for i64 {
 
     fn put(&self, out: &mut Writer) -> Result<(), AllocError> {
         out.i64(*self)
-    }
-}
-
-impl CaseValue for String {
-    fn given(alloc: Global, value: &Value<'_>) -> Result<String, Refusal> {
-        match value.as_str() {
-            Some(text) => Ok(String::from_str(alloc, text)?),
-            None => Err(Refusal::Wanted("value", "a text")),
-        }
-    }
-
-    fn put(&self, out: &mut Writer) -> Result<(), AllocError> {
-        out.string(self.as_str())
     }
 }
 
@@ -68,8 +55,7 @@ fn word(editor_type: &EditorType) -> &'static str {
 /// The editor type of an object with the name of one that is not known.
 fn unknown(alloc: Global, value: &Value<'_>) -> Result<EditorType, Refusal> {
     only(alloc, value, &["unknown"])?;
-    let name = text(value, "unknown")?;
-    Ok(EditorType::Unknown(String::from_str(alloc, name)?))
+    Ok(EditorType::Unknown(owned_text(alloc, value, "unknown")?))
 }
 
 /// A known editor type is its word, another one an object with its name.
@@ -86,8 +72,7 @@ impl CaseValue for EditorType {
             return out.string(word(self));
         };
         out.begin_object()?;
-        out.key("unknown")?;
-        out.string(name.as_str())?;
+        put_text(out, "unknown", name.as_str())?;
         out.end_object()
     }
 }

@@ -1,0 +1,130 @@
+"""What the measuring scripts found last, in bench/results.json, and the pages docs/PERFORMANCE.md and docs/REAL-FILES.md, which are
+written from it alone. Run as a script it writes the pages anew and measures nothing."""
+import datetime
+import json
+import os
+import subprocess
+
+TOP = os.path.realpath(os.path.join(os.path.dirname(os.path.abspath(__file__)), ".."))
+RESULTS = os.path.join(TOP, "bench", "results.json")
+
+HEAD = """# Cost
+
+The scripts under bench/ make their input from a fixed seed, run a built program on it, and write this page. Instructions are counted
+by `valgrind --tool=callgrind`; memory is the peak of the process less that of a run on empty files. Instructions for each byte of input
+and the growth exponent are those between the smaller two sizes. Seconds tell of the machine and of what else it did.
+"""
+
+TABLES = {
+    "filter": ("The filter", """`cite` on a BibLaTeX file of N mixed entries, 335 bytes each, and a document with a marker for each ten entries. Of four entries two are
+articles in journals that have abbreviations, one is a book, and one a chapter that refers to it; with accents, groups, verbatim addresses and
+math."""),
+    "books": ("Plain books", """`cite` on books of five lines of 130 to 150 bytes in all, and a document with a marker for each 60 bytes, keys drawn evenly."""),
+    "reader": ("The reader", """`bib_show` on the file of mixed entries."""),
+}
+
+DEEP = """## Deep and doubled texts
+
+`bib_show` with a stack of 8 MB on texts that nest deeply, or whose abbreviations and references go on and on (`bench/deep.py` says what
+each is).
+"""
+
+REAL = """# Files as people have them
+
+`bench/real_files.py` gives each .bib file below a folder to `cite` with an empty document, and writes this page.
+"""
+
+
+def read():
+    """What was found."""
+    if not os.path.exists(RESULTS):
+        return {}
+    with open(RESULTS, encoding="utf-8") as file:
+        return json.load(file)
+
+
+def record(name, found):
+    """Writes down what a script found, with the day and the commit, and writes the pages anew."""
+    commit = subprocess.run(["git", "describe", "--always", "--dirty", "--abbrev=7"], cwd=TOP, check=True, capture_output=True, text=True)
+    everything = read()
+    everything[name] = {"date": datetime.date.today().isoformat(), "commit": commit.stdout.strip(), **found}
+    with open(RESULTS, "w", encoding="utf-8") as file:
+        json.dump(everything, file, indent=1, sort_keys=True)
+        file.write("\n")
+    write_pages()
+
+
+def number(value):
+    """A number with its thousands parted; a dash where there is none."""
+    return "-" if value is None else f"{value:,}"
+
+
+def measured(found):
+    """When and at which commit something was measured."""
+    return f"Measured on {found['date']} at commit {found['commit']}."
+
+
+def size_table(name, found):
+    """The part of the page about a script that measures three sizes."""
+    title, about = TABLES[name]
+    rows = [
+        f"| {number(row['N'])} | {number(row['bytes'])} | {number(row['instructions'])} | {row['seconds']} | {number(row['memory'])} "
+        f"| {row['memory'] / row['bytes']:.1f} |"
+        for row in found["rows"]
+    ]
+    bounds = found["wanted"]
+    said = f"{found['rate']} instructions for each byte of input, growth exponent {found['exponent']}."
+    if bounds:
+        said += f" Wanted: at most {bounds['rate']}, at most {bounds['exponent']}, and memory at most {bounds['memory']} times the input."
+    return "\n".join([
+        f"## {title}",
+        "",
+        f"    bench/{found['script']}",
+        "",
+        about,
+        "",
+        "| N | bytes of input | instructions | seconds | memory | times the input |",
+        "|---|---|---|---|---|---|",
+        *rows,
+        "",
+        f"{said} {measured(found)}",
+        "",
+    ])
+
+
+def deep_table(found):
+    """The part of the page about deep texts."""
+    rows = [f"| {row['text']} | {number(row['bytes'])} | {row['status']} | {row['seconds']} | {number(row['memory'])} |" for row in found["rows"]]
+    return "\n".join([DEEP, "| text | bytes | status | seconds | memory |", "|---|---|---|---|---|", *rows, "", measured(found), ""])
+
+
+def real_page(found):
+    """The page about files as people have them."""
+    rows = [f"| {row['files']} | {row['answer']} | {row['example']} |" for row in found["rows"]]
+    return "\n".join([
+        REAL,
+        f"{found['source']}: {number(found['files'])} files, the longest of {number(found['longest'])} bytes.",
+        "",
+        "| Files | Answer | One of them |",
+        "|---|---|---|",
+        *rows,
+        "",
+        measured(found),
+        "",
+    ])
+
+
+def write_pages():
+    """Writes the pages."""
+    found = read()
+    parts = [HEAD] + [size_table(name, found[name]) for name in TABLES if name in found]
+    parts += [deep_table(found["deep"])] if "deep" in found else []
+    with open(os.path.join(TOP, "docs", "PERFORMANCE.md"), "w", encoding="utf-8") as file:
+        file.write("\n".join(parts).rstrip("\n") + "\n")
+    if "real_files" in found:
+        with open(os.path.join(TOP, "docs", "REAL-FILES.md"), "w", encoding="utf-8") as file:
+            file.write(real_page(found["real_files"]).rstrip("\n") + "\n")
+
+
+if __name__ == "__main__":
+    write_pages()
