@@ -1,5 +1,6 @@
-//! Reads BibLaTeX files. This crate is a table of contents: it hands on what its members make public, so that crates above it
-//! name it alone.
+//! Reads BibLaTeX files. This crate is a table of contents: it re-exports what its members make public, so that crates above it
+//! name it alone. Impls are not re-exported: who writes `for entry in &bibliography` names `biblatex_bibliography` too, but not
+//! who calls `iter`.
 #![tactic(auto)]
 
 pub use biblatex_bibliography::{

@@ -18,7 +18,7 @@ use std::ops::Range;
 /// Where something stands in a source, in bytes.
 pub type Span = Range<usize>;
 
-/// How text is meant: to be changed as a style asks, or to stay as it is.
+/// How text is meant: to be changed as a style asks, or to be printed as it is. It is public because contracts name it.
 #[derive(Debug, Clone, Copy, PartialEq, Eq)]
 pub enum Kind {
     /// A style may change it.

@@ -63,7 +63,8 @@ impl Fields {
         self.values.get(name)
     }
 
-    /// Puts a field in, in place of one of equal name. Fields that are written in a text have names in lower ASCII case.
+    /// Puts a field in, in place of one of equal name. The name is taken as it is given; fields that are written in a text have names in
+    /// lower ASCII case.
     pub fn insert(&mut self, name: String, value: Chunks) -> Result<(), AllocError>
         ensures ok { OnOk result (self.new ≡ with_field self.old (string_bytes name) (styled value.items)) }
         ensures found { OnOk result ((q : List ℕ) → value_named q self.new ≡ (if bytes_eq q (string_bytes name) then Some (styled value.items) else value_named q self.old)) }

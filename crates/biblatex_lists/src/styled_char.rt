@@ -56,7 +56,7 @@ fn push_chunk(list: &mut Vec<StyledChar>, chunk: &Chunk) -> Result<(), AllocErro
     }
 }
 
-/// Puts the characters of a text last, Normal or not.
+/// Appends the characters of a text, Normal or not. After an error some of them may have been appended.
 pub fn push_chars(list: &mut Vec<StyledChar>, text: &str, is_normal: bool) -> Result<(), AllocError>
     ensures { OnOk result (list.new.items ≡ list.old.items ++ of_style is_normal (chars text.now)) }
 {

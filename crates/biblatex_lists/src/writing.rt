@@ -114,7 +114,7 @@ impl Writing {
         Ok(())
     }
 
-    /// Puts a text last, Normal or verbatim.
+    /// Appends a text, Normal or verbatim. After an error some of it may have been written.
     pub fn push_str(&mut self, is_normal: bool, text: &str) -> Result<(), AllocError>
         ensures { OnOk result (so_far self.new ≡ so_far self.old ++ letters (kind is_normal) (chars text.now)) }
     {
@@ -122,14 +122,15 @@ impl Writing {
         push_text(&mut self.run, text)
     }
 
-    /// Puts ` and ` last.
+    /// Appends ` and `. After an error some of it may have been written.
     pub fn push_and(&mut self) -> Result<(), AllocError>
         ensures { OnOk result (so_far self.new ≡ so_far self.old ++ letters Normal and_word) }
     {
         self.push_str(true, " and ")
     }
 
-    /// Puts a text last that is to be read as one part; it is verbatim where else it would not be.
+    /// Appends a text that is to be read as one part; it is verbatim where else it would not be. After an error some of it may have
+    /// been written.
     pub fn push_part(&mut self, text: &str) -> Result<(), AllocError>
         ensures { OnOk result (so_far self.new ≡ so_far self.old ++ written_text (chars text.now)) }
     {

@@ -12,7 +12,8 @@ use thiserror::Error;
 #[derive(Debug, PartialEq, Eq, Drop, Error)]
 #[error("{kind}")]
 pub struct TypeError {
-    /// From where the first chunk begins to where the last one ends, in bytes; `0..0` where there is none.
+    /// From where the first chunk begins to where the last one ends, but not before the first one ends, in bytes; `0..0` where there
+    /// is none.
     pub span: Span,
     /// What is wrong.
     pub kind: TypeErrorKind,

@@ -5,7 +5,8 @@ use crate::copies::put_copies;
 use crate::given_entries::entry_of;
 use crate::written_entries::put_entry;
 use cases::{
-    Refusal, Value, Writer, items, maybe_owned_text, member, only, put_bool, put_text_or_null, text,
+    Refusal, Value, Writer, items, maybe_owned_text, maybe_text, member, only, put_bool,
+    put_text_or_null, text,
 };
 use cases_values::put_or_null;
 use literature::Entry;
@@ -32,9 +33,10 @@ fn hash_of(entry: &Entry) -> u64 {
 }
 
 /// Writes whether two entries are equal, and whether their hashes are.
-fn put_equal(out: &mut Writer, one: &Entry, other: &Entry) -> Result<(), AllocError> {
+fn put_equal(out: &mut Writer, one: &Entry, other: &Entry) -> Result<(), Refusal> {
     put_bool(out, "is_equal", *one == *other)?;
-    put_bool(out, "hashes_alike", hash_of(one) == hash_of(other))
+    put_bool(out, "hashes_alike", hash_of(one) == hash_of(other))?;
+    Ok(())
 }
 
 /// Writes how an entry compares with that of the member `other`.
@@ -45,7 +47,7 @@ fn put_compared(
     out: &mut Writer,
 ) -> Result<(), Refusal> {
     let other = entry_member(alloc, case, "other")?;
-    Ok(put_equal(out, one, &other)?)
+    put_equal(out, one, &other)
 }
 
 /// `equal_entries`: whether two entries are equal, and whether their hashes are.
@@ -130,17 +132,28 @@ fn put_number(
     Ok(true)
 }
 
-/// Writes the answer of a step that asks for anything else; false where it is none.
-fn put_found(
+/// Writes the answer of a step that asks which entry has a field; false where it is none.
+fn put_first(
     step: &Value<'_>,
     name: &str,
     entry: &Entry,
     out: &mut Writer,
 ) -> Result<bool, Refusal> {
+    let Some(field) = maybe_text(step, "field")? else {
+        return Ok(false);
+    };
     match name {
-        "has" => out.boolean(entry.has(text(step, "field")?))?,
-        "map" => put_text_or_null(out, first_with(entry, text(step, "field")?)?)?,
-        "map_parents" => put_text_or_null(out, first_parent_with(entry, text(step, "field")?)?)?,
+        "has" => out.boolean(entry.has(field))?,
+        "map" => put_text_or_null(out, first_with(entry, field)?)?,
+        "map_parents" => put_text_or_null(out, first_parent_with(entry, field)?)?,
+        _ => return Ok(false),
+    }
+    Ok(true)
+}
+
+/// Writes the answer of a step that asks for anything else; false where it is none.
+fn put_found(name: &str, entry: &Entry, out: &mut Writer) -> Result<bool, Refusal> {
+    match name {
         "date_any" => put_or_null(out, entry.date_any()?)?,
         "url_any" => put_or_null(out, entry.url_any()?)?,
         "entry" => put_entry(out, entry, ENTRY_DEPTH)?,
@@ -161,7 +174,10 @@ fn put_answer(
     if take_number(alloc, step, name, entry)? {
         return Ok(out.null()?);
     }
-    if put_number(step, name, entry, out)? || put_found(step, name, entry, out)? {
+    let is_answered = put_number(step, name, entry, out)?
+        || put_first(step, name, entry, out)?
+        || put_found(name, entry, out)?;
+    if is_answered {
         return Ok(());
     }
     Err(Refusal::Wanted("step", "the name of a call"))

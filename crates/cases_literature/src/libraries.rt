@@ -39,19 +39,19 @@ fn put_entry_keys(out: &mut Writer, library: &Library) -> Result<(), AllocError>
 }
 
 /// Writes the keys of entries.
-fn put_keys_of(out: &mut Writer, entries: &[Entry]) -> Result<(), AllocError> {
+fn put_keys_of(out: &mut Writer, entries: &[Entry]) -> Result<(), Refusal> {
     out.key("entries")?;
     out.begin_array()?;
     for entry in entries {
         out.string(entry.key())?;
     }
-    out.end_array()
+    Ok(out.end_array()?)
 }
 
 /// Writes the keys of the entries that are taken out of a library.
 fn put_taken_keys(alloc: Global, library: Library, out: &mut Writer) -> Result<(), Refusal> {
     let entries: Vec<Entry> = library.into_iter().collect(alloc)?;
-    Ok(put_keys_of(out, entries.as_slice())?)
+    put_keys_of(out, entries.as_slice())
 }
 
 /// Writes an entry, or null.

@@ -49,12 +49,12 @@ fn put_bound(out: &mut Writer, name: &str, entry: &Entry) -> Result<(), AllocErr
 }
 
 /// Writes names in order, each with the key of the entry that it is bound to.
-fn put_bindings(out: &mut Writer, bindings: &Bindings<'_>) -> Result<(), AllocError> {
+fn put_bindings(out: &mut Writer, bindings: &Bindings<'_>) -> Result<(), Refusal> {
     out.begin_array()?;
     for (name, entry) in bindings.iter() {
         put_bound(out, name.as_str(), entry)?;
     }
-    out.end_array()
+    Ok(out.end_array()?)
 }
 
 /// Writes what a selector binds at an entry, or null where it does not hold.
@@ -65,11 +65,10 @@ fn put_applied(
     out: &mut Writer,
 ) -> Result<(), Refusal> {
     out.key("bindings")?;
-    let written = match selector.apply(alloc, entry)? {
+    match selector.apply(alloc, entry)? {
         Some(bindings) => put_bindings(out, &bindings),
-        None => out.null(),
-    };
-    Ok(written?)
+        None => Ok(out.null()?),
+    }
 }
 
 /// Writes for each of the names the key of the entry that is bound to it, or null.
@@ -160,22 +159,22 @@ pub(crate) fn selector(alloc: Global, case: &Value<'_>, out: &mut Writer) -> Res
 }
 
 /// Writes an entry that was found by its key, and what is bound there.
-fn put_one_found(out: &mut Writer, found: &Selected<'_>) -> Result<(), AllocError> {
+fn put_one_found(out: &mut Writer, found: &Selected<'_>) -> Result<(), Refusal> {
     out.begin_object()?;
     put_text(out, "entry", found.entry.key())?;
     out.key("bindings")?;
     put_bindings(out, &found.bindings)?;
-    out.end_object()
+    Ok(out.end_object()?)
 }
 
 /// Writes the entries that were found.
-fn put_all_found(out: &mut Writer, all: &[Selected<'_>]) -> Result<(), AllocError> {
+fn put_all_found(out: &mut Writer, all: &[Selected<'_>]) -> Result<(), Refusal> {
     out.key("selected")?;
     out.begin_array()?;
     for found in all {
         put_one_found(out, found)?;
     }
-    out.end_array()
+    Ok(out.end_array()?)
 }
 
 /// Writes what a query finds.
@@ -186,7 +185,7 @@ fn put_query(
     out: &mut Writer,
 ) -> Result<(), Refusal> {
     match library.query(alloc, text(case, "selector")?) {
-        Ok(all) => Ok(put_all_found(out, all.as_slice())?),
+        Ok(all) => put_all_found(out, all.as_slice()),
         Err(error) => put_refusal(alloc, case, &error, out),
     }
 }

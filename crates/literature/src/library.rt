@@ -66,7 +66,7 @@ impl Library {
     /// Puts an entry in the place of the one that has its key, else at the end.
     ///
     /// # Errors
-    /// Want of memory, where the library is as it was.
+    /// Out of memory; the library is as it was, and the entry is dropped.
     #[tactic(auto, using(crate::proofs::Stored::entry_put, crate::proofs::Stored::put_in_step, crate::proofs::Stored::unique_keys))]
     pub fn push(&mut self, entry: Entry) -> Result<(), AllocError>
         ensures ok { OnOk result (entries self.new ≡ put views.key (entries self.old) entry) }

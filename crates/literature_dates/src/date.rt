@@ -220,7 +220,7 @@ impl From<Unreadable> for DateError {
 }
 
 /// The year in four digits or more, behind a hyphen where it is negative; a hyphen and the month; a hyphen and the day,
-/// each in two digits; `~` where the date is approximate.
+/// each in two digits; `~` where the date is approximate. A day without a month is not printed.
 impl fmt::Display for Date {
     ghost output = { λ d. Some (text_of (date_text d)) };
 

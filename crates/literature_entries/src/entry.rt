@@ -9,7 +9,7 @@ use crate::details::Details;
 use literature_types::EntryType;
 
 /// An entry of a library: its key, its type and fields, and the works that it is part of. Two entries are equal where all of
-/// this is, which is asked of parents by a call in a call, as deep as ancestors go; their hash is that of the key.
+/// this is; their hash is that of the key. Comparing, dropping and `Debug` recurse as deep as ancestors go.
 #[derive(Debug, PartialEq, Eq, Drop)]
 #[derive_where(Hash)]
 pub struct Entry {

@@ -18,7 +18,7 @@ use std::fmt;
 use text_reader::{Class, Reader, Unreadable, split_first};
 use thiserror::Error;
 
-/// One number, or several, each with the delimiter that follows it.
+/// One number, or several, each with the delimiter that follows it. A set that was read has two numbers or more.
 #[derive(Debug, PartialEq, Eq, Drop)]
 pub enum NumericValue {
     Number(i32),
@@ -63,7 +63,7 @@ impl Numeric {
         self.value.is_plural()
     }
 
-    /// The number, where there is just one.
+    /// The number, where there is just one; letters before and after it do not count.
     pub fn single_number(&self) -> Option<i32>
         ensures { result ≡ only_one (numbers_in (numeral self.now).value) }
     {
@@ -74,7 +74,7 @@ impl Numeric {
         }
     }
 
-    /// The number at the place, where there are so many. Places count from zero.
+    /// The number at the place, where there are so many. Places count from zero; letters before and after do not count.
     pub fn nth(&self, place: usize) -> Option<i32>
         ensures { result ≡ slice_get (numbers_in (numeral self.now).value) place }
     {

@@ -145,7 +145,8 @@ fn is_taken(taken: Option<&Taken<'_>>, place: usize) -> bool
 }
 
 /// Whether each of the selectors in turn can take the first parent that was not taken and at which it holds. There are
-/// no more calls in one another than parents.
+/// no more calls in one another than parents; telling which parents are taken costs at most the square of the number of members
+/// times the number of parents.
 #[cycle(holding)]
 fn each_takes(members: &[Node], parents: &[Entry], taken: Option<&Taken<'_>>) -> bool
     ensures { result ≡ each_takes (map (λ x. (meaning (tree x)).at) members.now) (left_of (taken_places taken.entry) parents.now) }

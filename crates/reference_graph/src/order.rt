@@ -41,7 +41,7 @@ impl ReferenceOrder {
         self.circular.iter().position(|circular| *circular)
     }
 
-    /// Each number below the length once, each that is not circular behind all numbers that it refers to.
+    /// Each number below the length once, each that is not circular after all numbers that it refers to; beyond this in any order.
     pub fn order(&self) -> &[usize]
         ensures { result.now ≡ self.now.order }
     {
