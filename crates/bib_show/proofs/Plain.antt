@@ -6,7 +6,7 @@ use Rattle.std.proofs.lemmas.Grind.{flat_map-append}
 use Rattle.laws.specs.Runs.{front_of, after, AllPassTest, Bars}
 use Rattle.laws.specs.Text.{text}
 use Rattle.laws.proofs.Runs.{front-after, all-front, bars-after, length-after}
-use Rattle.laws.proofs.Text.{text-chars}
+use Rattle.laws.proofs.Text.{text_of_chars}
 use Rattle.bib_show.specs.Shown.{is_marked, is_plain, shown_character, shown_characters}
 
 -- plain characters are shown as the text that they spell
@@ -23,7 +23,7 @@ pub put_plain : (old new whole front back : List ℕ) → IsUtf8 front → chars
     → new ++ shown_characters (chars back) ≡ old ++ shown_characters (chars whole)
 put_plain old new whole front back u f b e =
     let cs = chars whole in
-    let plain : shown_characters (front_of is_plain cs) ≡ front = shown-plain (front_of is_plain cs) (all-front is_plain cs) ∙ (sym (ap text f) ∙ text-chars front u) in
+    let plain : shown_characters (front_of is_plain cs) ≡ front = shown-plain (front_of is_plain cs) (all-front is_plain cs) ∙ (sym (ap text f) ∙ text_of_chars front u) in
     let parts : shown_characters cs ≡ shown_characters (front_of is_plain cs) ++ shown_characters (after is_plain cs) =
     ap shown_characters (front-after is_plain cs) ∙ flat_map-append shown_character (front_of is_plain cs) (after is_plain cs) in
     (λ i. e i ++ shown_characters (b i))

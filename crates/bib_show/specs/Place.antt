@@ -29,7 +29,7 @@ line_at source at = (position_at source at).read ++ front_of (λ b. not (b == 10
 abbrev pub blank : ℕ → List ℕ
 blank b = if b == 9 then 9 ∷ [] else (if is_char_start b then 32 ∷ [] else [])
 
--- a caret below the place, behind a blank for each character before it
+-- a caret below the place, after a blank for each character before it
 abbrev pub mark_at : List ℕ → ℕ → List ℕ
 mark_at source at = flat_map blank (position_at source at).read ++ 94 ∷ []
 

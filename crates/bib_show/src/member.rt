@@ -4,15 +4,14 @@ ghost use Rattle.std.specs.Prelude.{◌≡◌, ◌++◌, ◌∷◌, [], false, I
 ghost use Rattle.std.specs.Str.{chars};
 ghost use Rattle.std.specs.Char.Escape.{escape_unicode};
 ghost use Rattle.laws.specs.Runs.{front_of, after};
-ghost use Rattle.laws.specs.Text.{text as text_of};
+ghost use Rattle.laws.specs.Text.{text as text_of, is_filled};
 ghost use Rattle.biblatex.specs.Contents.{members, styled};
-ghost use Rattle.biblatex.specs.Parted.{is_filled};
 ghost use Rattle.biblatex.specs.Styled.{Member, Math, letters};
 ghost use Rattle.bib_show.specs.Shown.{is_marked, is_plain, kind_of, shown_characters, turning, shown_from};
 
 use biblatex::{Chunk, Spanned};
 use std::alloc::AllocError;
-use text_reader::split_first;
+use texts::{CharacterClass, has_text, split_first, split_run};
 
 /// Shows a value: normal text as it is, verbatim text in braces, math between dollar signs.
 pub(crate) fn push_value(out: &mut String, value: &[Spanned<Chunk>]) -> Result<(), AllocError>
@@ -53,13 +52,6 @@ fn push_text(
     turn(out, is_open, is_verbatim)?;
     push_characters(out, text)?;
     Ok(is_verbatim)
-}
-
-/// Whether there is a character.
-fn has_text(text: &str) -> bool
-    ensures { result ≡ is_filled (chars text.now) }
-{
-    split_first(text).is_some()
 }
 
 /// Shows math.
@@ -106,17 +98,24 @@ fn push_plain<'s>(out: &mut String, text: &'s str) -> Result<&'s str, AllocError
     Ok(rest)
 }
 
+/// The characters that are shown as they are.
+#[derive(Clone, Copy)]
+struct Plain;
+
+impl CharacterClass for Plain {
+    ghost passes = { λ _ c. is_plain c };
+
+    fn contains(self, c: char) -> bool {
+        !is_marked(c)
+    }
+}
+
 /// The characters before the first one that is marked, and what follows them.
 fn split_plain(text: &str) -> (&str, &str)
     ensures front { chars result.0.now ≡ front_of is_plain (chars text.now) }
     ensures rest { chars result.1.now ≡ after is_plain (chars text.now) }
 {
-    for (i, c) in text.char_indices() {
-        if is_marked(c) {
-            return text.split_at(i);
-        }
-    }
-    text.split_at(text.len())
+    split_run(text, Plain)
 }
 
 /// Whether the character is a backslash, a dollar sign, a brace or a control character.

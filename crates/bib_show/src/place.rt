@@ -26,7 +26,7 @@ pub(crate) struct Place {
 }
 
 impl Place {
-    /// The place behind so many bytes of the source; past its end, its end.
+    /// The place after so many bytes of the source; past its end, its end.
     #[tactic(auto, using(crate::proofs::Marks::length_mark))]
     pub(crate) fn new(alloc: Global, source: &[u8], at: usize) -> Result<Place, AllocError>
         ensures number { IfOk result (λ p. p.number ≡ line_number source.now at) }
@@ -46,7 +46,7 @@ impl Place {
     }
 }
 
-/// What stands before the place, and what stands behind it.
+/// What stands before the place, and what stands after it.
 fn split_place(source: &[u8], at: usize) -> (&[u8], &[u8])
     ensures before { result.0.now ≡ take at source.now }
     ensures behind { result.1.now ≡ drop at source.now }
@@ -93,7 +93,7 @@ impl Position {
     }
 }
 
-/// Puts what stands before the first line feed last.
+/// Appends what stands before the first line feed.
 fn push_line_end(line: &mut Vec<u8>, behind: &[u8]) -> Result<(), AllocError>
     ensures { OnOk result (line.new.items ≡ line.old.items ++ front_of (λ b. not (b == 10)) behind.now) }
 {

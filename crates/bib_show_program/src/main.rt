@@ -33,7 +33,7 @@ fn run_words(rt: &HostRuntime, given: &[String]) -> io::Result<u8> {
     Ok(run(rt.alloc(), &words, &RealFiles { rt }, &mut out, &mut err))
 }
 
-/// Runs the program: the stored run where there are no words. A word that is no UTF-8 answers the usage line.
+/// Runs the program: the stored run where there are no words. A word that is not UTF-8 gives the usage line.
 fn start(rt: &HostRuntime) -> io::Result<u8> {
     match words_given(rt) {
         Ok(words) if words.is_empty() => {

@@ -11,12 +11,12 @@ pub use biblatex_content::{
 };
 pub use biblatex_dates::{Date, DateValue, Datetime, Time, TimeOffset, TypeErrorKind};
 pub use biblatex_entries::{Entry, EntryType, RetrievalError, Role};
+pub use biblatex_field_types::{
+    ChunksParse, EditorType, FieldType, FieldTypeError, Gender, PermissiveType, TypeError, reread,
+};
 pub use biblatex_fields::{Abbreviations, Fields};
 pub use biblatex_people::Person;
 pub use biblatex_text::{
     BiblatexParser, Fault, Field, Pair, RawBibliography, RawChunk, RawEntry, RawError, Spanned,
     Token, is_id_continue, is_id_start, is_key,
-};
-pub use biblatex_types::{
-    ChunksParse, EditorType, FieldType, FieldTypeError, Gender, PermissiveType, TypeError, reread,
 };

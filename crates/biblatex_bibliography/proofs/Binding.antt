@@ -96,7 +96,7 @@ pub bound_none : (names : List (String Global)) (place : ℕ) (f : Meaning) → 
 bound_none [] place f e = refl
 bound_none (n ∷ ns) place f e = absurd cc
 
--- a place is taken out and those behind it move up
+-- a place is taken out and those after it move up
 pub moved : (out : ℕ) (o : Option ℕ) → option_map (λ v. cond (ltb out v) (v - 1) v) (option_filter (λ v. not (eqb v out)) o) ≡ option_and_then (moved_up out) o
 moved out None = refl
 moved out (Some v) = by_test (eqb v out)

@@ -1,7 +1,7 @@
 pub mod Binding
 pub mod Within
 pub mod Names
-pub mod Lent
+pub mod Borrowed
 pub mod Resolving
 pub mod Loading
 pub mod Unique

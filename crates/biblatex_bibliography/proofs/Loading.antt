@@ -1,4 +1,4 @@
--- Entries that are read one behind the other.
+-- Entries that are read one after the other.
 use Rattle.std.proofs.Common.{◌≡◌, ℕ, suc, ◌+◌, ◌<◌, Bool, true, false, List, [], ◌∷◌, ◌++◌, length, map, slice_get, Option, Some, None, Result, Ok, Err, Bor, refl, sym, ap, subst, ◌∙◌, arith}
 use Rattle.std.specs.Prelude.{is_some, IfSome}
 use Rattle.std.proofs.lemmas.Option.{slice_get_within}
@@ -15,7 +15,7 @@ use Rattle.biblatex_inheritance.specs.Resolved.{offers}
 use Rattle.biblatex_inheritance.specs.Solution.{IsRefusedAs, fault_in}
 use Rattle.biblatex_inheritance.specs.declared.error.ResolveError.{ResolveError}
 use Rattle.biblatex_inheritance.specs.declared.error.ResolveError.TheVariants as errors
-use Rattle.biblatex_bibliography.specs.Bibliographies.{Listed, Held, seen, nothing, pushed, IsAsRead, references}
+use Rattle.biblatex_bibliography.specs.Bibliographies.{Listed, Indexed, seen, nothing, pushed, IsAsRead, references}
 use Rattle.biblatex_bibliography.specs.Reading.{Refusal, Loaded, nothing_loaded, refused_at, duplicate_key, or_refusal, source_of, unless_known, entry_behind, entries_behind, loaded}
 use Rattle.biblatex_bibliography.specs.Resolved.{number_of, unresolved_at, ComesTo, Means, IsMeaningOf}
 use Rattle.biblatex_bibliography.specs.Errors.{loaded_of}
@@ -44,7 +44,7 @@ pub entry_fresh : (g : Glossary) (l : Loaded) (e : Entry) (fs : List Named) (key
 entry_fresh g l e fs key read is fresh = rw (read, ← is, fresh) refl
 
 -- at the beginning
-pub begins : (b : Held) (keys : List (Spanned (Bor (List ℕ)))) → seen b ≡ nothing → keys ≡ [] → loaded_of b keys ≡ nothing_loaded
+pub begins : (b : Indexed) (keys : List (Spanned (Bor (List ℕ)))) → seen b ≡ nothing → keys ≡ [] → loaded_of b keys ≡ nothing_loaded
 begins b keys e k = ap (λ (l : Listed). loaded_with l (map part keys)) e ∙ ap (λ (ks : List (Spanned (Bor (List ℕ)))). loaded_with nothing (map part ks)) k
   where
     loaded_with : Listed → List (At (List ℕ)) → Loaded

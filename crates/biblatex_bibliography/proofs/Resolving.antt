@@ -9,23 +9,23 @@ use Rattle.biblatex_entries.specs.TypeNames.{TypeName, type_name}
 use Rattle.biblatex_entries.specs.Entries.{Source, source, sources}
 use Rattle.biblatex_entries.specs.declared.entry.Entry.{Entry}
 use Rattle.biblatex_inheritance.specs.Resolved.{Table}
-use Rattle.biblatex_inheritance.specs.Solution.{Solves, IsOnly, NoneIsCircular, fault_at, seen, value_in, AreKept, AreOrdered, IsRefusedAs}
+use Rattle.biblatex_inheritance.specs.Solution.{Solves, IsOnly, NoneIsCircular, fault_at, seen, value_in, HaveSameHeads, AreOrdered, IsRefusedAs}
 use Rattle.biblatex_inheritance.specs.declared.error.ResolveError.{ResolveError}
 use Rattle.biblatex_bibliography.specs.Bibliographies.{Listed, references}
 use Rattle.biblatex_bibliography.specs.Resolved.{head, table_of, tables, IsResolved}
 
--- entries that are kept have the same heads
-pub heads_kept : (old new : List Entry) → AreKept old new → map head (sources new) ≡ map head (sources old)
-heads_kept [] [] kept = refl
-heads_kept [] (d ∷ ds) kept = absurd (kept 0)
-heads_kept (e ∷ es) [] kept = absurd (kept 0)
-heads_kept (e ∷ es) (d ∷ ds) kept = same (string_bytes d.key) (string_bytes e.key) (type_name d.entry_type) (type_name e.entry_type) _ _ (kept 0).0 (kept 0).1 (heads_kept es ds (λ i. kept (suc i)))
+-- entries with the same heads, place by place
+pub heads_same : (old new : List Entry) → HaveSameHeads old new → map head (sources new) ≡ map head (sources old)
+heads_same [] [] same_heads = refl
+heads_same [] (d ∷ ds) same_heads = absurd (same_heads 0)
+heads_same (e ∷ es) [] same_heads = absurd (same_heads 0)
+heads_same (e ∷ es) (d ∷ ds) same_heads = same (string_bytes d.key) (string_bytes e.key) (type_name d.entry_type) (type_name e.entry_type) _ _ (same_heads 0).0 (same_heads 0).1 (heads_same es ds (λ i. same_heads (suc i)))
   where
     same : (k l : List ℕ) (s t : TypeName) (xs ys : List (List ℕ × TypeName)) → k ≡ l → s ≡ t → xs ≡ ys → (k, s) ∷ xs ≡ (l, t) ∷ ys
     same k l s t xs ys a b c = rw (a, b, c) refl
 
-pub kept_long : (old new : List Entry) → AreKept old new → length (sources new) ≡ length (sources old)
-kept_long old new kept = sym (length-map (sources new) head) ∙ (ap length (heads_kept old new kept) ∙ length-map (sources old) head)
+pub same_length : (old new : List Entry) → HaveSameHeads old new → length (sources new) ≡ length (sources old)
+same_length old new same_heads = sym (length-map (sources new) head) ∙ (ap length (heads_same old new same_heads) ∙ length-map (sources old) head)
 
 -- fields are seen the same in memory and without it
 pub seen_tables : (es : List Entry) → seen es ≡ tables (sources es)
@@ -36,11 +36,11 @@ seen_tables es = fun_ext (λ i. fun_ext (λ name. at (slice_get es i) name ∙ a
     at (Some e) name = refl
 
 -- all that resolving promises, of entries without where they lie in memory
-pub resolved_is : (read : Listed) (old new : List Entry) (R : List (List ℕ)) → sources old ≡ read.entries → R ≡ references read → AreKept old new
+pub resolved_is : (read : Listed) (old new : List Entry) (R : List (List ℕ)) → sources old ≡ read.entries → R ≡ references read → HaveSameHeads old new
     → Solves (sources old) R (seen new) → IsOnly (sources old) R (seen new) → NoneIsCircular R → ((i : ℕ) → i < length old → fault_at (sources old) R (seen new) i ≡ None) → AreOrdered new
     → IsResolved read (record { entries = sources new; place = read.place })
-resolved_is read old new R is_old is_R kept solved only acyclic readable ordered = record {
-  heads = heads_kept old new kept ∙ ap (map head) is_old;
+resolved_is read old new R is_old is_R same_heads solved only acyclic readable ordered = record {
+  heads = heads_same old new same_heads ∙ ap (map head) is_old;
   place = refl;
   equation = by_equal (λ es rs see. Solves es rs see) is_old is_R (seen_tables new) solved;
   only = by_equal (λ es rs see. IsOnly es rs see) is_old is_R (seen_tables new) only;

@@ -14,20 +14,20 @@ pub record Listed : Type 0 where
   pub place : Meaning
 
 -- entries, and names in any order
-pub record Held : Type 0 where
+pub record Indexed : Type 0 where
   pub entries : List Source
   pub names : Names
 
 -- what a bibliography says, whatever the order of its names
-abbrev pub seen : Held → Listed
+abbrev pub seen : Indexed → Listed
 seen b = record { entries = b.entries; place = meaning_in b.names }
 
 -- entries in memory and the map of their names
-abbrev pub held : {S : Type 0} → List Entry → HashMap (String Global) ℕ S → Held
-held entries places = record { entries = sources entries; names = names_in places }
+abbrev pub indexed : {S : Type 0} → List Entry → HashMap (String Global) ℕ S → Indexed
+indexed entries places = record { entries = sources entries; names = names_in places }
 
 -- each name means the place of an entry that there is
-abbrev pub IsWithin : Held → Type 0
+abbrev pub IsWithin : Indexed → Type 0
 IsWithin b = AreWithin (meaning_in b.names) (length b.entries)
 
 -- no entry
@@ -74,7 +74,7 @@ aliased name alias b = aliased_at (b.place name) alias b
 abbrev pub references : Listed → List (List ℕ)
 references b = map (λ e. filter_map b.place (parents_of e.fields)) b.entries
 
--- a place among the entries behind the first, counted from the first; else the first's own, where it has the name
+-- a place among the entries after the first, counted from the first; else the first's own, where it has the name
 abbrev pub after_first : Option ℕ → Bool → Option ℕ
 after_first None is_named = if is_named then Some 0 else None
 after_first (Some i) is_named = Some (suc i)

@@ -22,7 +22,7 @@ meaning_in names name = lookup (bytes_eq name) names
 abbrev pub bound : List (List ℕ) → ℕ → Meaning → Meaning
 bound names place meaning name = if list_any (bytes_eq name) names then Some place else meaning name
 
--- where an entry stands once the one at a place is taken out: those behind it move up by one
+-- where an entry stands once the one at a place is taken out: those after it move up by one
 abbrev pub moved_up : ℕ → ℕ → Option ℕ
 moved_up out place = if place == out then None else Some (if nat_lt out place then place - 1 else place)
 

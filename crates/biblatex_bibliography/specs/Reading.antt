@@ -66,7 +66,7 @@ unless_known false l key e = Ok (record { listed = pushed e l.listed; keys = l.k
 abbrev pub entry_behind : Glossary → Loaded → Entry → Result Loaded Refusal
 entry_behind g l e = or_refusal (fields_of g e.fields) >>= λ fs. unless_known (is_some (l.listed.place (text e.key.v))) l e.key (source_of e fs)
 
--- entries in the order of the text, behind those that were read
+-- entries in the order of the text, after those that were read
 abbrev pub entries_behind : Glossary → Loaded → List (At Entry) → Result Loaded Refusal
 entries_behind g l [] = Ok l
 entries_behind g l (e ∷ es) = entry_behind g l e.v >>= λ more. entries_behind g more es

@@ -13,7 +13,7 @@ ghost use Rattle.biblatex_entries.specs.declared.entry.Entry.{Entry};
 ghost use Rattle.biblatex_entries.specs.Entries.{source, sources};
 ghost use Rattle.biblatex_bibliography.specs.Bibliographies.{seen, IsAsRead, nothing, entry_named, pushed, inserted, removed, aliased, references};
 
-use crate::held::{key_alone, put_last, replace, take};
+use crate::indexed::{key_alone, put_last, replace, take};
 use crate::keys::Keys;
 use crate::places::{bind, place_in, places_meant};
 use biblatex_entries::Entry;
@@ -31,13 +31,13 @@ pub struct Bibliography {
 }
 
 impl Model for Bibliography {
-    ghost use Rattle.biblatex_bibliography.specs.Bibliographies.{Held, held, IsWithin};
+    ghost use Rattle.biblatex_bibliography.specs.Bibliographies.{Indexed, indexed, IsWithin};
 
-    ghost Value = { Held };
+    ghost Value = { Indexed };
 
-    ghost view = { λ b. held b.entries.items b.places };
+    ghost view = { λ b. indexed b.entries.items b.places };
 
-    ghost invariant = { λ b. IsWithin (held b.entries.items b.places) };
+    ghost invariant = { λ b. IsWithin (indexed b.entries.items b.places) };
 }
 
 impl Bibliography {
@@ -129,7 +129,7 @@ impl Bibliography {
         self.entries.get_mut(place)
     }
 
-    /// Puts an entry last, as when a file is read: its key and the names in its `ids` mean it from now on. Unchanged where
+    /// Appends an entry, as when a file is read: its key and the names in its `ids` mean it from now on. Unchanged where
     /// there is no memory for it.
     pub fn push(&mut self, entry: Entry) -> Result<(), AllocError>
         ensures ok { OnOk result (seen self.new ≡ pushed (source entry) (seen self.old)) }
@@ -156,7 +156,7 @@ impl Bibliography {
         Ok(None)
     }
 
-    /// Takes the entry that the name means out, with all its names. The places behind it move up by one.
+    /// Takes the entry that the name means out, with all its names. The places after it move up by one.
     pub fn remove(&mut self, name: &str) -> Option<Entry>
         ensures rest { seen self.new ≡ removed name.now (seen self.old) }
         ensures value { option_map source result ≡ entry_named name.now (seen self.old) }
@@ -167,14 +167,15 @@ impl Bibliography {
 
     /// Lets one more name mean the entry that a name means, also one that meant another entry; nothing where the name means
     /// none. Unchanged where there is no memory for it.
-    pub fn alias(&mut self, alloc: Global, name: &str, alias: &str) -> Result<(), AllocError>
+    pub fn alias(&mut self, name: &str, alias: &str) -> Result<(), AllocError>
         ensures ok { OnOk result (seen self.new ≡ aliased name.now alias.now (seen self.old)) }
         ensures err { OnErr result (self.new ≡ self.old) }
     {
         let Some(place) = place_in(&self.places, name) else {
             return Ok(());
         };
-        bind(&mut self.places, String::from_str(alloc, alias)?, place)
+        let alias = String::from_str(*self.entries.allocator(), alias)?;
+        bind(&mut self.places, alias, place)
     }
 
     /// Of each entry, in order, the places of the entries that its `crossref` and then its `xdata` name; names that mean

@@ -3,7 +3,7 @@
 
 mod bibliography;
 mod error;
-mod held;
+mod indexed;
 mod iterators;
 mod keys;
 mod parsing;

@@ -6,16 +6,19 @@ ghost use Rattle.laws.specs.Text.{text as text_of};
 ghost use Rattle.biblatex_text.specs.Views.{part, raw as written};
 ghost use Rattle.biblatex_bibliography.specs.Reading.{raw, refused_at, reference_cycle, unreadable_date};
 ghost use Rattle.biblatex_bibliography.specs.Resolved.{IsMeaningOf, TextMeans, unresolved_at, number_of};
-ghost use Rattle.biblatex_bibliography.specs.Errors.{Answers, reason, refusal_of};
+ghost use Rattle.laws.specs.Results.{Answers};
+ghost use Rattle.biblatex_bibliography.specs.Bibliographies.{seen};
+ghost use Rattle.biblatex_bibliography.specs.Errors.{reason, refusal_of};
 
 use crate::Bibliography;
 use crate::error::{ParseError, ParseErrorKind};
-use crate::reading::{load, owned};
+use crate::reading::load;
 use biblatex_dates::TypeErrorKind;
 use biblatex_fields::{Abbreviations, Spanned};
 use biblatex_inheritance::ResolveError;
 use biblatex_text::{Fault, RawBibliography, RawError};
 use std::alloc::{AllocError, Global};
+use texts::owned;
 
 /// What a text holds once its references are resolved, and how many times an entry was made from its fields and its references.
 #[derive(Drop)]
@@ -81,7 +84,7 @@ impl Bibliography {
     /// and their pieces in order, then a key that has a meaning already; else the first entry that reaches itself; else the
     /// first that needs a date and refers to one whose date cannot be read. `Memory` where a request for memory was refused.
     pub fn parse(alloc: Global, source: &str) -> Result<Bibliography, ParseError>
-        ensures { Answers (λ b. b) result (TextMeans (chars source.now)) }
+        ensures { Answers refusal_of seen result (TextMeans (chars source.now)) }
     {
         match RawBibliography::parse(alloc, source) {
             Ok(raw) => Bibliography::from_raw(alloc, raw),
@@ -98,7 +101,7 @@ impl Bibliography {
     /// # Errors
     /// As those of `parse`, but for faults of the raw grammar.
     pub fn from_raw(alloc: Global, raw: RawBibliography) -> Result<Bibliography, ParseError>
-        ensures { Answers (λ b. b) result (IsMeaningOf (written raw.entry)) }
+        ensures { Answers refusal_of seen result (IsMeaningOf (written raw.entry)) }
     {
         Ok(Bibliography::from_raw_counted(alloc, raw)?.bibliography)
     }
@@ -108,7 +111,7 @@ impl Bibliography {
     /// # Errors
     /// Those of `from_raw`.
     pub fn from_raw_counted(alloc: Global, raw: RawBibliography) -> Result<Counted, ParseError>
-        ensures meaning { Answers (λ c. c.bibliography) result (IsMeaningOf (written raw.entry)) }
+        ensures meaning { Answers refusal_of (λ c. seen c.bibliography) result (IsMeaningOf (written raw.entry)) }
         ensures count { IfOk result (λ c. c.count ≡ length raw.entry.entries.items) }
     {
         let RawBibliography {

@@ -45,7 +45,7 @@ pub(crate) fn bind_all(
     Ok(())
 }
 
-/// Takes out the names that mean a place; places behind it move up by one.
+/// Takes out the names that mean a place; places after it move up by one.
 pub(crate) fn take_out(places: &mut HashMap<String, usize>, out: usize)
     ensures { meaning_in (names_in places.new) ≡ without_place out (meaning_in (names_in places.old)) }
 {
@@ -73,7 +73,7 @@ pub(crate) fn places_meant(
     Ok(meant)
 }
 
-/// Puts a place last, if there is one.
+/// Appends a place, if there is one.
 fn push_known(places: &mut Vec<usize>, place: Option<usize>) -> Result<(), AllocError>
     ensures { OnOk result (places.new.items ≡ places.old.items ++ option_to_list place) }
 {

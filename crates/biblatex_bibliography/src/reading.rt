@@ -11,7 +11,8 @@ ghost use Rattle.biblatex_fields.specs.Views.{refusal};
 ghost use Rattle.biblatex_entries.specs.Entries.{source};
 ghost use Rattle.biblatex_bibliography.specs.Reading as specs;
 ghost use Rattle.biblatex_bibliography.specs.Reading.{field_refusal, or_refusal, source_of, refused_at, duplicate_key};
-ghost use Rattle.biblatex_bibliography.specs.Errors.{Gives, loaded_of, loaded_in, refusal_of, Steps};
+ghost use Rattle.biblatex_bibliography.specs.Errors.{loaded_of, loaded_in, refusal_of};
+ghost use Rattle.laws.specs.Results.{Leaves, Gives};
 
 use crate::Bibliography;
 use crate::error::{ParseError, ParseErrorKind};
@@ -21,19 +22,13 @@ use biblatex_fields::{
 };
 use biblatex_text::{RawChunk, RawEntry};
 use std::alloc::{AllocError, Global};
+use texts::owned;
 
 /// The entries of a text, found by their names, and of each its written key.
 #[derive(Drop)]
 pub(crate) struct Loaded<'s> {
     pub(crate) bibliography: Bibliography,
     pub(crate) keys: Vec<Spanned<&'s str>>,
-}
-
-/// The text in memory of its own.
-pub(crate) fn owned(alloc: Global, text: &str) -> Result<String, AllocError>
-    ensures { IfOk result (λ s. string_bytes s ≡ text_of (chars text.now)) }
-{
-    String::from_str(alloc, text)
 }
 
 /// The fault of a field, as an error of the text.
@@ -56,7 +51,7 @@ fn refused(alloc: Global, fault: FieldFault) -> Result<ParseError, AllocError>
     }
 }
 
-/// The value of a field of that name, with abbreviations opened: what its pieces give, one behind the other, tidied. A verbatim
+/// The value of a field of that name, with abbreviations opened: what its pieces give, one after the other, tidied. A verbatim
 /// field reads all of them as verbatim.
 ///
 /// # Errors
@@ -67,7 +62,7 @@ pub fn parse_field<'s>(
     field: &[Spanned<RawChunk<'s>>],
     abbreviations: &Abbreviations<'_, 's>,
 ) -> Result<Chunks, ParseError>
-    ensures { Gives (λ v. styled v.items) result (or_refusal (content_of abbreviations.now (chars key.now) (map piece field.now))) }
+    ensures { Gives refusal_of (λ v. styled v.items) result (or_refusal (content_of abbreviations.now (chars key.now) (map piece field.now))) }
 {
     match abbreviations.parse_field(alloc, key, field) {
         Ok(value) => Ok(value),
@@ -82,7 +77,7 @@ fn fields_of(
     abbreviations: &Abbreviations,
     raw: &RawEntry,
 ) -> Result<Fields, ParseError>
-    ensures { Gives (λ fs. fs) result (or_refusal (fields_of abbreviations.now (fields raw.now.fields))) }
+    ensures { Gives refusal_of (λ fs. fs) result (or_refusal (fields_of abbreviations.now (fields raw.now.fields))) }
 {
     match read_fields(alloc, abbreviations, raw) {
         Ok(fields) => Ok(fields),
@@ -104,7 +99,7 @@ fn entry_of(alloc: Global, raw: &RawEntry, fields: Fields) -> Result<Entry, Allo
     })
 }
 
-/// Reads one more entry behind those that were read.
+/// Reads one more entry after those that were read.
 fn load_entry<'s>(
     alloc: Global,
     abbreviations: &Abbreviations<'_, 's>,
@@ -112,7 +107,7 @@ fn load_entry<'s>(
     keys: &mut Vec<Spanned<&'s str>>,
     raw: RawEntry<'s>,
 ) -> Result<(), ParseError>
-    ensures { Steps result (loaded_of bibliography.new keys.new.items) (specs.entry_behind abbreviations.now (loaded_of bibliography.old keys.old.items) (raw_entry raw.entry)) }
+    ensures { Leaves refusal_of result (loaded_of bibliography.new keys.new.items) (specs.entry_behind abbreviations.now (loaded_of bibliography.old keys.old.items) (raw_entry raw.entry)) }
 {
     let fields = fields_of(alloc, abbreviations, &raw)?;
     let entry = entry_of(alloc, &raw, fields)?;
@@ -133,7 +128,7 @@ pub(crate) fn load<'s>(
     abbreviations: &Abbreviations<'_, 's>,
     entries: Vec<Spanned<RawEntry<'s>>>,
 ) -> Result<Loaded<'s>, ParseError>
-    ensures { Gives loaded_in result (specs.loaded abbreviations.now (map entry entries.entry.items)) }
+    ensures { Gives refusal_of loaded_in result (specs.loaded abbreviations.now (map entry entries.entry.items)) }
 {
     let mut bibliography = Bibliography::new(alloc);
     let mut keys = Vec::with_capacity(alloc, entries.len())?;

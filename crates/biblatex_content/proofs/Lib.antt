@@ -1,4 +1,3 @@
-pub mod Characters
 pub mod Members
 pub mod Shifting
 pub mod Pieces

@@ -1,4 +1,4 @@
--- Members behind others.
+-- Members after others.
 use Rattle.std.proofs.Common.{◌≡◌, ℕ, List, [], ◌++◌, refl, sym, ap, ◌∙◌, append_assoc}
 use Rattle.std.proofs.lemmas.List.{map-append}
 use Rattle.biblatex_content.specs.declared.chunk.Kind.{Kind}
@@ -7,7 +7,7 @@ use Rattle.biblatex_content.specs.declared.tidy.Gap.TheVariants.{Beginning, Noth
 use Rattle.biblatex_content.specs.Styled.{Member, Letter, letters}
 use Rattle.biblatex_content.specs.Tidy.{tidied_behind}
 
--- characters behind characters of the same kind
+-- characters after characters of the same kind
 pub letters_more : (done : List Member) (kind : Kind) (cs ds : List ℕ) → (done ++ letters kind cs) ++ letters kind ds ≡ done ++ letters kind (cs ++ ds)
 letters_more done kind cs ds = append_assoc done (letters kind cs) (letters kind ds) ∙ ap (λ (ms : List Member). done ++ ms) (sym (map-append (Letter kind) cs ds))
 

@@ -50,6 +50,6 @@ last_forgotten (m ∷ n ∷ ms) = ap (λ (x : List Member). m.v ∷ x) (last_for
 pub tidied_forgotten : (ms : List (At Member)) → without_places (tidied_at ms) ≡ tidied (without_places ms)
 tidied_forgotten ms = last_forgotten (squeezed_at true (map spaced_at ms)) ∙ ap without_last_space (squeezed_forgotten true ms)
 
--- members at one place behind others
+-- members at one place after others
 pub at_append : (start end : ℕ) (ms ns : List Member) → all_at start end (ms ++ ns) ≡ all_at start end ms ++ all_at start end ns
 at_append start end ms ns = map-append (λ (m : Member). record { v = m; start = start; end = end }) ms ns

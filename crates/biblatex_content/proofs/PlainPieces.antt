@@ -5,15 +5,15 @@ use Rattle.laws.specs.Results.{◌>>=◌}
 use Rattle.laws.specs.Runs.{front_of, after}
 use Rattle.laws.proofs.Runs.{front-after}
 use Rattle.laws.proofs.Steps.{each-none, each-some}
-use Rattle.biblatex_content_tokens.specs.Character.{passes}
-use Rattle.biblatex_content_tokens.specs.declared.character.Class.TheVariants.{Plain}
+use Rattle.biblatex_tex.specs.Character.{passes}
+use Rattle.biblatex_tex.specs.declared.character.Class.TheVariants.{Plain}
 use Rattle.biblatex_content.specs.declared.chunk.Kind.TheVariants.{Normal}
-use Rattle.biblatex_content_tokens.specs.declared.error.Malformed.{Malformed}
+use Rattle.biblatex_tex.specs.declared.error.Malformed.{Malformed}
 use Rattle.biblatex_content.specs.Styled.{letters}
-use Rattle.biblatex_content_tokens.specs.Token.{Token, Text, token_at, tokens_of, paired_of}
+use Rattle.biblatex_tex.specs.Token.{Token, Text, token_at, tokens_of, paired_of}
 use Rattle.biblatex_content.specs.Ordinary.{ordinary, step}
-use Rattle.biblatex_content.specs.Parted.{is_filled}
-use Rattle.biblatex_content_tokens.proofs.Lexing.{tokens_shorten}
+use Rattle.laws.specs.Text.{is_filled}
+use Rattle.biblatex_tex.proofs.Lexing.{tokens_shorten}
 
 first_no : (a b : Bool) → a || b ≡ false → a ≡ false
 first_no true b e = e

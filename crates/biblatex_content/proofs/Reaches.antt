@@ -4,7 +4,8 @@ use Rattle.biblatex_text.specs.Raw.{At}
 use Rattle.biblatex_content.specs.declared.chunk.Kind.{Kind}
 use Rattle.biblatex_content.specs.declared.chunk.Kind.TheVariants.{Normal, Verbatim}
 use Rattle.biblatex_content.specs.Styled.{Member, Letter, letters}
-use Rattle.biblatex_content.specs.Parted.{is_filled, is_apart}
+use Rattle.biblatex_content.specs.Parted.{is_apart}
+use Rattle.laws.specs.Text.{is_filled}
 use Rattle.biblatex_content.specs.Places.{all_at, kind_in, goes_on, before, places_of, begun_with}
 
 -- a character of the kind at the place
@@ -42,7 +43,7 @@ more : (kind : Kind) (s e c start end : ℕ) (ms : List (At Member))
     → places_of (letter kind 0 s (max e end) ∷ ms) ≡ places_of (letter kind 0 s e ∷ letter kind c start end ∷ ms)
 more kind s e c start end ms = sym (rw (alike kind, goes_on_same kind c 0 ms) (merged (goes_on (Letter kind 0) ms) kind s e c start end (places_of ms)))
 
--- a character put behind what was begun, if anything was
+-- a character put after what was begun, if anything was
 pub pushed : (run : List ℕ) (kind : Kind) (s e c start end : ℕ) (ms : List (At Member))
     → begun_with (is_filled (run ++ c ∷ [])) (letter kind 0 (if is_filled run then s else start) (if is_filled run then max e end else end)) ms
     ≡ begun_with (is_filled run) (letter kind 0 s e) (letter kind c start end ∷ ms)
@@ -55,7 +56,7 @@ pub ended : (is_begun : Bool) (run m : At Member) (ms : List (At Member)) → is
 ended false run m ms apart = refl
 ended true run m ms apart = rw apart refl
 
--- the same behind chunks that are finished
+-- the same after chunks that are finished
 pub ended_behind : (ps : List (ℕ × ℕ)) (is_begun : Bool) (run m : At Member) (ms : List (At Member)) → is_apart (kind_in run.v) (kind_in m.v) ≡ true
     → (ps ++ begun_with is_begun run []) ++ places_of (m ∷ ms) ≡ ps ++ begun_with is_begun run (m ∷ ms)
 ended_behind ps is_begun run m ms apart = append_assoc ps (begun_with is_begun run []) (places_of (m ∷ ms)) ∙ ap (λ (x : List (ℕ × ℕ)). ps ++ x) (ended is_begun run m ms apart)

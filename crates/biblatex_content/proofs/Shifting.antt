@@ -4,18 +4,18 @@ use Rattle.std.specs.Prelude.{◌==◌, ◌&&◌}
 use Rattle.std.proofs.lemmas.List.{append-nil}
 use Rattle.laws.specs.Results.{◌>>=◌}
 use Rattle.laws.specs.Text.{text}
-use Rattle.biblatex_content_tokens.specs.declared.error.Malformed.{Malformed}
+use Rattle.biblatex_tex.specs.declared.error.Malformed.{Malformed}
 use Rattle.biblatex_content.specs.declared.ordinary.Frame.{Frame}
 use Rattle.biblatex_content.specs.declared.ordinary.Mode.{Mode}
 use Rattle.biblatex_content.specs.declared.ordinary.Mode.TheVariants.{Free, Argument, Groups, InMath}
-use Rattle.biblatex_content_tokens.specs.Accent.{marked}
-use Rattle.biblatex_content_tokens.specs.Command.{sign_mark, letter_mark, letter_character}
+use Rattle.biblatex_tex.specs.Accent.{marked}
+use Rattle.biblatex_tex.specs.Command.{sign_mark, letter_mark, letter_character}
 use Rattle.biblatex_content.specs.Ordinary.{State, given, given_text, text_in, hyphens_in, closed_to, closed_in, sign, command, character_or_groups, unit, settled, is_open, braces, is_dollar, in_math, step_in, step, steps, ended_in, begun, ordinary}
 use Rattle.biblatex_content.specs.Styled.{Member, Math, letters}
-use Rattle.biblatex_content_tokens.specs.Token.{Token, Text, Hyphens, Tie, Open, Close, Dollar, Sign, Command, written, paired_of}
+use Rattle.biblatex_tex.specs.Token.{Token, Text, Hyphens, Tie, Open, Close, Dollar, Sign, Command, written, paired_of}
 use Rattle.biblatex_content.specs.Views.{behind}
 
--- the same state behind these members
+-- the same state after these members
 abbrev shift : List Member → State → State
 shift p s = record s { done = p ++ s.done }
 
@@ -127,7 +127,7 @@ ended-shift p (Groups kept) (f ∷ fs) done = refl
 ended-shift p (Argument kept) fs done = refl
 ended-shift p (InMath depth) fs done = refl
 
--- a piece that is read behind these members
+-- a piece that is read after these members
 abbrev pub onto : List Member → Result (List Token) Malformed → Result (List Member) Malformed
 onto p tokens = tokens >>= λ ts. steps ts (begun p) >>= λ s. ended_in s.mode s.frames s.done
 

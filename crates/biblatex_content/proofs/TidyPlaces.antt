@@ -1,10 +1,10 @@
--- What is still to be written of members with places, behind a gap.
+-- What is still to be written of members with places, after a gap.
 use Rattle.std.proofs.Common.{◌≡◌, ℕ, Bool, true, false, ◌||◌, ◌==◌, List, [], ◌∷◌, ◌++◌, map, refl, sym, ap, ◌∙◌}
 use Rattle.biblatex_text.specs.Raw.{At}
 use Rattle.biblatex_content.specs.declared.chunk.Kind.{Kind}
 use Rattle.biblatex_content.specs.declared.tidy.Gap.{Gap}
 use Rattle.biblatex_content.specs.declared.tidy.Gap.TheVariants.{Beginning, Nothing, Space}
-use Rattle.biblatex_content_tokens.specs.Character.{is_blank}
+use Rattle.biblatex_tex.specs.Character.{is_blank}
 use Rattle.biblatex_content.specs.Styled.{Member, Letter, Math}
 use Rattle.biblatex_content.specs.Tidy.{is_space}
 use Rattle.biblatex_content.specs.Places.{spaced_at, squeezed_at, without_last_space_at, owed_at, tidied_behind_at}
@@ -21,7 +21,7 @@ first_no false b e = refl
 no_space : (c : ℕ) → is_blank c ≡ false → (c == 32) ≡ false
 no_space c e = first_no (c == 32) _ (first_no _ _ (first_no _ _ (first_no _ _ e)))
 
--- what is still to come behind a member that is no blank
+-- what is still to come after a member that is no blank
 abbrev behind : List (At Member) → List (At Member)
 behind ms = squeezed_at false (map spaced_at ms)
 

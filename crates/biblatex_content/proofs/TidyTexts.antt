@@ -9,11 +9,10 @@ use Rattle.biblatex_content.specs.declared.chunk.Chunk.{Chunk}
 use Rattle.biblatex_content.specs.declared.chunk.Chunk.TheVariants as chunks
 use Rattle.biblatex_text.specs.declared.spanned.Spanned.{Spanned}
 use Rattle.biblatex_text.specs.Raw.{At}
-use Rattle.biblatex_content_tokens.specs.Character.{is_blank}
+use Rattle.biblatex_tex.specs.Character.{is_blank}
 use Rattle.biblatex_content.specs.Styled.{Member, Letter, letters}
-use Rattle.biblatex_content.specs.Views.{characters}
+use Rattle.laws.specs.Text.{characters, is_filled}
 use Rattle.biblatex_content.specs.Tidy.{spaced, is_space, squeezed, without_last_space, tidied, stays, is_tidy, is_tidy_text}
-use Rattle.biblatex_content.specs.Parted.{is_filled}
 use Rattle.biblatex_content.specs.Places.{all_at, spaced_at, squeezed_at, without_last_space_at, tidied_at, places_of, AreDone}
 use Rattle.biblatex_content.proofs.Reaches.{one_place}
 
@@ -29,7 +28,7 @@ not_true : (a : Bool) → not a ≡ true → a ≡ false
 not_true true e = absurd cc
 not_true false e = refl
 
--- a blank that stays is a space behind another character; what stays else is no blank
+-- a blank that stays is a space after another character; what stays else is no blank
 blank_stays : (blank after_space : Bool) → not (blank && (after_space || not true)) ≡ true → blank ≡ true → after_space ≡ false
 blank_stays true true e b = absurd cc
 blank_stays true false e b = refl

@@ -8,8 +8,9 @@ use Rattle.biblatex_content.specs.declared.chunk.Kind.TheVariants.{Normal, Verba
 use Rattle.biblatex_content.specs.declared.chunk.Chunk.{Chunk}
 use Rattle.biblatex_content.specs.declared.chunk.Chunk.TheVariants as chunks
 use Rattle.biblatex_content.specs.Styled.{Member, Letter, letters}
-use Rattle.biblatex_content_tokens.specs.Token.{begins_command}
-use Rattle.biblatex_content.specs.Views.{characters, chunk_text, members, styled}
+use Rattle.biblatex_tex.specs.Token.{begins_command}
+use Rattle.biblatex_content.specs.Views.{chunk_text, members, styled}
+use Rattle.laws.specs.Text.{characters}
 use Rattle.biblatex_content.specs.Writing.{guard, turning, is_grouped, written_character, written_from, written_as_is, written_verbatim}
 
 -- a group that begins with a command has a guard

@@ -3,19 +3,19 @@ use Rattle.std.specs.Prelude.{ℕ, ◌-◌, ◌/◌, ◌%◌, Bool, true, false,
 use Rattle.laws.specs.Results.{◌>>=◌}
 use Rattle.laws.specs.Runs.{after}
 use Rattle.laws.specs.Text.{text}
-use Rattle.biblatex_content_tokens.specs.Character.{passes}
-use Rattle.biblatex_content_tokens.specs.declared.character.Class.TheVariants.{Blank}
+use Rattle.biblatex_tex.specs.Character.{passes}
+use Rattle.biblatex_tex.specs.declared.character.Class.TheVariants.{Blank}
 use Rattle.biblatex_content.specs.declared.chunk.Kind.{Kind}
 use Rattle.biblatex_content.specs.declared.chunk.Kind.TheVariants.{Normal, Verbatim}
-use Rattle.biblatex_content_tokens.specs.declared.error.Malformed.{Malformed}
-use Rattle.biblatex_content_tokens.specs.declared.error.Malformed.TheVariants.{MalformedText}
+use Rattle.biblatex_tex.specs.declared.error.Malformed.{Malformed}
+use Rattle.biblatex_tex.specs.declared.error.Malformed.TheVariants.{MalformedText}
 use Rattle.biblatex_content.specs.declared.ordinary.Mode.{Mode}
 use Rattle.biblatex_content.specs.declared.ordinary.Mode.TheVariants.{Free, Argument, Groups, InMath}
 use Rattle.biblatex_content.specs.declared.ordinary.Frame.{Frame}
 use Rattle.biblatex_content.specs.Styled.{Member, Math, letters}
-use Rattle.biblatex_content_tokens.specs.Accent.{marked}
-use Rattle.biblatex_content_tokens.specs.Command.{sign_mark, sign_text, letter_mark, letter_character}
-use Rattle.biblatex_content_tokens.specs.Token.{Token, Text, Hyphens, Tie, Open, Close, Dollar, Sign, Command, written, paired_of}
+use Rattle.biblatex_tex.specs.Accent.{marked}
+use Rattle.biblatex_tex.specs.Command.{sign_mark, sign_text, letter_mark, letter_character}
+use Rattle.biblatex_tex.specs.Token.{Token, Text, Hyphens, Tie, Open, Close, Dollar, Sign, Command, written, paired_of}
 
 -- What has been read: the members so far, the kind that is read in, the groups that are open (the innermost first) with
 -- the kind and the mode around each, the marks that wait for a character (the last to come is the first to be put on),
@@ -88,7 +88,7 @@ opened is_command s = record s {
   mode = mode_in s.mode;
 }
 
--- behind an argument its marks wait no more
+-- after an argument its marks wait no more
 abbrev pub mode_after : Mode → Mode
 mode_after (Argument kept) = Free
 mode_after mode = mode
@@ -156,7 +156,7 @@ abbrev pub is_dollar : Token → Bool
 is_dollar (Dollar has_partner) = true
 is_dollar t = false
 
--- a token in a math piece: the dollar sign at its own depth ends it, all else is kept as written
+-- a token in a math piece: the dollar sign at its own depth ends it, all else stays as written
 abbrev pub in_math : ℕ → Token → State → Result State Malformed
 in_math depth t s = if is_dollar t && length s.frames == depth
     then Ok (record s { done = s.done ++ Math s.math ∷ []; math = []; mode = Free })
@@ -180,7 +180,7 @@ ended_in Free [] done = Ok done
 ended_in (Groups kept) [] done = Ok done
 ended_in mode fs done = Err MalformedText
 
--- at the beginning of a piece, behind what was read before it
+-- at the beginning of a piece, after what was read before it
 abbrev pub begun : List Member → State
 begun done = record { done = done; kind = Normal; frames = []; marks = []; mode = Free; math = [] }
 

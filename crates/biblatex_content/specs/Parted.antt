@@ -6,11 +6,7 @@ use Rattle.biblatex_content.specs.declared.chunk.Chunk.{Chunk}
 use Rattle.biblatex_content.specs.declared.chunk.Chunk.TheVariants as chunks
 use Rattle.biblatex_text.specs.declared.spanned.Spanned.{Spanned}
 use Rattle.biblatex_content.specs.declared.joining.Joining.{Joining}
-use Rattle.biblatex_content.specs.Views.{characters}
-
-abbrev pub is_filled : {A : Type 0} → List A → Bool
-is_filled [] = false
-is_filled (x ∷ xs) = true
+use Rattle.laws.specs.Text.{characters, is_filled}
 
 -- a math piece may be empty
 abbrev pub is_full : Chunk → Bool

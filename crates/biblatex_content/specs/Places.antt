@@ -8,14 +8,15 @@ use Rattle.biblatex_content.specs.declared.chunk.Kind.{Kind}
 use Rattle.biblatex_content.specs.declared.chunk.Chunk.{Chunk}
 use Rattle.biblatex_content.specs.declared.contents.Contents.{Contents}
 use Rattle.biblatex_content.specs.declared.joining.Joining.{Joining}
-use Rattle.biblatex_content_tokens.specs.declared.error.Malformed.{Malformed}
+use Rattle.biblatex_tex.specs.declared.error.Malformed.{Malformed}
 use Rattle.biblatex_content.specs.declared.tidy.Gap.{Gap}
 use Rattle.biblatex_content.specs.declared.tidy.Gap.TheVariants.{Beginning, Nothing, Space}
 use Rattle.biblatex_content.specs.declared.tidy.Tidying.{Tidying}
 use Rattle.biblatex_content.specs.Styled.{Member, Letter, Math}
-use Rattle.biblatex_content.specs.Parted.{is_filled, is_apart, are_parted}
+use Rattle.biblatex_content.specs.Parted.{is_apart, are_parted}
 use Rattle.biblatex_content.specs.Tidy.{spaced, is_space, tidied}
-use Rattle.biblatex_content.specs.Views.{characters, members, styled}
+use Rattle.biblatex_content.specs.Views.{members, styled}
+use Rattle.laws.specs.Text.{characters, is_filled}
 
 -- members at one place
 abbrev pub all_at : ℕ → ℕ → List Member → List (At Member)
@@ -37,7 +38,7 @@ placed cs = flat_map placed_in cs
 abbrev pub placed_so_far : Contents → List (At Member)
 placed_so_far c = placed c.chunks.items
 
--- what reading a piece at this place gives, behind these members
+-- what reading a piece at this place gives, after these members
 abbrev pub behind_at : ℕ → ℕ → List (At Member) → Result (List Member) Malformed → Result (List (At Member)) Malformed
 behind_at start end done read = read >>= λ ms. Ok (done ++ all_at start end ms)
 
@@ -69,12 +70,12 @@ abbrev pub kind_in : Member → Option Kind
 kind_in (Letter kind c) = Some kind
 kind_in (Math text) = None
 
--- whether a member is of one chunk with the first of those behind it: both are characters of one kind
+-- whether a member is of one chunk with the first of those after it: both are characters of one kind
 abbrev pub goes_on : Member → List (At Member) → Bool
 goes_on m [] = false
 goes_on m (n ∷ ms) = not (is_apart (kind_in m) (kind_in n.v))
 
--- a member before the chunks of those behind it: it stands alone, or the first chunk begins where its piece begins, and
+-- a member before the chunks of those after it: it stands alone, or the first chunk begins where its piece begins, and
 -- ends no earlier than its piece
 abbrev pub before : Bool → At Member → List (ℕ × ℕ) → List (ℕ × ℕ)
 before true m (p ∷ ps) = (m.start, max m.end p.1) ∷ ps
@@ -106,12 +107,12 @@ pub record AreDone (cs : List (Spanned Chunk)) : Type 0 where
 abbrev pub run_in : Joining → At Member
 run_in j = record { v = Letter j.kind 0; start = j.span.start; end = j.span.end }
 
--- the places of the chunks of what was begun, and of these members behind it
+-- the places of the chunks of what was begun, and of these members after it
 abbrev pub begun_with : Bool → At Member → List (At Member) → List (ℕ × ℕ)
 begun_with true run ms = places_of (run ∷ ms)
 begun_with false run ms = places_of ms
 
--- the places of the chunks of what was joined, and of these members behind it
+-- the places of the chunks of what was joined, and of these members after it
 abbrev pub places_with : Joining → List (At Member) → List (ℕ × ℕ)
 places_with j ms = places j.chunks.items ++ begun_with (is_filled (characters j.run)) (run_in j) ms
 
@@ -127,6 +128,6 @@ tidied_behind_at start end Beginning ms = tidied_at ms
 tidied_behind_at start end Nothing ms = without_last_space_at (squeezed_at false (map spaced_at ms))
 tidied_behind_at start end (Space kind) ms = without_last_space_at (record { v = Letter kind 32; start = start; end = end } ∷ squeezed_at true (map spaced_at ms))
 
--- the places of the chunks of what was tidied, and of these members behind it once they are tidied
+-- the places of the chunks of what was tidied, and of these members after it once they are tidied
 abbrev pub places_to_come : Tidying → List (At Member) → List (ℕ × ℕ)
 places_to_come t ms = places_with t.contents (tidied_behind_at t.space.start t.space.end t.gap ms)

@@ -3,11 +3,12 @@ use Rattle.std.specs.Prelude.{ℕ, not, ◌&&◌, ◌||◌, Bool, true, false, �
 use Rattle.biblatex_content.specs.declared.tidy.Gap.{Gap}
 use Rattle.biblatex_content.specs.declared.tidy.Gap.TheVariants.{Beginning, Nothing, Space}
 use Rattle.biblatex_content.specs.declared.tidy.Tidying.{Tidying}
-use Rattle.biblatex_content_tokens.specs.Character.{is_blank}
+use Rattle.biblatex_tex.specs.Character.{is_blank}
 use Rattle.biblatex_content.specs.Styled.{Member, Letter, Math}
 use Rattle.biblatex_content.specs.declared.chunk.Chunk.{Chunk}
 use Rattle.biblatex_content.specs.declared.chunk.Chunk.TheVariants as chunks
-use Rattle.biblatex_content.specs.Views.{characters, joined}
+use Rattle.biblatex_content.specs.Views.{joined}
+use Rattle.laws.specs.Text.{characters}
 
 -- a blank becomes a space of its kind
 abbrev pub spaced : Member → Member
@@ -33,12 +34,12 @@ without_last_space (m ∷ n ∷ ms) = m ∷ without_last_space (n ∷ ms)
 abbrev pub tidied : List Member → List Member
 tidied ms = without_last_space (squeezed true (map spaced ms))
 
--- whether tidying leaves a character as it is: it is no blank, or a space behind another character
+-- whether tidying leaves a character as it is: it is no blank, or a space after another character
 abbrev pub stays : Bool → ℕ → Bool
 stays after_space c = not (is_blank c && (after_space || not (c == 32)))
 
 -- whether tidying leaves characters as they are, where a space, or the beginning, stands before them or not; no characters
--- behind a space are not, since the space would go
+-- after a space are not, since the space would go
 abbrev pub is_tidy : Bool → List ℕ → Bool
 is_tidy after_space [] = not after_space
 is_tidy after_space (c ∷ cs) = stays after_space c && is_tidy (c == 32) cs

@@ -18,11 +18,11 @@ is_escapable c false is_read = is_brace c || is_reserved c
 is_escapable c true true = is_brace c || is_reserved c || c == 92 || c == 126 || c == 94
 is_escapable c true false = is_brace c || c == 92
 
--- a backslash that is behind no waiting one waits for the next character
+-- a backslash that is after no waiting one waits for the next character
 abbrev pub is_verbatim_escape : Bool → ℕ → Bool
 is_verbatim_escape is_escaped c = not is_escaped && c == 92
 
--- what a character gives, behind a backslash that waits for it or not
+-- what a character gives, after a backslash that waits for it or not
 abbrev pub verbatim_piece : Bool → ℕ → List ℕ
 verbatim_piece true c = if is_escapable c true true then c ∷ [] else 92 ∷ c ∷ []
 verbatim_piece false c = if c == 92 || is_brace c then [] else c ∷ []

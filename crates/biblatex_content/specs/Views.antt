@@ -1,26 +1,20 @@
 -- What the code holds, as plain lists.
 use Rattle.std.specs.Global.{Global}
-use Rattle.std.specs.Prelude.{ℕ, ◌-◌, max, length, slice_get, List, [], ◌∷◌, ◌++◌, flat_map, Result, Ok, string_bytes, String}
+use Rattle.std.specs.Prelude.{ℕ, ◌-◌, max, length, slice_get, List, [], ◌∷◌, ◌++◌, flat_map, map, Result, Ok, string_bytes, String}
 use Rattle.std.specs.Option.{option_map_or}
 use Rattle.std.specs.Str.{chars}
 use Rattle.std.specs.Borrow.{Bor}
+use Rattle.std.specs.declared.ops.Range.{Range}
+use Rattle.laws.specs.Text.{characters}
 use Rattle.biblatex_content.specs.declared.chunk.Kind.TheVariants.{Normal, Verbatim}
 use Rattle.biblatex_content.specs.declared.chunk.Chunk.{Chunk}
 use Rattle.biblatex_content.specs.declared.chunk.Chunk.TheVariants as chunks
 use Rattle.biblatex_text.specs.declared.spanned.Spanned.{Spanned}
 use Rattle.biblatex_content.specs.declared.contents.Contents.{Contents}
 use Rattle.biblatex_content.specs.declared.joining.Joining.{Joining}
-use Rattle.biblatex_content_tokens.specs.declared.error.Malformed.{Malformed}
+use Rattle.biblatex_tex.specs.declared.error.Malformed.{Malformed}
 use Rattle.laws.specs.Results.{◌>>=◌}
 use Rattle.biblatex_content.specs.Styled.{Member, Math, letters}
-
--- the characters of a text
-abbrev pub characters : String Global → List ℕ
-characters s = chars (string_bytes s)
-
--- the characters of a borrowed text
-abbrev pub spelled : Bor (List ℕ) → List ℕ
-spelled s = chars s.now
 
 -- the text of a chunk
 abbrev pub chunk_text : Chunk → List ℕ
@@ -28,7 +22,7 @@ chunk_text (chunks.Normal s) = characters s
 chunk_text (chunks.Verbatim s) = characters s
 chunk_text (chunks.Math s) = characters s
 
--- the texts of chunks, one behind the other
+-- the texts of chunks, one after the other
 abbrev pub plain_text : List (Spanned Chunk) → List ℕ
 plain_text cs = flat_map (λ c. chunk_text c.v) cs
 
@@ -57,6 +51,10 @@ so_far c = styled c.chunks.items
 abbrev pub joined : Joining → List Member
 joined j = styled j.chunks.items ++ letters j.kind (characters j.run)
 
--- what reading gives, behind these members
+-- what reading gives, after these members
 abbrev pub behind : List Member → Result (List Member) Malformed → Result (List Member) Malformed
 behind done read = read >>= λ ms. Ok (done ++ ms)
+
+-- where chunks stand
+abbrev pub spans : List (Spanned Chunk) → List (Range ℕ)
+spans cs = map (λ c. c.span) cs

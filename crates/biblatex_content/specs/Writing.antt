@@ -1,21 +1,20 @@
 -- How a styled text is written, so that reading it gives it back where it is tidy and no two of its hyphens are neighbours.
-use Rattle.std.specs.Prelude.{ℕ, Bool, true, false, ◌==◌, List, [], ◌∷◌, ◌++◌, if◌then◌else◌, codes}
+use Rattle.std.specs.Prelude.{ℕ, Bool, true, false, ◌==◌, List, [], ◌∷◌, ◌++◌, if◌then◌else◌, codes, String}
 use Rattle.std.specs.List.{flat_map}
 use Rattle.std.specs.Global.{Global}
-use Rattle.std.specs.Prelude.{String}
 use Rattle.biblatex_content.specs.declared.chunk.Kind.{Kind}
 use Rattle.biblatex_content.specs.declared.chunk.Kind.TheVariants.{Normal, Verbatim}
 use Rattle.biblatex_content.specs.Styled.{Member, Letter, Math}
-use Rattle.biblatex_content_tokens.specs.Token.{begins_command}
+use Rattle.biblatex_tex.specs.Token.{begins_command}
 use Rattle.biblatex_content.specs.Verbatim.{is_escapable}
-use Rattle.biblatex_content.specs.Views.{characters}
+use Rattle.laws.specs.Text.{characters}
 
--- a character, behind a backslash or not
+-- a character, after a backslash or not
 abbrev pub escaped : Bool → ℕ → List ℕ
 escaped true c = 92 ∷ c ∷ []
 escaped false c = c ∷ []
 
--- a character of an ordinary field: some behind a backslash, some by a command, a no-break space as a tie
+-- a character of an ordinary field: some after a backslash, some by a command, a no-break space as a tie
 abbrev pub written_character : ℕ → List ℕ
 written_character c = if c == 92 then codes "\\textbackslash{}"
     else (if c == 126 then codes "\\textasciitilde{}"
@@ -52,7 +51,7 @@ written_from is_open (Math text ∷ ms) = closing is_open ++ 36 ∷ text ++ 36 �
 abbrev pub written_ordinary : List Member → List ℕ
 written_ordinary ms = written_from false ms
 
--- a character of a verbatim field: braces and backslashes behind a backslash
+-- a character of a verbatim field: braces and backslashes after a backslash
 abbrev pub written_as_is : ℕ → List ℕ
 written_as_is c = escaped (is_escapable c true false) c
 

@@ -7,13 +7,14 @@ ghost use Rattle.biblatex_content.specs.declared.chunk.Chunk.{Chunk};
 ghost use Rattle.std.specs.Borrow.{sem};
 ghost use Rattle.biblatex_content.specs.Lending.{LendsText};
 ghost use Rattle.biblatex_content.specs.Writing.{written_content};
-ghost use Rattle.biblatex_content.specs.Views.{chunk_text, characters, plain_text, styled, span_start, span_end};
+ghost use Rattle.biblatex_content.specs.Views.{chunk_text, plain_text, styled, span_start, span_end};
+ghost use Rattle.laws.specs.Text.{characters};
 
-use crate::joining::{empty_text, push_text};
 use crate::writing::push_biblatex;
 use biblatex_text::Spanned;
 use std::alloc::{AllocError, Global};
 use std::ops::Range;
+use texts::{empty_text, push_text};
 
 /// Where something stands in a source, in bytes.
 pub type Span = Range<usize>;
@@ -66,13 +67,13 @@ pub type Chunks = Vec<Spanned<Chunk>>;
 pub trait ChunksExt {
     ghost chunks: { Self → List (Spanned Chunk) };
 
-    /// The texts of the chunks, one behind the other; of math what stands between the dollar signs.
+    /// The texts of the chunks, one after the other; of math what stands between the dollar signs.
     fn format_verbatim(&self, alloc: Global) -> Result<String, AllocError>
         ensures { IfOk result (λ s. characters s ≡ plain_text (chunks self.now)) };
 
     /// The text that they are written as, where they are the content of a field, verbatim or ordinary. In an ordinary field
-    /// `{ } # & % $ _` stand behind a backslash, `\`, `~` and `^` are written as commands and a no-break space as `~`; verbatim
-    /// text stands in braces, math between dollar signs. In a verbatim field all is text, in which `{ } \` stand behind a
+    /// `{ } # & % $ _` stand after a backslash, `\`, `~` and `^` are written as commands and a no-break space as `~`; verbatim
+    /// text stands in braces, math between dollar signs. In a verbatim field all is text, in which `{ } \` stand after a
     /// backslash. No braces stand round the whole.
     fn to_biblatex_string(&self, alloc: Global, is_verbatim: bool) -> Result<String, AllocError>
         ensures { IfOk result (λ s. characters s ≡ written_content is_verbatim (styled (chunks self.now))) };

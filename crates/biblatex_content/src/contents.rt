@@ -10,16 +10,17 @@ ghost use Rattle.biblatex_content.specs.Places.{all_at, placed_so_far, behind_at
 ghost use Rattle.biblatex_content.specs.Tidy.{tidied};
 ghost use Rattle.biblatex_content.specs.Verbatim.{verbatim_text};
 ghost use Rattle.biblatex_content.specs.Views.{so_far, styled, members, behind};
-ghost use Rattle.biblatex_content_tokens.specs.Results.{Gives};
+ghost use Rattle.biblatex_tex.specs.Results.{refusal_of};
+ghost use Rattle.laws.specs.Results.{Gives};
 
 use crate::chunk::{Chunk, Chunks, Span};
-use crate::joining::has_text;
 use crate::ordinary::{is_plain, read_ordinary};
 use crate::tidy::{are_done, tidy};
 use crate::verbatim::read_verbatim;
-use biblatex_content_tokens::ContentError;
+use biblatex_tex::ContentError;
 use biblatex_text::Spanned;
 use std::alloc::{AllocError, Global};
+use texts::has_text;
 
 /// Whether the chunk gives something: it is math, or has a character.
 fn is_full(chunk: &Chunk) -> bool
@@ -62,7 +63,7 @@ impl Contents {
         true
     }
 
-    /// Puts a chunk of a piece at the span last.
+    /// Appends a chunk of a piece at the span.
     fn push_chunk(&mut self, span: &Span, chunk: Chunk) -> Result<(), AllocError>
         ensures styled { OnOk result (so_far self.new ≡ so_far self.old ++ members chunk) }
         ensures placed { OnOk result (placed_so_far self.new ≡ placed_so_far self.old ++ all_at span.now.start span.now.end (members chunk)) }
@@ -84,7 +85,7 @@ impl Contents {
         self.chunks.reserve(count)
     }
 
-    /// Puts the chunks of a piece at the span last.
+    /// Appends the chunks of a piece at the span.
     fn push_chunks(&mut self, span: &Span, chunks: Chunks) -> Result<(), AllocError>
         ensures styled { OnOk result (so_far self.new ≡ so_far self.old ++ styled chunks.items) }
         ensures placed { OnOk result (placed_so_far self.new ≡ placed_so_far self.old ++ all_at span.now.start span.now.end (styled chunks.items)) }
@@ -96,7 +97,7 @@ impl Contents {
         Ok(())
     }
 
-    /// Puts a piece of plain characters last.
+    /// Appends a piece of plain characters.
     fn push_plain(&mut self, piece: Spanned<&str>) -> Result<(), AllocError>
         ensures styled { OnOk result (so_far self.new ≡ so_far self.old ++ letters Normal (chars piece.entry.v.now)) }
         ensures placed { OnOk result (placed_so_far self.new ≡ placed_so_far self.old ++ all_at piece.entry.span.start piece.entry.span.end (letters Normal (chars piece.entry.v.now))) }
@@ -105,11 +106,11 @@ impl Contents {
         self.push_chunk(&piece.span, Chunk::Normal(text))
     }
 
-    /// The same with a piece of an ordinary field behind it, whose first row that fits counts: `---`, `--` and `~` are
+    /// The same with a piece of an ordinary field after it, whose first row that fits counts: `---`, `--` and `~` are
     /// dashes and a tie; a backslash and one of `{ } # & % $ _` that character, a backslash before a backslash or a blank a
     /// space, `\,` a thin space, `\-` and `\/` nothing; accents are composed with their arguments; commands of letters are
     /// characters or are passed over; a backslash and another character is that character; groups are verbatim but for
-    /// arguments, groups behind a command that is passed over, and groups that begin with a backslash; math stands between
+    /// arguments, groups after a command that is passed over, and groups that begin with a backslash; math stands between
     /// dollar signs of one depth, and a dollar sign without a partner is itself. What the piece gives has its place.
     ///
     /// # Errors
@@ -117,8 +118,8 @@ impl Contents {
     /// `MalformedCommand` where a brace has no partner, the last character is a lone backslash, or an accent has no argument.
     #[tactic(auto, using(crate::proofs::PlainPieces::ordinary_plain))]
     pub fn push_ordinary(mut self, piece: Spanned<&str>) -> Result<Contents, ContentError>
-        ensures read { Gives so_far result (behind (so_far self) (ordinary (chars piece.entry.v.now))) }
-        ensures placed { Gives placed_so_far result (behind_at piece.entry.span.start piece.entry.span.end (placed_so_far self) (ordinary (chars piece.entry.v.now))) }
+        ensures read { Gives refusal_of so_far result (behind (so_far self) (ordinary (chars piece.entry.v.now))) }
+        ensures placed { Gives refusal_of placed_so_far result (behind_at piece.entry.span.start piece.entry.span.end (placed_so_far self) (ordinary (chars piece.entry.v.now))) }
     {
         if is_plain(piece.v) {
             self.push_plain(piece)?;
@@ -129,7 +130,7 @@ impl Contents {
         Ok(self)
     }
 
-    /// The same with a piece of a verbatim field behind it: a backslash before one of `{ } \ ~ ^ # & % $ _` gives that
+    /// The same with a piece of a verbatim field after it: a backslash before one of `{ } \ ~ ^ # & % $ _` gives that
     /// character, other braces give nothing, and all else is itself. What the piece gives has its place.
     pub fn push_verbatim(mut self, piece: Spanned<&str>) -> Result<Contents, AllocError>
         ensures read { IfOk result (λ c. so_far c ≡ so_far self ++ letters Verbatim (verbatim_text (chars piece.entry.v.now))) }
@@ -140,7 +141,7 @@ impl Contents {
         Ok(self)
     }
 
-    /// The chunks of the field: what its pieces gave, one behind the other, tidied. A chunk stands from where the first piece
+    /// The chunks of the field: what its pieces gave, one after the other, tidied. A chunk stands from where the first piece
     /// begins that it has a character of to where the one ends that ends last; a math piece where its piece stands.
     pub fn finish(self) -> Result<Chunks, AllocError>
         ensures styled { IfOk result (λ cs. styled cs.items ≡ tidied (so_far self)) }

@@ -4,15 +4,16 @@ ghost use Rattle.std.specs.Prelude.{◌≡◌, ◌++◌, ◌∷◌, [], true, �
 ghost use Rattle.std.specs.Str.{chars};
 ghost use Rattle.biblatex_text.specs.Raw.{At};
 ghost use Rattle.biblatex_content.specs.Styled.{Member, Letter, Math, letters};
-ghost use Rattle.biblatex_content.specs.Parted.{is_filled, is_full, kind_of, is_apart, are_parted, last_kind, IsTurned, IsReady, IsLastOrNone};
+ghost use Rattle.biblatex_content.specs.Parted.{is_full, kind_of, is_apart, are_parted, last_kind, IsTurned, IsReady, IsLastOrNone};
 ghost use Rattle.biblatex_content.specs.Places.{kind_in, places, places_of, places_with};
-ghost use Rattle.biblatex_content.specs.Views.{characters, members, joined, styled};
+ghost use Rattle.biblatex_content.specs.Views.{members, joined, styled};
+ghost use Rattle.laws.specs.Text.{characters, is_filled};
 
 use crate::chunk::{Chunk, Chunks, Kind, Span};
-use biblatex_content_tokens::split_first;
 use biblatex_text::Spanned;
 use std::alloc::{AllocError, Global};
 use std::mem;
+use texts::{empty_text, has_text, push_character, push_text, take_text};
 
 /// Room for a short run, in bytes.
 const SHORT_RUN: usize = 48;
@@ -39,13 +40,6 @@ fn chunk_of(kind: Kind, text: String) -> Chunk
     }
 }
 
-/// Whether there is a character.
-pub(crate) fn has_text(text: &str) -> bool
-    ensures { result ≡ is_filled (chars text.now) }
-{
-    split_first(text).is_some()
-}
-
 /// Makes room for a short run in an empty text.
 fn make_room(text: &mut String) -> Result<(), AllocError>
     ensures { OnOk result (string_bytes text.new ≡ string_bytes text.old) }
@@ -56,34 +50,12 @@ fn make_room(text: &mut String) -> Result<(), AllocError>
     Ok(())
 }
 
-/// Puts a character last.
-pub(crate) fn push_character(text: &mut String, c: char) -> Result<(), AllocError>
+/// Appends a character to a text of a run, with room for a short one.
+fn push_to_run(text: &mut String, c: char) -> Result<(), AllocError>
     ensures { OnOk result (characters text.new ≡ characters text.old ++ c ∷ []) }
 {
     make_room(text)?;
-    text.push(c)
-}
-
-/// Puts a text last.
-pub(crate) fn push_text(text: &mut String, more: &str) -> Result<(), AllocError>
-    ensures { OnOk result (characters text.new ≡ characters text.old ++ chars more.now) }
-{
-    text.push_str(more)
-}
-
-/// A text without characters.
-pub(crate) fn empty_text(alloc: Global) -> String
-    ensures { characters result ≡ [] }
-{
-    String::new(alloc)
-}
-
-/// Takes a text out, and leaves an empty one.
-pub(crate) fn take_text(alloc: Global, text: &mut String) -> String
-    ensures taken { characters result ≡ characters text.old }
-    ensures left { characters text.new ≡ [] }
-{
-    mem::replace(text, empty_text(alloc))
+    push_character(text, c)
 }
 
 impl Joining {
@@ -109,7 +81,7 @@ impl Joining {
         self.alloc
     }
 
-    /// Puts a chunk behind the finished ones, at the bytes from the start to the end.
+    /// Appends a chunk after the finished ones, at the bytes from the start to the end.
     #[tactic(auto, using(crate::proofs::Neighbours::last_kind_behind, crate::proofs::Neighbours::parted_behind))]
     fn push_chunk(&mut self, chunk: Chunk, start: usize, end: usize) -> Result<(), AllocError>
         ensures chunks { OnOk result (styled self.new.chunks.items ≡ styled self.old.chunks.items ++ members chunk) }
@@ -171,7 +143,7 @@ impl Joining {
         }
     }
 
-    /// Puts a character of the kind last, which stands at the span.
+    /// Appends a character of the kind, which stands at the span.
     pub(crate) fn push_at(&mut self, span: &Span, kind: Kind, c: char) -> Result<(), AllocError>
         ensures joined { OnOk result (joined self.new ≡ joined self.old ++ Letter kind c ∷ []) }
         ensures places { OnOk result ((ms : List (At Member)) → places_with self.new ms ≡ places_with self.old (record { v = Letter kind c; start = span.now.start; end = span.now.end } ∷ ms)) }
@@ -179,20 +151,20 @@ impl Joining {
     {
         self.turn(kind)?;
         self.reach(span);
-        push_character(&mut self.run, c)?;
+        push_to_run(&mut self.run, c)?;
         Ok(())
     }
 
-    /// Puts a character of the kind last.
+    /// Appends a character of the kind.
     pub(crate) fn push(&mut self, kind: Kind, c: char) -> Result<(), AllocError>
         ensures styled { OnOk result (joined self.new ≡ joined self.old ++ Letter kind c ∷ []) }
         ensures ready { IsReady self.old → OnOk result (IsReady self.new) }
     {
         self.turn(kind)?;
-        push_character(&mut self.run, c)
+        push_to_run(&mut self.run, c)
     }
 
-    /// Puts a text of the kind last.
+    /// Appends a text of the kind.
     pub(crate) fn push_str(&mut self, kind: Kind, text: &str) -> Result<(), AllocError>
         ensures { OnOk result (joined self.new ≡ joined self.old ++ letters kind (chars text.now)) }
     {
@@ -200,7 +172,7 @@ impl Joining {
         push_text(&mut self.run, text)
     }
 
-    /// Puts characters of the kind last, of which the first is the last of the list.
+    /// Appends characters of the kind, of which the first is the last of the list.
     pub(crate) fn push_reversed(&mut self, kind: Kind, mut cs: Vec<char>) -> Result<(), AllocError>
         ensures { OnOk result (joined self.new ≡ joined self.old ++ letters kind (reverse cs.items)) }
     {
@@ -210,7 +182,7 @@ impl Joining {
         Ok(())
     }
 
-    /// Puts a math piece last, which stands at the span.
+    /// Appends a math piece, which stands at the span.
     pub(crate) fn push_math(&mut self, span: &Span, text: String) -> Result<(), AllocError>
         ensures styled { OnOk result (joined self.new ≡ joined self.old ++ Math (characters text) ∷ []) }
         ensures places { OnOk result ((ms : List (At Member)) → places_with self.new ms ≡ places_with self.old (record { v = Math (characters text); start = span.now.start; end = span.now.end } ∷ ms)) }

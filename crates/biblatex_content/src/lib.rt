@@ -3,15 +3,17 @@
 
 mod chunk;
 mod contents;
+mod copy;
 mod joining;
 mod ordinary;
 mod tidy;
 mod verbatim;
 mod writing;
 
-pub use biblatex_content_tokens::ContentError;
+pub use biblatex_tex::ContentError;
 pub use biblatex_text::Spanned;
 pub use chunk::{Chunk, Chunks, ChunksExt, Kind, Span};
 pub use contents::Contents;
+pub use copy::copied;
 pub use verbatim::{is_escapable, is_verbatim_field};
 pub use writing::push_biblatex;

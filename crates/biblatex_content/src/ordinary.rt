@@ -3,25 +3,28 @@
 ghost use Rattle.std.specs.Prelude.{◌≡◌, ◌-◌, ◌++◌, ◌∷◌, [], true, IfOk, OnOk, IsOkUnless, if◌then◌else◌, length, reverse};
 ghost use Rattle.std.specs.Str.{chars};
 ghost use Rattle.laws.specs.Runs.{after};
-ghost use Rattle.laws.specs.Text.{text};
-ghost use Rattle.biblatex_content_tokens.specs.Character.{passes};
-ghost use Rattle.biblatex_content_tokens.specs.declared.character.Class.TheVariants.{Plain};
-ghost use Rattle.biblatex_content_tokens.specs.declared.error.ContentError.TheVariants.{Memory};
+ghost use Rattle.laws.specs.Text.{text, characters};
+ghost use Rattle.biblatex_tex.specs.Character.{passes};
+ghost use Rattle.biblatex_tex.specs.declared.character.Class.TheVariants.{Plain};
+ghost use Rattle.biblatex_tex.specs.declared.error.ContentError.TheVariants.{Memory};
 ghost use Rattle.biblatex_content.specs.Ordinary.{kept_in, given, marked_behind, given_text, text_in, accented, opened, closed_to, closed_in, dollar, dashes, hyphens_in, sign, command, unit, in_math, step, begun, ended_in, ordinary};
-ghost use Rattle.biblatex_content_tokens.specs.Command.{sign_mark, letter_mark};
-ghost use Rattle.biblatex_content_tokens.specs.Token.{written};
-ghost use Rattle.biblatex_content_tokens.specs.TokenViews.{token};
-ghost use Rattle.biblatex_content.specs.Views.{characters, joined, styled, behind};
-ghost use Rattle.biblatex_content_tokens.specs.Results.{Gives};
-ghost use Rattle.biblatex_content.specs.OrdinaryViews.{state, Moves};
+ghost use Rattle.biblatex_tex.specs.Command.{sign_mark, letter_mark};
+ghost use Rattle.biblatex_tex.specs.Token.{written};
+ghost use Rattle.biblatex_tex.specs.TokenViews.{token};
+ghost use Rattle.biblatex_content.specs.Views.{joined, styled, behind};
+ghost use Rattle.biblatex_tex.specs.Results.{refusal_of};
+ghost use Rattle.laws.specs.Results.{Gives, Leaves};
+ghost use Rattle.biblatex_content.specs.OrdinaryViews.{state};
+ghost use Rattle.biblatex_tex.specs.Results.{refusal_of};
 
 use crate::chunk::{Chunks, Kind};
-use crate::joining::{Joining, empty_text, has_text, push_character, push_text, take_text};
-use biblatex_content_tokens::{
+use crate::joining::Joining;
+use biblatex_tex::{
     Class, ContentError, Token, letter_character, letter_mark, paired_tokens, put_marks, reversed,
-    sign_character, sign_mark, split_first, split_run,
+    sign_character, sign_mark,
 };
 use std::alloc::{AllocError, Global};
+use texts::{empty_text, has_text, push_character, push_text, split_first, split_run, take_text};
 
 /// What comes next.
 #[derive(Clone, Copy)]
@@ -58,7 +61,7 @@ fn count_of(text: &str) -> usize
     text.chars().count()
 }
 
-/// Puts dashes last, as a run of so many hyphens gives them.
+/// Appends dashes, as a run of so many hyphens gives them.
 fn push_dashes(text: &mut String, count: usize) -> Result<(), AllocError>
     ensures { OnOk result (characters text.new ≡ characters text.old ++ dashes count) }
 {
@@ -141,7 +144,7 @@ impl Reading {
         self.mode = Mode::Free;
     }
 
-    /// Puts letters last, with the marks that wait on the first, which is the last of the list.
+    /// Appends letters, with the marks that wait on the first, which is the last of the list.
     fn push_letters(&mut self, mut letters: Vec<char>) -> Result<(), AllocError>
         ensures { OnOk result (state self.new ≡ marked_behind (reverse letters.items) (state self.old)) }
     {
@@ -149,7 +152,7 @@ impl Reading {
         self.contents.push_reversed(self.kind, letters)
     }
 
-    /// Puts a text last, with the marks that wait on its first character.
+    /// Appends a text, with the marks that wait on its first character.
     fn push_text(&mut self, piece: &str) -> Result<(), AllocError>
         ensures { OnOk result (state self.new ≡ marked_behind (chars piece.now) (state self.old)) }
     {
@@ -159,7 +162,7 @@ impl Reading {
         self.push_letters(reversed(self.alloc, piece)?)
     }
 
-    /// Puts a character last, with the marks that wait.
+    /// Appends a character, with the marks that wait.
     fn push_character(&mut self, c: char) -> Result<(), AllocError>
         ensures { OnOk result (state self.new ≡ marked_behind (c ∷ []) (state self.old)) }
     {
@@ -231,7 +234,7 @@ impl Reading {
 
     /// Ends a group, if one is open.
     fn close_group(&mut self) -> Result<(), ContentError>
-        ensures { Moves result (state self.new) (closed_to (state self.old).frames (state self.old)) }
+        ensures { Leaves refusal_of result (state self.new) (closed_to (state self.old).frames (state self.old)) }
     {
         let Some(frame) = self.frames.pop() else {
             return Err(ContentError::MalformedCommand);
@@ -247,7 +250,7 @@ impl Reading {
 
     /// Ends a group, in which no accent may wait for an argument.
     fn close(&mut self) -> Result<(), ContentError>
-        ensures { Moves result (state self.new) (closed_in self.old.mode (state self.old)) }
+        ensures { Leaves refusal_of result (state self.new) (closed_in self.old.mode (state self.old)) }
     {
         match self.mode {
             Mode::Argument(_) => Err(ContentError::MalformedCommand),
@@ -333,7 +336,7 @@ impl Reading {
     }
 
     /// Reads a command of letters.
-    #[tactic(auto, using(crate::proofs::Characters::spelled_again))]
+    #[tactic(auto, using(laws::proofs::Text::text_of_chars))]
     fn command(&mut self, name: &str) -> Result<(), ContentError>
         ensures command { OnOk result (state self.new ≡ command (letter_mark (text (chars name.now))) (text (chars name.now)) (state self.old)) }
         ensures memory { IsOkUnless result Memory }
@@ -350,7 +353,7 @@ impl Reading {
 
     /// Reads a token outside math.
     fn unit(&mut self, read: Token<'_>) -> Result<(), ContentError>
-        ensures { Moves result (state self.new) (unit (token read.entry) (state self.old)) }
+        ensures { Leaves refusal_of result (state self.new) (unit (token read.entry) (state self.old)) }
     {
         match read {
             Token::Text(text) => self.text(text)?,
@@ -367,7 +370,7 @@ impl Reading {
 
     /// Reads a token in a math piece that stands in so many groups.
     fn in_math(&mut self, depth: usize, read: Token<'_>) -> Result<(), ContentError>
-        ensures { Moves result (state self.new) (in_math depth (token read.entry) (state self.old)) }
+        ensures { Leaves refusal_of result (state self.new) (in_math depth (token read.entry) (state self.old)) }
     {
         match read {
             Token::Dollar(_) if self.frames.len() == depth => {
@@ -386,7 +389,7 @@ impl Reading {
     /// Reads a token.
     #[tactic(auto, unfolding(crate::specs::Ordinary::step))]
     fn step(&mut self, read: Token<'_>) -> Result<(), ContentError>
-        ensures { Moves result (state self.new) (step (token read.entry) (state self.old)) }
+        ensures { Leaves refusal_of result (state self.new) (step (token read.entry) (state self.old)) }
     {
         match (self.mode, read) {
             (Mode::InMath(depth), _) => return self.in_math(depth, read),
@@ -399,7 +402,7 @@ impl Reading {
 
     /// What was read, where the piece may end.
     fn end(self) -> Result<Joining, ContentError>
-        ensures { Gives joined result (ended_in self.mode (reverse self.frames.items) (joined self.contents)) }
+        ensures { Gives refusal_of joined result (ended_in self.mode (reverse self.frames.items) (joined self.contents)) }
     {
         match self.mode {
             Mode::Free | Mode::Groups(_) if self.frames.is_empty() => Ok(self.contents),
@@ -409,9 +412,9 @@ impl Reading {
 }
 
 impl Joining {
-    /// The same with a piece of an ordinary field behind it.
+    /// The same with a piece of an ordinary field after it.
     fn push_tokens(self, piece: &str) -> Result<Joining, ContentError>
-        ensures { Gives joined result (behind (joined self) (ordinary (chars piece.now))) }
+        ensures { Gives refusal_of joined result (behind (joined self) (ordinary (chars piece.now))) }
     {
         let alloc = self.allocator();
         let mut tokens = paired_tokens(alloc, piece)?;
@@ -426,7 +429,7 @@ impl Joining {
 /// The chunks of a piece of an ordinary field.
 #[tactic(auto, using(crate::proofs::Pieces::behind_nothing))]
 pub(crate) fn read_ordinary(alloc: Global, piece: &str) -> Result<Chunks, ContentError>
-    ensures { Gives (λ cs. styled cs.items) result (ordinary (chars piece.now)) }
+    ensures { Gives refusal_of (λ cs. styled cs.items) result (ordinary (chars piece.now)) }
 {
     Ok(Joining::new(alloc).push_tokens(piece)?.into_chunks()?)
 }

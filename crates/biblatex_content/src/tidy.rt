@@ -5,16 +5,17 @@ ghost use Rattle.std.specs.Str.{chars};
 ghost use Rattle.biblatex_text.specs.Raw.{At};
 ghost use Rattle.biblatex_text.specs.declared.spanned.Spanned.{Spanned};
 ghost use Rattle.biblatex_content.specs.declared.tidy.Gap.TheVariants.{Nothing};
-ghost use Rattle.biblatex_content_tokens.specs.Character.{is_blank};
+ghost use Rattle.biblatex_tex.specs.Character.{is_blank};
 ghost use Rattle.biblatex_content.specs.Styled.{Member, Letter, Math, letters};
 ghost use Rattle.biblatex_content.specs.Parted.{IsReady};
 ghost use Rattle.biblatex_content.specs.Places.{all_at, placed, placed_in, places_of, tidied_at, places_with, owed_at, places_to_come, AreDone};
 ghost use Rattle.biblatex_content.specs.Tidy.{tidied, is_tidy, is_tidy_text, stays, owed, to_come};
-ghost use Rattle.biblatex_content.specs.Views.{joined, styled, members, characters};
+ghost use Rattle.biblatex_content.specs.Views.{joined, styled, members};
+ghost use Rattle.laws.specs.Text.{characters};
 
 use crate::chunk::{Chunk, Chunks, Kind, Span};
 use crate::joining::Joining;
-use biblatex_content_tokens::is_blank;
+use biblatex_tex::is_blank;
 use biblatex_text::Spanned;
 use std::alloc::{AllocError, Global};
 
@@ -64,7 +65,7 @@ impl Tidying {
         Ok(())
     }
 
-    /// Puts a blank last.
+    /// Appends a blank.
     fn push_blank(&mut self, span: &Span, kind: Kind, c: char)
         requires { is_blank c ≡ true }
         ensures to_come { (ms : List Member) → to_come self.new ms ≡ to_come self.old (Letter kind c ∷ ms) }
@@ -80,7 +81,7 @@ impl Tidying {
         }
     }
 
-    /// Puts a character of the kind last.
+    /// Appends a character of the kind.
     fn push(&mut self, span: &Span, kind: Kind, c: char) -> Result<(), AllocError>
         ensures to_come { OnOk result ((ms : List Member) → to_come self.new ms ≡ to_come self.old (Letter kind c ∷ ms)) }
         ensures places { OnOk result ((ms : List (At Member)) → places_to_come self.new ms ≡ places_to_come self.old (record { v = Letter kind c; start = span.now.start; end = span.now.end } ∷ ms)) }
@@ -94,7 +95,7 @@ impl Tidying {
         self.contents.push_at(span, kind, c)
     }
 
-    /// Puts a text of the kind last.
+    /// Appends a text of the kind.
     fn push_str(&mut self, span: &Span, kind: Kind, text: &str) -> Result<(), AllocError>
         ensures to_come { OnOk result ((ms : List Member) → to_come self.new ms ≡ to_come self.old (letters kind (chars text.now) ++ ms)) }
         ensures places { OnOk result ((ms : List (At Member)) → places_to_come self.new ms ≡ places_to_come self.old (all_at span.now.start span.now.end (letters kind (chars text.now)) ++ ms)) }
@@ -106,7 +107,7 @@ impl Tidying {
         Ok(())
     }
 
-    /// Puts a math piece last.
+    /// Appends a math piece.
     fn push_math(&mut self, span: &Span, text: String) -> Result<(), AllocError>
         ensures to_come { OnOk result ((ms : List Member) → to_come self.new ms ≡ to_come self.old (Math (characters text) ∷ ms)) }
         ensures places { OnOk result ((ms : List (At Member)) → places_to_come self.new ms ≡ places_to_come self.old (record { v = Math (characters text); start = span.now.start; end = span.now.end } ∷ ms)) }
@@ -116,7 +117,7 @@ impl Tidying {
         self.contents.push_math(span, text)
     }
 
-    /// Puts a chunk last.
+    /// Appends a chunk.
     fn push_chunk(&mut self, chunk: Spanned<Chunk>) -> Result<(), AllocError>
         ensures to_come { OnOk result ((ms : List Member) → to_come self.new ms ≡ to_come self.old (members chunk.v ++ ms)) }
         ensures places { OnOk result ((ms : List (At Member)) → places_to_come self.new ms ≡ places_to_come self.old (placed_in chunk ++ ms)) }
@@ -144,7 +145,7 @@ pub(crate) fn tidy(alloc: Global, chunks: Chunks) -> Result<Joining, AllocError>
     Ok(tidying.contents)
 }
 
-/// Whether tidying leaves the character as it is, behind a space, or at the beginning, or not.
+/// Whether tidying leaves the character as it is, after a space, or at the beginning, or not.
 fn stays(is_after_space: bool, c: char) -> bool
     ensures { result ≡ stays is_after_space c }
 {

@@ -37,7 +37,7 @@ pub fn is_verbatim_field(key: &str) -> bool
 }
 
 impl Joining {
-    /// The same with a piece of a verbatim field behind it.
+    /// The same with a piece of a verbatim field after it.
     fn push_verbatim(mut self, piece: &str) -> Result<Joining, AllocError>
         ensures { IfOk result (λ c. joined c ≡ joined self ++ letters Verbatim (verbatim_text (chars piece.now))) }
     {
@@ -51,7 +51,7 @@ impl Joining {
         Ok(self)
     }
 
-    /// Reads a character behind a backslash or not, and says whether it is a backslash that the next one decides about.
+    /// Reads a character after a backslash or not, and says whether it is a backslash that the next one decides about.
     fn push_verbatim_character(&mut self, is_escaped: bool, c: char) -> Result<bool, AllocError>
         ensures pushed { IfOk result (λ is_next. joined self.new ≡ joined self.old ++ letters Verbatim (verbatim_piece is_escaped c)) }
         ensures next { IfOk result (λ is_next. is_next ≡ is_verbatim_escape is_escaped c) }

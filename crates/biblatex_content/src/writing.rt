@@ -4,15 +4,16 @@ ghost use Rattle.std.specs.Prelude.{◌≡◌, ◌++◌, ◌∷◌, false, List,
 ghost use Rattle.std.specs.List.{flat_map};
 ghost use Rattle.std.specs.Str.{chars};
 ghost use Rattle.biblatex_content.specs.Styled.{Member, Letter, Math, letters};
-ghost use Rattle.biblatex_content_tokens.specs.Token.{begins_command};
+ghost use Rattle.biblatex_tex.specs.Token.{begins_command};
 ghost use Rattle.biblatex_content.specs.Writing.{escaped, written_character, guard, closing, turning, is_grouped, written_ordinary, written_as_is, written_verbatim, written_content, written_behind};
-ghost use Rattle.biblatex_content.specs.Views.{characters, members, styled};
+ghost use Rattle.biblatex_content.specs.Views.{members, styled};
+ghost use Rattle.laws.specs.Text.{characters};
 
 use crate::chunk::{Chunk, Kind};
-use crate::joining::{empty_text, push_character, push_text};
 use crate::verbatim::is_escapable;
 use biblatex_text::Spanned;
 use std::alloc::{AllocError, Global};
+use texts::{empty_text, push_character, push_text};
 
 /// Whether what is written of the character in an ordinary field begins with a backslash.
 fn is_command(c: char) -> bool
@@ -34,7 +35,7 @@ fn push_ordinary_character(text: &mut String, c: char) -> Result<(), AllocError>
     }
 }
 
-/// Writes a character, behind a backslash or not.
+/// Writes a character, after a backslash or not.
 fn push_escaped(text: &mut String, is_escaped: bool, c: char) -> Result<(), AllocError>
     ensures { OnOk result (characters text.new ≡ characters text.old ++ escaped is_escaped c) }
 {
@@ -83,7 +84,7 @@ fn turn(text: &mut String, is_open: bool, kind: Kind, c: char) -> Result<(), All
     }
 }
 
-/// Writes characters of the kind behind a text in which a group may be open, and says whether one is open then.
+/// Writes characters of the kind after a text in which a group may be open, and says whether one is open then.
 fn push_run(text: &mut String, is_open: bool, kind: Kind, run: &str) -> Result<bool, AllocError>
     ensures { IfOk result (λ is_next. (ms : List Member) → written_behind text.new is_next ms ≡ written_behind text.old is_open (letters kind (chars run.now) ++ ms)) }
 {
@@ -96,7 +97,7 @@ fn push_run(text: &mut String, is_open: bool, kind: Kind, run: &str) -> Result<b
     Ok(is_open)
 }
 
-/// Writes a math piece behind a text in which a group may be open; then none is open.
+/// Writes a math piece after a text in which a group may be open; then none is open.
 fn push_math(text: &mut String, is_open: bool, math: &str) -> Result<(), AllocError>
     ensures { OnOk result ((ms : List Member) → written_behind text.new false ms ≡ written_behind text.old is_open (Math (chars math.now) ∷ ms)) }
 {
@@ -106,7 +107,7 @@ fn push_math(text: &mut String, is_open: bool, math: &str) -> Result<(), AllocEr
     push_character(text, '$')
 }
 
-/// Writes a chunk behind a text in which a group may be open, and says whether one is open then.
+/// Writes a chunk after a text in which a group may be open, and says whether one is open then.
 fn push_chunk(text: &mut String, is_open: bool, chunk: &Chunk) -> Result<bool, AllocError>
     ensures { IfOk result (λ is_next. (ms : List Member) → written_behind text.new is_next ms ≡ written_behind text.old is_open (members chunk.now ++ ms)) }
 {
@@ -120,7 +121,7 @@ fn push_chunk(text: &mut String, is_open: bool, chunk: &Chunk) -> Result<bool, A
     }
 }
 
-/// Writes the chunks of an ordinary field behind a text.
+/// Writes the chunks of an ordinary field after a text.
 fn push_ordinary(text: &mut String, chunks: &[Spanned<Chunk>]) -> Result<(), AllocError>
     ensures { OnOk result (characters text.new ≡ characters text.old ++ written_ordinary (styled chunks.now)) }
 {
@@ -131,7 +132,7 @@ fn push_ordinary(text: &mut String, chunks: &[Spanned<Chunk>]) -> Result<(), All
     close_group(text, is_open)
 }
 
-/// Writes the text of a chunk of a verbatim field behind a text.
+/// Writes the text of a chunk of a verbatim field after a text.
 fn push_as_is(text: &mut String, more: &str) -> Result<(), AllocError>
     ensures { OnOk result (characters text.new ≡ characters text.old ++ flat_map written_as_is (chars more.now)) }
 {
@@ -141,7 +142,7 @@ fn push_as_is(text: &mut String, more: &str) -> Result<(), AllocError>
     Ok(())
 }
 
-/// Writes the chunks of a verbatim field behind a text.
+/// Writes the chunks of a verbatim field after a text.
 fn push_verbatim(text: &mut String, chunks: &[Spanned<Chunk>]) -> Result<(), AllocError>
     ensures { OnOk result (characters text.new ≡ characters text.old ++ written_verbatim (styled chunks.now)) }
 {
@@ -151,9 +152,9 @@ fn push_verbatim(text: &mut String, chunks: &[Spanned<Chunk>]) -> Result<(), All
     Ok(())
 }
 
-/// Writes chunks as the value of a field, verbatim or ordinary, behind a text. In an ordinary field `{ } # & % $ _` stand
-/// behind a backslash, `\`, `~` and `^` are written as commands and a no-break space as `~`; verbatim text stands in braces,
-/// math between dollar signs. In a verbatim field all is text, in which `{ } \` stand behind a backslash. After an error
+/// Writes chunks as the value of a field, verbatim or ordinary, after a text. In an ordinary field `{ } # & % $ _` stand
+/// after a backslash, `\`, `~` and `^` are written as commands and a no-break space as `~`; verbatim text stands in braces,
+/// math between dollar signs. In a verbatim field all is text, in which `{ } \` stand after a backslash. After an error
 /// some of it may have been written.
 pub fn push_biblatex(
     text: &mut String,

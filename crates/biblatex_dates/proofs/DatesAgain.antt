@@ -9,13 +9,13 @@ use Rattle.std.proofs.lemmas.Fmt.{digits_value-decimal}
 use Rattle.laws.specs.Results.{◌>>=◌}
 use Rattle.laws.specs.Runs.{Bars}
 use Rattle.laws.proofs.Runs.{cuts}
-use Rattle.text_reader.specs.Character.{passes}
-use Rattle.text_reader.specs.Reading.{digits_at, taken}
-use Rattle.text_reader.specs.declared.character.Class.TheVariants.{Digit}
-use Rattle.text_reader.proofs.Digits.{own}
-use Rattle.text_reader.proofs.Starts.{starts}
+use Rattle.texts.specs.Character.{passes}
+use Rattle.texts.specs.Reading.{digits_at, taken}
+use Rattle.texts.specs.declared.character.Class.TheVariants.{Digit}
+use Rattle.texts.proofs.Digits.{own}
+use Rattle.texts.proofs.Starts.{starts}
 use Rattle.std.specs.Option.{option_map}
-use Rattle.text_reader.specs.declared.reader.Unreadable.{Unreadable}
+use Rattle.texts.specs.declared.reader.Unreadable.{Unreadable}
 use Rattle.date_parts.specs.Parts.{part_at, signed}
 use Rattle.date_parts.specs.Written.{padded, year_text, counted_text}
 use Rattle.date_parts.proofs.WrittenAgain.{not_negative, zeros_value, padded_length, padded_digits, digits_again, part_again, year_sign, signed_again}
@@ -149,7 +149,7 @@ abbrev from_one : Option ℕ → Option ℕ
 from_one None = None
 from_one (Some n) = Some (n + 1)
 
--- the side that was written, behind it what follows
+-- the side that was written, after it what follows
 abbrev side_with : ℤ → Option ℕ → Option ℕ → Option Time → List ℕ → Side × List ℕ
 side_with y month day time rest = (record { datetime = datetime_of (Some y) (from_one month) (from_one day) time; mark = (mark_at rest).0 }, (mark_at rest).1)
 
@@ -198,7 +198,7 @@ meant_again y (Some m) (Some d) time has =
     let less_day = one_less d in
     rw (season, month, day, less, less_day) refl
 
--- a side that was written is read back, with the mark that stands behind it
+-- a side that was written is read back, with the mark that stands after it
 abbrev marked_side : Datetime → List ℕ → Side
 marked_side d rest = record { datetime = Ok d; mark = (mark_at rest).0 }
 

@@ -10,11 +10,11 @@ use Rattle.jiff.specs.Words.{days_in_month}
 use Rattle.laws.specs.Results.{◌>>=◌}
 use Rattle.laws.specs.Runs.{front_of, after}
 use Rattle.laws.proofs.Results.{bind_if_ok}
-use Rattle.text_reader.specs.Character.{passes}
-use Rattle.text_reader.specs.Reading.{digits_at, token_at, end_at, taken}
-use Rattle.text_reader.specs.declared.character.Class.TheVariants.{Digit}
-use Rattle.text_reader.specs.declared.reader.Unreadable.{Unreadable}
-use Rattle.text_reader.specs.declared.reader.Unreadable.TheVariants.{NotThere}
+use Rattle.texts.specs.Character.{passes}
+use Rattle.texts.specs.Reading.{digits_at, token_at, end_at, taken}
+use Rattle.texts.specs.declared.character.Class.TheVariants.{Digit}
+use Rattle.texts.specs.declared.reader.Unreadable.{Unreadable}
+use Rattle.texts.specs.declared.reader.Unreadable.TheVariants.{NotThere}
 use Rattle.date_parts.specs.Calendar.{has_day}
 use Rattle.biblatex_dates.specs.Datetime.{of_month, of_year, datetime_of, in_month, on_day, year_alone}
 use Rattle.biblatex_dates.specs.Shape.{opening_at, last_at, slash_behind, first_behind, opening_behind, shape_of, value_of, date_of}
@@ -29,7 +29,7 @@ use Rattle.biblatex_dates.specs.declared.error.TypeErrorKind.TheVariants.{DayOut
 use Rattle.biblatex_dates.specs.declared.shape.Shape.{Shape}
 use Rattle.biblatex_dates.specs.declared.shape.Shape.TheVariants.{One, Since, Until, Range}
 use Rattle.biblatex_dates.specs.declared.side.Side.{Side}
-use Rattle.text_reader.proofs.Bounds.{run_below}
+use Rattle.texts.proofs.Bounds.{run_below}
 
 -- a year that is one of four digits
 abbrev pub IsYear : ℤ → Type 0

@@ -1,6 +1,5 @@
 -- Looking for a month.
-use Rattle.std.proofs.Common.{◌≡◌, ℕ, zero, suc, ◌+◌, ◌-◌, ◌≤◌, Bool, true, false, Some, None, refl, arith, ap, ◌∙◌}
-use Rattle.std.proofs.Common.{List, sym}
+use Rattle.std.proofs.Common.{◌≡◌, ℕ, zero, suc, ◌+◌, ◌-◌, ◌≤◌, Bool, true, false, Some, None, refl, arith, ap, ◌∙◌, List, sym}
 use Rattle.std.specs.Prelude.{IsTrue, ◌↔◌}
 use Rattle.std.proofs.lemmas.Slice.Eq.{bytes_eq-Decides}
 use Rattle.caseless.specs.Caseless.{default_case_fold, IsDefaultMatch}
@@ -17,7 +16,7 @@ first_here test m small t = ap (λ n. first_of test n m) (one_more m small) ∙ 
 pub first_later : (test : ℕ → Bool) (m : ℕ) → m ≤ 12 → test m ≡ false → first_of test (13 - m) m ≡ first_of test (13 - (m + 1)) (m + 1)
 first_later test m small t = ap (λ n. first_of test n m) (one_more m small) ∙ rw t refl
 
--- behind the last there is none
+-- after the last there is none
 pub first_none : (test : ℕ → Bool) (m : ℕ) → 13 ≤ m → first_of test (13 - m) m ≡ None
 first_none test m great = ap (λ n. first_of test n m) (none_left m great)
   where

@@ -4,8 +4,8 @@ use Rattle.std.specs.Prelude.{IfOk, IfSome}
 use Rattle.std.specs.Int.{is_in_range}
 use Rattle.std.proofs.lemmas.Bool.Decides.{nat_tests}
 use Rattle.laws.proofs.Results.{bind_if_ok}
-use Rattle.text_reader.specs.Reading.{digits_at, end_at, taken}
-use Rattle.text_reader.specs.declared.reader.Unreadable.{Unreadable}
+use Rattle.texts.specs.Reading.{digits_at, end_at, taken}
+use Rattle.texts.specs.declared.reader.Unreadable.{Unreadable}
 use Rattle.date_parts.specs.Calendar.{has_day}
 use Rattle.biblatex_dates.specs.Date.{value_without_time}
 use Rattle.biblatex_dates.specs.Datetime.{in_month, on_day, without_time}

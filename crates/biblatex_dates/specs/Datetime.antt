@@ -1,5 +1,5 @@
 -- Points in time: what a year, a month, a day and a time mean as written. Months and days count from one as written, and
--- from zero as kept.
+-- from zero in the value.
 use Rattle.std.specs.Prelude.{ℕ, ◌-◌, if◌then◌else◌, Option, Some, None, Result, Ok, Err, ℤ}
 use Rattle.std.specs.Int.{is_in_range}
 use Rattle.date_parts.specs.Calendar.{has_day}

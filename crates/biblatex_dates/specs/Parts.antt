@@ -4,8 +4,8 @@ use Rattle.std.specs.Int.{is_in_range}
 use Rattle.std.specs.Str.{bytes_eq}
 use Rattle.caseless.specs.Caseless.{default_case_fold}
 use Rattle.laws.specs.Results.{◌>>=◌}
-use Rattle.text_reader.specs.Reading.{digits_at, end_at, taken}
-use Rattle.text_reader.specs.declared.reader.Unreadable.{Unreadable}
+use Rattle.texts.specs.Reading.{digits_at, end_at, taken}
+use Rattle.texts.specs.declared.reader.Unreadable.{Unreadable}
 use Rattle.date_parts.specs.Calendar.{has_day}
 use Rattle.biblatex_dates.specs.Datetime.{year_alone, in_month, on_day}
 use Rattle.date_parts.specs.Parts.{signed}
@@ -13,7 +13,7 @@ use Rattle.biblatex_dates.specs.declared.date.Date.{Date}
 use Rattle.biblatex_dates.specs.declared.date.DateValue.TheVariants.{At}
 use Rattle.biblatex_dates.specs.declared.datetime.Datetime.{Datetime}
 
--- one to four digits, negative behind a hyphen
+-- one to four digits, negative after a hyphen
 unfoldable pub year_part : List ℕ → Result ℤ Unreadable
 year_part cs = do
   year ← digits_at 1 4 (taken 45 cs).1

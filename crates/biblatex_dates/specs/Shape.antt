@@ -1,8 +1,8 @@
 -- A date, read from the left as one side or two, and what it means. Characters are numbers.
 use Rattle.std.specs.Prelude.{ℕ, Bool, true, false, ◌==◌, ◌||◌, List, [], ◌∷◌, if◌then◌else◌, Result, Ok, Err}
 use Rattle.laws.specs.Results.{◌>>=◌}
-use Rattle.text_reader.specs.Reading.{token_at, end_at, taken}
-use Rattle.text_reader.specs.declared.reader.Unreadable.{Unreadable}
+use Rattle.texts.specs.Reading.{token_at, end_at, taken}
+use Rattle.texts.specs.declared.reader.Unreadable.{Unreadable}
 use Rattle.biblatex_dates.specs.Side.{side_at}
 use Rattle.biblatex_dates.specs.declared.date.Date.{Date}
 use Rattle.biblatex_dates.specs.declared.date.DateValue.{DateValue}
@@ -14,7 +14,7 @@ use Rattle.biblatex_dates.specs.declared.shape.Shape.TheVariants.{One, Since, Un
 use Rattle.biblatex_dates.specs.declared.side.Mark.{Mark}
 use Rattle.biblatex_dates.specs.declared.side.Side.{Side}
 
--- whether the beginning is open, as a slash behind two points or nothing says, and what follows
+-- whether the beginning is open, as a slash after two points or nothing says, and what follows
 abbrev pub opening_at : List ℕ → Result (Bool × List ℕ) Unreadable
 opening_at [] = Ok (false, [])
 opening_at (c ∷ cs) = if c == 47 then Ok (true, cs) else (if c == 46 then (token_at 46 cs >>= λ points. token_at 47 points >>= λ rest. Ok (true, rest)) else Ok (false, c ∷ cs))
@@ -23,17 +23,17 @@ opening_at (c ∷ cs) = if c == 47 then Ok (true, cs) else (if c == 46 then (tok
 abbrev pub last_at : List ℕ → Result Side Unreadable
 last_at cs = side_at cs >>= λ s. end_at s.1 >>= λ rest. Ok s.0
 
--- behind the slash: an open end, as two points or nothing say, or another side
+-- after the slash: an open end, as two points or nothing say, or another side
 abbrev pub slash_behind : Side → List ℕ → Result Shape Unreadable
 slash_behind a [] = Ok (Since a)
 slash_behind a (c ∷ cs) = if c == 46 then (token_at 46 cs >>= λ points. end_at points >>= λ rest. Ok (Since a)) else (last_at (c ∷ cs) >>= λ b. Ok (Range a b))
 
--- behind the first side: the end, or a slash
+-- after the first side: the end, or a slash
 abbrev pub first_behind : Side → Bool × List ℕ → Result Shape Unreadable
 first_behind a (false, rest) = end_at rest >>= λ rest. Ok (One a)
 first_behind a (true, rest) = slash_behind a rest
 
--- behind the beginning, which may be open
+-- after the beginning, which may be open
 abbrev pub opening_behind : Bool × List ℕ → Result Shape Unreadable
 opening_behind (true, rest) = last_at rest >>= λ b. Ok (Until b)
 opening_behind (false, rest) = side_at rest >>= λ a. first_behind a.0 (taken 47 a.1)

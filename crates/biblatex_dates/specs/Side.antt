@@ -4,11 +4,11 @@ use Rattle.std.specs.Option.{option_map}
 use Rattle.std.specs.Str.Parse.{digits_value}
 use Rattle.laws.specs.Results.{◌>>=◌}
 use Rattle.laws.specs.Runs.{front_of, after}
-use Rattle.text_reader.specs.Character.{passes}
-use Rattle.text_reader.specs.Reading.{digits_at, token_at, taken}
-use Rattle.text_reader.specs.declared.character.Class.TheVariants.{Digit}
-use Rattle.text_reader.specs.declared.reader.Unreadable.{Unreadable}
-use Rattle.text_reader.specs.declared.reader.Unreadable.TheVariants.{NotThere}
+use Rattle.texts.specs.Character.{passes}
+use Rattle.texts.specs.Reading.{digits_at, token_at, taken}
+use Rattle.texts.specs.declared.character.Class.TheVariants.{Digit}
+use Rattle.texts.specs.declared.reader.Unreadable.{Unreadable}
+use Rattle.texts.specs.declared.reader.Unreadable.TheVariants.{NotThere}
 use Rattle.date_parts.specs.Parts.{part_at, signed}
 use Rattle.biblatex_dates.specs.Datetime.{datetime_of}
 use Rattle.biblatex_dates.specs.declared.datetime.Time.{Time}
@@ -37,12 +37,12 @@ minutes_at cs = do
   minute ← digits_at 2 2 colon
   Ok ((hour.0, minute.0), minute.1)
 
--- behind a colon two digits are wanted; else no second has passed
+-- after a colon two digits are wanted; else no second has passed
 abbrev pub seconds_behind : Bool × List ℕ → Result (ℕ × List ℕ) Unreadable
 seconds_behind (false, rest) = Ok (0, rest)
 seconds_behind (true, rest) = digits_at 2 2 rest
 
--- the hours and minutes behind a sign
+-- the hours and minutes after a sign
 abbrev pub signed_offset_at : Bool → List ℕ → Result (Option TimeOffset × List ℕ) Unreadable
 signed_offset_at positive cs = minutes_at cs >>= λ t. Ok (Some (Offset positive t.0.0 t.0.1), t.1)
 
@@ -59,12 +59,12 @@ clock_at cs = do
   offset ← offset_at second.1
   Ok (record { hour = minutes.0.0; minute = minutes.0.1; second = second.0; offset = offset.0 }, offset.1)
 
--- behind a `T` a time is wanted
+-- after a `T` a time is wanted
 abbrev pub clock_behind : Bool × List ℕ → Result (Option Time × List ℕ) Unreadable
 clock_behind (false, rest) = Ok (None, rest)
 clock_behind (true, rest) = clock_at rest >>= λ t. Ok (Some t.0, t.1)
 
--- behind a day, `T` and a time, or nothing
+-- after a day, `T` and a time, or nothing
 abbrev pub time_at : Option ℕ → List ℕ → Result (Option Time × List ℕ) Unreadable
 time_at None cs = Ok (None, cs)
 time_at (Some d) cs = clock_behind (taken 84 cs)
@@ -80,7 +80,7 @@ mark_at (c ∷ cs) =
     else (if c == 126 || c == 160 then (record { uncertain = false; approximate = true }, cs)
     else (if c == 37 then (record { uncertain = true; approximate = true }, cs) else (no_mark, c ∷ cs)))
 
--- a year, negative behind a hyphen; a month, a day and a time, each behind the one before it; a mark
+-- a year, negative after a hyphen; a month, a day and a time, each after the one before it; a mark
 unfoldable pub side_at : List ℕ → Result (Side × List ℕ) Unreadable
 side_at cs = do
   year ← year_at (taken 45 cs).0 (taken 45 cs).1

@@ -10,7 +10,7 @@ use Rattle.biblatex_dates.specs.declared.datetime.Time.{Time}
 use Rattle.biblatex_dates.specs.declared.datetime.TimeOffset.{TimeOffset}
 use Rattle.biblatex_dates.specs.declared.datetime.TimeOffset.TheVariants.{Utc, Offset}
 
--- a character, and two digits or more behind it
+-- a character, and two digits or more after it
 abbrev pub behind : ℕ → ℕ → List ℕ
 behind c n = c ∷ padded 2 n
 
@@ -37,12 +37,12 @@ abbrev pub time_text : Option Time → List ℕ
 time_text None = []
 time_text (Some t) = clock_text t
 
--- a time is written behind a day alone
+-- a time is written after a day alone
 abbrev pub day_text : Option ℕ → Option Time → List ℕ
 day_text None time = []
 day_text (Some d) time = counted_text d ++ time_text time
 
--- a day is written behind a month alone
+-- a day is written after a month alone
 abbrev pub month_text : Option ℕ → Option ℕ → Option Time → List ℕ
 month_text None day time = []
 month_text (Some m) day time = counted_text m ++ day_text day time
@@ -72,7 +72,7 @@ mark_text true false = codes "?"
 mark_text false true = codes "~"
 mark_text true true = codes "%"
 
--- the mark stands behind the last side
+-- the mark stands after the last side
 abbrev pub date_text : Date → List ℕ
 date_text d = sides_text d.value ++ (mark_text d.uncertain d.approximate ++ end_text d.value)
 

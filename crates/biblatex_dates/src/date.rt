@@ -32,9 +32,9 @@ pub enum DateValue {
 }
 
 impl Date {
-    /// Reads a date: a side; two sides with a slash between; a side and a slash with `..` or nothing behind it, or
-    /// before it. A side is a year of four digits, negative behind a hyphen; a hyphen and a month; a hyphen and a day,
-    /// each of one or two digits; `T` and a time as `10:20` or `10:20:30`, with `Z`, `+01:00`, `-01:00` or nothing behind
+    /// Reads a date: a side; two sides with a slash between; a side and a slash with `..` or nothing after it, or
+    /// before it. A side is a year of four digits, negative after a hyphen; a hyphen and a month; a hyphen and a day,
+    /// each of one or two digits; `T` and a time as `10:20` or `10:20:30`, with `Z`, `+01:00`, `-01:00` or nothing after
     /// it; a mark `?`, `~`, `%` or U+00A0. The mark of a side is the date's: `?` is uncertain, `~` and U+00A0 are
     /// approximate, `%` is both. The months 21 to 24 are seasons, which leave the year alone.
     ///
@@ -53,10 +53,10 @@ impl Date {
         read_date(text)
     }
 
-    /// The date of a year, a month and a day, each a text of its own. The year is one to four digits, negative behind a
+    /// The date of a year, a month and a day, each a text of its own. The year is one to four digits, negative after a
     /// hyphen; the month is 1 to 12 in one or two digits, or an English name or its first three letters in any case; the
     /// day is one or two digits and one that the month has. A month or a day that cannot be read is passed over, and a
-    /// day behind such a month too. Nothing is trimmed, and the date is sure. Takes no memory.
+    /// day after such a month too. Nothing is trimmed, and the date is sure. Takes no memory.
     ///
     /// No date where the year cannot be read.
     pub fn from_parts(year: &str, month: Option<&str>, day: Option<&str>) -> Option<Date>

@@ -29,7 +29,7 @@ pub struct Time {
 pub enum TimeOffset {
     /// Not at all.
     Utc,
-    /// So many hours and minutes before it, or behind it where it is not positive.
+    /// So many hours and minutes before it, or after it where it is not positive.
     Offset {
         positive: bool,
         hours: u8,

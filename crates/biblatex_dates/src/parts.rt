@@ -4,15 +4,15 @@ ghost use Rattle.std.specs.Prelude.{◌≡◌, ◌<◌, ◌≤◌, ◌||◌, uns
 ghost use Rattle.std.specs.Option.{option_map};
 ghost use Rattle.std.specs.Str.{chars, IsAscii};
 ghost use Rattle.laws.specs.Results.{Reads};
-ghost use Rattle.text_reader.specs.Reading.{digits_at};
-ghost use Rattle.text_reader.specs.Views.{left};
+ghost use Rattle.texts.specs.Reading.{digits_at};
+ghost use Rattle.texts.specs.Views.{left};
 ghost use Rattle.biblatex_dates.specs.Parts.{year_part, number_part, is_same, is_month, month_named, month_part, day_read, parts_read, of_parts};
 
 use crate::date::{Date, DateValue};
 use crate::datetime::{Datetime, in_month, on_day, year_alone};
 use caseless::default_caseless_match_str;
 use date_parts::{has_day, signed_year};
-use text_reader::{Reader, Unreadable};
+use texts::{Reader, Unreadable};
 
 /// The date, as far as its parts can be read.
 pub(crate) fn dated_by_parts(year: &str, month: Option<&str>, day: Option<&str>) -> Option<Date>
@@ -58,7 +58,7 @@ fn day_read(year: i32, month: u16, day: Option<&str>) -> Datetime
     }
 }
 
-/// The year of one to four digits, negative behind a hyphen.
+/// The year of one to four digits, negative after a hyphen.
 #[tactic(auto, unfolding(crate::specs::Parts::year_part))]
 fn read_year(text: &str) -> Result<i32, Unreadable>
     ensures reads { result ≡ year_part (chars text.now) }

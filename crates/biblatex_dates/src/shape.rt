@@ -3,13 +3,13 @@
 ghost use Rattle.std.specs.Prelude.{◌≡◌, Ok};
 ghost use Rattle.std.specs.Str.{chars};
 ghost use Rattle.laws.specs.Results.{Reads};
-ghost use Rattle.text_reader.specs.Views.{left};
+ghost use Rattle.texts.specs.Views.{left};
 ghost use Rattle.biblatex_dates.specs.Shape.{opening_at, last_at, slash_behind, shape_of, joined, mark_of, value_of, date_of};
 
 use crate::date::{Date, DateValue};
 use crate::error::TypeErrorKind;
 use crate::side::{Mark, Side, read_side};
-use text_reader::{Reader, Unreadable, split_first};
+use texts::{Reader, Unreadable, split_first};
 
 /// The sides of a date.
 #[derive(Clone, Copy)]
@@ -115,7 +115,7 @@ fn read_last(text: &str) -> Result<Side, Unreadable>
     Ok(side)
 }
 
-/// The text behind the slash: an open end, or another side.
+/// The text after the slash: an open end, or another side.
 fn read_behind_slash(text: &str, first: Side) -> Result<Shape, Unreadable>
     ensures { result ≡ slash_behind first (chars text.now) }
 {

@@ -2,15 +2,14 @@
 
 ghost use Rattle.std.specs.Prelude.{◌≡◌, ◌≤◌, ◌<◌, unsigned_abs, IfOk, IfSome};
 ghost use Rattle.laws.specs.Results.{Reads};
-ghost use Rattle.text_reader.specs.Reading.{digits_at};
-ghost use Rattle.text_reader.specs.Views.{left};
+ghost use Rattle.texts.specs.Reading.{digits_at, taken};
+ghost use Rattle.texts.specs.Views.{left};
 ghost use Rattle.biblatex_dates.specs.Side.{four_at, year_at, minutes_at, seconds_behind, offset_at, signed_offset_at, clock_at, time_at, mark_at, side_at};
-ghost use Rattle.text_reader.specs.Reading.{taken};
 
 use crate::datetime::{Datetime, Time, TimeOffset, dated};
 use crate::error::TypeErrorKind;
 use date_parts::{read_part, signed_year};
-use text_reader::{Class, Reader, Unreadable};
+use texts::{Class, Reader, Unreadable};
 
 /// How sure a date is.
 #[derive(Clone, Copy)]
@@ -69,7 +68,7 @@ fn read_four(reader: &mut Reader) -> Result<Option<u16>, Unreadable>
     Ok(Some(digits.parse::<u16>().unwrap()))
 }
 
-/// Behind a day, `T` and a time, or nothing.
+/// After a day, `T` and a time, or nothing.
 fn read_time(reader: &mut Reader, day: Option<u16>) -> Result<Option<Time>, Unreadable>
     ensures { Reads (λ t. t) result (left reader.new) (time_at day (left reader.old)) }
 {
@@ -106,7 +105,7 @@ fn read_minutes(reader: &mut Reader) -> Result<(u8, u8), Unreadable>
     Ok((hour, minute))
 }
 
-/// Behind a colon seconds, else 0.
+/// After a colon seconds, else 0.
 fn read_seconds(reader: &mut Reader) -> Result<u8, Unreadable>
     ensures { Reads (λ n. n) result (left reader.new) (seconds_behind (taken 58 (left reader.old))) }
 {
@@ -139,7 +138,7 @@ fn read_offset(reader: &mut Reader) -> Result<Option<TimeOffset>, Unreadable>
     Ok(None)
 }
 
-/// The hours and minutes behind a sign.
+/// The hours and minutes after a sign.
 fn read_signed_offset(reader: &mut Reader, positive: bool) -> Result<Option<TimeOffset>, Unreadable>
     ensures { Reads (λ o. o) result (left reader.new) (signed_offset_at positive (left reader.old)) }
 {

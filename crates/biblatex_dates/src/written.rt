@@ -11,7 +11,7 @@ use crate::datetime::{Datetime, Time, TimeOffset};
 use date_parts::{write_counted, write_padded, write_year};
 use std::fmt::{self, Display};
 
-/// The year in four digits or more, behind a hyphen where it is negative; a hyphen and the month; a hyphen and the day;
+/// The year in four digits or more, after a hyphen where it is negative; a hyphen and the month; a hyphen and the day;
 /// `T` and the time with its seconds; the offset as `Z`, `+01:00` or `-01:00`. A day without a month and a time without a
 /// day are not written.
 impl Display for Datetime {
@@ -23,7 +23,7 @@ impl Display for Datetime {
     }
 }
 
-/// The sides with a slash between; an open beginning as `../`; the mark `?`, `~` or `%` behind the last side; an open end
+/// The sides with a slash between; an open beginning as `../`; the mark `?`, `~` or `%` after the last side; an open end
 /// as `/..`.
 impl Display for Date {
     ghost output = { λ d. Some (text_of (date_text d)) };
@@ -89,7 +89,7 @@ fn write_mark<W: fmt::Write>(
     }
 }
 
-/// Writes a character, and behind it a number in two digits or more.
+/// Writes a character, and after it a number in two digits or more.
 fn write_behind<W: fmt::Write>(mark: char, number: u8, f: &mut fmt::Formatter<W>) -> fmt::Result
     ensures { DisplaysOnOk W.write_str_gives f.old result (Some (text_of (behind mark number))) f.new }
 {
@@ -97,7 +97,7 @@ fn write_behind<W: fmt::Write>(mark: char, number: u8, f: &mut fmt::Formatter<W>
     write_padded(u32::from(number), 2, f)
 }
 
-/// Writes the month, and the day and the time behind it.
+/// Writes the month, and the day and the time after it.
 fn write_month<W: fmt::Write>(
     month: Option<u8>,
     day: Option<u8>,
@@ -113,7 +113,7 @@ fn write_month<W: fmt::Write>(
     write_day(day, time, f)
 }
 
-/// Writes the day, and the time behind it.
+/// Writes the day, and the time after it.
 fn write_day<W: fmt::Write>(
     day: Option<u8>,
     time: Option<Time>,

@@ -3,16 +3,15 @@ use Rattle.std.proofs.Common.{◌≡◌, ℕ, List, [], ◌∷◌, ◌++◌, Str
 use Rattle.std.proofs.lemmas.Str.{IsUtf8-string_bytes}
 use Rattle.std.proofs.lemmas.Grind.{flat_map-append}
 use Rattle.std.proofs.lemmas.List.{append-nil}
-use Rattle.laws.specs.Text.{text}
-use Rattle.laws.proofs.Text.{text-chars}
+use Rattle.laws.specs.Text.{text, characters}
+use Rattle.laws.proofs.Text.{text_of_chars}
 use Rattle.biblatex_text.specs.declared.spanned.Spanned.{Spanned}
 use Rattle.biblatex_content.specs.declared.chunk.Kind.{Kind}
 use Rattle.biblatex_content.specs.declared.chunk.Kind.TheVariants.{Normal, Verbatim}
 use Rattle.biblatex_content.specs.declared.chunk.Chunk.{Chunk}
 use Rattle.biblatex_content.specs.declared.chunk.Chunk.TheVariants as chunks
-use Rattle.biblatex_content.specs.Styled.{Member, letters}
-use Rattle.biblatex_content.specs.Views.{characters, chunk_text, members, plain_text, styled}
-use Rattle.biblatex_entries.specs.Entries.{plain, member_text}
+use Rattle.biblatex_content.specs.Styled.{Member, letters, plain, member_text}
+use Rattle.biblatex_content.specs.Views.{chunk_text, members, plain_text, styled}
 
 plain-append : (ms more : List Member) → plain (ms ++ more) ≡ plain ms ++ plain more
 plain-append ms more = flat_map-append member_text ms more
@@ -31,4 +30,4 @@ plain-styled [] = refl
 plain-styled (c ∷ cs) = plain-append (members c.v) (styled cs) ∙ rw (chunk-plain c.v, plain-styled cs) refl
 
 pub text_of_chunks : (s : String Global) (cs : List (Spanned Chunk)) → characters s ≡ plain_text cs → string_bytes s ≡ text (plain (styled cs))
-text_of_chunks s cs e = sym (text-chars (string_bytes s) (IsUtf8-string_bytes s)) ∙ ap text (e ∙ sym (plain-styled cs))
+text_of_chunks s cs e = sym (text_of_chars (string_bytes s) (IsUtf8-string_bytes s)) ∙ ap text (e ∙ sym (plain-styled cs))

@@ -2,7 +2,7 @@
 use Rattle.std.specs.Prelude.{ℕ, List, [], ◌∷◌, ◌++◌, map, Option, Some, None, string_bytes, codes}
 use Rattle.std.specs.List.{flat_map}
 use Rattle.laws.specs.Text.{text}
-use Rattle.biblatex_content.specs.Styled.{Member, Letter, Math}
+use Rattle.biblatex_content.specs.Styled.{Member, Letter, Math, plain}
 use Rattle.biblatex_fields.specs.Fields.{Named, value_named}
 use Rattle.biblatex_entries.specs.TypeNames.{TypeName, type_name}
 use Rattle.biblatex_entries.specs.Names.{trimmed, listed}
@@ -19,14 +19,6 @@ source e = record { key = string_bytes e.key; entry_type = type_name e.entry_typ
 
 abbrev pub sources : List Entry → List Source
 sources es = map source es
-
--- the characters of a styled text, of math those between the dollar signs
-abbrev pub member_text : Member → List ℕ
-member_text (Letter kind c) = c ∷ []
-member_text (Math cs) = cs
-
-abbrev pub plain : List Member → List ℕ
-plain ms = flat_map member_text ms
 
 -- the text of a field, as bytes; none where there is no such field
 abbrev pub text_in : Option (List Member) → List ℕ

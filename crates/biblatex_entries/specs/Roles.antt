@@ -1,4 +1,4 @@
--- What an entry's type means for the fields that it inherits and hands on.
+-- What an entry's type means for the fields that it inherits and passes on.
 use Rattle.std.specs.Prelude.{Bool, true, false, [], ◌∷◌, if◌then◌else◌, codes}
 use Rattle.biblatex_entries.specs.TypeNames.{TypeName, is_one_of}
 use Rattle.biblatex_entries.specs.declared.role.Role.{Role}

@@ -1,8 +1,7 @@
 -- The types of entries by their names.
-use Rattle.std.specs.Prelude.{ℕ, Bool, true, false, ◌&&◌, ◌||◌, List, [], ◌∷◌, if◌then◌else◌, codes}
+use Rattle.std.specs.Prelude.{ℕ, Bool, true, false, ◌&&◌, ◌||◌, List, [], ◌∷◌, if◌then◌else◌, codes, string_bytes}
 use Rattle.std.specs.List.{list_any}
 use Rattle.std.specs.Str.{bytes_eq}
-use Rattle.std.specs.Prelude.{string_bytes}
 use Rattle.biblatex_entries.specs.declared.entry_type.EntryType.{EntryType}
 use Rattle.biblatex_entries.specs.declared.entry_type.EntryType.TheVariants as types
 

@@ -6,7 +6,7 @@ use Rattle.std.specs.Borrow.{Bor}
 use Rattle.laws.specs.Text.{lowered}
 use Rattle.biblatex_text.specs.declared.spanned.Spanned.{Spanned}
 use Rattle.biblatex_content.specs.declared.chunk.Chunk.{Chunk}
-use Rattle.biblatex_content.specs.Styled.{Member}
+use Rattle.biblatex_content.specs.Styled.{Member, plain as plain_text}
 use Rattle.biblatex_content.specs.Views.{styled, span_start, span_end}
 use Rattle.biblatex_fields.specs.Fields.{Named, value_named}
 use Rattle.biblatex_dates.specs.Parts.{of_parts}
@@ -15,13 +15,12 @@ use Rattle.biblatex_dates.specs.declared.error.TypeErrorKind.{TypeErrorKind}
 use Rattle.biblatex_people.specs.Reading.{Named as PersonName, people_in}
 use Rattle.biblatex_people.specs.Views.{named}
 use Rattle.biblatex_people.specs.declared.person.Person.{Person}
-use Rattle.biblatex_readings.specs.Plain.{plain as plain_text}
-use Rattle.biblatex_readings.specs.Dates.{reads_date}
-use Rattle.biblatex_readings.specs.EditorType.{EditorName, known, editor_of, editor_name}
-use Rattle.biblatex_readings.specs.Permissive.{Permitted, Value, reads_permissive}
-use Rattle.biblatex_readings.specs.declared.editor_type.EditorType.{EditorType}
-use Rattle.biblatex_types.specs.declared.error.FieldTypeError.{FieldTypeError}
-use Rattle.biblatex_types.specs.declared.error.FieldTypeError.TheVariants as refusals
+use Rattle.biblatex_values.specs.Dates.{reads_date}
+use Rattle.biblatex_values.specs.EditorType.{EditorName, known, editor_of, editor_name}
+use Rattle.biblatex_values.specs.Permissive.{Permitted, Value, reads_permissive}
+use Rattle.biblatex_values.specs.declared.editor_type.EditorType.{EditorType}
+use Rattle.biblatex_field_types.specs.declared.error.FieldTypeError.{FieldTypeError}
+use Rattle.biblatex_field_types.specs.declared.error.FieldTypeError.TheVariants as refusals
 use Rattle.biblatex_entries.specs.declared.error.RetrievalError.{RetrievalError}
 use Rattle.biblatex_entries.specs.declared.error.RetrievalError.TheVariants as errors
 
@@ -30,20 +29,19 @@ abbrev pub retrieval_error : FieldTypeError → RetrievalError
 retrieval_error refusals.Memory = errors.Memory
 retrieval_error (refusals.TypeError e) = errors.TypeError e
 
--- What was answered, seen by view, is what the field reads as; Missing says that there is no such field, and a fault is that
--- of its text. Of want of memory nothing is said.
+-- What was returned, seen by view, is what the field reads as; Missing says that there is no such field, and a fault is that
+-- of its text. Nothing is said where memory ran out.
 abbrev pub Retrieves : {X V : Type 0} → (X → V) → Result X RetrievalError → Option (Result V TypeErrorKind) → Type 0
 Retrieves view (Ok x) read = read ≡ Some (Ok (view x))
 Retrieves view (Err errors.Memory) read = Unit {0}
 Retrieves view (Err errors.Missing) read = read ≡ None
 Retrieves view (Err (errors.TypeError e)) read = read ≡ Some (Err e.kind)
 
--- What was answered, seen by view, is the value; of want of memory nothing is said, and there is no other refusal.
-abbrev pub ComesBack : {X V : Type 0} → (X → V) → Result X RetrievalError → V → Type 0
-ComesBack view (Ok x) v = view x ≡ v
-ComesBack view (Err errors.Memory) v = Unit {0}
-ComesBack view (Err errors.Missing) v = ⊥
-ComesBack view (Err (errors.TypeError e)) v = ⊥
+-- the refusal that an error is: there is no such field, or the fault of its text; out of memory is none
+abbrev pub refusal_of : RetrievalError → Option (Option TypeErrorKind)
+refusal_of errors.Memory = None
+refusal_of errors.Missing = Some None
+refusal_of (errors.TypeError e) = Some (Some e.kind)
 
 -- A fault stands from where the first chunk begins to where the last one ends.
 abbrev pub IsAt : {X : Type 0} → Result X RetrievalError → List (Spanned Chunk) → Type 0
@@ -56,7 +54,7 @@ IsAt (Err (errors.TypeError e)) cs = (e.span.start ≡ span_start cs) × (e.span
 abbrev pub read_as : {V : Type 0} → (List Member → Result V TypeErrorKind) → List ℕ → List Named → Option (Result V TypeErrorKind)
 read_as reads name fs = option_map reads (value_named name fs)
 
--- The chunks that were lent spell the value; Missing says that there is none.
+-- The chunks that were borrowed spell the value; Missing says that there is none.
 abbrev pub IsLent : Result (Bor (List (Spanned Chunk))) RetrievalError → Option (List Member) → Type 0
 IsLent (Ok cs) value = value ≡ Some (styled cs.now)
 IsLent (Err e) value = (e ≡ errors.Missing) × (value ≡ None)
@@ -100,6 +98,6 @@ editors_of did ms = (people_in ms, did)
 abbrev pub editors_in : List Named → List (List PersonName × EditorName)
 editors_in fs = option_to_list (option_map (editors_of (type_or_editor (value_named (codes "editortype") fs))) (value_named (codes "editor") fs))
 
--- people with what they did, as they are held
+-- people with what they did, as they stand in memory
 abbrev pub people_and_type : Vec Person Global × EditorType → List PersonName × EditorName
 people_and_type e = (map named e.0.items, editor_name e.1)

@@ -8,7 +8,8 @@ ghost use Rattle.biblatex_content.specs.Views.{styled};
 ghost use Rattle.biblatex_fields.specs.Fields.{value_named, with_field, without_field};
 ghost use Rattle.biblatex_entries.specs.TypeNames.{type_name};
 ghost use Rattle.biblatex_entries.specs.Names.{trimmed, listed};
-ghost use Rattle.biblatex_entries.specs.Entries.{source, plain, field_text, parents_of, names_of};
+ghost use Rattle.biblatex_entries.specs.Entries.{source, field_text, parents_of, names_of};
+ghost use Rattle.biblatex_content.specs.Styled.{plain};
 
 use crate::entry_type::EntryType;
 use crate::names::{name_alone, names_listed};
@@ -44,11 +45,11 @@ impl Entry {
     }
 
     /// Gives the field of that name, in lower ASCII case, the value.
-    pub fn set(&mut self, alloc: Global, name: &str, value: Chunks) -> Result<(), AllocError>
+    pub fn set(&mut self, name: &str, value: Chunks) -> Result<(), AllocError>
         ensures ok { OnOk result (source self.new ≡ record { key = string_bytes self.old.key; entry_type = type_name self.old.entry_type; fields = with_field self.old.fields (lowered (chars name.now)) (styled value.items) }) }
         ensures err { OnErr result (source self.new ≡ source self.old) }
     {
-        let name = lower_name(alloc, name)?;
+        let name = lower_name(*self.key.allocator(), name)?;
         self.fields.insert(name, value)
     }
 
@@ -107,7 +108,7 @@ pub fn field_text(alloc: Global, fields: &Fields, name: &str) -> Result<String, 
     }
 }
 
-/// Puts the names of a list behind those of another.
+/// Appends the names of a list after those of another.
 fn append(names: &mut Vec<String>, more: Vec<String>) -> Result<(), AllocError>
     ensures { OnOk result (map string_bytes names.new.items ≡ map string_bytes names.old.items ++ map string_bytes more.items) }
 {

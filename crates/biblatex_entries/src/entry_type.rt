@@ -1,9 +1,8 @@
 //! The types of entries.
 
-ghost use Rattle.std.specs.Prelude.{◌≡◌, IfOk};
+ghost use Rattle.std.specs.Prelude.{◌≡◌, IfOk, false, MatchOption};
 ghost use Rattle.std.specs.Str.{chars};
 ghost use Rattle.laws.specs.Text.{lowered};
-ghost use Rattle.std.specs.Prelude.{false, MatchOption};
 ghost use Rattle.biblatex_entries.specs.TypeNames.{type_of, type_name, read_name, written_type};
 
 use std::alloc::{AllocError, Global};
@@ -44,7 +43,7 @@ pub enum EntryType {
     Dataset,
     Set,
     XData,
-    /// A type of another name, which is kept in lower ASCII case.
+    /// A type of another name, in lower ASCII case.
     Unknown(String),
 }
 

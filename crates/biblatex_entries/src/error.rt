@@ -4,7 +4,7 @@ ghost use Rattle.std.specs.Prelude.{◌≡◌};
 ghost use Rattle.biblatex_entries.specs.Typed.{retrieval_error};
 ghost use Rattle.biblatex_entries.specs.declared.error.RetrievalError.TheVariants.{Memory};
 
-use biblatex_types::{FieldTypeError, TypeError};
+use biblatex_field_types::{FieldTypeError, TypeError};
 use std::alloc::AllocError;
 use thiserror::Error;
 

@@ -37,7 +37,7 @@ fn split_comma(text: &str) -> Option<(&str, &str)>
     text.split_once(',')
 }
 
-/// Puts a name last, without white space at its ends, unless nothing is left.
+/// Appends a name, without white space at its ends, unless nothing is left.
 pub(crate) fn push_trimmed(
     alloc: Global,
     names: &mut Vec<String>,

@@ -1,4 +1,4 @@
-//! What an entry's type means for the fields that it inherits and hands on.
+//! What an entry's type means for the fields that it inherits and passes on.
 
 ghost use Rattle.std.specs.Prelude.{◌≡◌};
 ghost use Rattle.biblatex_entries.specs.TypeNames.{type_name};
@@ -6,7 +6,7 @@ ghost use Rattle.biblatex_entries.specs.Roles.{role_of, is_multi_volume, is_coll
 
 use crate::entry_type::EntryType;
 
-/// What an entry's type means for the fields that it inherits and hands on.
+/// What an entry's type means for the fields that it inherits and passes on.
 #[derive(Clone, Copy, Debug, PartialEq, Eq)]
 pub enum Role {
     /// An article or a supplement in a periodical.
@@ -34,7 +34,7 @@ pub enum Role {
 }
 
 impl EntryType {
-    /// What the type means for the fields that the entry inherits and hands on.
+    /// What the type means for the fields that the entry inherits and passes on.
     pub fn role(&self) -> Role
         ensures { result ≡ role_of (type_name self.now) }
     {

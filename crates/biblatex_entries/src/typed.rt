@@ -3,28 +3,29 @@
 ghost use Rattle.std.specs.Prelude.{◌≡◌, [], map, Some, IfOk, OnOk, OnErr, string_bytes, codes};
 ghost use Rattle.std.specs.Option.{option_map};
 ghost use Rattle.std.specs.Str.{chars};
-ghost use Rattle.laws.specs.Text.{lowered};
-ghost use Rattle.biblatex_content.specs.Views.{characters, styled};
+ghost use Rattle.laws.specs.Text.{lowered, characters};
+ghost use Rattle.biblatex_content.specs.Views.{styled};
 ghost use Rattle.biblatex_fields.specs.Fields.{value_named, with_field};
 ghost use Rattle.biblatex_people.specs.Views.{named};
-ghost use Rattle.biblatex_readings.specs.Dates.{reads_date};
-ghost use Rattle.biblatex_readings.specs.EditorType.{editor_name};
-ghost use Rattle.biblatex_readings.specs.Permissive.{reads_permissive};
-ghost use Rattle.biblatex_types.specs.Views.{permitted, reads_people};
+ghost use Rattle.biblatex_values.specs.Dates.{reads_date};
+ghost use Rattle.biblatex_values.specs.EditorType.{editor_name};
+ghost use Rattle.biblatex_values.specs.Permissive.{reads_permissive};
+ghost use Rattle.biblatex_field_types.specs.Views.{permitted, reads_people};
 ghost use Rattle.biblatex_entries.specs.TypeNames.{type_name};
 ghost use Rattle.biblatex_entries.specs.Entries.{source};
-ghost use Rattle.biblatex_entries.specs.Typed.{Retrieves, ComesBack, IsAt, IsLent, read_as, sure, field_characters, date_of_parts, date_in_fields, type_or_editor, editors_in, people_and_type};
+ghost use Rattle.biblatex_entries.specs.Typed.{Retrieves, IsAt, IsLent, read_as, sure, field_characters, date_of_parts, date_in_fields, type_or_editor, editors_in, people_and_type, refusal_of};
+ghost use Rattle.laws.specs.Results.{GivesBack};
 
 use crate::entry::Entry;
 use crate::error::RetrievalError;
 use biblatex_content::{Chunk, Chunks, Spanned};
 use biblatex_dates::Date;
+use biblatex_field_types::{ChunksParse, FieldType, PermissiveType};
 use biblatex_fields::Fields;
 use biblatex_people::{Person, read_people};
-use biblatex_readings::{EditorType, plain_text};
-use biblatex_types::{ChunksParse, FieldType, PermissiveType};
+use biblatex_values::{EditorType, plain_text};
 use std::alloc::{AllocError, Global};
-use text_reader::split_first;
+use texts::{empty_text, split_first};
 
 impl Entry {
     /// The field of that name in lower case, as a value of the type.
@@ -36,7 +37,7 @@ impl Entry {
         // What the field reads as, or its fault, or that it is missing.
         ensures reading { Retrieves T.view result (read_as T.reads name.now self.now.fields) }
         // Of what is written of a value of the type's class that value comes back.
-        ensures back { (v : T.View) → T.InClass v → value_named name.now self.now.fields ≡ Some (T.writes v) → ComesBack T.view result v }
+        ensures back { (v : T.View) → T.InClass v → value_named name.now self.now.fields ≡ Some (T.writes v) → GivesBack refusal_of T.view result v }
     {
         match self.fields.get(name) {
             Some(value) => read_value(alloc, value.as_slice()),
@@ -46,19 +47,14 @@ impl Entry {
 
     /// Gives the field of that name, in lower ASCII case, what is written of the value.
     #[tactic(auto, using(crate::proofs::Stored::value_put))]
-    pub fn set_as<T: FieldType>(
-        &mut self,
-        alloc: Global,
-        name: &str,
-        value: &T,
-    ) -> Result<(), AllocError>
+    pub fn set_as<T: FieldType>(&mut self, name: &str, value: &T) -> Result<(), AllocError>
         ensures ok { OnOk result (source self.new ≡ record { key = string_bytes self.old.key; entry_type = type_name self.old.entry_type; fields = with_field self.old.fields (lowered (chars name.now)) (T.writes (T.view value.now)) }) }
         // The field of that name has what is written of the value.
         ensures written { OnOk result (value_named (lowered (chars name.now)) self.new.fields ≡ Some (T.writes (T.view value.now))) }
         ensures err { OnErr result (source self.new ≡ source self.old) }
     {
-        let chunks = value.to_chunks(alloc)?;
-        self.set(alloc, name, chunks)
+        let chunks = value.to_chunks(*self.key.allocator())?;
+        self.set(name, chunks)
     }
 
     /// The chunks of the title.
@@ -108,7 +104,7 @@ impl Entry {
     }
 
     /// The date in `date`, or its chunks where they are no date. Where `date` is missing or empty, the date of `year`, `month`
-    /// and `day`: a year of one to four digits, negative behind a hyphen; a month by number, English name or its first three
+    /// and `day`: a year of one to four digits, negative after a hyphen; a month by number, English name or its first three
     /// letters; parts that cannot be read, and all finer ones, are passed over.
     ///
     /// # Errors
@@ -183,13 +179,6 @@ fn text_of(alloc: Global, fields: &Fields, name: &str) -> Result<String, AllocEr
         Some(value) => plain_text(alloc, value.as_slice()),
         None => Ok(empty_text(alloc)),
     }
-}
-
-/// A text without characters.
-fn empty_text(alloc: Global) -> String
-    ensures { characters result ≡ [] }
-{
-    String::new(alloc)
 }
 
 /// The date of year, month and day, as far as they can be read.

@@ -19,10 +19,10 @@ Value = Vec (Spanned Chunk) Global
 abbrev pub text_of : Value → List Member
 text_of v = styled v.items
 
--- what a look-up lends
-pub lent : (r : Option (Bor Value)) (o : Option Value) → option_copied r ≡ o → option_map (λ (v : Bor Value). styled v.now.items) r ≡ option_map text_of o
-lent None o e = ap (option_map text_of) e
-lent (Some v) o e = ap (option_map text_of) e
+-- what a look-up borrows
+pub borrowed : (r : Option (Bor Value)) (o : Option Value) → option_copied r ≡ o → option_map (λ (v : Bor Value). styled v.now.items) r ≡ option_map text_of o
+borrowed None o e = ap (option_map text_of) e
+borrowed (Some v) o e = ap (option_map text_of) e
 
 -- looked up by the bytes of a name
 pub value_there : (name : List ℕ) (es : List (String Global × Value)) → option_map text_of (lookup (λ k. is_eq (slice_cmp nat_cmp name (string_bytes k))) es) ≡ value_named name (named_of es)

@@ -4,7 +4,7 @@ use Rattle.std.proofs.lemmas.List.{length-replicate, get_or-replicate, length-se
 use Rattle.std.proofs.lemmas.Option.{slice_get_within, get_or_from_slice_get}
 use Rattle.laws.specs.Results.{◌>>=◌}
 use Rattle.biblatex_text.specs.Raw.{At, Piece, Field}
-use Rattle.biblatex_content_tokens.specs.declared.error.Malformed.{Malformed}
+use Rattle.biblatex_tex.specs.declared.error.Malformed.{Malformed}
 use Rattle.biblatex_content.specs.declared.chunk.Kind.TheVariants.{Verbatim}
 use Rattle.biblatex_content.specs.Ordinary.{ordinary}
 use Rattle.biblatex_content.specs.Places.{all_at, behind_at}
@@ -14,7 +14,7 @@ use Rattle.biblatex_fields.specs.declared.openings.Opening.{Opening}
 use Rattle.biblatex_fields.specs.declared.openings.Opening.TheVariants.{Whole, Part, SameAs}
 use Rattle.biblatex_fields.specs.declared.openings.ResolvedPiece.{ResolvedPiece}
 use Rattle.biblatex_fields.specs.Abbreviations.{Refusal, Glossary, Sense, spelled, sense, pieces_at, AreFlags}
-use Rattle.biblatex_fields.specs.Openings.{AreOpenings, AreResolved, Opens, OpensAlone, Resolved, StandIn, kept_at, kept_in, parts_in, piece_seen, resolved_at, resolved_read, resolved_sense, resolved_steps, sense_by, steps, target, target_in, total, unresolved, unresolved_at}
+use Rattle.biblatex_fields.specs.Openings.{AreOpenings, AreResolved, Opens, OpensAlone, Resolved, StandIn, pieces_of_opening, pieces_in_opening, parts_in, piece_seen, resolved_at, resolved_read, resolved_sense, resolved_steps, sense_by, steps, target, target_in, total, unresolved, unresolved_at}
 use Rattle.biblatex_fields.specs.Value.{Reading, in_order, by_sense, read, text_read, placed}
 use Rattle.biblatex_fields.proofs.Effort.{steps_unresolved}
 use Rattle.biblatex_fields.proofs.Stack.{in_order_unresolved}
@@ -28,7 +28,7 @@ stand_on g v qs rs ss a b = record {
   fewer = let x = a.fewer in let y = b.fewer in omega (arith, x, y);
 }
 
--- Pieces behind others.
+-- Pieces after others.
 
 in_order_behind : (each : Resolved → Reading) (ps qs : List Resolved) (done : List (At Member))
     → in_order each (ps ++ qs) done ≡ (in_order each ps done >>= λ ms. in_order each qs ms)
@@ -90,7 +90,7 @@ stand_empty g v r cs is nothing = record {
   fewer = omega arith;
 }
 
--- A text that gives nothing behind nothing, gives nothing behind anything.
+-- A text that gives nothing after nothing, gives nothing after anything.
 
 abbrev got : List (At Member) → Result (List (At Member)) Refusal
 got ms = Ok ms
@@ -110,12 +110,12 @@ empty_anywhere false start end cs e done = empty_ordinary start end (ordinary cs
 
 -- what is read of a definition
 pub stand_read : (g : Glossary) (v : Bool) (vs : List (Vec ResolvedPiece Global)) (os : List Opening) (place : ℕ) → AreResolved g vs → AreOpenings g v vs os
-    → StandIn g v (kept_at os vs (target os place)) (unresolved_at g.definitions place)
+    → StandIn g v (pieces_of_opening os vs (target os place)) (unresolved_at g.definitions place)
 stand_read g v vs os place known all =
-    stand_on g v (kept_at os vs (target os place)) (unresolved_at g.definitions (target os place)) (unresolved_at g.definitions place)
+    stand_on g v (pieces_of_opening os vs (target os place)) (unresolved_at g.definitions (target os place)) (unresolved_at g.definitions place)
     (by_itself (target os place) (slice_get os (target os place)) refl) (on_target (slice_get os place) refl)
   where
-    by_itself : (i : ℕ) (o : Option Opening) → slice_get os i ≡ o → StandIn g v (kept_in o (resolved_at vs i)) (unresolved_at g.definitions i)
+    by_itself : (i : ℕ) (o : Option Opening) → slice_get os i ≡ o → StandIn g v (pieces_in_opening o (resolved_at vs i)) (unresolved_at g.definitions i)
     by_itself i None e = known.each v i
     by_itself i (Some o) e = (all.each i o e).itself
 

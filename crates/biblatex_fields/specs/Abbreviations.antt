@@ -16,7 +16,7 @@ pub data Refusal : Type 0 where
   circular : At (List ℕ) → Refusal
   malformed : ℕ → ℕ → Refusal
 
--- a place behind another, or the first one
+-- a place after another, or the first one
 abbrev pub later : Option ℕ → Bool → Option ℕ
 later (Some place) is_first = Some (suc place)
 later None is_first = if is_first then Some 0 else None

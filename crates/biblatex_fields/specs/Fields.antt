@@ -33,11 +33,11 @@ value_named name fs = lookup (bytes_eq name) fs
 abbrev pub without_field : List ℕ → List Named → List Named
 without_field name fs = remove_entry (bytes_eq name) fs
 
--- each name is less than those behind it
+-- each name is less than those after it
 abbrev pub AreInOrder : List Named → Type 0
 AreInOrder fs = IsStrictlySortedBy (slice_cmp nat_cmp) (keys_of fs)
 
--- written fields behind those that were read: each is read, and the last of equal names stays
+-- written fields after those that were read: each is read, and the last of equal names stays
 abbrev pub fields_behind : Glossary → List Named → List Field → Result (List Named) Refusal
 fields_behind g done [] = Ok done
 fields_behind g done (f ∷ fs) = value_of g f >>= λ value. fields_behind g (with_field done (lowered f.name.v) value) fs

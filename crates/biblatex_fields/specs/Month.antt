@@ -1,7 +1,7 @@
 -- The months, which are known where no abbreviation has their name. Names and texts are bytes, and ASCII.
 use Rattle.std.specs.Prelude.{ℕ, List, [], ◌∷◌, Option, codes}
 use Rattle.std.specs.Str.{bytes_eq}
-use Rattle.biblatex_content_tokens.specs.Command.{listed}
+use Rattle.biblatex_tex.specs.Command.{listed}
 
 -- the English name in full of a month in three letters, in lower case
 abbrev pub month : List ℕ → Option (List ℕ)

@@ -63,12 +63,12 @@ steps g p = deep (steps_of g) 0 (suc (length g.definitions)) p
 abbrev pub resolved_steps : Glossary → Resolved → ℕ
 resolved_steps g r = 2 + total (λ q. steps g q) (parts_in (resolved_sense g r))
 
--- Pieces that may be read in place of others: behind anything they give the same in a field of this kind, in no more steps.
+-- Pieces that may be read in place of others: after anything they give the same in a field of this kind, in no more steps.
 pub record StandIn (g : Glossary) (is_verbatim : Bool) (rs ss : List Resolved) : Type 0 where
   pub same : (done : List (At Member)) → in_order (resolved_read g is_verbatim) rs done ≡ in_order (resolved_read g is_verbatim) ss done
   pub fewer : total (resolved_steps g) rs ≤ total (resolved_steps g) ss
 
--- the pieces that are held for the definition at a place
+-- the pieces that stand for the definition at a place
 abbrev pub resolved_in : Option (Vec ResolvedPiece Global) → List Resolved
 resolved_in None = []
 resolved_in (Some v) = map piece_seen v.items
@@ -82,14 +82,14 @@ pub record AreResolved (g : Glossary) (vs : List (Vec ResolvedPiece Global)) : T
   pub each : (is_verbatim : Bool) (place : ℕ) → StandIn g is_verbatim (resolved_at vs place) (unresolved_at g.definitions place)
 
 -- those of the pieces of a definition that are read
-abbrev pub kept_in : Option Opening → List Resolved → List Resolved
-kept_in None rs = rs
-kept_in (Some Whole) rs = rs
-kept_in (Some (Part kept)) rs = map piece_seen kept.items
-kept_in (Some (SameAs place)) rs = rs
+abbrev pub pieces_in_opening : Option Opening → List Resolved → List Resolved
+pieces_in_opening None rs = rs
+pieces_in_opening (Some Whole) rs = rs
+pieces_in_opening (Some (Part kept)) rs = map piece_seen kept.items
+pieces_in_opening (Some (SameAs place)) rs = rs
 
-abbrev pub kept_at : List Opening → List (Vec ResolvedPiece Global) → ℕ → List Resolved
-kept_at os vs place = kept_in (slice_get os place) (resolved_at vs place)
+abbrev pub pieces_of_opening : List Opening → List (Vec ResolvedPiece Global) → ℕ → List Resolved
+pieces_of_opening os vs place = pieces_in_opening (slice_get os place) (resolved_at vs place)
 
 -- the definition of which pieces are read in place of those of the one at the place
 abbrev pub target_in : Option Opening → ℕ → ℕ
@@ -103,7 +103,7 @@ target os place = target_in (slice_get os place) place
 
 -- An opening for the definition at a place.
 pub record Opens (g : Glossary) (is_verbatim : Bool) (vs : List (Vec ResolvedPiece Global)) (o : Opening) (place : ℕ) : Type 0 where
-  pub itself : StandIn g is_verbatim (kept_in (Some o) (resolved_at vs place)) (unresolved_at g.definitions place)
+  pub itself : StandIn g is_verbatim (pieces_in_opening (Some o) (resolved_at vs place)) (unresolved_at g.definitions place)
   pub another : StandIn g is_verbatim (unresolved_at g.definitions (target_in (Some o) place)) (unresolved_at g.definitions place)
 
 -- an opening for each definition

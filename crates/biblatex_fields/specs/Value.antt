@@ -1,4 +1,4 @@
--- The value of a field: what its pieces give, one behind the other, with abbreviations opened, or the first fault. What a piece
+-- The value of a field: what its pieces give, one after the other, with abbreviations opened, or the first fault. What a piece
 -- of a definition gives has its place in the definition.
 use Rattle.std.specs.Prelude.{◌≡◌, ℕ, zero, suc, Bool, true, false, List, [], ◌∷◌, ◌++◌, length, Result, Ok, Err}
 use Rattle.laws.specs.Results.{◌>>=◌}
@@ -12,7 +12,7 @@ use Rattle.biblatex_content.specs.Tidy.{tidied}
 use Rattle.biblatex_content.specs.Places.{all_at, without_places, behind_at, tidied_at, places_of}
 use Rattle.biblatex_fields.specs.Abbreviations.{Refusal, malformed, Glossary, Sense, spelled, defined, sense}
 
--- What is read behind what was read before.
+-- What is read after what was read before.
 abbrev pub Reading : Type 0
 Reading = List (At Member) → Result (List (At Member)) Refusal
 

@@ -1,6 +1,6 @@
 -- What the code holds and gives, without where it lies in memory.
 use Rattle.std.specs.Global.{Global}
-use Rattle.std.specs.Prelude.{◌≡◌, ℕ, List, map, Result, Ok, Err, String}
+use Rattle.std.specs.Prelude.{◌≡◌, ℕ, List, map, String, Option, Some, None}
 use Rattle.std.specs.HashMap.{HashMap, get_by_text}
 use Rattle.std.specs.Str.{chars}
 use Rattle.std.specs.Borrow.{Bor}
@@ -20,11 +20,10 @@ refusal (faults.UnknownAbbreviation name) = unknown (part name)
 refusal (faults.AbbreviationCycle name) = circular (part name)
 refusal (faults.MalformedCommand span) = malformed span.start span.end
 
--- What was made, seen by view, or the refusal, is what reading gives; of want of memory nothing is said.
-abbrev pub Gives : {X Y : Type 0} → (X → Y) → Result X FieldError → Result Y Refusal → Type 0
-Gives view (Ok x) read = read ≡ Ok (view x)
-Gives view (Err errors.Memory) read = Unit {0}
-Gives view (Err (errors.Fault fault)) read = read ≡ Err (refusal fault)
+-- the refusal that an error is; out of memory is none
+abbrev pub refusal_of : FieldError → Option Refusal
+refusal_of errors.Memory = None
+refusal_of (errors.Fault fault) = Some (refusal fault)
 
 abbrev pub sense_seen : List Field → Opened → Sense
 sense_seen ds (senses.Spelled text) = spelled (chars text.now)

@@ -5,7 +5,8 @@ ghost use Rattle.biblatex_text.specs.Views.{field, piece};
 ghost use Rattle.biblatex_fields.specs.Abbreviations.{Glossary, AreFlags, sense};
 ghost use Rattle.biblatex_fields.specs.Openings.{AreOpenings, AreResolved, StandIn, piece_seen, resolved_sense, unresolved_at};
 ghost use Rattle.biblatex_fields.specs.Value.{ReadsByTheRule};
-ghost use Rattle.biblatex_fields.specs.Views.{Gives, sense_seen};
+ghost use Rattle.biblatex_fields.specs.Views.{sense_seen, refusal_of};
+ghost use Rattle.laws.specs.Results.{Gives};
 
 use crate::error::FieldError;
 use crate::glossary::{Glossary, Sense, places_of};
@@ -71,7 +72,7 @@ impl<'r, 's> Abbreviations<'r, 's> {
         alloc: Global,
         raw: &Spanned<RawChunk<'s>>,
     ) -> Result<Sense<'s>, FieldError<'s>>
-        ensures sense { Gives (sense_seen self.now.definitions) result (sense self.now (piece raw.now)) }
+        ensures sense { Gives refusal_of (sense_seen self.now.definitions) result (sense self.now (piece raw.now)) }
         ensures flags { AreFlags self.now.flags self.now.definitions }
     {
         self.glossary.sense(alloc, raw)
@@ -83,7 +84,7 @@ impl<'r, 's> Abbreviations<'r, 's> {
         alloc: Global,
         piece: &ResolvedPiece<'s>,
     ) -> Result<Sense<'s>, FieldError<'s>>
-        ensures { Gives (sense_seen self.now.definitions) result (resolved_sense self.now (piece_seen piece.now)) }
+        ensures { Gives refusal_of (sense_seen self.now.definitions) result (resolved_sense self.now (piece_seen piece.now)) }
     {
         match piece.place {
             Some(place) => Ok(Sense::Defined(place)),

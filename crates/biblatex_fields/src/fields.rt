@@ -6,7 +6,8 @@ ghost use Rattle.std.specs.Str.{bytes_eq};
 ghost use Rattle.biblatex_text.specs.Views.{fields};
 ghost use Rattle.biblatex_content.specs.Views.{styled};
 ghost use Rattle.biblatex_fields.specs.Fields.{Named, named_of, value_named, with_field, without_field, AreInOrder, fields_of};
-ghost use Rattle.biblatex_fields.specs.Views.{Gives};
+ghost use Rattle.biblatex_fields.specs.Views.{refusal_of};
+ghost use Rattle.laws.specs.Results.{Gives};
 
 use crate::abbreviations::Abbreviations;
 use crate::error::FieldError;
@@ -93,7 +94,7 @@ impl Fields {
 }
 
 /// The fields of an entry: all that are written are read in order, and the last of equal names stays. Names are compared,
-/// and kept, in lower ASCII case.
+/// and stored, in lower ASCII case.
 ///
 /// # Errors
 ///
@@ -103,7 +104,7 @@ pub fn read_fields<'s>(
     abbreviations: &Abbreviations<'_, 's>,
     entry: &RawEntry<'s>,
 ) -> Result<Fields, FieldError<'s>>
-    ensures { Gives (λ fs. fs) result (fields_of abbreviations.now (fields entry.now.fields)) }
+    ensures { Gives refusal_of (λ fs. fs) result (fields_of abbreviations.now (fields entry.now.fields)) }
 {
     let mut read = Fields::new(alloc);
     for pair in entry.fields.iter() {

@@ -6,7 +6,8 @@ ghost use Rattle.laws.specs.Text.{lowered};
 ghost use Rattle.biblatex_text.specs.Views.{field, part, piece};
 ghost use Rattle.biblatex_fields.specs.Month.{month};
 ghost use Rattle.biblatex_fields.specs.Abbreviations.{Glossary, AreFlags, place_of, month_or_unknown, sense, sense_of, spelled};
-ghost use Rattle.biblatex_fields.specs.Views.{Gives, IsIndex, all_of, sense_seen};
+ghost use Rattle.biblatex_fields.specs.Views.{IsIndex, all_of, sense_seen, refusal_of};
+ghost use Rattle.laws.specs.Results.{Gives};
 
 use crate::error::{FieldError, FieldFault};
 use crate::month::month;
@@ -69,7 +70,7 @@ fn month_or_unknown<'s>(
     lowered: &str,
     name: Spanned<&'s str>,
 ) -> Result<&'static str, FieldError<'s>>
-    ensures { Gives (λ text. spelled (chars text.now)) result (month_or_unknown (part name.entry) (month lowered.now)) }
+    ensures { Gives refusal_of (λ text. spelled (chars text.now)) result (month_or_unknown (part name.entry) (month lowered.now)) }
 {
     match month(lowered) {
         Some(text) => Ok(text),
@@ -81,7 +82,7 @@ impl<'r, 's> Glossary<'r, 's> {
     /// What the definition at the place stands for, where the name is opened.
     fn defined(&self, place: usize, name: Spanned<&'s str>) -> Result<Sense<'s>, FieldError<'s>>
         requires { place < length self.now.definitions }
-        ensures { Gives (sense_seen self.now.definitions) result (sense_of self.now (part name.entry) (Some place)) }
+        ensures { Gives refusal_of (sense_seen self.now.definitions) result (sense_of self.now (part name.entry) (Some place)) }
     {
         if self.circular[place] {
             return Err(FieldError::Fault(FieldFault::AbbreviationCycle(name)));
@@ -91,7 +92,7 @@ impl<'r, 's> Glossary<'r, 's> {
 
     /// What the name stands for, where it is opened.
     fn sense_of(&self, alloc: Global, name: Spanned<&'s str>) -> Result<Sense<'s>, FieldError<'s>>
-        ensures { Gives (sense_seen self.now.definitions) result (sense_of self.now (part name.entry) (place_of (lowered (chars name.entry.v.now)) self.now.definitions)) }
+        ensures { Gives refusal_of (sense_seen self.now.definitions) result (sense_of self.now (part name.entry) (place_of (lowered (chars name.entry.v.now)) self.now.definitions)) }
     {
         let lowered = lowered(alloc, name.v)?;
         match self.places.get(lowered.as_str()) {
@@ -106,7 +107,7 @@ impl<'r, 's> Glossary<'r, 's> {
         alloc: Global,
         raw: &Spanned<RawChunk<'s>>,
     ) -> Result<Sense<'s>, FieldError<'s>>
-        ensures sense { Gives (sense_seen self.now.definitions) result (sense self.now (piece raw.now)) }
+        ensures sense { Gives refusal_of (sense_seen self.now.definitions) result (sense self.now (piece raw.now)) }
         ensures flags { AreFlags self.now.flags self.now.definitions }
     {
         let _flags_are_exact = &self.circular;

@@ -8,7 +8,7 @@ ghost use Rattle.biblatex_text.specs.Raw.{At};
 ghost use Rattle.biblatex_text.specs.Views.{piece};
 ghost use Rattle.biblatex_content.specs.Styled.{Member};
 ghost use Rattle.biblatex_fields.specs.Abbreviations.{sense};
-ghost use Rattle.biblatex_fields.specs.Openings.{AreOpenings, AreResolved, Opens, OpensAlone, StandIn, kept_at, piece_seen, resolved_at, sense_by, target, unresolved, unresolved_at};
+ghost use Rattle.biblatex_fields.specs.Openings.{AreOpenings, AreResolved, Opens, OpensAlone, StandIn, pieces_of_opening, piece_seen, resolved_at, sense_by, target, unresolved, unresolved_at};
 ghost use Rattle.biblatex_fields.specs.Value.{text_read};
 ghost use Rattle.biblatex_fields.specs.declared.openings.Opening.TheVariants.{Whole};
 
@@ -81,12 +81,12 @@ fn resolved_at<'a, 's>(
 }
 
 /// Those pieces of the definition at the place that are read.
-fn kept_at<'a, 's>(
+fn pieces_of_opening<'a, 's>(
     openings: &'a [Opening<'s>],
     resolved: &'a [Vec<ResolvedPiece<'s>>],
     place: usize,
 ) -> &'a [ResolvedPiece<'s>]
-    ensures { map piece_seen result.now ≡ kept_at openings.now resolved.now place }
+    ensures { map piece_seen result.now ≡ pieces_of_opening openings.now resolved.now place }
 {
     match openings.get(place) {
         Some(Opening::Part(kept)) => kept.as_slice(),
@@ -172,7 +172,7 @@ impl<'r, 's> Glossary<'r, 's> {
         requires openings { AreOpenings self.now is_verbatim resolved.now openings.now }
         ensures { StandIn self.now is_verbatim (map piece_seen result.now) (unresolved_at self.now.definitions place) }
     {
-        kept_at(openings, resolved, target(openings, place))
+        pieces_of_opening(openings, resolved, target(openings, place))
     }
 
     /// Whether the piece gives nothing.
@@ -255,7 +255,7 @@ impl<'r, 's> Glossary<'r, 's> {
     }
 
     /// What is read in place of the pieces of each definition in fields of that kind. Where each definition stands in the order
-    /// behind those that its pieces name, nothing is read that gives nothing.
+    /// after those that its pieces name, nothing is read that gives nothing.
     #[tactic(auto, using(crate::proofs::StandIns::openings_whole, crate::proofs::StandIns::openings_set))]
     pub fn openings(
         &self,

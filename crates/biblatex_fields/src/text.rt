@@ -3,20 +3,21 @@
 ghost use Rattle.std.specs.Str.{chars};
 ghost use Rattle.biblatex_content.specs.Places.{placed_so_far};
 ghost use Rattle.biblatex_fields.specs.Value.{text_read};
-ghost use Rattle.biblatex_fields.specs.Views.{Gives};
+ghost use Rattle.biblatex_fields.specs.Views.{refusal_of};
+ghost use Rattle.laws.specs.Results.{Gives};
 
 use crate::error::{FieldError, FieldFault};
 use biblatex_content::{ContentError, Contents, Span};
 use biblatex_text::Spanned;
 
-/// Puts what a text gives behind what was read. The text is of the piece at the span.
+/// Appends what a text gives after what was read. The text is of the piece at the span.
 pub(crate) fn push_text<'s>(
     contents: Contents,
     is_verbatim: bool,
     span: &Span,
     text: &str,
 ) -> Result<Contents, FieldError<'s>>
-    ensures { Gives placed_so_far result (text_read is_verbatim span.now.start span.now.end (chars text.now) (placed_so_far contents)) }
+    ensures { Gives refusal_of placed_so_far result (text_read is_verbatim span.now.start span.now.end (chars text.now) (placed_so_far contents)) }
 {
     let piece = Spanned::new(text, span.start..span.end);
     if is_verbatim {

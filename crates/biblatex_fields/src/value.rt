@@ -8,7 +8,8 @@ ghost use Rattle.biblatex_content.specs.Places.{placed_so_far, places};
 ghost use Rattle.biblatex_content.specs.Views.{styled};
 ghost use Rattle.biblatex_fields.specs.Abbreviations.{pieces_at};
 ghost use Rattle.biblatex_fields.specs.Value.{in_order, read, content_of, value_of, places_in, places_of_field};
-ghost use Rattle.biblatex_fields.specs.Views.{Gives};
+ghost use Rattle.biblatex_fields.specs.Views.{refusal_of};
+ghost use Rattle.laws.specs.Results.{Gives};
 
 use crate::abbreviations::Abbreviations;
 use crate::error::FieldError;
@@ -19,7 +20,7 @@ use biblatex_text::{Pair, RawChunk, Spanned};
 use std::alloc::Global;
 
 impl<'r, 's> Abbreviations<'r, 's> {
-    /// The contents with what the definition at the place gives behind them.
+    /// The contents with what the definition at the place gives after them.
     fn push_definition<'a>(
         &'a self,
         alloc: Global,
@@ -27,7 +28,7 @@ impl<'r, 's> Abbreviations<'r, 's> {
         mut contents: Contents,
         place: usize,
     ) -> Result<Contents, FieldError<'s>>
-        ensures { Gives placed_so_far result (in_order (read self.now is_verbatim) (pieces_at self.now.definitions place) (placed_so_far contents)) }
+        ensures { Gives refusal_of placed_so_far result (in_order (read self.now is_verbatim) (pieces_at self.now.definitions place) (placed_so_far contents)) }
     {
         let mut frames = Vec::with_capacity(alloc, 1)?;
         frames.push(self.pieces(is_verbatim, place))?;
@@ -46,7 +47,7 @@ impl<'r, 's> Abbreviations<'r, 's> {
         Ok(contents)
     }
 
-    /// The contents with what the piece gives behind them.
+    /// The contents with what the piece gives after them.
     fn push_piece(
         &self,
         alloc: Global,
@@ -54,7 +55,7 @@ impl<'r, 's> Abbreviations<'r, 's> {
         contents: Contents,
         raw: &Spanned<RawChunk<'s>>,
     ) -> Result<Contents, FieldError<'s>>
-        ensures { Gives placed_so_far result (read self.now is_verbatim (piece raw.now) (placed_so_far contents)) }
+        ensures { Gives refusal_of placed_so_far result (read self.now is_verbatim (piece raw.now) (placed_so_far contents)) }
     {
         match self.sense(alloc, raw)? {
             Sense::Spelled(text) => push_text(contents, is_verbatim, &raw.span, text),
@@ -62,14 +63,14 @@ impl<'r, 's> Abbreviations<'r, 's> {
         }
     }
 
-    /// What the pieces give, one behind the other.
+    /// What the pieces give, one after the other.
     fn contents(
         &self,
         alloc: Global,
         is_verbatim: bool,
         pieces: &[Spanned<RawChunk<'s>>],
     ) -> Result<Contents, FieldError<'s>>
-        ensures { Gives placed_so_far result (in_order (read self.now is_verbatim) (map piece pieces.now) []) }
+        ensures { Gives refusal_of placed_so_far result (in_order (read self.now is_verbatim) (map piece pieces.now) []) }
     {
         let mut contents = Contents::new(alloc);
         for raw in pieces.iter() {
@@ -78,7 +79,7 @@ impl<'r, 's> Abbreviations<'r, 's> {
         Ok(contents)
     }
 
-    /// The value of a field of that name: what its pieces give, one behind the other, tidied. A verbatim field reads all of
+    /// The value of a field of that name: what its pieces give, one after the other, tidied. A verbatim field reads all of
     /// them as verbatim, the pieces of abbreviations too. A chunk stands in the source from where the first piece begins that
     /// it has a character of to where the one ends that ends last; what an abbreviation gives stands in its definition, and
     /// a month where it is named.
@@ -93,8 +94,8 @@ impl<'r, 's> Abbreviations<'r, 's> {
         key: &str,
         field: &[Spanned<RawChunk<'s>>],
     ) -> Result<Chunks, FieldError<'s>>
-        ensures value { Gives (λ cs. styled cs.items) result (content_of self.now (chars key.now) (map piece field.now)) }
-        ensures places { Gives (λ cs. places cs.items) result (places_in self.now (chars key.now) (map piece field.now)) }
+        ensures value { Gives refusal_of (λ cs. styled cs.items) result (content_of self.now (chars key.now) (map piece field.now)) }
+        ensures places { Gives refusal_of (λ cs. places cs.items) result (places_in self.now (chars key.now) (map piece field.now)) }
         ensures parted { IfOk result (λ cs. are_parted cs.items ≡ true) }
     {
         let name = lowered(alloc, key)?;
@@ -109,8 +110,8 @@ impl<'r, 's> Abbreviations<'r, 's> {
     ///
     /// Those of `parse_field`.
     pub fn read(&self, alloc: Global, pair: &Pair<'s>) -> Result<Chunks, FieldError<'s>>
-        ensures value { Gives (λ cs. styled cs.items) result (value_of self.now (field pair.now)) }
-        ensures places { Gives (λ cs. places cs.items) result (places_of_field self.now (field pair.now)) }
+        ensures value { Gives refusal_of (λ cs. styled cs.items) result (value_of self.now (field pair.now)) }
+        ensures places { Gives refusal_of (λ cs. places cs.items) result (places_of_field self.now (field pair.now)) }
         ensures parted { IfOk result (λ cs. are_parted cs.items ≡ true) }
     {
         self.parse_field(alloc, pair.key.v, pair.value.v.as_slice())

@@ -14,9 +14,9 @@ use Rattle.biblatex_entries.specs.declared.role.Role.{Role}
 use Rattle.biblatex_entries.specs.declared.role.Role.TheVariants.{Article, Periodical, PartOfBook, PartOfOther, Book, MultiVolumeBook, Volume, MultiVolume, XData, Set, Other}
 use Rattle.biblatex_inheritance.specs.Table.{is_among, never, of_all, source_name}
 use Rattle.biblatex_inheritance.specs.Resolved.{Table, Offer, first, offered}
-use Rattle.biblatex_inheritance.specs.Views.{HandsOn, texts, lent_fields}
+use Rattle.biblatex_inheritance.specs.Views.{HandsOn, texts, borrowed_fields}
 
--- two offers of one table, one behind the other
+-- two offers of one table, one after the other
 joined : (a b : Bool) (x s t : Option (List Member)) → (b ≡ true → t ≡ s) → first (first x (if a then s else None)) (if b then t else None) ≡ first x (if a || b then s else None)
 joined a b (Some v) s t same = refl
 joined true b None (Some w) t same = refl
@@ -51,7 +51,7 @@ names_more S old cur new ns i d low before one =
     there : texts (take (i + 1) ns) ≡ texts (take i ns) ++ ((get_or ns i d).now ∷ [])
     there = let e : i + 1 ≡ suc i = omega arith in ap texts (rw e (take-suc ns i d low)) ∙ texts-append (take i ns) (get_or ns i d ∷ [])
 
--- the names of two lists, one behind the other
+-- the names of two lists, one after the other
 pub names_of_both : (S : Table) (old cur new : List Named) (ns ms : List (List ℕ))
     → HandsOn old cur (λ q. if is_among ns q then S q else None) → HandsOn cur new (λ q. if is_among ms q then S q else None) → HandsOn old new (λ q. if is_among ns q || is_among ms q then S q else None)
 names_of_both S old cur new ns ms before more q =
@@ -118,17 +118,17 @@ to_others XData from old new a b o x given = absurd (x refl)
 to_others Set from old new a b o x given = given
 to_others Other from old new a b o x given = given
 
--- a field that is lent stands behind those lent before it
-lent-append : (xs ys : List (Bor (String Global) × Bor (Vec (Spanned Chunk) Global))) → lent_fields (xs ++ ys) ≡ lent_fields xs ++ lent_fields ys
-lent-append [] ys = refl
-lent-append (x ∷ xs) ys = ap (λ (fs : List Named). (string_bytes x.0.now, styled x.1.now.items) ∷ fs) (lent-append xs ys)
+-- a field that is borrowed stands after those borrowed before it
+borrowed-append : (xs ys : List (Bor (String Global) × Bor (Vec (Spanned Chunk) Global))) → borrowed_fields (xs ++ ys) ≡ borrowed_fields xs ++ borrowed_fields ys
+borrowed-append [] ys = refl
+borrowed-append (x ∷ xs) ys = ap (λ (fs : List Named). (string_bytes x.0.now, styled x.1.now.items) ∷ fs) (borrowed-append xs ys)
 
-pub lent_last : (lent : List (Bor (String Global) × Bor (Vec (Spanned Chunk) Global))) (n : Bor (String Global)) (v : Bor (Vec (Spanned Chunk) Global))
-    → lent_fields (lent ++ (n, v) ∷ []) ≡ lent_fields lent ++ (string_bytes n.now, styled v.now.items) ∷ []
-lent_last lent n v = lent-append lent ((n, v) ∷ [])
+pub borrowed_last : (borrowed : List (Bor (String Global) × Bor (Vec (Spanned Chunk) Global))) (n : Bor (String Global)) (v : Bor (Vec (Spanned Chunk) Global))
+    → borrowed_fields (borrowed ++ (n, v) ∷ []) ≡ borrowed_fields borrowed ++ (string_bytes n.now, styled v.now.items) ∷ []
+borrowed_last borrowed n v = borrowed-append borrowed ((n, v) ∷ [])
 
-pub lent_more : (all : List Named) (lent : List (Bor (String Global) × Bor (Vec (Spanned Chunk) Global))) (n : Bor (String Global)) (v : Bor (Vec (Spanned Chunk) Global)) (before after : List (String Global × Vec (Spanned Chunk) Global))
-    → all ≡ lent_fields lent ++ named_of before → before ≡ (n.now, v.now) ∷ after → all ≡ lent_fields (lent ++ (n, v) ∷ []) ++ named_of after
-lent_more all lent n v before after parts step =
-    parts ∙ (ap (λ (es : List (String Global × Vec (Spanned Chunk) Global)). lent_fields lent ++ named_of es) step
-    ∙ (sym (append_assoc (lent_fields lent) ((string_bytes n.now, styled v.now.items) ∷ []) (named_of after)) ∙ ap (λ (fs : List Named). fs ++ named_of after) (sym (lent_last lent n v))))
+pub borrowed_more : (all : List Named) (borrowed : List (Bor (String Global) × Bor (Vec (Spanned Chunk) Global))) (n : Bor (String Global)) (v : Bor (Vec (Spanned Chunk) Global)) (before after : List (String Global × Vec (Spanned Chunk) Global))
+    → all ≡ borrowed_fields borrowed ++ named_of before → before ≡ (n.now, v.now) ∷ after → all ≡ borrowed_fields (borrowed ++ (n, v) ∷ []) ++ named_of after
+borrowed_more all borrowed n v before after parts step =
+    parts ∙ (ap (λ (es : List (String Global × Vec (Spanned Chunk) Global)). borrowed_fields borrowed ++ named_of es) step
+    ∙ (sym (append_assoc (borrowed_fields borrowed) ((string_bytes n.now, styled v.now.items) ∷ []) (named_of after)) ∙ ap (λ (fs : List Named). fs ++ named_of after) (sym (borrowed_last borrowed n v))))

@@ -1,15 +1,14 @@
--- References hand on one behind the other; dates as values.
+-- References pass on one after the other; dates as values.
 use Rattle.std.proofs.Common.{◌≡◌, ℕ, ◌+◌, ◌<◌, List, [], ◌∷◌, ◌++◌, length, drop, get_or, slice_get, Option, Some, None, Bor, String, string_bytes, Global, refl, sym, ap, ◌∙◌}
 use Rattle.std.proofs.lemmas.Str.{IsUtf8-string_bytes}
-use Rattle.laws.specs.Text.{text}
+use Rattle.laws.specs.Text.{text, characters}
 use Rattle.laws.proofs.Text.{chars-text}
 use Rattle.biblatex_content.specs.Styled.{Member}
-use Rattle.biblatex_content.specs.Views.{characters}
 use Rattle.biblatex_fields.specs.Fields.{Named, value_named}
 use Rattle.biblatex_entries.specs.declared.entry.Entry.{Entry}
 use Rattle.biblatex_entries.specs.declared.role.Role.{Role}
 use Rattle.biblatex_inheritance.specs.Resolved.{Table, Offer, first, first_offer, offered}
-use Rattle.biblatex_inheritance.specs.Views.{HandsOn, offer_in, offer_lent, offers_in}
+use Rattle.biblatex_inheritance.specs.Views.{HandsOn, offer_in, offer_borrowed, offers_in}
 use Rattle.biblatex_inheritance.proofs.Dating.{offers_from}
 
 pub first_twice : (a b c : Option (List Member)) → first (first a b) c ≡ first a (first b c)
@@ -24,15 +23,15 @@ first_offer-append : (to : Role) (os more : List Offer) (q : List ℕ) → first
 first_offer-append to [] more q = refl
 first_offer-append to (o ∷ os) more q = ap (first (offered to o q)) (first_offer-append to os more q) ∙ sym (first_twice (offered to o q) (first_offer to os q) (first_offer to more q))
 
--- what one reference handed on, and what those behind it offer
+-- what one reference passed on, and what those after it offer
 pub offers_more : (to : Role) (es : List Entry) (rs : List ℕ) (k d : ℕ) (cur new : List Named) (all : Table) (o : Option (Bor Entry)) → k < length rs
-    → offer_lent o ≡ offer_in (slice_get es (get_or rs k d)) → HandsOn cur new (first_offer to (offer_lent o))
+    → offer_borrowed o ≡ offer_in (slice_get es (get_or rs k d)) → HandsOn cur new (first_offer to (offer_borrowed o))
     → ((q : List ℕ) → first (value_named q cur) (first_offer to (offers_in es (drop k rs)) q) ≡ all q)
     → (q : List ℕ) → first (value_named q new) (first_offer to (offers_in es (drop (k + 1) rs)) q) ≡ all q
-offers_more to es rs k d cur new all o low lent one before q =
+offers_more to es rs k d cur new all o low borrowed one before q =
     let here = offer_in (slice_get es (get_or rs k d)) in
     let behind = offers_in es (drop (k + 1) rs) in
-    ap (λ (x : Option (List Member)). first x (first_offer to behind q)) (one q ∙ ap (λ (os : List Offer). first (value_named q cur) (first_offer to os q)) lent)
+    ap (λ (x : Option (List Member)). first x (first_offer to behind q)) (one q ∙ ap (λ (os : List Offer). first (value_named q cur) (first_offer to os q)) borrowed)
     ∙ (first_twice (value_named q cur) (first_offer to here q) (first_offer to behind q)
     ∙ (ap (first (value_named q cur)) (sym (ap (λ (os : List Offer). first_offer to os q) (offers_from es rs k d low) ∙ first_offer-append to here behind q)) ∙ before q))
 

@@ -15,45 +15,45 @@ use Rattle.reference_graph.specs.Order.{is_marked, MarksCircular, IsOrder}
 use Rattle.reference_graph.proofs.Uses.{all_behind, stands_in_order}
 use Rattle.biblatex_inheritance.specs.Resolved.{Table, Offer, resolved, offers, offer_seen}
 use Rattle.biblatex_inheritance.specs.Views.{offer_in, offers_in}
-use Rattle.biblatex_inheritance.specs.Solution.{Solves, seen, value_in, IsKeptAt, AreKept, IsOnly, fault_in, fault_at, IsFirstFault, IsResolvedAt, AreResolved, NoneIsCircular}
+use Rattle.biblatex_inheritance.specs.Solution.{Solves, seen, value_in, HasSameHead, HaveSameHeads, IsOnly, fault_in, fault_at, IsFirstFault, IsResolvedAt, AreResolved, NoneIsCircular}
 use Rattle.biblatex_inheritance.proofs.Resolving.{slice_get-set_other, slice_get-set_same, offers_apart}
 use Rattle.biblatex_inheritance.proofs.Ordered.{not_before, below_order, not_itself, not_from_before, up_to, last_in, one_more, number_is}
 
 -- of those done, what they resolve to; the others stand as they were
-pub record IsKept (old cur : List Entry) (R : List (List ℕ)) (done : List ℕ) (faults : List (Option TypeErrorKind)) : Type 0 where
+pub record IsResolvedUpTo (old cur : List Entry) (R : List (List ℕ)) (done : List ℕ) (faults : List (Option TypeErrorKind)) : Type 0 where
   pub long : length cur ≡ length old
   pub many : length faults ≡ length old
-  pub kept : AreKept old cur
+  pub heads : HaveSameHeads old cur
   pub fresh : (i : ℕ) → (Contains done i → ⊥) → slice_get cur i ≡ slice_get old i
   pub equation : (i : ℕ) → Contains done i → IfSome (slice_get old i) (λ e. (q : List ℕ) → seen cur i q ≡ resolved (source e) (offers_in cur (references_of R i)) q)
   pub ordered : (i : ℕ) → Contains done i → IfSome (slice_get cur i) (λ e. AreInOrder e.fields)
   pub faulted : (i : ℕ) → Contains done i → slice_get faults i ≡ Some (fault_in (option_map source (slice_get old i)) (offers_in cur (references_of R i)))
 
-kept_same : (o : Option Entry) → IsKeptAt o o
-kept_same None = tt
-kept_same (Some e) = (refl, refl)
+head_same : (o : Option Entry) → HasSameHead o o
+head_same None = tt
+head_same (Some e) = (refl, refl)
 
-pub kept_first : (old : List Entry) (R : List (List ℕ)) (faults : List (Option TypeErrorKind)) → length faults ≡ length old → IsKept old old R [] faults
-kept_first old R faults many = record {
+pub resolved_first : (old : List Entry) (R : List (List ℕ)) (faults : List (Option TypeErrorKind)) → length faults ≡ length old → IsResolvedUpTo old old R [] faults
+resolved_first old R faults many = record {
   long = refl;
   many = many;
-  kept = λ i. kept_same (slice_get old i);
+  heads = λ i. head_same (slice_get old i);
   fresh = λ i _. refl;
   equation = λ i c. absurd (omega (arith, c.1));
   ordered = λ i c. absurd (omega (arith, c.1));
   faulted = λ i c. absurd (omega (arith, c.1));
 }
 
--- what is kept at another place, and at the place that was written
-kept_at : (o c : Option Entry) (e d : Entry) → o ≡ Some e → c ≡ Some d → string_bytes d.key ≡ string_bytes e.key → type_name d.entry_type ≡ type_name e.entry_type → IsKeptAt o c
-kept_at o c e d is_o is_c key kind = rw (is_o, is_c) (key, kind)
+-- the head at another place, and at the place that was written
+head_at : (o c : Option Entry) (e d : Entry) → o ≡ Some e → c ≡ Some d → string_bytes d.key ≡ string_bytes e.key → type_name d.entry_type ≡ type_name e.entry_type → HasSameHead o c
+head_at o c e d is_o is_c key kind = rw (is_o, is_c) (key, kind)
 
 -- one more was resolved
-pub kept_more : (old cur new : List Entry) (R : List (List ℕ)) (order : List ℕ) (k : ℕ) (faults : List (Option TypeErrorKind)) (fault : Option TypeErrorKind)
+pub resolved_more : (old cur new : List Entry) (R : List (List ℕ)) (order : List ℕ) (k : ℕ) (faults : List (Option TypeErrorKind)) (fault : Option TypeErrorKind)
     → IsOrder R order → NoneIsCircular R → length R ≡ length old → k < length order
-    → IsKept old cur R (take k order) faults → IsResolvedAt cur new (get_or order k 0) (offers_in cur (references_of R (get_or order k 0))) fault
-    → IsKept old new R (take (k + 1) order) (set faults (get_or order k 0) fault)
-kept_more old cur new R order k faults fault o none same low h (d, new_is, (key, kind, table_is, in_order), fault_is) =
+    → IsResolvedUpTo old cur R (take k order) faults → IsResolvedAt cur new (get_or order k 0) (offers_in cur (references_of R (get_or order k 0))) fault
+    → IsResolvedUpTo old new R (take (k + 1) order) (set faults (get_or order k 0) fault)
+resolved_more old cur new R order k faults fault o none same low h (d, new_is, (key, kind, table_is, in_order), fault_is) =
     let n = get_or order k 0 in
     let n_low : n < length R = below_order R order k o low in
     let n_cur : n < length cur = omega (arith, n_low, same, h.long) in
@@ -67,7 +67,7 @@ kept_more old cur new R order k faults fault o none same low h (d, new_is, (key,
     record {
       long = ap length new_is ∙ (length-set cur n d ∙ h.long);
       many = length-set faults n fault ∙ h.many;
-      kept = λ i. by_place i (number_is i n) (h.kept i) (other i) (kept_at (slice_get old n) (slice_get new n) e d old_n new_n key kind);
+      heads = λ i. by_place i (number_is i n) (h.heads i) (other i) (head_at (slice_get old n) (slice_get new n) e d old_n new_n key kind);
       fresh = λ i undone. other i (λ is. undone (subst (λ (x : ℕ). Contains (take (k + 1) order) x) (sym is) (last_in order k low))) ∙ h.fresh i (λ c. undone (one_more order k i low c));
       equation = λ i c. elim (up_to order k i low c) [
         | inl before ↦ if_some (slice_get old i) (λ x q before_q. ap (λ (o : Option Entry). value_in o q) (other i (done_apart i before)) ∙ (before_q ∙ ap (λ (os : List Offer). resolved (source x) os q) (sym (stay i (not_from_before R order k i o none low before))))) (h.equation i before)
@@ -85,35 +85,35 @@ kept_more old cur new R order k faults fault o none same low h (d, new_is, (key,
       ];
     }
   where
-    by_place : (i : ℕ) → (i ≡ get_or order k 0) ⊎ (i ≡ get_or order k 0 → ⊥) → IsKeptAt (slice_get old i) (slice_get cur i) → ((i ≡ get_or order k 0 → ⊥) → slice_get new i ≡ slice_get cur i)
-        → IsKeptAt (slice_get old (get_or order k 0)) (slice_get new (get_or order k 0)) → IsKeptAt (slice_get old i) (slice_get new i)
-    by_place i (inl is) before other there = subst (λ (x : ℕ). IsKeptAt (slice_get old x) (slice_get new x)) (sym is) there
-    by_place i (inr apart) before other there = subst (λ (c : Option Entry). IsKeptAt (slice_get old i) c) (sym (other apart)) before
+    by_place : (i : ℕ) → (i ≡ get_or order k 0) ⊎ (i ≡ get_or order k 0 → ⊥) → HasSameHead (slice_get old i) (slice_get cur i) → ((i ≡ get_or order k 0 → ⊥) → slice_get new i ≡ slice_get cur i)
+        → HasSameHead (slice_get old (get_or order k 0)) (slice_get new (get_or order k 0)) → HasSameHead (slice_get old i) (slice_get new i)
+    by_place i (inl is) before other there = subst (λ (x : ℕ). HasSameHead (slice_get old x) (slice_get new x)) (sym is) there
+    by_place i (inr apart) before other there = subst (λ (c : Option Entry). HasSameHead (slice_get old i) c) (sym (other apart)) before
 
     if_some : (o : Option Entry) {P Q : Entry → List ℕ → Type 0} → ((x : Entry) (q : List ℕ) → P x q → Q x q) → IfSome o (λ x. (q : List ℕ) → P x q) → IfSome o (λ x. (q : List ℕ) → Q x q)
     if_some None f h = tt
     if_some (Some x) f h = λ q. f x q (h q)
 
 -- what references offer, seen either way
-offers_same : (old cur : List Entry) → AreKept old cur → (rs : List ℕ) → offers_in cur rs ≡ offers (sources old) (seen cur) rs
-offers_same old cur kept [] = refl
-offers_same old cur kept (r ∷ rs) = rw (slice_get-map source old r, offers_same old cur kept rs, here (slice_get old r) (slice_get cur r) (kept r)) refl
+offers_same : (old cur : List Entry) → HaveSameHeads old cur → (rs : List ℕ) → offers_in cur rs ≡ offers (sources old) (seen cur) rs
+offers_same old cur heads [] = refl
+offers_same old cur heads (r ∷ rs) = rw (slice_get-map source old r, offers_same old cur heads rs, here (slice_get old r) (slice_get cur r) (heads r)) refl
   where
-    here : (o c : Option Entry) → IsKeptAt o c → offer_in c ≡ offer_seen (option_map source o) (value_in c)
+    here : (o c : Option Entry) → HasSameHead o c → offer_in c ≡ offer_seen (option_map source o) (value_in c)
     here None None k = refl
     here None (Some d) k = absurd k
     here (Some e) None k = absurd k
     here (Some e) (Some d) k = rw k.1 refl
 
 -- where all are done, all are resolved
-pub all_resolved : (old cur : List Entry) (R : List (List ℕ)) (order : List ℕ) (faults : List (Option TypeErrorKind)) → IsOrder R order → length R ≡ length old → IsKept old cur R order faults → AreResolved old cur R faults
+pub all_resolved : (old cur : List Entry) (R : List (List ℕ)) (order : List ℕ) (faults : List (Option TypeErrorKind)) → IsOrder R order → length R ≡ length old → IsResolvedUpTo old cur R order faults → AreResolved old cur R faults
 all_resolved old cur R order faults o same h = record {
-  kept = h.kept;
+  heads = h.heads;
   long = h.many;
   ordered = λ i. where_there (slice_get cur i) (λ e is. h.ordered i (stands_in_order R order o i (let low = slice_get_within cur i e is in omega (arith, low, same, h.long))));
   solved = λ i. subst (λ (x : Option Source). IfSome x (λ e. (q : List ℕ) → seen cur i q ≡ resolved e (offers (sources old) (seen cur) (references_of R i)) q)) (sym (slice_get-map source old i))
-      (there i (slice_get old i) (λ low. rw (sym (offers_same old cur h.kept (references_of R i))) (h.equation i (stands_in_order R order o i (omega (arith, low, same))))) (λ e is. slice_get_within old i e is));
-  faulted = λ i low. h.faulted i (stands_in_order R order o i (omega (arith, low, same))) ∙ rw (slice_get-map source old i, offers_same old cur h.kept (references_of R i)) refl;
+      (there i (slice_get old i) (λ low. rw (sym (offers_same old cur h.heads (references_of R i))) (h.equation i (stands_in_order R order o i (omega (arith, low, same))))) (λ e is. slice_get_within old i e is));
+  faulted = λ i low. h.faulted i (stands_in_order R order o i (omega (arith, low, same))) ∙ rw (slice_get-map source old i, offers_same old cur h.heads (references_of R i)) refl;
 }
   where
     where_there : (o : Option Entry) → ((e : Entry) → o ≡ Some e → IfSome o (λ x. AreInOrder x.fields)) → IfSome o (λ x. AreInOrder x.fields)
@@ -177,12 +177,12 @@ pub circular_below : (R : List (List ℕ)) (n : ℕ) → IsCircular R n → n < 
 circular_below R n (m, (c, has, walk)) = refers_below R n c has
 
 -- one more, with its references as they lie in memory
-pub kept_more_there : (old cur new : List Entry) (refs : List (Vec ℕ Global)) (rs : List ℕ) (order : List ℕ) (k : ℕ) (faults : List (Option TypeErrorKind)) (fault : Option TypeErrorKind)
+pub resolved_more_there : (old cur new : List Entry) (refs : List (Vec ℕ Global)) (rs : List ℕ) (order : List ℕ) (k : ℕ) (faults : List (Option TypeErrorKind)) (fault : Option TypeErrorKind)
     → IsOrder (lists refs) order → NoneIsCircular (lists refs) → length (lists refs) ≡ length old → k < length order → references_of (lists refs) (get_or order k 0) ≡ rs
-    → IsKept old cur (lists refs) (take k order) faults → IsResolvedAt cur new (get_or order k 0) (offers_in cur rs) fault
-    → IsKept old new (lists refs) (take (k + 1) order) (set faults (get_or order k 0) fault)
-kept_more_there old cur new refs rs order k faults fault o none same low is h one =
-    kept_more old cur new (lists refs) order k faults fault o none same low h (subst (λ (xs : List ℕ). IsResolvedAt cur new (get_or order k 0) (offers_in cur xs) fault) (sym is) one)
+    → IsResolvedUpTo old cur (lists refs) (take k order) faults → IsResolvedAt cur new (get_or order k 0) (offers_in cur rs) fault
+    → IsResolvedUpTo old new (lists refs) (take (k + 1) order) (set faults (get_or order k 0) fault)
+resolved_more_there old cur new refs rs order k faults fault o none same low is h one =
+    resolved_more old cur new (lists refs) order k faults fault o none same low h (subst (λ (xs : List ℕ). IsResolvedAt cur new (get_or order k 0) (offers_in cur xs) fault) (sym is) one)
 
 -- what is not marked does not reach itself
 pub not_marked : (R : List (List ℕ)) (marks : List Bool) (k : ℕ) → MarksCircular R marks → is_marked marks k ≡ false → IsCircular R k → ⊥

@@ -3,12 +3,12 @@ use Rattle.std.specs.Prelude.{ℕ, Bool, true, false, List, [], ◌∷◌, slice
 use Rattle.std.specs.List.{flat_map}
 use Rattle.std.specs.Str.{bytes_eq}
 use Rattle.biblatex_content.specs.declared.chunk.Kind.TheVariants.{Normal}
-use Rattle.biblatex_content.specs.Styled.{Member, letters}
+use Rattle.biblatex_content.specs.Styled.{Member, letters, plain}
 use Rattle.biblatex_fields.specs.Fields.{value_named}
 use Rattle.biblatex_entries.specs.declared.role.Role.{Role}
 use Rattle.biblatex_entries.specs.declared.role.Role.TheVariants.{XData, Set}
 use Rattle.biblatex_entries.specs.Roles.{role_of}
-use Rattle.biblatex_entries.specs.Entries.{Source, plain}
+use Rattle.biblatex_entries.specs.Entries.{Source}
 use Rattle.biblatex_dates.specs.Date.{date_without_time}
 use Rattle.biblatex_dates.specs.Parts.{of_parts}
 use Rattle.biblatex_dates.specs.Shape.{shape_of, date_of}

@@ -33,14 +33,14 @@ abbrev pub seen : List Entry → ℕ → Table
 seen es i = value_in (slice_get es i)
 
 -- a place keeps its entry's key and type
-abbrev pub IsKeptAt : Option Entry → Option Entry → Type 0
-IsKeptAt None None = Unit {0}
-IsKeptAt (Some e) (Some d) = (string_bytes d.key ≡ string_bytes e.key) × (type_name d.entry_type ≡ type_name e.entry_type)
-IsKeptAt None (Some d) = ⊥
-IsKeptAt (Some e) None = ⊥
+abbrev pub HasSameHead : Option Entry → Option Entry → Type 0
+HasSameHead None None = Unit {0}
+HasSameHead (Some e) (Some d) = (string_bytes d.key ≡ string_bytes e.key) × (type_name d.entry_type ≡ type_name e.entry_type)
+HasSameHead None (Some d) = ⊥
+HasSameHead (Some e) None = ⊥
 
-abbrev pub AreKept : List Entry → List Entry → Type 0
-AreKept old new = (i : ℕ) → IsKeptAt (slice_get old i) (slice_get new i)
+abbrev pub HaveSameHeads : List Entry → List Entry → Type 0
+HaveSameHeads old new = (i : ℕ) → HasSameHead (slice_get old i) (slice_get new i)
 
 -- the fault of an entry: its first reference whose date cannot be read, where it needs a date
 abbrev pub fault_in : Option Source → List Offer → Option TypeErrorKind
@@ -56,7 +56,7 @@ AreOrdered es = (i : ℕ) → IfSome (slice_get es i) (λ e. AreInOrder e.fields
 
 -- all entries were resolved, and what their faults are
 pub record AreResolved (old new : List Entry) (references : List (List ℕ)) (faults : List (Option TypeErrorKind)) : Type 0 where
-  pub kept : AreKept old new
+  pub heads : HaveSameHeads old new
   pub solved : Solves (sources old) references (seen new)
   pub faulted : (i : ℕ) → i < length old → slice_get faults i ≡ Some (fault_at (sources old) references (seen new) i)
   pub long : length faults ≡ length old
@@ -75,7 +75,7 @@ abbrev pub IsOnly : List Source → List (List ℕ) → (ℕ → Table) → Type
 IsOnly es references see = (other : ℕ → Table) → Solves es references other → (i : ℕ) → i < length es → (name : List ℕ) → see i name ≡ other i name
 
 -- Why entries are not resolved: one of them is the first that reaches itself; or none does, and it is the first whose fault there
--- is, with its references as the one solution sees them; of want of memory nothing is said.
+-- is, with its references as the one solution sees them; nothing is said where memory ran out.
 abbrev pub IsRefusedAs : List Source → List (List ℕ) → ResolveError → Type 0
 IsRefusedAs es references errors.Memory = Unit {0}
 IsRefusedAs es references (errors.ReferenceCycle n) = (n < length es) × IsCircular references n × ((k : ℕ) → k < n → IsCircular references k → ⊥)

@@ -1,4 +1,4 @@
--- What the code holds and hands on.
+-- What the code has and passes on.
 use Rattle.std.specs.Global.{Global}
 use Rattle.std.specs.Prelude.{◌≡◌, ℕ, List, [], ◌∷◌, slice_get, map, Option, Some, None, String, string_bytes, Vec}
 use Rattle.std.specs.List.{flat_map}
@@ -30,18 +30,18 @@ texts ts = map (λ t. t.now) ts
 abbrev pub HandsOn : List Named → List Named → Table → Type 0
 HandsOn old new offers = (name : List ℕ) → value_named name new ≡ first (value_named name old) (offers name)
 
--- fields that are lent one by one
-abbrev pub lent_fields : List (Bor (String Global) × Bor (Vec (Spanned Chunk) Global)) → List Named
-lent_fields es = map (λ e. (string_bytes e.0.now, styled e.1.now.items)) es
+-- fields that are borrowed one by one
+abbrev pub borrowed_fields : List (Bor (String Global) × Bor (Vec (Spanned Chunk) Global)) → List Named
+borrowed_fields es = map (λ e. (string_bytes e.0.now, styled e.1.now.items)) es
 
 -- what references have to offer, as the entries stand
 abbrev pub offer_in : Option Entry → List Offer
 offer_in None = []
 offer_in (Some e) = offer e ∷ []
 
-abbrev pub offer_lent : Option (Bor Entry) → List Offer
-offer_lent None = []
-offer_lent (Some e) = offer e.now ∷ []
+abbrev pub offer_borrowed : Option (Bor Entry) → List Offer
+offer_borrowed None = []
+offer_borrowed (Some e) = offer e.now ∷ []
 
 abbrev pub offers_in : List Entry → List ℕ → List Offer
 offers_in es rs = flat_map (λ r. offer_in (slice_get es r)) rs

@@ -2,16 +2,16 @@
 
 ghost use Rattle.std.specs.Prelude.{◌≡◌, IfOk, None, slice_get};
 ghost use Rattle.std.specs.Str.{chars};
-ghost use Rattle.biblatex_content.specs.Views.{characters};
+ghost use Rattle.laws.specs.Text.{characters};
 ghost use Rattle.biblatex_dates.specs.Shape.{shape_of, date_of};
 ghost use Rattle.biblatex_inheritance.specs.Resolved.{characters_at, some_date, date_in, readable, fault, later, earlier, last_date, first_fault};
-ghost use Rattle.biblatex_inheritance.specs.Views.{table, offer_in, offer_lent, offers_in, IsDated};
+ghost use Rattle.biblatex_inheritance.specs.Views.{table, offer_in, offer_borrowed, offers_in, IsDated};
 
 use biblatex_dates::{Date, TypeErrorKind};
 use biblatex_entries::{Entry, field_text};
 use biblatex_fields::Fields;
 use std::alloc::{AllocError, Global};
-use text_reader::split_first;
+use texts::split_first;
 
 /// The last date that can be read in references, and the fault of the first that cannot.
 #[derive(Clone, Copy)]
@@ -40,14 +40,14 @@ pub(crate) fn dates_of(
 
 /// The entry of that number, if there is one.
 pub(crate) fn entry_at(entries: &[Entry], number: usize) -> Option<&Entry>
-    ensures { offer_lent result ≡ offer_in (slice_get entries.now number) }
+    ensures { offer_borrowed result ≡ offer_in (slice_get entries.now number) }
 {
     entries.get(number)
 }
 
 /// The same with the date of one reference more, where there is such an entry.
 fn and_date(alloc: Global, read: Dated, entry: Option<&Entry>) -> Result<Dated, AllocError>
-    ensures { IfOk result (λ d. (d.date ≡ last_date read.date (offer_lent entry.entry)) × (d.fault ≡ earlier read.fault (first_fault (offer_lent entry.entry)))) }
+    ensures { IfOk result (λ d. (d.date ≡ last_date read.date (offer_borrowed entry.entry)) × (d.fault ≡ earlier read.fault (first_fault (offer_borrowed entry.entry)))) }
 {
     match entry {
         Some(entry) => Ok(read.and(date_in(alloc, &entry.fields)?)),

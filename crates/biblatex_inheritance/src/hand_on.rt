@@ -1,4 +1,4 @@
-//! What a reference hands on.
+//! What a reference passes on.
 
 ghost use Rattle.std.specs.Prelude.{◌≡◌, if◌then◌else◌, None, Some, OnOk, ◌||◌};
 ghost use Rattle.std.specs.Str.{bytes_eq};
@@ -10,9 +10,8 @@ ghost use Rattle.biblatex_inheritance.specs.Table.{is_among, never, of_all, sour
 ghost use Rattle.biblatex_inheritance.specs.Resolved.{offered};
 ghost use Rattle.biblatex_inheritance.specs.Views.{HandsOn, texts, offer};
 
-use crate::copy::copied;
 use crate::table::{OF_ALL, OF_ARTICLES, OF_PARTS, is_never, source_name};
-use biblatex_content::Chunks;
+use biblatex_content::{Chunks, copied};
 use biblatex_entries::{Entry, Role};
 use biblatex_fields::Fields;
 use std::alloc::{AllocError, Global};

@@ -4,12 +4,13 @@ ghost use Rattle.std.specs.Prelude.{◌≡◌, IfOk, OnOk, List, ℕ, None, Some
 ghost use Rattle.std.specs.Str.{bytes_eq};
 ghost use Rattle.biblatex_content.specs.declared.chunk.Kind.TheVariants.{Normal};
 ghost use Rattle.biblatex_content.specs.Styled.{letters};
-ghost use Rattle.biblatex_content.specs.Views.{characters, styled};
+ghost use Rattle.biblatex_content.specs.Views.{styled};
+ghost use Rattle.laws.specs.Text.{characters};
 ghost use Rattle.biblatex_dates.specs.Date.{date_without_time};
 ghost use Rattle.biblatex_dates.specs.Written.{date_text};
 ghost use Rattle.biblatex_fields.specs.Fields.{value_named};
 ghost use Rattle.biblatex_inheritance.specs.Resolved.{first, first_offer, with_date, dated, date_for, needs_date, first_fault, without_xdata};
-ghost use Rattle.biblatex_inheritance.specs.Views.{table, HandsOn, IsTable, offer_lent, offers_in};
+ghost use Rattle.biblatex_inheritance.specs.Views.{table, HandsOn, IsTable, offer_borrowed, offers_in};
 
 use crate::dated::{Dated, dates_of, entry_at};
 use crate::hand_on::hand_on;
@@ -19,7 +20,7 @@ use biblatex_entries::{Entry, Role};
 use biblatex_fields::Fields;
 use std::alloc::{AllocError, Global};
 
-/// Makes the fields of an entry of the role those that it has once its references are resolved. Answers the fault of the first
+/// Makes the fields of an entry of the role those that it has once its references are resolved. Returns the fault of the first
 /// reference whose date cannot be read, where the entry needs one.
 pub(crate) fn inherit(
     alloc: Global,
@@ -73,7 +74,7 @@ fn hand_on_where(
     fields: &mut Fields,
     from: Option<&Entry>,
 ) -> Result<(), AllocError>
-    ensures { OnOk result (HandsOn fields.old fields.new (first_offer role (offer_lent from.entry))) }
+    ensures { OnOk result (HandsOn fields.old fields.new (first_offer role (offer_borrowed from.entry))) }
 {
     match from {
         Some(from) => hand_on(alloc, role, fields, from),

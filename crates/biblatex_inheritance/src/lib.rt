@@ -1,7 +1,6 @@
 //! What entries inherit from the entries that they refer to.
 #![tactic(auto)]
 
-mod copy;
 mod dated;
 mod error;
 mod hand_on;

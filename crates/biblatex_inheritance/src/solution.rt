@@ -5,7 +5,7 @@ ghost use Rattle.reference_graph.specs.References.{lists};
 ghost use Rattle.reference_graph.specs.Order.{IsOrder};
 ghost use Rattle.biblatex_entries.specs.Entries.{sources};
 ghost use Rattle.biblatex_inheritance.specs.Views.{offers_in};
-ghost use Rattle.biblatex_inheritance.specs.Solution.{Solves, seen, fault_at, AreKept, AreOrdered, AreResolved, IsFirstFault, IsOnly, IsRefusedAs, IsResolvedAt, NoneIsCircular};
+ghost use Rattle.biblatex_inheritance.specs.Solution.{Solves, seen, fault_at, HaveSameHeads, AreOrdered, AreResolved, IsFirstFault, IsOnly, IsRefusedAs, IsResolvedAt, NoneIsCircular};
 
 use crate::error::ResolveError;
 use crate::inherit::inherit;
@@ -45,7 +45,7 @@ pub fn resolve(
 ) -> Result<Resolution, ResolveError>
     requires { length references.now ≡ length entries.items }
     // Each entry keeps its place, its key and its type.
-    ensures kept { IfOk result (λ r. AreKept entries.items r.entries.items) }
+    ensures heads { IfOk result (λ r. HaveSameHeads entries.items r.entries.items) }
     // The fields of each entry are what it resolves to, with its references as they are resolved.
     ensures equation { IfOk result (λ r. Solves (sources entries.items) (lists references.now) (seen r.entries.items)) }
     // Nothing else is a solution of this equation.
@@ -85,7 +85,7 @@ fn first_fault(faults: &[Option<TypeErrorKind>]) -> Option<(usize, TypeErrorKind
     None
 }
 
-/// Resolves all entries in an order in which each stands behind all that it refers to. Answers the fault of each entry.
+/// Resolves all entries in an order in which each stands after all that it refers to. Returns the fault of each entry.
 fn resolve_all(
     alloc: Global,
     entries: &mut Vec<Entry>,
@@ -116,7 +116,7 @@ fn no_faults(alloc: Global, count: usize) -> Result<Vec<Option<TypeErrorKind>>, 
     Ok(faults)
 }
 
-/// Resolves the entry of that number, whose references are resolved. Answers the fault of its first reference whose date
+/// Resolves the entry of that number, whose references are resolved. Returns the fault of its first reference whose date
 /// cannot be read, where it needs one.
 pub(crate) fn resolve_one(
     alloc: Global,

@@ -17,7 +17,7 @@ abbrev pub AreParts : List (List StyledChar) → Type 0
 AreParts [] = Unit {0}
 AreParts (p ∷ ps) = IsPart p × AreParts ps
 
--- parts that stand behind a first one
+-- parts that stand after a first one
 abbrev pub behind_first : List (List StyledChar) → List StyledChar
 behind_first [] = []
 behind_first (p ∷ ps) = of_style true and_word ++ (p ++ behind_first ps)
@@ -32,7 +32,7 @@ two a b c = rw (and_false (a && b)) refl
 one : (a b c d : Bool) → (((a && b) && false) && c) && d ≡ false
 one a b c d = rw (two a b c) refl
 
--- what stands behind a space behind a text does not matter
+-- what stands after a space after a text does not matter
 pub same_window : (s : StyledChar) (x rest : List StyledChar) → begins_and (s ∷ x ++ space ∷ []) ≡ false → begins_and (s ∷ x ++ space ∷ rest) ≡ false
 same_window s [] [] e = refl
 same_window s [] (u ∷ []) e = refl

@@ -4,8 +4,9 @@ use Rattle.std.specs.List.{flat_map, list_all}
 use Rattle.biblatex_content.specs.Styled.{letters}
 use Rattle.biblatex_lists.specs.declared.styled_char.StyledChar.{StyledChar}
 use Rattle.biblatex_lists.specs.StyledChars.{is_gap, spells, in_style, of_style, styled_chars}
-use Rattle.biblatex_lists.specs.Parts.{begins_and, trimmed, without_first_gaps, held_before, without_last_gaps, parts}
-use Rattle.biblatex_lists.specs.Texts.{is_filled, texts_of}
+use Rattle.biblatex_lists.specs.Parts.{begins_and, trimmed, without_first_gaps, before_others, without_last_gaps, parts}
+use Rattle.biblatex_lists.specs.TextList.{texts_of}
+use Rattle.laws.specs.Text.{is_filled}
 use Rattle.biblatex_lists.specs.Writing.{kind, and_word, behind_and, space, begins_two_gaps, is_loose, holds, padded, is_plain, written_text, written_texts}
 use Rattle.biblatex_lists.specs.Laws.{IsReadBack, ReadsBack}
 use Rattle.biblatex_lists.proofs.Tested.{or_first, or_second, both_false, and_first, and_second, and_true, not_true}
@@ -27,24 +28,24 @@ nowhere_two_gaps (s ∷ ss) e =
     (or_second (begins_and (s ∷ ss)) (begins_two_gaps (s ∷ ss)) (or_first (is_loose (s ∷ ss)) (holds is_loose ss) e))
     (nowhere_two_gaps ss (or_second (is_loose (s ∷ ss)) (holds is_loose ss) e))
 
--- a text with no white space before the space behind it
-pub ends_held : (ss : List StyledChar) → holds begins_two_gaps (ss ++ space ∷ []) ≡ false → without_last_gaps ss ≡ ss
-ends_held [] e = refl
-ends_held (s ∷ []) e =
-    let held : is_gap s ≡ false = sym (and_true (is_gap s)) ∙ or_first (is_gap s && true) false e in
-    rw held refl
-ends_held (s ∷ t ∷ ss) e =
+-- a text with no white space before the space after it
+pub no_end_gaps : (ss : List StyledChar) → holds begins_two_gaps (ss ++ space ∷ []) ≡ false → without_last_gaps ss ≡ ss
+no_end_gaps [] e = refl
+no_end_gaps (s ∷ []) e =
+    let no_gap : is_gap s ≡ false = sym (and_true (is_gap s)) ∙ or_first (is_gap s && true) false e in
+    rw no_gap refl
+no_end_gaps (s ∷ t ∷ ss) e =
     let more = or_second (begins_two_gaps (s ∷ t ∷ ss ++ space ∷ [])) (holds begins_two_gaps (t ∷ ss ++ space ∷ [])) e in
-    ap (held_before s) (ends_held (t ∷ ss) more)
+    ap (before_others s) (no_end_gaps (t ∷ ss) more)
 
 -- a text without white space at its ends
 pub trimmed_already : (ss : List StyledChar) → holds begins_two_gaps (space ∷ ss ++ space ∷ []) ≡ false → trimmed ss ≡ ss
 trimmed_already [] e = refl
 trimmed_already (s ∷ ss) e =
-    let held : is_gap s ≡ false = or_first (is_gap s) (holds begins_two_gaps (s ∷ ss ++ space ∷ [])) e in
+    let no_gap : is_gap s ≡ false = or_first (is_gap s) (holds begins_two_gaps (s ∷ ss ++ space ∷ [])) e in
     let more = or_second (is_gap s) (holds begins_two_gaps (s ∷ ss ++ space ∷ [])) e in
-    let front : without_first_gaps (s ∷ ss) ≡ s ∷ ss = rw held refl in
-    ap without_last_gaps front ∙ ends_held (s ∷ ss) more
+    let front : without_first_gaps (s ∷ ss) ≡ s ∷ ss = rw no_gap refl in
+    ap without_last_gaps front ∙ no_end_gaps (s ∷ ss) more
 
 -- verbatim text holds nothing that parts
 pub no_gap_no_and : (s : StyledChar) (ss : List StyledChar) → is_gap s ≡ false → begins_and (s ∷ ss) ≡ false
@@ -71,7 +72,7 @@ verbatim_is_part (c ∷ cs) = record { alone = both_false _ _ (no_letter_no_and 
 verbatim_ends : (cs : List ℕ) → without_last_gaps (of_style false cs) ≡ of_style false cs
 verbatim_ends [] = refl
 verbatim_ends (c ∷ []) = refl
-verbatim_ends (c ∷ d ∷ cs) = ap (held_before (in_style false c)) (verbatim_ends (d ∷ cs))
+verbatim_ends (c ∷ d ∷ cs) = ap (before_others (in_style false c)) (verbatim_ends (d ∷ cs))
 
 pub verbatim_trimmed : (cs : List ℕ) → trimmed (of_style false cs) ≡ of_style false cs
 verbatim_trimmed [] = refl
@@ -94,7 +95,7 @@ texts_are_parts : (ts : List (List ℕ)) → AreParts (map styled_text ts)
 texts_are_parts [] = tt
 texts_are_parts (t ∷ ts) = (text_is_part t (is_plain t) refl, texts_are_parts ts)
 
--- the characters of texts behind a first one
+-- the characters of texts after a first one
 chars_behind : (ts : List (List ℕ)) → styled_chars (flat_map behind_and (map written_text ts)) ≡ behind_first (map styled_text ts)
 chars_behind [] = refl
 chars_behind (t ∷ ts) =

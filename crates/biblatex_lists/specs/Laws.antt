@@ -1,7 +1,8 @@
 -- What is written is read back.
 use Rattle.std.specs.Prelude.{◌≡◌, ℕ, true, List}
 use Rattle.std.specs.List.{list_all}
-use Rattle.biblatex_lists.specs.Texts.{is_filled, texts_in}
+use Rattle.biblatex_lists.specs.TextList.{texts_in}
+use Rattle.laws.specs.Text.{is_filled}
 use Rattle.biblatex_lists.specs.Writing.{written_texts}
 
 -- the lists of texts of which none is empty

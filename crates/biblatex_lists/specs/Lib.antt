@@ -1,5 +1,5 @@
 pub mod StyledChars
 pub mod Parts
-pub mod Texts
+pub mod TextList
 pub mod Writing
 pub mod Laws

@@ -19,7 +19,7 @@ before_first ss [] = ss ∷ []
 before_first ss (p ∷ ps) = (ss ++ p) ∷ ps
 
 -- the text cut at each word `and` between white space, once so many characters have been passed over; the white space
--- behind one word may stand before the next
+-- after one word may stand before the next
 abbrev pub cut_behind : ℕ → List StyledChar → List (List StyledChar)
 cut_behind n [] = [] ∷ []
 cut_behind (suc n) (s ∷ ss) = cut_behind n ss
@@ -35,14 +35,14 @@ without_first_gaps [] = []
 without_first_gaps (s ∷ ss) = if is_gap s then without_first_gaps ss else s ∷ ss
 
 -- a character before others; white space before nothing goes
-abbrev pub held_before : StyledChar → List StyledChar → List StyledChar
-held_before s [] = if is_gap s then [] else s ∷ []
-held_before s (t ∷ ts) = s ∷ t ∷ ts
+abbrev pub before_others : StyledChar → List StyledChar → List StyledChar
+before_others s [] = if is_gap s then [] else s ∷ []
+before_others s (t ∷ ts) = s ∷ t ∷ ts
 
 -- without the white space at the end
 abbrev pub without_last_gaps : List StyledChar → List StyledChar
 without_last_gaps [] = []
-without_last_gaps (s ∷ ss) = held_before s (without_last_gaps ss)
+without_last_gaps (s ∷ ss) = before_others s (without_last_gaps ss)
 
 -- without the white space at both ends
 abbrev pub trimmed : List StyledChar → List StyledChar
@@ -53,5 +53,5 @@ abbrev pub parts : List StyledChar → List (List StyledChar)
 parts ss = map trimmed (cut ss)
 
 -- what is borrowed of a value, as lists
-abbrev pub lent : List (Bor (List StyledChar)) → List (List StyledChar)
-lent ps = map (λ p. p.now) ps
+abbrev pub borrowed : List (Bor (List StyledChar)) → List (List StyledChar)
+borrowed ps = map (λ p. p.now) ps

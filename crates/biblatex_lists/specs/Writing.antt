@@ -3,7 +3,8 @@ use Rattle.std.specs.Prelude.{ℕ, Bool, true, false, not, ◌&&◌, ◌||◌, L
 use Rattle.biblatex_content.specs.declared.chunk.Kind.{Kind}
 use Rattle.biblatex_content.specs.declared.chunk.Kind.TheVariants.{Normal, Verbatim}
 use Rattle.biblatex_content.specs.Styled.{Member, letters}
-use Rattle.biblatex_content.specs.Views.{characters, styled}
+use Rattle.biblatex_content.specs.Views.{styled}
+use Rattle.laws.specs.Text.{characters}
 use Rattle.biblatex_lists.specs.declared.styled_char.StyledChar.{StyledChar}
 use Rattle.biblatex_lists.specs.declared.writing.Writing.{Writing}
 use Rattle.biblatex_lists.specs.StyledChars.{in_style, of_style, is_gap}
@@ -18,7 +19,7 @@ kind false = Verbatim
 abbrev pub and_word : List ℕ
 and_word = 32 ∷ 97 ∷ 110 ∷ 100 ∷ 32 ∷ []
 
--- a part behind ` and `
+-- a part after ` and `
 abbrev pub behind_and : List Member → List Member
 behind_and p = letters Normal and_word ++ p
 

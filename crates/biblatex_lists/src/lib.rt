@@ -2,14 +2,13 @@
 #![tactic(auto)]
 
 mod parting;
-mod plain;
 mod read_back;
 mod styled_char;
-mod texts;
+mod text_list;
 mod writing;
 
 pub use parting::{parts, trimmed};
 pub use read_back::texts_are_read_back;
 pub use styled_char::{StyledChar, plain_text, push_chars, styled_chars};
-pub use texts::{read_texts, write_texts};
+pub use text_list::{read_texts, write_texts};
 pub use writing::{Writing, is_loose, padded};

@@ -1,7 +1,7 @@
 //! Parts of a value between the words `and`.
 
 ghost use Rattle.std.specs.Prelude.{◌≡◌, ◌+◌, ◌≤◌, ◌∷◌, [], length, IfOk, MatchOption};
-ghost use Rattle.biblatex_lists.specs.Parts.{begins_and, cut, lent, parts, trimmed, without_first_gaps, without_last_gaps};
+ghost use Rattle.biblatex_lists.specs.Parts.{begins_and, cut, borrowed, parts, trimmed, without_first_gaps, without_last_gaps};
 
 use crate::styled_char::StyledChar;
 use std::alloc::{AllocError, Global};
@@ -65,7 +65,7 @@ pub fn trimmed(text: &[StyledChar]) -> &[StyledChar]
 /// The parts of a value between the words `and`, which are of any case and stand between white space, without white space
 /// at their ends; a part may be empty.
 pub fn parts<'v>(alloc: Global, text: &'v [StyledChar]) -> Result<Vec<&'v [StyledChar]>, AllocError>
-    ensures { IfOk result (λ ps. lent ps.items ≡ parts text.now) }
+    ensures { IfOk result (λ ps. borrowed ps.items ≡ parts text.now) }
 {
     let mut parts = Vec::new(alloc);
     let mut rest = text;

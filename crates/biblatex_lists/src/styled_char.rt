@@ -2,12 +2,13 @@
 
 ghost use Rattle.std.specs.Prelude.{◌≡◌, ◌++◌, IfOk, OnOk};
 ghost use Rattle.std.specs.Str.{chars};
-ghost use Rattle.biblatex_content.specs.Views.{characters, members, styled};
+ghost use Rattle.biblatex_content.specs.Views.{members, styled};
+ghost use Rattle.laws.specs.Text.{characters};
 ghost use Rattle.biblatex_lists.specs.StyledChars.{is_gap, of_style, plain, spells, styled_chars};
 
-use crate::plain::{empty_text, push_character};
 use biblatex_content::{Chunk, Spanned};
 use std::alloc::{AllocError, Global};
+use texts::{empty_text, push_character};
 
 /// A character of a field's value.
 #[derive(Debug, Clone, Copy, PartialEq, Eq)]
@@ -45,7 +46,7 @@ pub fn styled_chars(alloc: Global, value: &[Spanned<Chunk>]) -> Result<Vec<Style
     Ok(list)
 }
 
-/// Puts the characters of a chunk last.
+/// Appends the characters of a chunk.
 fn push_chunk(list: &mut Vec<StyledChar>, chunk: &Chunk) -> Result<(), AllocError>
     ensures { OnOk result (list.new.items ≡ list.old.items ++ styled_chars (members chunk.now)) }
 {

@@ -1,17 +1,18 @@
 //! Values that are written.
 
-ghost use Rattle.std.specs.Prelude.{◌≡◌, ◌++◌, ◌∷◌, [], IfOk, OnOk};
+ghost use Rattle.std.specs.Prelude.{◌≡◌, ◌++◌, ◌∷◌, [], IfOk, OnOk, true};
 ghost use Rattle.std.specs.Str.{chars};
 ghost use Rattle.biblatex_content.specs.declared.chunk.Kind.TheVariants.{Normal};
 ghost use Rattle.biblatex_content.specs.Styled.{letters};
-ghost use Rattle.biblatex_content.specs.Views.{characters, members, styled};
+ghost use Rattle.biblatex_content.specs.Views.{members, styled};
+ghost use Rattle.laws.specs.Text.{characters};
 ghost use Rattle.biblatex_lists.specs.Writing.{and_word, holds, is_loose, is_plain, kind, padded, so_far, written_text};
 
 use crate::parting::begins_and;
-use crate::plain::{empty_text, is_empty, push_text, take_text};
 use crate::styled_char::{StyledChar, push_chars};
 use biblatex_content::{Chunk, Chunks, Spanned};
 use std::alloc::{AllocError, Global};
+use texts::{empty_text, push_text, take_text};
 
 /// A value that is being written. Neighbouring texts of one style become one chunk.
 #[derive(Drop)]
@@ -145,4 +146,11 @@ impl Writing {
         self.close_run()?;
         Ok(self.chunks)
     }
+}
+
+/// Whether there is no character.
+fn is_empty(text: &str) -> bool
+    ensures { result ≡ true → chars text.now ≡ [] }
+{
+    text.is_empty()
 }

@@ -5,7 +5,7 @@ use Rattle.std.proofs.lemmas.Bool.{eqb-true}
 use Rattle.biblatex_lists.specs.declared.styled_char.StyledChar.{StyledChar}
 use Rattle.biblatex_lists.specs.StyledChars.{is_gap, in_style, of_style, plain}
 use Rattle.biblatex_lists.specs.Parts.{begins_and, before_first}
-use Rattle.biblatex_lists.specs.Texts.{is_filled}
+use Rattle.laws.specs.Text.{is_filled}
 use Rattle.biblatex_lists.specs.Writing.{space, begins_two_gaps, is_loose, holds, padded}
 use Rattle.biblatex_lists.proofs.Tested.{or_first, or_second, both_false, and_true, and_first, and_second, not_true}
 use Rattle.biblatex_people.specs.declared.words.Mark.{Mark}
@@ -54,12 +54,12 @@ pub field_has_no_equals : (x : List StyledChar) → IsField x → list_any (is_m
 field_has_no_equals [] f = refl
 field_has_no_equals (s ∷ x) f = no_equals_in (s ∷ x) (behind_the_space (s ∷ x) (f.steady refl))
 
--- a field before a comma, behind a space
+-- a field before a comma, after a space
 pub field_before_comma : (x rest : List StyledChar) → IsField x → holds is_loose (comma ∷ rest) ≡ false → holds is_loose (space ∷ x ++ comma ∷ rest) ≡ false
 field_before_comma [] rest f e = both_false (is_loose (space ∷ comma ∷ rest)) (holds is_loose (comma ∷ rest)) (space_not_loose comma rest refl refl) e
 field_before_comma (s ∷ x) rest f e = holds_before_comma (space ∷ s ∷ x) rest (nowhere_loose (space ∷ s ∷ x ++ space ∷ []) (f.steady refl)) e
 
--- a text is cut at a comma behind what has none
+-- a text is cut at a comma after what has none
 pub cut_before : (x rest : List StyledChar) → list_any (is_mark Comma) x ≡ false → cut_at Comma (x ++ comma ∷ rest) ≡ x ∷ cut_at Comma rest
 cut_before [] rest e = refl
 cut_before (s ∷ x) rest e =
@@ -109,13 +109,13 @@ is_space s g e =
     not_false false k = absurd cc
 
 joined_steady : (s : StyledChar) (x : List StyledChar) → is_gap s ≡ false → holds is_unsteady (s ∷ x ++ space ∷ []) ≡ false → joined_words (words (s ∷ x)) ≡ plain (s ∷ x)
-joined_steady s [] held e = rw held refl
-joined_steady s (t ∷ []) held e =
+joined_steady s [] no_gap e = rw no_gap refl
+joined_steady s (t ∷ []) no_gap e =
     let more = or_second (is_unsteady (s ∷ t ∷ space ∷ [])) (holds is_unsteady (t ∷ space ∷ [])) e in
     let loose = or_second (is_odd t) (is_loose (t ∷ space ∷ [])) (or_first (is_unsteady (t ∷ space ∷ [])) (holds is_unsteady (space ∷ [])) more) in
     let gap : is_gap t ≡ false = sym (and_true (is_gap t)) ∙ or_second (begins_and (t ∷ space ∷ [])) (begins_two_gaps (t ∷ space ∷ [])) loose in
-    rw (held, gap) refl
-joined_steady s (t ∷ u ∷ x) held e = by_gap (is_gap t) refl (λ g. joined_steady t (u ∷ x) g more) (λ g. joined_steady u x g further)
+    rw (no_gap, gap) refl
+joined_steady s (t ∷ u ∷ x) no_gap e = by_gap (is_gap t) refl (λ g. joined_steady t (u ∷ x) g more) (λ g. joined_steady u x g further)
   where
     more : holds is_unsteady (t ∷ u ∷ x ++ space ∷ []) ≡ false
     more = or_second (is_unsteady (s ∷ t ∷ u ∷ x ++ space ∷ [])) (holds is_unsteady (t ∷ u ∷ x ++ space ∷ [])) e
@@ -132,12 +132,12 @@ joined_steady s (t ∷ u ∷ x) held e = by_gap (is_gap t) refl (λ g. joined_st
     by_gap : (b : Bool) → is_gap t ≡ b → (is_gap t ≡ false → joined_words (words (t ∷ u ∷ x)) ≡ plain (t ∷ u ∷ x)) → (is_gap u ≡ false → joined_words (words (u ∷ x)) ≡ plain (u ∷ x))
         → joined_words (words (s ∷ t ∷ u ∷ x)) ≡ plain (s ∷ t ∷ u ∷ x)
     by_gap false g one other =
-        ap joined_parts (goes_on s (t ∷ u ∷ x) held ∙ ap (before_first (s ∷ [])) (goes_on t (u ∷ x) g))
+        ap joined_parts (goes_on s (t ∷ u ∷ x) no_gap ∙ ap (before_first (s ∷ [])) (goes_on t (u ∷ x) g))
         ∙ (front_char s t (cut_at Gap (u ∷ x)) ∙ ap (λ (cs : List ℕ). s.c ∷ cs) (ap joined_parts (sym (goes_on t (u ∷ x) g)) ∙ one g))
     by_gap true g one other =
         let not_two : is_gap u ≡ false = (let k : (true && is_gap u) ≡ false = rw g at two in k) in
         let space_here : t.c ≡ 32 = is_space t g (or_first (is_odd t) (is_loose (t ∷ u ∷ x ++ space ∷ [])) here) in
-        ap joined_parts (goes_on s (t ∷ u ∷ x) held ∙ ap (before_first (s ∷ [])) (ends_here t (u ∷ x) g ∙ ap (λ (ps : List (List StyledChar)). [] ∷ ps) (goes_on u x not_two)))
+        ap joined_parts (goes_on s (t ∷ u ∷ x) no_gap ∙ ap (before_first (s ∷ [])) (ends_here t (u ∷ x) g ∙ ap (λ (ps : List (List StyledChar)). [] ∷ ps) (goes_on u x not_two)))
         ∙ (front_word s u (cut_at Gap x) ∙ (ap (λ (cs : List ℕ). s.c ∷ 32 ∷ cs) (ap joined_parts (sym (goes_on u x not_two)) ∙ other not_two)
         ∙ ap (λ (c : ℕ). s.c ∷ c ∷ plain (u ∷ x)) (sym space_here)))
 
@@ -148,8 +148,8 @@ joined_field (s ∷ x) f =
     let e = f.steady refl in
     let first = or_first (is_unsteady (space ∷ s ∷ x ++ space ∷ [])) (holds is_unsteady (s ∷ x ++ space ∷ [])) e in
     let loose = or_second (is_odd space) (is_loose (space ∷ s ∷ x ++ space ∷ [])) first in
-    let held : is_gap s ≡ false = or_second (begins_and (space ∷ s ∷ x ++ space ∷ [])) (is_gap s) loose in
-    joined_steady s x held (behind_the_space (s ∷ x) e)
+    let no_gap : is_gap s ≡ false = or_second (begins_and (space ∷ s ∷ x ++ space ∷ [])) (is_gap s) loose in
+    joined_steady s x no_gap (behind_the_space (s ∷ x) e)
 
 -- verbatim text is a field
 verbatim_steady : (cs : List ℕ) → holds is_unsteady (of_style false cs ++ space ∷ []) ≡ false

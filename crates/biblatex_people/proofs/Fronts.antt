@@ -7,7 +7,7 @@ use Rattle.std.specs.List.{list_any, filter}
 use Rattle.biblatex_lists.specs.declared.styled_char.StyledChar.{StyledChar}
 use Rattle.biblatex_lists.specs.StyledChars.{is_gap, of_style}
 use Rattle.biblatex_lists.specs.Parts.{begins_and, before_first}
-use Rattle.biblatex_lists.specs.Texts.{is_filled}
+use Rattle.laws.specs.Text.{is_filled}
 use Rattle.biblatex_lists.specs.Writing.{space, begins_two_gaps, is_loose, holds}
 use Rattle.biblatex_lists.proofs.Tested.{or_first, or_second, both_false, and_first, and_second}
 use Rattle.biblatex_lists.proofs.Chars.{plain_of_style}
@@ -19,7 +19,7 @@ use Rattle.biblatex_people.specs.Laws.{ends_small, is_prefix}
 use Rattle.biblatex_people.proofs.Windows.{comma}
 use Rattle.biblatex_people.proofs.Fields.{IsField, nowhere_loose, field_before_comma, field_has_no_comma, field_has_no_equals, joined_field, part_field, name_field, name_small, lead_none}
 
--- What is read as this prefix and this name where a comma stands behind it.
+-- What is read as this prefix and this name where a comma stands after it.
 pub record IsFront (y : List StyledChar) (prefix name : List ℕ) : Type 0 where
   pub fine : (rest : List StyledChar) → holds is_loose (comma ∷ rest) ≡ false → holds is_loose (space ∷ y ++ comma ∷ rest) ≡ false
   pub commas : list_any (is_mark Comma) y ≡ false
@@ -61,7 +61,7 @@ holds_before_space (s ∷ y) rest e more =
     (two_before_space s y rest (or_second (begins_and (s ∷ y ++ space ∷ [])) (begins_two_gaps (s ∷ y ++ space ∷ [])) here)))
     (holds_before_space y rest (or_second (is_loose (s ∷ y ++ space ∷ [])) (holds is_loose (y ++ space ∷ [])) e) more)
 
--- the words before and behind a space
+-- the words before and after a space
 first_of_both : (s : StyledChar) (y : List StyledChar) (qs : List (List StyledChar)) → before_first (s ∷ []) (cut_at Gap y ++ qs) ≡ before_first (s ∷ []) (cut_at Gap y) ++ qs
 first_of_both s [] qs = refl
 first_of_both s (t ∷ y) qs = by_test (is_gap t) refl (cut_at Gap y) refl
@@ -82,7 +82,7 @@ cut_both (s ∷ y) x = by_test (is_gap s) refl (cut_both y x)
 words_both : (y x : List StyledChar) → words (y ++ space ∷ x) ≡ words y ++ words x
 words_both y x = ap (filter is_filled) (cut_both y x) ∙ filter-append is_filled (cut_at Gap y) (cut_at Gap x)
 
--- small words up to the end of the first ones, and none behind
+-- small words up to the end of the first ones, and none after
 lead_both : (ws xs : List (List StyledChar)) → ends_small ws ≡ true → is_filled xs ≡ true → list_any is_small xs ≡ false → lead_count (ws ++ xs) ≡ length ws
 lead_both [] xs e f n = absurd cc
 lead_both (w ∷ []) [] e f n = absurd cc

@@ -4,7 +4,7 @@ use Rattle.std.specs.Borrow.{Bor}
 use Rattle.std.proofs.Math.Seq.{take-suc}
 use Rattle.std.proofs.lemmas.List.{drop-map, take-map, length-map, get_or-map, map-append}
 use Rattle.biblatex_lists.specs.declared.styled_char.StyledChar.{StyledChar}
-use Rattle.biblatex_lists.specs.Parts.{lent}
+use Rattle.biblatex_lists.specs.Parts.{borrowed}
 use Rattle.biblatex_people.specs.Words.{is_small, lead_count, words}
 use Rattle.biblatex_people.specs.declared.person.Person.{Person}
 use Rattle.biblatex_people.specs.Reading.{person_in, is_others, ends_in_others, without_others, by_parts, with_commas}
@@ -13,14 +13,14 @@ use Rattle.biblatex_people.specs.Views.{named}
 abbrev its_now : Bor (List StyledChar) → List StyledChar
 its_now p = p.now
 
-pub lent_take : (n : ℕ) (ps : List (Bor (List StyledChar))) → lent (take n ps) ≡ take n (lent ps)
-lent_take n ps = sym (take-map its_now n ps)
+pub borrowed_take : (n : ℕ) (ps : List (Bor (List StyledChar))) → borrowed (take n ps) ≡ take n (borrowed ps)
+borrowed_take n ps = sym (take-map its_now n ps)
 
-pub lent_drop : (n : ℕ) (ps : List (Bor (List StyledChar))) → lent (drop n ps) ≡ drop n (lent ps)
-lent_drop n ps = sym (drop-map its_now n ps)
+pub borrowed_drop : (n : ℕ) (ps : List (Bor (List StyledChar))) → borrowed (drop n ps) ≡ drop n (borrowed ps)
+borrowed_drop n ps = sym (drop-map its_now n ps)
 
-pub lent_length : (ps : List (Bor (List StyledChar))) → length (lent ps) ≡ length ps
-lent_length ps = length-map ps its_now
+pub borrowed_length : (ps : List (Bor (List StyledChar))) → length (borrowed ps) ≡ length ps
+borrowed_length ps = length-map ps its_now
 
 -- one more part
 pub ends_in_last : (ps : List (List StyledChar)) (p : List StyledChar) → ends_in_others (ps ++ p ∷ []) ≡ is_others p
@@ -65,25 +65,25 @@ front_large ws i below e =
     ap lead_count (two_more ws i below) ∙ (lead_large (take i ws) (get_or ws i []) (get_or ws (suc i) []) e ∙ ap lead_count (sym (one_more ws i (omega arith))))
 
 -- the same for what is borrowed, where the place is one below another
-pub found_small : (ws : List (Bor (List StyledChar))) (i : ℕ) (d : Bor (List StyledChar)) → 1 < i → i ≤ length ws → is_small ((get_or ws (i - 1 - 1) d).now) ≡ true → lead_count (lent (take i ws)) ≡ i - 1
+pub found_small : (ws : List (Bor (List StyledChar))) (i : ℕ) (d : Bor (List StyledChar)) → 1 < i → i ≤ length ws → is_small ((get_or ws (i - 1 - 1) d).now) ≡ true → lead_count (borrowed (take i ws)) ≡ i - 1
 found_small ws i d some below e =
-    let long = lent_length ws in
-    let here : get_or (lent ws) (i - 1 - 1) [] ≡ (get_or ws (i - 1 - 1) d).now = get_or-map its_now ws (i - 1 - 1) d [] (omega arith) in
+    let long = borrowed_length ws in
+    let here : get_or (borrowed ws) (i - 1 - 1) [] ≡ (get_or ws (i - 1 - 1) d).now = get_or-map its_now ws (i - 1 - 1) d [] (omega arith) in
     let same : i ≡ suc (suc (i - 1 - 1)) = omega arith in
     let last : suc (i - 1 - 1) ≡ i - 1 = omega arith in
-    ap lead_count (lent_take i ws) ∙ (ap (λ (k : ℕ). lead_count (take k (lent ws))) same ∙ (front_small (lent ws) (i - 1 - 1) (omega arith) (ap is_small here ∙ e) ∙ last))
+    ap lead_count (borrowed_take i ws) ∙ (ap (λ (k : ℕ). lead_count (take k (borrowed ws))) same ∙ (front_small (borrowed ws) (i - 1 - 1) (omega arith) (ap is_small here ∙ e) ∙ last))
 
-pub found_large : (ws : List (Bor (List StyledChar))) (i : ℕ) (d : Bor (List StyledChar)) → 1 < i → i ≤ length ws → is_small ((get_or ws (i - 1 - 1) d).now) ≡ false → lead_count (lent (take i ws)) ≡ lead_count (lent (take (i - 1) ws))
+pub found_large : (ws : List (Bor (List StyledChar))) (i : ℕ) (d : Bor (List StyledChar)) → 1 < i → i ≤ length ws → is_small ((get_or ws (i - 1 - 1) d).now) ≡ false → lead_count (borrowed (take i ws)) ≡ lead_count (borrowed (take (i - 1) ws))
 found_large ws i d some below e =
-    let long = lent_length ws in
-    let here : get_or (lent ws) (i - 1 - 1) [] ≡ (get_or ws (i - 1 - 1) d).now = get_or-map its_now ws (i - 1 - 1) d [] (omega arith) in
+    let long = borrowed_length ws in
+    let here : get_or (borrowed ws) (i - 1 - 1) [] ≡ (get_or ws (i - 1 - 1) d).now = get_or-map its_now ws (i - 1 - 1) d [] (omega arith) in
     let same : i ≡ suc (suc (i - 1 - 1)) = omega arith in
     let last : suc (i - 1 - 1) ≡ i - 1 = omega arith in
-    ap lead_count (lent_take i ws) ∙ (ap (λ (k : ℕ). lead_count (take k (lent ws))) same ∙ (front_large (lent ws) (i - 1 - 1) (omega arith) (ap is_small here ∙ e)
-    ∙ (ap (λ (k : ℕ). lead_count (take k (lent ws))) last ∙ sym (ap lead_count (lent_take (i - 1) ws)))))
+    ap lead_count (borrowed_take i ws) ∙ (ap (λ (k : ℕ). lead_count (take k (borrowed ws))) same ∙ (front_large (borrowed ws) (i - 1 - 1) (omega arith) (ap is_small here ∙ e)
+    ∙ (ap (λ (k : ℕ). lead_count (take k (borrowed ws))) last ∙ sym (ap lead_count (borrowed_take (i - 1) ws)))))
 
 -- three parts or more
-pub by_three_parts : (ps : List (Bor (List StyledChar))) (d : Bor (List StyledChar)) → 3 ≤ length ps → by_parts (lent ps) ≡ with_commas (words (get_or ps 0 d).now) (words (get_or ps 1 d).now) (flat_map words (lent (drop 2 ps)))
+pub by_three_parts : (ps : List (Bor (List StyledChar))) (d : Bor (List StyledChar)) → 3 ≤ length ps → by_parts (borrowed ps) ≡ with_commas (words (get_or ps 0 d).now) (words (get_or ps 1 d).now) (flat_map words (borrowed (drop 2 ps)))
 by_three_parts [] d long = absurd (omega arith)
 by_three_parts (p ∷ []) d long = absurd (omega arith)
 by_three_parts (p ∷ q ∷ []) d long = absurd (omega arith)

@@ -7,7 +7,7 @@ use Rattle.biblatex_content.specs.Styled.{Member, letters}
 use Rattle.biblatex_lists.specs.declared.styled_char.StyledChar.{StyledChar}
 use Rattle.biblatex_lists.specs.StyledChars.{of_style, styled_chars, plain}
 use Rattle.biblatex_lists.specs.Parts.{trimmed, parts}
-use Rattle.biblatex_lists.specs.Texts.{is_filled}
+use Rattle.laws.specs.Text.{is_filled}
 use Rattle.biblatex_lists.specs.Writing.{kind, and_word, behind_and, space, is_loose, holds}
 use Rattle.biblatex_lists.proofs.Tested.{and_first, and_second}
 use Rattle.biblatex_lists.proofs.Chars.{chars_of_letters, chars_of_both, plain_of_style}
@@ -22,7 +22,7 @@ use Rattle.biblatex_people.proofs.Windows.{comma, comma_before}
 use Rattle.biblatex_people.proofs.Fields.{IsField, nowhere_loose, field_before_comma, field_has_no_comma, cut_before, cut_nowhere, no_pair, joined_field, part_field}
 use Rattle.biblatex_people.proofs.Fronts.{IsFront, name_chars, part_chars, front_without, front_with}
 
--- what stands behind the last comma, and behind the first one
+-- what stands after the last comma, and after the first one
 abbrev given_rest : List StyledChar → List StyledChar
 given_rest [] = []
 given_rest (s ∷ g) = space ∷ s ∷ g
@@ -56,7 +56,7 @@ given_parts : (g : List StyledChar) → IsField g → cut_at Comma (given_rest g
 given_parts [] f = refl
 given_parts (s ∷ g) f = cut_nowhere Comma (space ∷ s ∷ g) (field_has_no_comma (s ∷ g) f)
 
--- the words of what stands behind a comma
+-- the words of what stands after a comma
 given_words : (g : List StyledChar) → words (given_rest g) ≡ words g
 given_words [] = refl
 given_words (s ∷ g) = refl

@@ -4,7 +4,7 @@ use Rattle.std.specs.Char.{is_ascii_uppercase, is_ascii_alphabetic}
 use Rattle.std.specs.List.{list_all}
 use Rattle.biblatex_lists.specs.declared.styled_char.StyledChar.{StyledChar}
 use Rattle.biblatex_lists.specs.StyledChars.{of_style}
-use Rattle.biblatex_lists.specs.Texts.{is_filled}
+use Rattle.laws.specs.Text.{is_filled}
 use Rattle.biblatex_people.specs.Reading.{Named, is_named, people_in}
 use Rattle.biblatex_people.specs.Words.{is_small, words}
 use Rattle.biblatex_people.specs.Writing.{is_steady, written_people}
@@ -19,7 +19,7 @@ ends_small (w ∷ v ∷ ws) = ends_small (v ∷ ws)
 abbrev pub is_prefix : List ℕ → Bool
 is_prefix cs = is_steady cs && ends_small (words (of_style true cs))
 
--- the people that are read back: with some part of the name, and without a prefix, or with such a one and a name behind it
+-- the people that are read back: with some part of the name, and without a prefix, or with such a one and a name after it
 abbrev pub is_read_back : Named → Bool
 is_read_back n = is_named n && (not (is_filled n.prefix) || (is_prefix n.prefix && is_filled n.name))
 

@@ -2,12 +2,11 @@
 use Rattle.std.specs.Prelude.{ℕ, zero, suc, ◌-◌, Bool, true, false, ◌==◌, ◌&&◌, List, [], ◌∷◌, ◌++◌, map, flat_map, length, take, drop, if◌then◌else◌, Option, Some, None, codes}
 use Rattle.std.specs.List.{filter, list_all}
 use Rattle.std.specs.Str.{bytes_eq}
-use Rattle.laws.specs.Text.{text}
+use Rattle.laws.specs.Text.{text, is_filled}
 use Rattle.biblatex_content.specs.Styled.{Member}
 use Rattle.biblatex_lists.specs.declared.styled_char.StyledChar.{StyledChar}
 use Rattle.biblatex_lists.specs.StyledChars.{styled_chars, plain}
 use Rattle.biblatex_lists.specs.Parts.{parts, trimmed}
-use Rattle.biblatex_lists.specs.Texts.{is_filled}
 use Rattle.biblatex_people.specs.declared.words.Mark.TheVariants.{Comma, Equals}
 use Rattle.biblatex_people.specs.Words.{split_once, cut_at, words, joined_words, small_at, lead_count}
 

@@ -1,6 +1,6 @@
 -- What the code holds, as plain lists.
 use Rattle.std.specs.Prelude.{◌≡◌, List, map}
-use Rattle.biblatex_content.specs.Views.{characters}
+use Rattle.laws.specs.Text.{characters}
 use Rattle.biblatex_lists.specs.declared.styled_char.StyledChar.{StyledChar}
 use Rattle.biblatex_people.specs.declared.person.Person.{Person}
 use Rattle.biblatex_people.specs.declared.reading.Found.{Found}

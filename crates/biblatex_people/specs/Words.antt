@@ -6,7 +6,7 @@ use Rattle.ucd_category.specs.declared.GeneralCategory.TheVariants.{LowercaseLet
 use Rattle.biblatex_lists.specs.declared.styled_char.StyledChar.{StyledChar}
 use Rattle.biblatex_lists.specs.StyledChars.{is_gap, plain}
 use Rattle.biblatex_lists.specs.Parts.{before_first}
-use Rattle.biblatex_lists.specs.Texts.{is_filled}
+use Rattle.laws.specs.Text.{is_filled}
 use Rattle.biblatex_people.specs.declared.words.Mark.{Mark}
 use Rattle.biblatex_people.specs.declared.words.Mark.TheVariants.{Gap, Comma, Equals}
 
@@ -21,7 +21,7 @@ abbrev pub with_front : StyledChar → Option (List StyledChar × List StyledCha
 with_front s None = None
 with_front s (Some p) = Some (s ∷ p.0, p.1)
 
--- what stands before and behind the first such mark
+-- what stands before and after the first such mark
 abbrev pub split_once : Mark → List StyledChar → Option (List StyledChar × List StyledChar)
 split_once mark [] = None
 split_once mark (s ∷ ss) = if is_mark mark s then Some ([], ss) else with_front s (split_once mark ss)
@@ -35,7 +35,7 @@ cut_at mark (s ∷ ss) = if is_mark mark s then [] ∷ cut_at mark ss else befor
 abbrev pub words : List StyledChar → List (List StyledChar)
 words ss = filter is_filled (cut_at Gap ss)
 
--- a word behind a space
+-- a word after a space
 abbrev pub behind_space : List StyledChar → List ℕ
 behind_space w = 32 ∷ plain w
 

@@ -40,12 +40,12 @@ abbrev pub before_name : List ℕ → List Member
 before_name [] = []
 before_name (c ∷ cs) = written_part (c ∷ cs) ++ letters Normal (32 ∷ [])
 
--- the suffix stands behind a comma and a space
+-- the suffix stands after a comma and a space
 abbrev pub behind_name : List ℕ → List Member
 behind_name [] = []
 behind_name (c ∷ cs) = letters Normal (44 ∷ 32 ∷ []) ++ written_part (c ∷ cs)
 
--- the given name stands behind a comma, and behind a space where there is one
+-- the given name stands after a comma, and after a space where there is one
 abbrev pub given_behind : List ℕ → List Member
 given_behind [] = letters Normal (44 ∷ [])
 given_behind (c ∷ cs) = letters Normal (44 ∷ 32 ∷ []) ++ written_part (c ∷ cs)

@@ -1,21 +1,22 @@
 //! One person's name.
 
 ghost use Rattle.std.specs.Prelude.{◌≡◌, [], IfOk, flat_map};
-ghost use Rattle.biblatex_lists.specs.Parts.{lent};
+ghost use Rattle.biblatex_lists.specs.Parts.{borrowed};
 ghost use Rattle.biblatex_people.specs.Reading.{by_parts, by_last_word, by_small_words, person_in, with_commas, without_commas};
 ghost use Rattle.biblatex_people.specs.Views.{named};
 ghost use Rattle.biblatex_people.specs.Words.{words};
 
 use crate::pairs::{are_pairs, person_of_pairs};
 use crate::person::Person;
-use crate::words::{Mark, cut_at, empty_text, joined, lead_count, small_at, words_in, words_of};
+use crate::words::{Mark, cut_at, joined, lead_count, small_at, words_in, words_of};
 use biblatex_lists::StyledChar;
 use std::alloc::{AllocError, Global};
+use texts::empty_text;
 
 /// A name without commas and without small words before its last word.
-#[tactic(auto, using(crate::proofs::Lists::lent_take, crate::proofs::Lists::lent_drop, crate::proofs::Lists::lent_length))]
+#[tactic(auto, using(crate::proofs::Lists::borrowed_take, crate::proofs::Lists::borrowed_drop, crate::proofs::Lists::borrowed_length))]
 fn by_last_word(alloc: Global, words: &[&[StyledChar]]) -> Result<Person, AllocError>
-    ensures { IfOk result (λ p. named p ≡ by_last_word (lent words.now)) }
+    ensures { IfOk result (λ p. named p ≡ by_last_word (borrowed words.now)) }
 {
     let (given, name) = words.split_at(words.len().saturating_sub(1));
     Ok(Person {
@@ -27,13 +28,13 @@ fn by_last_word(alloc: Global, words: &[&[StyledChar]]) -> Result<Person, AllocE
 }
 
 /// A name without commas, whose small words end the front.
-#[tactic(auto, using(crate::proofs::Lists::lent_take, crate::proofs::Lists::lent_drop, crate::proofs::Lists::lent_length))]
+#[tactic(auto, using(crate::proofs::Lists::borrowed_take, crate::proofs::Lists::borrowed_drop, crate::proofs::Lists::borrowed_length))]
 fn by_small_words(
     alloc: Global,
     front: &[&[StyledChar]],
     name: &[&[StyledChar]],
 ) -> Result<Person, AllocError>
-    ensures { IfOk result (λ p. named p ≡ by_small_words (lent front.now) (lent name.now)) }
+    ensures { IfOk result (λ p. named p ≡ by_small_words (borrowed front.now) (borrowed name.now)) }
 {
     let (given, prefix) = front.split_at(small_at(front));
     Ok(Person {
@@ -45,9 +46,9 @@ fn by_small_words(
 }
 
 /// A name without commas.
-#[tactic(auto, using(crate::proofs::Lists::lent_take, crate::proofs::Lists::lent_drop, crate::proofs::Lists::lent_length))]
+#[tactic(auto, using(crate::proofs::Lists::borrowed_take, crate::proofs::Lists::borrowed_drop, crate::proofs::Lists::borrowed_length))]
 fn without_commas(alloc: Global, words: &[&[StyledChar]]) -> Result<Person, AllocError>
-    ensures { IfOk result (λ p. named p ≡ without_commas (lent words.now)) }
+    ensures { IfOk result (λ p. named p ≡ without_commas (borrowed words.now)) }
 {
     let end = lead_count(words);
     if end == 0 {
@@ -58,14 +59,14 @@ fn without_commas(alloc: Global, words: &[&[StyledChar]]) -> Result<Person, Allo
 }
 
 /// A name with commas: the words of its first part, of the suffix, and of what is given.
-#[tactic(auto, using(crate::proofs::Lists::lent_take, crate::proofs::Lists::lent_drop, crate::proofs::Lists::lent_length))]
+#[tactic(auto, using(crate::proofs::Lists::borrowed_take, crate::proofs::Lists::borrowed_drop, crate::proofs::Lists::borrowed_length))]
 fn with_commas(
     alloc: Global,
     words: &[&[StyledChar]],
     suffix: &[&[StyledChar]],
     given: &[&[StyledChar]],
 ) -> Result<Person, AllocError>
-    ensures { IfOk result (λ p. named p ≡ with_commas (lent words.now) (lent suffix.now) (lent given.now)) }
+    ensures { IfOk result (λ p. named p ≡ with_commas (borrowed words.now) (borrowed suffix.now) (borrowed given.now)) }
 {
     let (prefix, name) = words.split_at(lead_count(words));
     Ok(Person {
@@ -95,7 +96,7 @@ fn with_suffix(
     suffix: &[StyledChar],
     given: &[&[StyledChar]],
 ) -> Result<Person, AllocError>
-    ensures { IfOk result (λ p. named p ≡ with_commas (words name.now) (words suffix.now) (flat_map words (lent given.now))) }
+    ensures { IfOk result (λ p. named p ≡ with_commas (words name.now) (words suffix.now) (flat_map words (borrowed given.now))) }
 {
     let words = words_in(alloc, name)?;
     let suffix = words_in(alloc, suffix)?;
@@ -105,7 +106,7 @@ fn with_suffix(
 /// A person, from the parts between commas.
 #[tactic(auto, using(crate::proofs::Lists::by_three_parts))]
 fn by_parts(alloc: Global, parts: &[&[StyledChar]]) -> Result<Person, AllocError>
-    ensures { IfOk result (λ p. named p ≡ by_parts (lent parts.now)) }
+    ensures { IfOk result (λ p. named p ≡ by_parts (borrowed parts.now)) }
 {
     match parts {
         [] => Ok(Person::nobody(alloc)),

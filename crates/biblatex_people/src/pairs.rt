@@ -2,9 +2,8 @@
 
 ghost use Rattle.std.specs.Prelude.{◌≡◌, IfOk, MatchOption, None, OnOk, Some};
 ghost use Rattle.std.specs.List.{list_all};
-ghost use Rattle.laws.specs.Text.{text};
-ghost use Rattle.biblatex_content.specs.Views.{characters};
-ghost use Rattle.biblatex_lists.specs.Parts.{lent};
+ghost use Rattle.laws.specs.Text.{text, characters};
+ghost use Rattle.biblatex_lists.specs.Parts.{borrowed};
 ghost use Rattle.biblatex_lists.specs.StyledChars.{plain};
 ghost use Rattle.biblatex_people.specs.Reading.{is_some, pair, with_pair, with_pairs, with_value, nobody};
 ghost use Rattle.biblatex_people.specs.Views.{named};
@@ -36,7 +35,7 @@ fn is_pair(part: &[StyledChar]) -> bool
 
 /// Whether each part is a key, an equals sign and a value.
 pub(crate) fn are_pairs(parts: &[&[StyledChar]]) -> bool
-    ensures { result ≡ list_all (λ p. is_some (pair p)) (lent parts.now) }
+    ensures { result ≡ list_all (λ p. is_some (pair p)) (borrowed parts.now) }
 {
     for i in 0..parts.len() {
         if !is_pair(parts[i]) {
@@ -76,7 +75,7 @@ impl Person {
 
 /// The person that keys and values give; of equal keys the last one counts.
 pub(crate) fn person_of_pairs(alloc: Global, parts: &[&[StyledChar]]) -> Result<Person, AllocError>
-    ensures { IfOk result (λ p. named p ≡ with_pairs (lent parts.now) nobody) }
+    ensures { IfOk result (λ p. named p ≡ with_pairs (borrowed parts.now) nobody) }
 {
     let mut person = Person::nobody(alloc);
     for part in parts {

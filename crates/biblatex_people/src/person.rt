@@ -4,8 +4,8 @@ ghost use Rattle.std.specs.Prelude.{◌≡◌};
 ghost use Rattle.biblatex_people.specs.Reading.{is_named, nobody};
 ghost use Rattle.biblatex_people.specs.Views.{named};
 
-use crate::words::{empty_text, has_text};
 use std::alloc::Global;
+use texts::{empty_text, has_text};
 
 /// A person, by the parts of the name; a part that is not there is empty.
 #[derive(Debug, PartialEq, Eq, Drop)]
@@ -16,7 +16,7 @@ pub struct Person {
     pub given_name: String,
     /// Particles that stand before the name, as `van`.
     pub prefix: String,
-    /// What stands behind the name, as `Jr`.
+    /// What stands after the name, as `Jr`.
     pub suffix: String,
 }
 

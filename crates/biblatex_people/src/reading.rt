@@ -3,7 +3,7 @@
 ghost use Rattle.std.specs.Prelude.{◌≡◌, ◌++◌, ◌∷◌, [], List, IfOk, OnOk, map};
 ghost use Rattle.std.specs.List.{filter};
 ghost use Rattle.biblatex_content.specs.Views.{styled};
-ghost use Rattle.biblatex_lists.specs.Parts.{lent};
+ghost use Rattle.biblatex_lists.specs.Parts.{borrowed};
 ghost use Rattle.biblatex_lists.specs.declared.styled_char.StyledChar.{StyledChar};
 ghost use Rattle.biblatex_people.specs.Reading.{is_letter, is_others, is_someone, people_in, people_of, person_in, without_others};
 ghost use Rattle.biblatex_people.specs.Views.{AreFoundIn, named};
@@ -83,7 +83,7 @@ impl Found {
 
 /// The people in parts between `and`.
 fn people_of(alloc: Global, parts: &[&[StyledChar]]) -> Result<Vec<Person>, AllocError>
-    ensures { IfOk result (λ ps. map named ps.items ≡ people_of (lent parts.now)) }
+    ensures { IfOk result (λ ps. map named ps.items ≡ people_of (borrowed parts.now)) }
 {
     let mut found = Found::new(alloc);
     for part in parts {

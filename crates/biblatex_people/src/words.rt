@@ -3,14 +3,14 @@
 ghost use Rattle.std.specs.Prelude.{◌≡◌, ◌+◌, ◌≤◌, ◌++◌, ◌∷◌, [], length, flat_map, IfOk, MatchOption, None, OnOk, Some};
 ghost use Rattle.std.specs.List.{filter};
 ghost use Rattle.std.specs.Str.{chars};
-ghost use Rattle.biblatex_content.specs.Views.{characters};
-ghost use Rattle.biblatex_lists.specs.Parts.{lent};
+ghost use Rattle.laws.specs.Text.{characters, is_filled};
+ghost use Rattle.biblatex_lists.specs.Parts.{borrowed};
 ghost use Rattle.biblatex_lists.specs.StyledChars.{of_style, plain};
-ghost use Rattle.biblatex_lists.specs.Texts.{is_filled};
 ghost use Rattle.biblatex_people.specs.Words.{behind_space, cut_at, is_mark, is_small, joined_words, lead_count, small_at, split_once, words};
 
 use biblatex_lists::StyledChar;
 use std::alloc::{AllocError, Global};
+use texts::{empty_text, push_character};
 use ucd_category::GeneralCategory;
 
 /// What parts a text.
@@ -37,28 +37,7 @@ impl Mark {
     }
 }
 
-/// A text without characters.
-pub(crate) fn empty_text(alloc: Global) -> String
-    ensures { characters result ≡ [] }
-{
-    String::new(alloc)
-}
-
-/// Whether there is a character.
-pub(crate) fn has_text(text: &str) -> bool
-    ensures { result ≡ is_filled (chars text.now) }
-{
-    text.chars().next().is_some()
-}
-
-/// Puts a character last.
-fn push_character(text: &mut String, c: char) -> Result<(), AllocError>
-    ensures { OnOk result (characters text.new ≡ characters text.old ++ c ∷ []) }
-{
-    text.push(c)
-}
-
-/// Puts the characters of a text last.
+/// Appends the characters of a text.
 fn push_plain(text: &mut String, word: &[StyledChar]) -> Result<(), AllocError>
     ensures { OnOk result (characters text.new ≡ characters text.old ++ plain word.now) }
 {
@@ -68,9 +47,9 @@ fn push_plain(text: &mut String, word: &[StyledChar]) -> Result<(), AllocError>
     Ok(())
 }
 
-/// Puts words last, each behind a space.
+/// Appends words, each after a space.
 fn push_others(text: &mut String, words: &[&[StyledChar]]) -> Result<(), AllocError>
-    ensures { OnOk result (characters text.new ≡ characters text.old ++ flat_map behind_space (lent words.now)) }
+    ensures { OnOk result (characters text.new ≡ characters text.old ++ flat_map behind_space (borrowed words.now)) }
 {
     for word in words {
         push_character(text, ' ')?;
@@ -79,9 +58,9 @@ fn push_others(text: &mut String, words: &[&[StyledChar]]) -> Result<(), AllocEr
     Ok(())
 }
 
-/// Puts words last, one space between two of them.
+/// Appends words, one space between two of them.
 fn push_words(text: &mut String, words: &[&[StyledChar]]) -> Result<(), AllocError>
-    ensures { OnOk result (characters text.new ≡ characters text.old ++ joined_words (lent words.now)) }
+    ensures { OnOk result (characters text.new ≡ characters text.old ++ joined_words (borrowed words.now)) }
 {
     match words.split_first() {
         Some((first, others)) => {
@@ -94,14 +73,14 @@ fn push_words(text: &mut String, words: &[&[StyledChar]]) -> Result<(), AllocErr
 
 /// The words, one space between two of them.
 pub(crate) fn joined(alloc: Global, words: &[&[StyledChar]]) -> Result<String, AllocError>
-    ensures { IfOk result (λ s. characters s ≡ joined_words (lent words.now)) }
+    ensures { IfOk result (λ s. characters s ≡ joined_words (borrowed words.now)) }
 {
     let mut text = empty_text(alloc);
     push_words(&mut text, words)?;
     Ok(text)
 }
 
-/// What stands before and behind the first such mark.
+/// What stands before and after the first such mark.
 pub(crate) fn split_once(text: &[StyledChar], mark: Mark) -> Option<(&[StyledChar], &[StyledChar])>
     ensures pair { MatchOption result (split_once mark text.now ≡ None) (λ p. split_once mark text.now ≡ Some (p.0.now, p.1.now)) }
     ensures cut { MatchOption result (cut_at mark text.now ≡ text.now ∷ []) (λ p. cut_at mark text.now ≡ p.0.now ∷ cut_at mark p.1.now) }
@@ -121,7 +100,7 @@ pub(crate) fn cut_at<'v>(
     text: &'v [StyledChar],
     mark: Mark,
 ) -> Result<Vec<&'v [StyledChar]>, AllocError>
-    ensures { IfOk result (λ ps. lent ps.items ≡ cut_at mark text.now) }
+    ensures { IfOk result (λ ps. borrowed ps.items ≡ cut_at mark text.now) }
 {
     let mut parts = Vec::new(alloc);
     let mut rest = text;
@@ -133,12 +112,12 @@ pub(crate) fn cut_at<'v>(
     Ok(parts)
 }
 
-/// Puts a word last, if it has a character.
+/// Appends a word, if it has a character.
 fn push_filled<'v>(
     list: &mut Vec<&'v [StyledChar]>,
     word: &'v [StyledChar],
 ) -> Result<(), AllocError>
-    ensures { OnOk result (lent list.new.items ≡ lent list.old.items ++ filter is_filled (word.now ∷ [])) }
+    ensures { OnOk result (borrowed list.new.items ≡ borrowed list.old.items ++ filter is_filled (word.now ∷ [])) }
 {
     if !word.is_empty() {
         list.push(word)?;
@@ -146,12 +125,12 @@ fn push_filled<'v>(
     Ok(())
 }
 
-/// Puts the words of a text last.
+/// Appends the words of a text.
 fn push_words_of<'v>(
     list: &mut Vec<&'v [StyledChar]>,
     text: &'v [StyledChar],
 ) -> Result<(), AllocError>
-    ensures { OnOk result (lent list.new.items ≡ lent list.old.items ++ words text.now) }
+    ensures { OnOk result (borrowed list.new.items ≡ borrowed list.old.items ++ words text.now) }
 {
     let mut rest = text;
     while let Some((word, behind)) = split_once(rest, Mark::Gap) {
@@ -166,19 +145,19 @@ pub(crate) fn words_in<'v>(
     alloc: Global,
     text: &'v [StyledChar],
 ) -> Result<Vec<&'v [StyledChar]>, AllocError>
-    ensures { IfOk result (λ ws. lent ws.items ≡ words text.now) }
+    ensures { IfOk result (λ ws. borrowed ws.items ≡ words text.now) }
 {
     let mut words = Vec::new(alloc);
     push_words_of(&mut words, text)?;
     Ok(words)
 }
 
-/// The words of texts, those of one behind those of another.
+/// The words of texts, those of one after those of another.
 pub(crate) fn words_of<'v>(
     alloc: Global,
     texts: &[&'v [StyledChar]],
 ) -> Result<Vec<&'v [StyledChar]>, AllocError>
-    ensures { IfOk result (λ ws. lent ws.items ≡ flat_map words (lent texts.now)) }
+    ensures { IfOk result (λ ws. borrowed ws.items ≡ flat_map words (borrowed texts.now)) }
 {
     let mut words = Vec::new(alloc);
     for text in texts {
@@ -202,7 +181,7 @@ pub(crate) fn is_small(word: &[StyledChar]) -> bool
 
 /// The number of words before the first small one.
 pub(crate) fn small_at(words: &[&[StyledChar]]) -> usize
-    ensures value { result ≡ small_at (lent words.now) }
+    ensures value { result ≡ small_at (borrowed words.now) }
     ensures bound { result ≤ length words.now }
 {
     for i in 0..words.len() {
@@ -215,7 +194,7 @@ pub(crate) fn small_at(words: &[&[StyledChar]]) -> usize
 
 /// The number of words up to the last small one other than the last word.
 pub(crate) fn lead_count(words: &[&[StyledChar]]) -> usize
-    ensures value { result ≡ lead_count (lent words.now) }
+    ensures value { result ≡ lead_count (borrowed words.now) }
     ensures bound { result ≤ length words.now }
 {
     for i in (1..words.len()).rev() {

@@ -6,7 +6,7 @@ ghost use Rattle.std.specs.Str.{chars};
 ghost use Rattle.biblatex_content.specs.Styled.{letters};
 ghost use Rattle.biblatex_content.specs.Views.{styled};
 ghost use Rattle.biblatex_content.specs.declared.chunk.Kind.TheVariants.{Normal};
-ghost use Rattle.biblatex_lists.specs.Parts.{lent};
+ghost use Rattle.biblatex_lists.specs.Parts.{borrowed};
 ghost use Rattle.biblatex_lists.specs.StyledChars.{of_style};
 ghost use Rattle.biblatex_lists.specs.Writing.{behind_and, holds, so_far};
 ghost use Rattle.biblatex_people.specs.Views.{named};
@@ -14,10 +14,11 @@ ghost use Rattle.biblatex_people.specs.Words.{is_small, words};
 ghost use Rattle.biblatex_people.specs.Writing.{before_name, behind_name, given_behind, is_name, is_odd, is_steady, is_unsteady, written_name, written_part, written_people, written_person};
 
 use crate::person::Person;
-use crate::words::{Mark, has_text, is_small, words_of};
+use crate::words::{Mark, is_small, words_of};
 use biblatex_content::Chunks;
 use biblatex_lists::{StyledChar, Writing, is_loose, padded, push_chars};
 use std::alloc::{AllocError, Global};
+use texts::has_text;
 
 /// Whether the character is a comma, an equals sign, or white space other than the space.
 fn is_odd(styled: StyledChar) -> bool
@@ -57,7 +58,7 @@ fn is_steady(alloc: Global, text: &str) -> Result<bool, AllocError>
 
 /// Whether a word is small.
 fn has_small(words: &[&[StyledChar]]) -> bool
-    ensures { result ≡ list_any is_small (lent words.now) }
+    ensures { result ≡ list_any is_small (borrowed words.now) }
 {
     for i in 0..words.len() {
         if is_small(words[i]) {
@@ -83,7 +84,7 @@ fn is_name(alloc: Global, text: &str) -> Result<bool, AllocError>
     Ok(is_steady(alloc, text)? && !has_small_word(alloc, text)?)
 }
 
-/// Puts a part of a name last.
+/// Appends a part of a name.
 fn push_part(alloc: Global, writing: &mut Writing, text: &str) -> Result<(), AllocError>
     ensures { OnOk result (so_far writing.new ≡ so_far writing.old ++ written_part (chars text.now)) }
 {
@@ -91,7 +92,7 @@ fn push_part(alloc: Global, writing: &mut Writing, text: &str) -> Result<(), All
     writing.push_str(is_normal, text)
 }
 
-/// Puts the name itself last.
+/// Appends the name itself.
 fn push_name(alloc: Global, writing: &mut Writing, text: &str) -> Result<(), AllocError>
     ensures { OnOk result (so_far writing.new ≡ so_far writing.old ++ written_name (chars text.now)) }
 {
@@ -99,21 +100,21 @@ fn push_name(alloc: Global, writing: &mut Writing, text: &str) -> Result<(), All
     writing.push_str(is_normal, text)
 }
 
-/// Puts a space last.
+/// Appends a space.
 fn push_space(writing: &mut Writing) -> Result<(), AllocError>
     ensures { OnOk result (so_far writing.new ≡ so_far writing.old ++ letters Normal (32 ∷ [])) }
 {
     writing.push_str(true, " ")
 }
 
-/// Puts a comma last.
+/// Appends a comma.
 fn push_comma(writing: &mut Writing) -> Result<(), AllocError>
     ensures { OnOk result (so_far writing.new ≡ so_far writing.old ++ letters Normal (44 ∷ [])) }
 {
     writing.push_str(true, ",")
 }
 
-/// Puts a part of a name last, behind a comma and a space.
+/// Appends a part of a name, after a comma and a space.
 fn push_behind_comma(alloc: Global, writing: &mut Writing, text: &str) -> Result<(), AllocError>
     ensures { OnOk result (so_far writing.new ≡ so_far writing.old ++ (letters Normal (44 ∷ 32 ∷ []) ++ written_part (chars text.now))) }
 {
@@ -122,7 +123,7 @@ fn push_behind_comma(alloc: Global, writing: &mut Writing, text: &str) -> Result
     push_part(alloc, writing, text)
 }
 
-/// Puts the prefix last, and a space.
+/// Appends the prefix, and a space.
 fn push_prefix(alloc: Global, writing: &mut Writing, text: &str) -> Result<(), AllocError>
     ensures { OnOk result (so_far writing.new ≡ so_far writing.old ++ before_name (chars text.now)) }
 {
@@ -133,7 +134,7 @@ fn push_prefix(alloc: Global, writing: &mut Writing, text: &str) -> Result<(), A
     push_space(writing)
 }
 
-/// Puts the suffix last, behind a comma.
+/// Appends the suffix, after a comma.
 fn push_suffix(alloc: Global, writing: &mut Writing, text: &str) -> Result<(), AllocError>
     ensures { OnOk result (so_far writing.new ≡ so_far writing.old ++ behind_name (chars text.now)) }
 {
@@ -143,7 +144,7 @@ fn push_suffix(alloc: Global, writing: &mut Writing, text: &str) -> Result<(), A
     push_behind_comma(alloc, writing, text)
 }
 
-/// Puts the given name last, behind a comma, which stands there in any case.
+/// Appends the given name, after a comma, which stands there in any case.
 fn push_given(alloc: Global, writing: &mut Writing, text: &str) -> Result<(), AllocError>
     ensures { OnOk result (so_far writing.new ≡ so_far writing.old ++ given_behind (chars text.now)) }
 {
@@ -153,7 +154,7 @@ fn push_given(alloc: Global, writing: &mut Writing, text: &str) -> Result<(), Al
     push_behind_comma(alloc, writing, text)
 }
 
-/// Puts a person last.
+/// Appends a person.
 fn push_person(alloc: Global, writing: &mut Writing, person: &Person) -> Result<(), AllocError>
     ensures { OnOk result (so_far writing.new ≡ so_far writing.old ++ written_person (named person.now)) }
 {
@@ -163,7 +164,7 @@ fn push_person(alloc: Global, writing: &mut Writing, person: &Person) -> Result<
     push_given(alloc, writing, person.given_name.as_str())
 }
 
-/// Puts each person last, behind ` and `.
+/// Appends each person, after ` and `.
 fn push_others(alloc: Global, writing: &mut Writing, people: &[Person]) -> Result<(), AllocError>
     ensures { OnOk result (so_far writing.new ≡ so_far writing.old ++ flat_map behind_and (map written_person (map named people.now))) }
 {
@@ -174,7 +175,7 @@ fn push_others(alloc: Global, writing: &mut Writing, people: &[Person]) -> Resul
     Ok(())
 }
 
-/// Puts people last, with ` and ` between them.
+/// Appends people, with ` and ` between them.
 fn push_people(alloc: Global, writing: &mut Writing, people: &[Person]) -> Result<(), AllocError>
     ensures { OnOk result (so_far writing.new ≡ so_far writing.old ++ written_people (map named people.now)) }
 {

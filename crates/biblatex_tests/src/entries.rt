@@ -3,17 +3,17 @@
 use biblatex::{Bibliography, Entry, EntryType};
 use std::alloc::Global;
 
-/// A book with this key, or none for want of memory.
+/// A book with this key, or none where memory ran out.
 fn book(alloc: Global, key: &str) -> Option<Entry> {
     let key = String::from_str(alloc, key).ok()?;
     Some(Entry::new(alloc, key, EntryType::Book))
 }
 
-/// The book `a`, which `x` means too, or none for want of memory.
+/// The book `a`, which `x` means too, or none where memory ran out.
 fn one_book(alloc: Global) -> Option<Bibliography> {
     let mut books = Bibliography::new(alloc);
     books.push(book(alloc, "a")?).ok()?;
-    books.alias(alloc, "a", "x").ok()?;
+    books.alias("a", "x").ok()?;
     Some(books)
 }
 

@@ -4,4 +4,4 @@
 #[cfg(test)]
 mod entries;
 #[cfg(test)]
-mod texts;
+mod writing;

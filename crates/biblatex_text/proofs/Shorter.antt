@@ -50,7 +50,7 @@ either_if_ok : {A : Type 0} (Q : A → Type 0) (b : Bool) (x y : Result A Refusa
 either_if_ok Q true x y p q = p
 either_if_ok Q false x y p q = q
 
--- what a step gives, behind a character that it took
+-- what a step gives, after a character that it took
 gives-leaves : {X : Type 0} (n m : ℕ) (r : Result (X × List ℕ) Refusal) → m < n → IfOk r (LeavesAtMost m) → IfOk (r >>= λ p. Ok (Some p.0, p.1)) (Leaves n)
 gives-leaves n m (Ok p) less le = record { most = omega arith; fewer = omega arith }
 gives-leaves n m (Err f) less le = tt

@@ -27,7 +27,7 @@ abbrev pub field_or_end_at : ℕ → Bracket → List ℕ → Result (Option Fie
 field_or_end_at _ _ [] = Err (UnexpectedEof, [])
 field_or_end_at n bracket (c ∷ cs) = if c == closing bracket then Ok (None, cs) else (field_at n (c ∷ cs) >>= λ f. Ok (Some f.0, f.1))
 
--- behind a key or a field: the end of the item, or a comma and what may follow it
+-- after a key or a field: the end of the item, or a comma and what may follow it
 abbrev pub comma_or_end_at : ℕ → Bracket → List ℕ → Result (Option Field × List ℕ) Refusal
 comma_or_end_at _ _ [] = Err (UnexpectedEof, [])
 comma_or_end_at n bracket (c ∷ cs) = if c == closing bracket then Ok (None, cs)
@@ -37,11 +37,11 @@ comma_or_end_at n bracket (c ∷ cs) = if c == closing bracket then Ok (None, cs
 unfoldable pub next_field_at : ℕ → Bracket → List ℕ → Result (Option Field × List ℕ) Refusal
 next_field_at n bracket cs = comma_or_end_at n bracket (after_blanks cs)
 
--- the fields behind a key or a field, up to the end of the item
+-- the fields after a key or a field, up to the end of the item
 abbrev pub more_fields_at : ℕ → Bracket → List ℕ → Result (List Field × List ℕ) Refusal
 more_fields_at n bracket cs = each (next_field_at n bracket) cs
 
--- the fields behind a first one, if there is one
+-- the fields after a first one, if there is one
 abbrev pub fields_from : ℕ → Bracket → Option Field → List ℕ → Result (List Field × List ℕ) Refusal
 fields_from _ _ None cs = Ok ([], cs)
 fields_from n bracket (Some f) cs = more_fields_at n bracket cs >>= λ fs. Ok (f ∷ fs.0, fs.1)

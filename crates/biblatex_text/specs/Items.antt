@@ -22,7 +22,7 @@ abbrev pub opening_at : List ℕ → Result (Bracket × List ℕ) Refusal
 opening_at [] = Err (UnexpectedEof, [])
 opening_at (c ∷ cs) = if c == 123 then Ok (Brace, cs) else (if c == 40 then Ok (Parenthesis, cs) else Err (Expected tokens.OpeningBrace, c ∷ cs))
 
--- a comment item behind its kind: text in braces, or nothing where none opens
+-- a comment item after its kind: text in braces, or nothing where none opens
 abbrev pub remark_at : List ℕ → Result (List ℕ) Refusal
 remark_at [] = Ok []
 remark_at (c ∷ cs) = if c == 123 then closed_at (after (Remark 0) cs) else Ok (c ∷ cs)
@@ -48,24 +48,24 @@ entry_at n kind bracket cs = do
 abbrev pub is_named : List ℕ → List ℕ → Bool
 is_named name wanted = bytes_eq (lowered name) wanted
 
--- the body of an item that is no comment, behind what opens it
+-- the body of an item that is no comment, after what opens it
 abbrev pub body_at : ℕ → At (List ℕ) → Bracket → List ℕ → Result (Item × List ℕ) Refusal
 body_at n kind bracket cs = if is_named kind.v (codes "preamble") then (preamble_at n bracket cs >>= λ rest. Ok (nothing, rest))
     else (if is_named kind.v (codes "string") then (definitions_at n bracket cs >>= λ fs. Ok (definitions fs.0, fs.1))
     else (entry_at n kind bracket cs >>= λ e. Ok (an_entry e.0, e.1)))
 
--- an item behind its kind
+-- an item after its kind
 abbrev pub item_of_kind_at : ℕ → At (List ℕ) → List ℕ → Result (Item × List ℕ) Refusal
 item_of_kind_at n kind cs = if is_named kind.v (codes "comment") then (remark_at cs >>= λ rest. Ok (nothing, rest))
     else (opening_at cs >>= λ opened. body_at n kind opened.0 opened.1)
 
--- an item behind its at sign
+-- an item after its at sign
 unfoldable pub item_at : ℕ → List ℕ → Result (Item × List ℕ) Refusal
 item_at n cs = do
   kind ← identifier_at n (after_blanks cs)
   item_of_kind_at n kind.0 (after_blanks kind.1)
 
--- behind the text between items: the end, or an at sign and an item
+-- after the text between items: the end, or an at sign and an item
 abbrev pub item_or_end_at : ℕ → List ℕ → Result (Option (At Item) × List ℕ) Refusal
 item_or_end_at _ [] = Ok (None, [])
 item_or_end_at n (c ∷ cs) = item_at n cs >>= λ i. Ok (Some (record { v = i.0; start = place n (c ∷ cs); end = place n i.1 }), i.1)

@@ -1,5 +1,5 @@
 -- Reading a text from the left: what stands there, and the text after it; or the first fault, and the text from where it
--- stands on. A fault is meant to stand behind the longest beginning of the text that begins some text of the grammar;
+-- stands on. A fault is meant to stand after the longest beginning of the text that begins some text of the grammar;
 -- a refused text that is such a beginning itself ends too soon. Each function is what one method of the reader gives.
 -- Characters are numbers, and n is the number of bytes of the whole text, in which places are counted.
 use Rattle.std.specs.Prelude.{ℕ, ◌-◌, ◌==◌, List, length, [], ◌∷◌, if◌then◌else◌, Result, Ok, Err}

@@ -10,12 +10,12 @@ use Rattle.biblatex_text.specs.declared.run.Run.TheVariants.{Outside, Hidden, Bl
 abbrev pub only_if : Bool → Run → Option Run
 only_if test run = if test then Some run else None
 
--- the depth behind a closing brace, or none where it closes no brace of the text
+-- the depth after a closing brace, or none where it closes no brace of the text
 abbrev pub closed : ℕ → Option ℕ
 closed zero = None
 closed (suc depth) = Some depth
 
--- the depth behind a character
+-- the depth after a character
 abbrev pub depth_after : ℕ → ℕ → Option ℕ
 depth_after depth c = if c == 123 then Some (depth + 1) else (if c == 125 then closed depth else Some depth)
 

@@ -17,13 +17,13 @@ abbrev pub unquoted_at : List ℕ → Result (List ℕ) Refusal
 unquoted_at [] = Err (UnexpectedEof, [])
 unquoted_at (c ∷ cs) = if c == 34 then Ok cs else Err (Unexpected tokens.ClosingBrace, c ∷ cs)
 
--- a piece behind its opening brace
+-- a piece after its opening brace
 unfoldable pub braced_at : ℕ → List ℕ → Result (At Piece × List ℕ) Refusal
 braced_at n cs = do
   rest ← closed_at (after (Braced 0) cs)
   Ok (at_map (λ t. normal t) (run_at n (Braced 0) cs), rest)
 
--- a piece behind its opening quotation mark
+-- a piece after its opening quotation mark
 unfoldable pub quoted_at : ℕ → List ℕ → Result (At Piece × List ℕ) Refusal
 quoted_at n cs = do
   rest ← unquoted_at (after (Quoted 0) cs)
@@ -53,7 +53,7 @@ abbrev pub piece_or_end_at : ℕ → List ℕ → List ℕ → Result (Option (A
 piece_or_end_at _ end [] = Ok (None, end)
 piece_or_end_at n end (c ∷ cs) = if c == 35 then (piece_at n (after_blanks cs) >>= λ p. Ok (Some p.0, p.1)) else Ok (None, end)
 
--- behind a piece: white space, a number sign and a further piece, or the end of the value
+-- after a piece: white space, a number sign and a further piece, or the end of the value
 unfoldable pub next_piece_at : ℕ → List ℕ → Result (Option (At Piece) × List ℕ) Refusal
 next_piece_at n cs = piece_or_end_at n cs (after_blanks cs)
 

@@ -1,6 +1,6 @@
 -- What the reader holds and gives, without where it lies in memory.
 use Rattle.std.specs.Global.{Global}
-use Rattle.std.specs.Prelude.{◌≡◌, ◌≤◌, ℕ, List, ◌++◌, map, length, Vec, Result, Ok, Err}
+use Rattle.std.specs.Prelude.{◌≡◌, ◌≤◌, ℕ, List, ◌++◌, map, length, Option, Some, None, Vec, Result, Ok, Err}
 use Rattle.std.specs.Str.{chars}
 use Rattle.std.specs.Borrow.{Bor}
 use Rattle.laws.specs.Results.{◌>>=◌}
@@ -25,7 +25,7 @@ use Rattle.biblatex_text.specs.declared.error.RawError.TheVariants as errors
 abbrev pub left : Reader → List ℕ
 left r = chars r.rest.now
 
--- a reader of the same source, at the same place or behind it
+-- a reader of the same source, at the same place or after it
 abbrev pub GoesOn : Reader → Reader → Type 0
 GoesOn old new = (new.source.now ≡ old.source.now) × (length new.rest.now ≤ length old.rest.now)
 
@@ -91,7 +91,7 @@ abbrev pub Passes : {X : Type 0} → Result X Fault → List ℕ → Result (Lis
 Passes (Ok x) rest read = read ≡ Ok rest
 Passes (Err f) rest read = read ≡ Err (f, rest)
 
--- A fault stands where the text from there on is left; want of memory may come at any place.
+-- A fault stands where the text from there on is left; memory may run out at any place.
 abbrev pub Stops : {Y : Type 0} → Stop → List ℕ → Result Y Refusal → Type 0
 Stops stops.Memory rest read = Unit {0}
 Stops (stops.Fault f) rest read = read ≡ Err (f, rest)
@@ -113,8 +113,7 @@ abbrev pub GivesAll : {X Y : Type 0} → (X → Y) → Result X Stop → List �
 GivesAll view (Ok x) rest read = read ≡ Ok (view x)
 GivesAll view (Err s) rest read = Stops s rest read
 
--- What was read, or the fault and its place, is what reading gives; or memory ran out.
-abbrev pub Answers : Result RawBibliography RawError → Result Raw (Fault × ℕ) → Type 0
-Answers (Ok b) read = read ≡ Ok (raw b)
-Answers (Err errors.Memory) read = Unit {0}
-Answers (Err (errors.Refused fault at)) read = read ≡ Err (fault, at)
+-- the fault that an error is, and its place; out of memory is none
+abbrev pub refusal_of : RawError → Option (Fault × ℕ)
+refusal_of errors.Memory = None
+refusal_of (errors.Refused fault at) = Some (fault, at)

@@ -51,7 +51,7 @@ impl<'s> Reader<'s> {
         }
     }
 
-    /// Behind a key or a field: the end of the item, or a comma and what may follow it.
+    /// After a key or a field: the end of the item, or a comma and what may follow it.
     #[tactic(auto, unfolding(crate::specs::Fields::next_field_at))]
     pub(crate) fn next_field(
         &mut self,

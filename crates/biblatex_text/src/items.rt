@@ -185,7 +185,7 @@ impl<'s> Reader<'s> {
 }
 
 impl<'s> RawBibliography<'s> {
-    /// Puts what the item gives last.
+    /// Appends what the item gives.
     fn add(&mut self, found: Spanned<RawItem<'s>>) -> Result<(), Stop>
         ensures value { OnOk result (raw self.new ≡ with_item (raw self.old) (item found.entry)) }
         ensures memory { IfErr result (λ s. s ≡ stops.Memory) }

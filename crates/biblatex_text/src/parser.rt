@@ -3,7 +3,8 @@
 ghost use Rattle.std.specs.Prelude.{◌≡◌, ℕ, List, IfOk};
 ghost use Rattle.std.specs.Str.{chars};
 ghost use Rattle.biblatex_text.specs.Items.{raw_of};
-ghost use Rattle.biblatex_text.specs.Views.{Answers};
+ghost use Rattle.laws.specs.Results.{Gives};
+ghost use Rattle.biblatex_text.specs.Views.{raw as raw_seen, refusal_of};
 ghost use Rattle.biblatex_text.specs.Span.{IsRawOf};
 
 use crate::cursor::Reader;
@@ -37,7 +38,7 @@ impl<'s> BiblatexParser<'s> {
     /// # Errors
     /// As those of `RawBibliography::parse`.
     pub fn parse(self, alloc: Global) -> Result<RawBibliography<'s>, RawError>
-        ensures reads { Answers result (raw_of (chars self.entry)) }
+        ensures reads { Gives refusal_of raw_seen result (raw_of (chars self.entry)) }
         ensures slices { IfOk result (IsRawOf self.entry) }
     {
         read(alloc, self.source)
@@ -51,7 +52,7 @@ impl<'s> RawBibliography<'s> {
     /// `Refused` with the first fault from the left and its place; `Memory` where a request for memory was refused.
     pub fn parse(alloc: Global, source: &'s str) -> Result<RawBibliography<'s>, RawError>
         // What reading from the left gives, or its fault and the byte where it stands.
-        ensures reads { Answers result (raw_of (chars source.now)) }
+        ensures reads { Gives refusal_of raw_seen result (raw_of (chars source.now)) }
         // Each kind, key, name and piece is the source's slice at its span.
         ensures slices { IfOk result (IsRawOf source.now) }
     {
@@ -61,7 +62,7 @@ impl<'s> RawBibliography<'s> {
 
 /// What the source holds.
 fn read<'s>(alloc: Global, source: &'s str) -> Result<RawBibliography<'s>, RawError>
-    ensures reads { Answers result (raw_of (chars source.now)) }
+    ensures reads { Gives refusal_of raw_seen result (raw_of (chars source.now)) }
     ensures slices { IfOk result (IsRawOf source.now) }
 {
     let mut reader = Reader::new(source);

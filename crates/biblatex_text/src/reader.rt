@@ -9,9 +9,10 @@ ghost use Rattle.biblatex_text.specs.Reading.{place, token_at, after_blanks, run
 
 use crate::character::is_id_start;
 use crate::cursor::Reader;
-use crate::run::{Run, byte_len, split_first, split_run};
+use crate::run::{Run, byte_len, split_run};
 use crate::spanned::Spanned;
 use crate::token::{Fault, Token};
+use texts::split_first;
 
 impl<'s> Reader<'s> {
     /// A reader of the whole source.
@@ -33,7 +34,7 @@ impl<'s> Reader<'s> {
         self.source.len() - byte_len(self.rest)
     }
 
-    /// The first character that is left, and the reader behind it.
+    /// The first character that is left, and the reader after it.
     pub(crate) fn first(&self) -> Option<(char, Reader<'s>)>
         ensures reads { MatchOption result (left self.now ≡ []) (λ x. left self.now ≡ x.0 ∷ left x.1) }
         ensures on { IfSome result (λ x. GoesOn self.now x.1) }

@@ -16,7 +16,7 @@ pub(crate) enum Run {
     Hidden,
     /// White space and comments inside an item.
     Blank,
-    /// A comment inside an item: the rest of a line behind a percent sign.
+    /// A comment inside an item: the rest of a line after a percent sign.
     Comment,
     /// A kind, the name of a field or a bare value.
     Identifier,
@@ -26,17 +26,17 @@ pub(crate) enum Run {
     RoundKey,
     /// ASCII digits, with at most one point.
     Number,
-    /// The digits behind the point.
+    /// The digits after the point.
     Fraction,
     /// The text of a comment item, up to the brace that closes it.
     Remark(usize),
     /// A piece in braces, up to the brace that closes it.
     Braced(usize),
-    /// The same behind a backslash.
+    /// The same after a backslash.
     BracedEscape(usize),
     /// A piece in quotation marks, up to one outside braces, or to a brace that closes none.
     Quoted(usize),
-    /// The same behind a backslash.
+    /// The same after a backslash.
     QuotedEscape(usize),
 }
 
@@ -47,7 +47,7 @@ fn only_if(test: bool, run: Run) -> Option<Run>
     if test { Some(run) } else { None }
 }
 
-/// The depth behind a character, or none behind a brace that closes no brace of the text.
+/// The depth after a character, or none after a brace that closes no brace of the text.
 fn depth_after(depth: usize, c: char) -> Option<usize>
     requires { depth + 1 < 2 ^ 64 }
     ensures value { result ≡ depth_after depth c }
@@ -90,17 +90,6 @@ impl Run {
             Run::QuotedEscape(depth) => Some(Run::Quoted(depth)),
         }
     }
-}
-
-/// The first character, and what follows it.
-pub(crate) fn split_first(text: &str) -> Option<(char, &str)>
-    ensures chars { MatchOption result (chars text.now ≡ []) (λ x. chars text.now ≡ x.0 ∷ chars x.1.now) }
-    ensures parts { IfSome result (λ x. text.now ≡ encode_utf8 x.0 ++ x.1.now) }
-    ensures utf8 { IfSome result (λ x. IsUtf8 x.1.now) }
-{
-    let mut chars = text.chars();
-    let c = chars.next()?;
-    Some((c, chars.as_str()))
 }
 
 /// How many bytes the text has, which spell its characters.

@@ -9,7 +9,7 @@ use std::ops::Range;
 pub struct Spanned<T> {
     /// The value.
     pub v: T,
-    /// From its first byte to the one behind its last.
+    /// From its first byte to the one after its last.
     pub span: Range<usize>,
 }
 

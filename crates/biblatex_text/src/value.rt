@@ -17,10 +17,11 @@ use crate::character::is_id_continue;
 use crate::cursor::Reader;
 use crate::error::Stop;
 use crate::raw::{Field, RawChunk};
-use crate::run::{Run, split_first, split_run};
+use crate::run::{Run, split_run};
 use crate::spanned::Spanned;
 use crate::token::{Fault, Token};
 use std::alloc::Global;
+use texts::split_first;
 
 impl<'s> Reader<'s> {
     /// Takes the quotation mark that ended a run. A brace that ended it has no place there.
@@ -101,7 +102,7 @@ impl<'s> Reader<'s> {
         }
     }
 
-    /// Behind a piece: a number sign and a further piece, or the end of the value.
+    /// After a piece: a number sign and a further piece, or the end of the value.
     #[tactic(auto, unfolding(crate::specs::Value::next_piece_at))]
     fn next_piece(&mut self) -> Result<Option<Spanned<RawChunk<'s>>>, Fault>
         ensures on { GoesOn self.old self.new }

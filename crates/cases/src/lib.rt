@@ -15,5 +15,5 @@ pub use members::{
     byte, count, is_among, is_set, items, maybe_byte, maybe_number, maybe_owned_text, maybe_text,
     member, number, only, owned_text, small_number, text, texts,
 };
-pub use refusal::Refusal;
+pub use refusal::{Answered, Refusal};
 pub use showing::{is_shown, only_shown};

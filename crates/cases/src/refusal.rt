@@ -1,5 +1,8 @@
 use std::alloc::{AllocError, AllocFailed};
 
+/// Whether a crate of cases knows a kind and has written the members of its answer, or why the line has none.
+pub type Answered = Result<bool, Refusal>;
+
 /// Why a line has no answer.
 #[derive(Debug, Drop)]
 pub enum Refusal {

@@ -12,16 +12,11 @@ mod show;
 mod source;
 mod taker;
 
-use cases::{Refusal, Value, Writer};
+use cases::{Answered, Value, Writer};
 use std::alloc::Global;
 
 /// Writes the members of the answer to a case of this kind; false where the kind is none of these.
-pub fn answer(
-    alloc: Global,
-    kind: &str,
-    case: &Value<'_>,
-    out: &mut Writer,
-) -> Result<bool, Refusal> {
+pub fn answer(alloc: Global, kind: &str, case: &Value<'_>, out: &mut Writer) -> Answered {
     match kind {
         "bridge" => bridge::answer_bridge(alloc, case, out)?,
         "document" => document::answer_document(alloc, case, out)?,

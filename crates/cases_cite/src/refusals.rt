@@ -1,4 +1,4 @@
-//! Why entries are not bridged and documents not cited, as members of an answer. Want of memory has no answer.
+//! Why entries are not bridged and documents not cited, as members of an answer. Out of memory has no answer.
 
 use cases::{Refusal, Value, Writer, is_set, put_count, put_refused, put_text};
 use cases_entries::put_parse_error;

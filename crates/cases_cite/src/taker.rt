@@ -12,7 +12,7 @@ use std::io::{ErrorKind, Write};
 pub(crate) struct Limits {
     /// How many bytes a call takes at most.
     pub(crate) bytes_a_call: Option<usize>,
-    /// How many calls take bytes before all others answer an error.
+    /// How many calls take bytes before all others return an error.
     pub(crate) calls_before_error: Option<u64>,
     /// How many calls take bytes before all others take nothing.
     pub(crate) calls_before_nothing: Option<u64>,

@@ -10,7 +10,7 @@ use cases::{
 };
 use std::alloc::{AllocError, Global};
 
-/// Answers a case of the kind `bibliography`.
+/// Returns a case of the kind `bibliography`.
 pub(crate) fn answer_bibliography(
     alloc: Global,
     case: &Value<'_>,
@@ -33,7 +33,7 @@ pub(crate) fn answer_bibliography(
     }
 }
 
-/// Answers a case of a text that is read in two steps, with the number of entries that were made.
+/// Returns a case of a text that is read in two steps, with the number of entries that were made.
 fn answer_counted(
     alloc: Global,
     case: &Value<'_>,
@@ -46,7 +46,7 @@ fn answer_counted(
     }
 }
 
-/// Answers a case of what the grammar reads of a text, with the number of entries that were made.
+/// Returns a case of what the grammar reads of a text, with the number of entries that were made.
 fn answer_raw(
     alloc: Global,
     case: &Value<'_>,
@@ -115,7 +115,7 @@ fn take_step(
     }
 }
 
-/// Puts an entry last, under its key and its `ids`.
+/// Appends an entry, under its key and its `ids`.
 fn push(
     alloc: Global,
     step: &Value<'_>,
@@ -169,7 +169,7 @@ fn alias(
     out: &mut Writer,
 ) -> Result<(), Refusal> {
     only(alloc, step, &["step", "entry", "alias"])?;
-    bibliography.alias(alloc, text(step, "entry")?, text(step, "alias")?)?;
+    bibliography.alias(text(step, "entry")?, text(step, "alias")?)?;
     out.null()?;
     Ok(())
 }

@@ -25,7 +25,7 @@ fn set_fields(alloc: Global, object: &Value<'_>, entry: &mut Entry) -> Result<()
         return Err(Refusal::Wanted("fields", "an object"));
     };
     for member in members {
-        entry.set(alloc, member.0, read_value(alloc, &member.1)?)?;
+        entry.set(member.0, read_value(alloc, &member.1)?)?;
     }
     Ok(())
 }
@@ -39,7 +39,7 @@ pub(crate) fn set_field(
     let Some(value) = object.get("value") else {
         return Err(Refusal::Wanted("value", VALUE));
     };
-    Ok(entry.set(alloc, text(object, "field")?, read_value(alloc, value)?)?)
+    Ok(entry.set(text(object, "field")?, read_value(alloc, value)?)?)
 }
 
 /// A value of a field: a list of chunks, or a text, which is one normal chunk of no source.

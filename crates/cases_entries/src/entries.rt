@@ -9,7 +9,7 @@ use biblatex::{Bibliography, Entry};
 use cases::{Refusal, Value, Writer, items, maybe_text, only, text};
 use std::alloc::Global;
 
-/// Answers a case of the kind `entry`.
+/// Returns a case of the kind `entry`.
 pub(crate) fn answer_entry(
     alloc: Global,
     case: &Value<'_>,
@@ -29,7 +29,7 @@ pub(crate) fn answer_entry(
     }
 }
 
-/// Answers a case of an entry of a text.
+/// Returns a case of an entry of a text.
 fn answer_parsed(
     alloc: Global,
     case: &Value<'_>,
@@ -42,7 +42,7 @@ fn answer_parsed(
     }
 }
 
-/// Answers a case of an entry of a bibliography: that of the member `entry`, or the first.
+/// Returns a case of an entry of a bibliography: that of the member `entry`, or the first.
 fn answer_in(
     alloc: Global,
     case: &Value<'_>,

@@ -4,7 +4,7 @@ use biblatex::{EntryType, Role};
 use cases::{Refusal, Value, Writer, only, put_bool, put_text, text};
 use std::alloc::{AllocError, Global};
 
-/// Answers a case of the kind `entry_type`.
+/// Returns a case of the kind `entry_type`.
 pub(crate) fn answer_entry_type(
     alloc: Global,
     case: &Value<'_>,

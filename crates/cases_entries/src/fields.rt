@@ -71,6 +71,6 @@ fn set_value<T: FieldType + CaseValue>(
 ) -> Result<(), Refusal> {
     let field = text(step, "field")?;
     let value: T = given(alloc, step, "value")?;
-    entry.set_as(alloc, field, &value)?;
+    entry.set_as(field, &value)?;
     Ok(())
 }

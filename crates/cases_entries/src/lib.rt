@@ -12,7 +12,7 @@ mod refusals;
 mod values;
 
 use bibliographies::answer_bibliography;
-use cases::{Refusal, Value, Writer};
+use cases::{Answered, Value, Writer};
 pub use data::read_entry;
 use entries::answer_entry;
 use entry_types::answer_entry_type;
@@ -21,12 +21,7 @@ use std::alloc::Global;
 use values::{answer_abbreviations, answer_field};
 
 /// Writes the members of the answer to a case of this kind; false where the kind is none of these.
-pub fn answer(
-    alloc: Global,
-    kind: &str,
-    case: &Value<'_>,
-    out: &mut Writer,
-) -> Result<bool, Refusal> {
+pub fn answer(alloc: Global, kind: &str, case: &Value<'_>, out: &mut Writer) -> Answered {
     match kind {
         "bibliography" => answer_bibliography(alloc, case, out)?,
         "entry" => answer_entry(alloc, case, out)?,

@@ -8,7 +8,7 @@ use cases::{Refusal, Value, Writer, items, maybe_text, only, put_text, text};
 use cases_text::put_chunks;
 use std::alloc::{AllocError, Global};
 
-/// Answers a case of the kind `field`.
+/// Returns a case of the kind `field`.
 pub(crate) fn answer_field(
     alloc: Global,
     case: &Value<'_>,
@@ -100,7 +100,7 @@ fn put_found(
     }
 }
 
-/// Answers a case of the kind `abbreviations`.
+/// Returns a case of the kind `abbreviations`.
 pub(crate) fn answer_abbreviations(
     alloc: Global,
     case: &Value<'_>,

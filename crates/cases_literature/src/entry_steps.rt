@@ -163,7 +163,7 @@ fn put_found(name: &str, entry: &Entry, out: &mut Writer) -> Result<bool, Refusa
     Ok(true)
 }
 
-/// Writes what a step answers.
+/// Writes what a step returns.
 fn put_answer(
     alloc: Global,
     step: &Value<'_>,
@@ -183,7 +183,7 @@ fn put_answer(
     Err(Refusal::Wanted("step", "the name of a call"))
 }
 
-/// Takes a step, and writes what it answers.
+/// Takes a step, and writes what it returns.
 fn take_step(
     alloc: Global,
     step: &Value<'_>,
@@ -218,7 +218,7 @@ fn take_at_given(
     take_steps(alloc, steps, &mut entry, out)
 }
 
-/// `library_entry`: what calls of an entry answer, one after the other.
+/// `library_entry`: what calls of an entry return, one after the other.
 pub(crate) fn library_entry(
     alloc: Global,
     case: &Value<'_>,

@@ -12,7 +12,7 @@ mod reading;
 mod selectors;
 mod written_entries;
 
-use cases::{Refusal, Value, Writer};
+use cases::{Answered, Value, Writer};
 pub use given_entries::entry_of;
 use std::alloc::Global;
 pub use written_entries::put_entry;
@@ -21,12 +21,7 @@ pub use written_entries::put_entry;
 pub const ENTRY_DEPTH: u32 = 400;
 
 /// Writes the members of the answer to a case of this kind; false where the kind is none of these.
-pub fn answer(
-    alloc: Global,
-    kind: &str,
-    case: &Value<'_>,
-    out: &mut Writer,
-) -> Result<bool, Refusal> {
+pub fn answer(alloc: Global, kind: &str, case: &Value<'_>, out: &mut Writer) -> Answered {
     match kind {
         "read" => reading::read(alloc, case, out)?,
         "print" => reading::print(alloc, case, out)?,

@@ -71,7 +71,7 @@ fn put_len(out: &mut Writer, library: &Library) -> Result<(), Refusal> {
     Ok(())
 }
 
-/// Writes what a step answers that changes nothing.
+/// Writes what a step returns that changes nothing.
 fn put_found(
     step: &Value<'_>,
     name: &str,
@@ -102,7 +102,7 @@ fn put_removed(out: &mut Writer, key: &str, library: &mut Library) -> Result<(),
     put_maybe_entry(out, removed.as_ref())
 }
 
-/// Takes a step, and writes what it answers.
+/// Takes a step, and writes what it returns.
 fn put_answer(
     alloc: Global,
     step: &Value<'_>,
@@ -120,7 +120,7 @@ fn put_answer(
     }
 }
 
-/// Takes a step, and writes what it answers.
+/// Takes a step, and writes what it returns.
 fn take_step(
     alloc: Global,
     step: &Value<'_>,
@@ -144,7 +144,7 @@ fn take_steps(
     Ok(())
 }
 
-/// Takes the steps of a case, and writes what they answer.
+/// Takes the steps of a case, and writes what they return.
 fn put_steps(
     alloc: Global,
     case: &Value<'_>,
@@ -159,7 +159,7 @@ fn put_steps(
     Ok(out.end_array()?)
 }
 
-/// `library`: what calls of a library answer, one after the other, and the keys of the entries that it has at last.
+/// `library`: what calls of a library return, one after the other, and the keys of the entries that it has at last.
 pub(crate) fn library(alloc: Global, case: &Value<'_>, out: &mut Writer) -> Result<(), Refusal> {
     only(alloc, case, &["case", "name", "entries", "steps"])?;
     let mut library = library_of(alloc, case)?;

@@ -8,7 +8,7 @@ mod items;
 mod places;
 mod telling;
 
-use cases::{Refusal, Value, Writer};
+use cases::{Answered, Value, Writer};
 use characters::{answer_characters, answer_verbatim_field};
 pub use chunks::{normal_chunks, put_chunks, read_chunks, read_chunks_in};
 use content::answer_content;
@@ -19,12 +19,7 @@ use std::alloc::Global;
 use telling::answer_chunks;
 
 /// Writes the members of the answer to a case of this kind; false where the kind is none of these.
-pub fn answer(
-    alloc: Global,
-    kind: &str,
-    case: &Value<'_>,
-    out: &mut Writer,
-) -> Result<bool, Refusal> {
+pub fn answer(alloc: Global, kind: &str, case: &Value<'_>, out: &mut Writer) -> Answered {
     match kind {
         "items" => answer_items(alloc, case, out)?,
         "content" => answer_content(alloc, case, out)?,

@@ -1,4 +1,4 @@
-//! Places in a source: the first byte, and the one behind the last.
+//! Places in a source: the first byte, and the one after the last.
 
 use cases::{Refusal, Value, Writer, items};
 use std::alloc::AllocError;

@@ -31,7 +31,7 @@ impl Told<'_> {
         out.end_array()
     }
 
-    /// What the chunks are written as, behind the text that stands before it.
+    /// What the chunks are written as, after the text that stands before it.
     fn written(self, alloc: Global) -> Result<String, AllocError> {
         match self.before {
             None => self.chunks.to_biblatex_string(alloc, self.is_verbatim),
@@ -75,7 +75,7 @@ impl Told<'_> {
     }
 }
 
-/// Puts a text behind that of each chunk.
+/// Appends a text after that of each chunk.
 fn append(chunks: &mut Chunks, more: &str) -> Result<(), AllocError> {
     for chunk in chunks.iter_mut() {
         chunk.v.get_mut().push_str(more)?;
@@ -83,7 +83,7 @@ fn append(chunks: &mut Chunks, more: &str) -> Result<(), AllocError> {
     Ok(())
 }
 
-/// The chunks of a case, with the text of `append` behind that of each.
+/// The chunks of a case, with the text of `append` after that of each.
 fn read_appended(alloc: Global, case: &Value<'_>) -> Result<Chunks, Refusal> {
     let mut chunks = read_chunks(alloc, case, "chunks")?;
     if let Some(more) = maybe_text(case, "append")? {

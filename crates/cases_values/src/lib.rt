@@ -17,17 +17,12 @@ mod work_sources;
 mod work_texts;
 
 pub use case_value::{CaseValue, given, maybe_given, put_list, put_maybe, put_member, put_or_null};
-use cases::{Refusal, Value, Writer};
+use cases::{Answered, Value, Writer};
 pub use reading::type_error_name;
 use std::alloc::Global;
 
 /// Writes the members of the answer to a case of this kind; false where the kind is none of these.
-pub fn answer(
-    alloc: Global,
-    kind: &str,
-    case: &Value<'_>,
-    out: &mut Writer,
-) -> Result<bool, Refusal> {
+pub fn answer(alloc: Global, kind: &str, case: &Value<'_>, out: &mut Writer) -> Answered {
     match kind {
         "value" => reading::answer(alloc, case, out)?,
         "gender" => genders::answer(alloc, case, out)?,

@@ -20,38 +20,6 @@ impl CaseValue for i64 {
     }
 }
 
-/// The editor type of a word that is known.
-fn known(word: &str) -> Option<EditorType> {
-    match word {
-        "editor" => Some(EditorType::Editor),
-        "compiler" => Some(EditorType::Compiler),
-        "founder" => Some(EditorType::Founder),
-        "continuator" => Some(EditorType::Continuator),
-        "redactor" => Some(EditorType::Redactor),
-        "reviser" => Some(EditorType::Reviser),
-        "collaborator" => Some(EditorType::Collaborator),
-        "organizer" => Some(EditorType::Organizer),
-        "director" => Some(EditorType::Director),
-        _ => None,
-    }
-}
-
-/// The word of a known editor type; of another it is `unknown`.
-fn word(editor_type: &EditorType) -> &'static str {
-    match editor_type {
-        EditorType::Editor => "editor",
-        EditorType::Compiler => "compiler",
-        EditorType::Founder => "founder",
-        EditorType::Continuator => "continuator",
-        EditorType::Redactor => "redactor",
-        EditorType::Reviser => "reviser",
-        EditorType::Collaborator => "collaborator",
-        EditorType::Organizer => "organizer",
-        EditorType::Director => "director",
-        EditorType::Unknown(_) => "unknown",
-    }
-}
-
 /// The editor type of an object with the name of one that is not known.
 fn unknown(alloc: Global, value: &Value<'_>) -> Result<EditorType, Refusal> {
     only(alloc, value, &["unknown"])?;
@@ -61,15 +29,18 @@ fn unknown(alloc: Global, value: &Value<'_>) -> Result<EditorType, Refusal> {
 /// A known editor type is its word, another one an object with its name.
 impl CaseValue for EditorType {
     fn given(alloc: Global, value: &Value<'_>) -> Result<EditorType, Refusal> {
-        match value.as_str().and_then(known) {
-            Some(editor_type) => Ok(editor_type),
-            None => unknown(alloc, value),
+        let Some(word) = value.as_str() else {
+            return unknown(alloc, value);
+        };
+        match EditorType::new(alloc, word)? {
+            EditorType::Unknown(_) => unknown(alloc, value),
+            known => Ok(known),
         }
     }
 
     fn put(&self, out: &mut Writer) -> Result<(), AllocError> {
         let EditorType::Unknown(name) = self else {
-            return out.string(word(self));
+            return out.string(self.name());
         };
         out.begin_object()?;
         put_text(out, "unknown", name.as_str())?;

@@ -1,7 +1,6 @@
 -- The citation at a place of a document, as a loop reads it.
-use Rattle.std.proofs.Common.{◌≡◌, ℕ, suc, ◌+◌, ◌<◌, List, [], ◌∷◌, length, get_or, drop, ap, add-one}
+use Rattle.std.proofs.Common.{◌≡◌, ℕ, suc, ◌+◌, ◌<◌, List, [], ◌∷◌, length, get_or, drop, ap, add-one, drop-cons}
 use Rattle.std.specs.Borrow.{Bor}
-use Rattle.std.proofs.Common.{drop-cons}
 use Rattle.cite.specs.declared.document.Citation.{Citation}
 use Rattle.cite.specs.Views.{citation, citations}
 

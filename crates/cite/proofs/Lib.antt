@@ -7,7 +7,6 @@ pub mod Elements
 pub mod Serving
 pub mod Keys
 pub mod Ends
-pub mod Spelled
 pub mod Lines
 pub mod Verdicts
 pub mod Unique

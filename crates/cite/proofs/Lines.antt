@@ -1,7 +1,7 @@
 -- Texts put together of parts.
 use Rattle.std.proofs.Common.{◌≡◌, ℕ, List, ◌++◌, refl, sym, ap, ◌∙◌, append_assoc}
 
--- four parts behind another text, put there one after the other
+-- four parts after another text, put there one after the other
 pub put_four : (o a b c d : List ℕ) → (((o ++ a) ++ b) ++ c) ++ d ≡ o ++ (a ++ (b ++ (c ++ d)))
 put_four o a b c d = append_assoc ((o ++ a) ++ b) c d ∙ (append_assoc (o ++ a) b (c ++ d) ∙ append_assoc o a (b ++ (c ++ d)))
 

@@ -7,7 +7,7 @@ use Rattle.std.proofs.lemmas.Str.{chars-append, chars_past_char, IsUtf8-take, Is
 use Rattle.std.proofs.lemmas.List.{length-append, length-take, length-drop, take-append-drop, drop_at, get_or-drop}
 use Rattle.std.proofs.lemmas.Bool.{eqb-true, false_from_ne_true, false≢true}
 use Rattle.laws.specs.Text.{text}
-use Rattle.laws.proofs.Text.{text-chars, text-append}
+use Rattle.laws.proofs.Text.{text_of_chars, text-append}
 use Rattle.cite.specs.Marker.{begins_with, onto_front, cut_at_opening}
 
 some_is : (p q : List ℕ × List ℕ) → Some p ≡ Some q → p ≡ q
@@ -66,10 +66,10 @@ cut-none cs none = by_cut (cut_at_opening cs) refl
     by_cut None e = refl
     by_cut (Some p) e = absurd (none p.0 p.1 (cut-parts cs p e))
 
--- what a text of bytes is behind a front of characters
+-- what a text of bytes is after a front of characters
 pub text-opened : (bs a b : List ℕ) → IsUtf8 bs → chars bs ≡ a ++ 91 ∷ 64 ∷ b → bs ≡ text a ++ 91 ∷ 64 ∷ text b
 unfolding lib.Utf8.encode
-text-opened bs a b u e = sym (text-chars bs u) ∙ (ap text e ∙ text-append a (91 ∷ 64 ∷ b))
+text-opened bs a b u e = sym (text_of_chars bs u) ∙ (ap text e ∙ text-append a (91 ∷ 64 ∷ b))
 
 dropped : (bs xs ys : List ℕ) → bs ≡ xs ++ ys → drop (length xs) bs ≡ ys
 dropped bs xs ys e = ap (drop (length xs)) e ∙ drop_at xs ys (length xs) refl

@@ -1,4 +1,4 @@
--- What a call answers where its definition gives a value or a refusal.
+-- What a call returns where its definition gives a value or a refusal.
 use Rattle.std.specs.Prelude.{◌≡◌, ℕ, List, map, Option, Some, None, Result, Ok, Err, string_bytes}
 use Rattle.biblatex.specs.Reading as reading
 use Rattle.biblatex.specs.Errors.{refusal_of}
@@ -14,7 +14,7 @@ use Rattle.cite.specs.declared.error.DocumentTextError.TheVariants as document
 abbrev pub Wanted : Type 0 → Type 1
 Wanted Y = Result Y Refusal → Type 0
 
--- the refusal of a bib text; want of memory is none
+-- the refusal of a bib text; out of memory is none
 abbrev pub IsBibRefusal : {Y : Type 0} → Option reading.Refusal → Wanted Y → Type 0
 IsBibRefusal None wanted = ⊥
 IsBibRefusal (Some refusal) wanted = wanted (Err (bib_refused refusal))
@@ -32,12 +32,12 @@ IsRefusal errors.Overflow wanted = wanted (Err overflow)
 IsRefusal (errors.Write fault) wanted = ⊥
 IsRefusal errors.NotYet wanted = wanted (Err not_yet)
 
--- What was answered, seen by view, is wanted, unless memory ran out.
+-- What was returned, seen by view, is wanted, unless memory ran out.
 abbrev pub Answers : {X Y : Type 0} → (X → Y) → Result X CiteError → Wanted Y → Type 0
 Answers view (Ok x) wanted = wanted (Ok (view x))
 Answers view (Err e) wanted = IsRefusal e wanted
 
--- What was answered, seen by view, is this, unless memory ran out.
+-- What was returned, seen by view, is this, unless memory ran out.
 abbrev pub Gives : {X Y : Type 0} → (X → Y) → Result X CiteError → Result Y Refusal → Type 0
 Gives view result answer = Answers view result (λ a. answer ≡ a)
 

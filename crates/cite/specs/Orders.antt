@@ -1,4 +1,4 @@
--- The cited works that an order of the code holds, and what numbering a document answers.
+-- The cited works that an order of the code holds, and what numbering a document returns.
 use Rattle.std.specs.Prelude.{◌≡◌, ℕ, List, map, Some, None, Result, Ok, Err, String, string_bytes}
 use Rattle.std.specs.Global.{Global}
 use Rattle.literature_entries.specs.Wholes.{Whole, whole}

@@ -1,5 +1,5 @@
 -- How a title is printed. Its pieces are put down one after the other; a text in ordinary letters changes the end of the text that
--- is last on the page. A formula is no text, so behind it there is none to change. Texts are characters.
+-- is last on the page. A formula is no text, so after it there is none to change. Texts are characters.
 use Rattle.std.specs.Prelude.{ℕ, ◌-◌, Bool, true, false, not, ◌==◌, ◌||◌, List, [], ◌∷◌, ◌++◌, length, take, drop, fold, if◌then◌else◌, Option, Some, None}
 use Rattle.std.specs.List.{list_all, list_any}
 use Rattle.std.specs.Char.{is_whitespace}
@@ -43,12 +43,12 @@ abbrev pub unrepeated : List ℕ → List ℕ → List ℕ
 unrepeated next last = if list_any is_alphabetic next then last else without_end (drop_trailing_whitespace next) last
 
 -- what stays of the last text before the next one
-abbrev pub staying : List ℕ → List ℕ → List ℕ
-staying next last = unrepeated next (closed_up next last)
+abbrev pub remaining : List ℕ → List ℕ → List ℕ
+remaining next last = unrepeated next (closed_up next last)
 
 -- a piece of each kind is put down
 abbrev pub put_by : ChunkKind → List ℕ → Page → Page
-put_by Normal cs p = record { before = p.before; last = staying cs p.last ++ cs }
+put_by Normal cs p = record { before = p.before; last = remaining cs p.last ++ cs }
 put_by Verbatim cs p = record { before = p.before; last = p.last ++ cs }
 put_by Math cs p = record { before = p.before ++ (p.last ++ cs); last = [] }
 

@@ -3,8 +3,8 @@ use Rattle.std.specs.Prelude.{◌≡◌, ℕ, List, map, Option, Result, Ok, Err
 use Rattle.std.specs.Option.{option_map}
 use Rattle.std.specs.Str.{chars}
 use Rattle.std.specs.Borrow.{Bor}
+use Rattle.laws.specs.Text.{characters, spelled}
 use Rattle.biblatex.specs.Bibliographies.{seen}
-use Rattle.literature_numbers.specs.Views as texts
 use Rattle.interop.specs.Views.{shelf}
 use Rattle.cite.specs.Marker as marker
 use Rattle.cite.specs.Page as pages
@@ -15,10 +15,6 @@ use Rattle.cite.specs.declared.document.Citation.{Citation}
 use Rattle.cite.specs.declared.document.Document.{Document}
 use Rattle.cite.specs.declared.document.NoMarker.{NoMarker}
 use Rattle.cite.specs.declared.document.Rest.{Rest}
-
--- the characters of a borrowed text
-abbrev pub spelled : Bor (List ℕ) → List ℕ
-spelled s = chars s.now
 
 -- the characters that are left
 abbrev pub left : Rest → List ℕ
@@ -45,4 +41,4 @@ works_in w = record { file = seen w.file; library = shelf w.library }
 
 -- a page's texts
 abbrev pub page : Page → pages.Page
-page p = record { before = texts.characters p.before; last = texts.characters p.last }
+page p = record { before = characters p.before; last = characters p.last }

@@ -6,11 +6,11 @@ ghost use Rattle.std.specs.Char.Unicode.Alphabetic.{is_alphabetic};
 ghost use Rattle.std.specs.Str.{chars, drop_trailing_whitespace};
 ghost use Rattle.cite.specs.Page as specs;
 
-use crate::document::split_first;
+use texts::split_first;
 
 /// What stays of the last text before the next one.
-pub(crate) fn staying<'l>(last: &'l str, next: &str) -> &'l str
-    ensures value { chars result.now ≡ specs.staying (chars next.now) (chars last.now) }
+pub(crate) fn remaining<'l>(last: &'l str, next: &str) -> &'l str
+    ensures value { chars result.now ≡ specs.remaining (chars next.now) (chars last.now) }
     ensures front { result.now ≡ take (length result.now) last.now }
 {
     unrepeated(closed_up(last, next), next)

@@ -5,13 +5,14 @@ ghost use Rattle.std.specs.Str.{chars};
 ghost use Rattle.std.specs.Option.{option_map};
 ghost use Rattle.laws.specs.Runs.{front_of, after};
 ghost use Rattle.cite.specs.Marker.{is_name, cut_at_opening, name_at, citation_at, citations_of};
-ghost use Rattle.laws.specs.Text.{text as text_of};
+ghost use Rattle.laws.specs.Text.{text as text_of, spelled};
 ghost use Rattle.cite.specs.Verdict.{offset_of, marker_stage};
-ghost use Rattle.cite.specs.Views.{left, spelled, parsed, Finds};
+ghost use Rattle.cite.specs.Views.{left, parsed, Finds};
 ghost use Rattle.cite.specs.Answers.{Gives};
 
 use crate::error::{CiteError, DocumentTextError};
 use std::alloc::Global;
+use texts::{CharacterClass, split_first, split_run};
 
 /// A citation: the text before its opening, and its name.
 #[derive(Clone, Copy)]
@@ -109,15 +110,6 @@ fn split_closed_name(opened: &str) -> Option<(&str, &str)>
     if end == ']' { Some((name, rest)) } else { None }
 }
 
-/// The first character, and what follows it.
-pub(crate) fn split_first(text: &str) -> Option<(char, &str)>
-    ensures { MatchOption result (chars text.now ≡ []) (λ x. chars text.now ≡ x.0 ∷ chars x.1.now) }
-{
-    let mut chars = text.chars();
-    let c = chars.next()?;
-    Some((c, chars.as_str()))
-}
-
 /// Whether the character may stand in a name.
 fn is_name(c: char) -> bool
     ensures { result ≡ is_name c }
@@ -125,15 +117,22 @@ fn is_name(c: char) -> bool
     !(c.is_whitespace() || matches!(c, ';' | ']'))
 }
 
+/// The characters of names.
+#[derive(Clone, Copy)]
+struct Name;
+
+impl CharacterClass for Name {
+    ghost passes = { λ _ c. is_name c };
+
+    fn contains(self, c: char) -> bool {
+        is_name(c)
+    }
+}
+
 /// The longest front whose characters may stand in a name, and what follows it.
 fn split_name(text: &str) -> (&str, &str)
     ensures front { chars result.0.now ≡ front_of is_name (chars text.now) }
     ensures rest { chars result.1.now ≡ after is_name (chars text.now) }
 {
-    for (i, c) in text.char_indices() {
-        if !is_name(c) {
-            return text.split_at(i);
-        }
-    }
-    text.split_at(text.len())
+    split_run(text, Name)
 }

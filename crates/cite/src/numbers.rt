@@ -14,7 +14,8 @@ use crate::order::Order;
 use crate::output::{push_citation, push_text};
 use crate::works::Works;
 use literature_entries::Entry;
-use std::alloc::{AllocError, Global};
+use std::alloc::Global;
+use texts::owned;
 
 /// The document with numbers for its citations, and the cited entries.
 pub(crate) fn numbered_document<'b>(
@@ -42,11 +43,4 @@ fn meant<'b>(works: &'b Works, name: &str) -> Option<&'b Entry>
     ensures { MatchOption result (meaning (text_of (chars name.now)) (works_in works.now) ≡ None) (λ e. meaning (text_of (chars name.now)) (works_in works.now) ≡ Some (whole e.now)) }
 {
     works.get(name)
-}
-
-/// A text of its own.
-fn owned(alloc: Global, borrowed: &str) -> Result<String, AllocError>
-    ensures { IfOk result (λ s. string_bytes s ≡ text_of (chars borrowed.now)) }
-{
-    String::from_str(alloc, borrowed)
 }

@@ -3,7 +3,7 @@
 ghost use Rattle.std.specs.Prelude.{◌≡◌, ◌++◌, ◌∷◌, [], map, OnOk, string_bytes};
 ghost use Rattle.std.specs.Str.{chars};
 ghost use Rattle.laws.specs.Text.{text as text_of};
-ghost use Rattle.literature_entries.specs.Views.{lent};
+ghost use Rattle.literature_entries.specs.Views.{seen_in};
 ghost use Rattle.literature_values.specs.TextViews.{chunk, format};
 ghost use Rattle.cite.specs.Output.{numbered};
 ghost use Rattle.cite.specs.Page.{printed, title_text};
@@ -38,7 +38,7 @@ pub(crate) fn push_title(
     output: &mut String,
     title: Option<&FormatString>,
 ) -> Result<(), AllocError>
-    ensures { OnOk result (string_bytes output.new ≡ string_bytes output.old ++ (title_text (lent format title.entry) ++ 10 ∷ [])) }
+    ensures { OnOk result (string_bytes output.new ≡ string_bytes output.old ++ (title_text (seen_in format title.entry) ++ 10 ∷ [])) }
 {
     if let Some(title) = title {
         push_printed(alloc, output, &title.value.0)?;

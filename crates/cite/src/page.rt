@@ -6,16 +6,16 @@ ghost use Rattle.std.specs.List.{list_any, list_all};
 ghost use Rattle.std.specs.Char.{is_whitespace};
 ghost use Rattle.std.specs.Str.{chars};
 ghost use Rattle.std.specs.String.Boundary.{IsSplitPoint};
-ghost use Rattle.laws.specs.Text.{text as text_of};
+ghost use Rattle.laws.specs.Text.{text as text_of, characters};
 ghost use Rattle.literature_values.specs.TextViews.{chunk};
 ghost use Rattle.literature_values.specs.declared.text.ChunkKind.TheVariants.{Normal, Math};
 ghost use Rattle.cite.specs.Page as specs;
-ghost use Rattle.literature_numbers.specs.Views.{characters};
 ghost use Rattle.cite.specs.Views.{page};
 
-use crate::closing::staying;
+use crate::closing::remaining;
 use literature_values::{ChunkKind, StringChunk};
 use std::alloc::{AllocError, Global};
+use texts::{empty_text, push_text};
 
 /// What was put down: the text that is last, and all before it.
 #[derive(Drop)]
@@ -62,8 +62,8 @@ impl Page {
     fn put_text(&mut self, text: &str) -> Result<(), AllocError>
         ensures { OnOk result (page self.new ≡ specs.put_by Normal (chars text.now) (page self.old)) }
     {
-        let kept = staying(self.last.as_str(), text).len();
-        cut(&mut self.last, kept);
+        let end = remaining(self.last.as_str(), text).len();
+        cut(&mut self.last, end);
         push_text(&mut self.last, text)
     }
 
@@ -87,25 +87,11 @@ impl Page {
 }
 
 /// Cuts a text after so many of its bytes.
-fn cut(text: &mut String, kept: usize)
-    requires { IsSplitPoint (string_bytes text.old) kept }
-    ensures { string_bytes text.new ≡ take kept (string_bytes text.old) }
+fn cut(text: &mut String, end: usize)
+    requires { IsSplitPoint (string_bytes text.old) end }
+    ensures { string_bytes text.new ≡ take end (string_bytes text.old) }
 {
-    text.truncate(kept);
-}
-
-/// A text without characters.
-fn empty_text(alloc: Global) -> String
-    ensures { characters result ≡ [] }
-{
-    String::new(alloc)
-}
-
-/// Puts a text last.
-fn push_text(text: &mut String, more: &str) -> Result<(), AllocError>
-    ensures { OnOk result (characters text.new ≡ characters text.old ++ chars more.now) }
-{
-    text.push_str(more)
+    text.truncate(end);
 }
 
 /// Whether one of the pieces prints.

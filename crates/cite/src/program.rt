@@ -113,7 +113,7 @@ fn field_lines(alloc: Global, found: &[FieldFault]) -> Result<String, AllocError
     Ok(written)
 }
 
-/// Puts the line of a field that cannot be read last.
+/// Appends the line of a field that cannot be read.
 fn push_fault(written: &mut String, found: &FieldFault) -> Result<(), AllocError>
     ensures { OnOk result (string_bytes written.new ≡ string_bytes written.old ++ line (fault_said (fault found.now))) }
 {
@@ -122,7 +122,7 @@ fn push_fault(written: &mut String, found: &FieldFault) -> Result<(), AllocError
     written.push('\n')
 }
 
-/// Puts what is said of a field that cannot be read last.
+/// Appends what is said of a field that cannot be read.
 fn push_said(written: &mut String, found: &FieldFault) -> Result<(), AllocError>
     ensures { OnOk result (string_bytes written.new ≡ string_bytes written.old ++ fault_said (fault found.now)) }
 {

@@ -6,10 +6,8 @@ ghost use Rattle.std.specs.Str.{chars};
 ghost use Rattle.biblatex.specs.Bibliographies.{seen};
 ghost use Rattle.biblatex.specs.Entries.{source};
 ghost use Rattle.biblatex.specs.Resolved.{TextMeans};
-ghost use Rattle.biblatex.specs.TypeNames.{type_name, written_type};
 ghost use Rattle.literature_entries.specs.Wholes.{whole};
-ghost use Rattle.literature.specs.Kept.{entries};
-ghost use Rattle.interop.specs.Shelf.{is_xdata};
+ghost use Rattle.literature.specs.Entries.{entries};
 ghost use Rattle.interop.specs.Views.{shelf};
 ghost use Rattle.cite.specs.Works.{meaning, work_of};
 ghost use Rattle.cite.specs.Verdict.{IsRead, IsShelved, library_stage, refused_as};
@@ -18,8 +16,8 @@ ghost use Rattle.cite.specs.Answers.{Answers, Gives};
 
 use crate::bytes::utf8_text;
 use crate::error::{BibTextError, CiteError};
-use biblatex::{Bibliography, Entry as SourceEntry, EntryType as SourceType, ParseError};
-use interop::{BridgeError, from_biblatex};
+use biblatex::{Bibliography, Entry as SourceEntry, ParseError};
+use interop::{BridgeError, from_biblatex, is_xdata};
 use literature::Library;
 use literature_entries::Entry;
 use std::alloc::Global;
@@ -68,13 +66,6 @@ fn work_of<'l>(library: &'l Library, entry: &SourceEntry) -> Option<&'l Entry>
         return None;
     }
     library.get(entry.key.as_str())
-}
-
-/// Whether entries of the type only lend their fields.
-fn is_xdata(entry_type: &SourceType) -> bool
-    ensures { result ≡ is_xdata (written_type (type_name entry_type.now)) }
-{
-    matches!(entry_type, SourceType::XData)
 }
 
 /// The entries of a bib text.

@@ -6,7 +6,7 @@ use Rattle.std.proofs.lemmas.Fmt.{IsAscii-decimal}
 use Rattle.std.proofs.lemmas.Str.{encode_ascii}
 use Rattle.laws.specs.Text.{text}
 use Rattle.laws.proofs.Text.{text-append}
-use Rattle.text_reader.proofs.Writing.{text-ascii}
+use Rattle.texts.proofs.Writing.{text-ascii}
 
 text-zeros : (k : ℕ) → text (replicate k 48) ≡ replicate k 48
 text-zeros zero = refl

@@ -10,13 +10,13 @@ use Rattle.std.proofs.lemmas.Fmt.{digits_value-decimal, length-decimal-le}
 use Rattle.std.proofs.lemmas.List.{length-replicate}
 use Rattle.laws.specs.Runs.{AllPassTest, Bars}
 use Rattle.laws.proofs.Runs.{cuts}
-use Rattle.text_reader.specs.Character.{passes}
-use Rattle.text_reader.specs.Reading.{digits_at, taken}
+use Rattle.texts.specs.Character.{passes}
+use Rattle.texts.specs.Reading.{digits_at, taken}
 use Rattle.date_parts.specs.Parts.{part_at, signed}
 use Rattle.date_parts.specs.Written.{padded, year_text, counted_text}
-use Rattle.text_reader.specs.declared.character.Class.TheVariants.{Digit}
-use Rattle.text_reader.proofs.Digits.{own, digits_at-ok}
-use Rattle.text_reader.proofs.Starts.{Starts, starts, decimal_digits}
+use Rattle.texts.specs.declared.character.Class.TheVariants.{Digit}
+use Rattle.texts.proofs.Digits.{own, digits_at-ok}
+use Rattle.texts.proofs.Starts.{Starts, starts, decimal_digits}
 
 -- zeros in front change no number
 pub zeros_value : (k : ℕ) (ds : List ℕ) → digits_value 10 (replicate k 48 ++ ds) ≡ digits_value 10 ds
@@ -76,7 +76,7 @@ year_sign (pos n) rest small =
     ap (taken 45) plain ∙ sign ∙ ap (λ (b : Bool). (b, text)) (sym (not_negative n))
 year_sign (negsuc n) rest small = refl
 
--- a year is its number, negative behind a hyphen
+-- a year is its number, negative after a hyphen
 pub signed_again : (y : ℤ) → signed (is_negative y) (unsigned_abs y) ≡ y
 signed_again (pos n) = ap (λ (b : Bool). signed b n) (not_negative n)
 signed_again (negsuc n) = refl

@@ -1,10 +1,10 @@
 -- Years, months and days as they are read from the left. Characters are numbers.
 use Rattle.std.specs.Prelude.{ℕ, Bool, true, false, List, Option, Some, None, Result, Ok, ℤ, pos, neg_ℤ}
 use Rattle.laws.specs.Results.{◌>>=◌}
-use Rattle.text_reader.specs.Reading.{digits_at, taken}
-use Rattle.text_reader.specs.declared.reader.Unreadable.{Unreadable}
+use Rattle.texts.specs.Reading.{digits_at, taken}
+use Rattle.texts.specs.declared.reader.Unreadable.{Unreadable}
 
--- behind a hyphen one or two digits are wanted
+-- after a hyphen one or two digits are wanted
 abbrev pub part_behind : Bool × List ℕ → Result (Option ℕ × List ℕ) Unreadable
 part_behind (false, rest) = Ok (None, rest)
 part_behind (true, rest) = digits_at 1 2 rest >>= λ d. Ok (Some d.0, d.1)
@@ -13,7 +13,7 @@ part_behind (true, rest) = digits_at 1 2 rest >>= λ d. Ok (Some d.0, d.1)
 unfoldable pub part_at : List ℕ → Result (Option ℕ × List ℕ) Unreadable
 part_at cs = part_behind (taken 45 cs)
 
--- a year, negative behind a hyphen
+-- a year, negative after a hyphen
 abbrev pub signed : Bool → ℕ → ℤ
 signed false n = pos n
 signed true n = neg_ℤ (pos n)

@@ -7,7 +7,7 @@ use Rattle.std.specs.Int.{is_negative}
 abbrev pub padded : ℕ → ℕ → List ℕ
 padded width n = replicate (width - length (decimal n)) 48 ++ decimal n
 
--- four digits or more, behind a hyphen where the year is negative
+-- four digits or more, after a hyphen where the year is negative
 abbrev pub year_text : ℤ → List ℕ
 year_text y = sign_text (is_negative y) ++ padded 4 (unsigned_abs y)
 

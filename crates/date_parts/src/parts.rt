@@ -3,14 +3,14 @@
 ghost use Rattle.std.specs.Prelude.{◌≡◌, unsigned_abs};
 ghost use Rattle.laws.specs.Results.{Reads};
 ghost use Rattle.date_parts.specs.Parts.{part_at, signed};
-ghost use Rattle.text_reader.specs.Views.{left};
+ghost use Rattle.texts.specs.Views.{left};
 
-use text_reader::{Reader, Unreadable};
+use texts::{Reader, Unreadable};
 
 /// The month or the day that stands here: a hyphen and one or two digits, or nothing.
 ///
 /// # Errors
-/// `NotThere` where no digit or more than two stand behind the hyphen.
+/// `NotThere` where no digit or more than two stand after the hyphen.
 #[tactic(auto, unfolding(crate::specs::Parts::part_at))]
 pub fn read_part(reader: &mut Reader) -> Result<Option<u16>, Unreadable>
     ensures { Reads (λ p. p) result (left reader.new) (part_at (left reader.old)) }

@@ -8,7 +8,7 @@ ghost use Rattle.date_parts.specs.Written.{padded, year_text, counted_text};
 
 use std::fmt;
 
-/// Writes a year in four digits or more, behind a hyphen where it is negative.
+/// Writes a year in four digits or more, after a hyphen where it is negative.
 pub fn write_year<W: fmt::Write>(year: i32, f: &mut fmt::Formatter<W>) -> fmt::Result
     ensures { DisplaysOnOk W.write_str_gives f.old result (Some (text_of (year_text year))) f.new }
 {

@@ -5,7 +5,8 @@ use Rattle.interop.specs.Bridge.{Fault, unless_faulty}
 use Rattle.interop.specs.declared.dates.Dates.{Dates}
 use Rattle.interop.specs.declared.error.BridgeError.{BridgeError}
 use Rattle.interop.specs.declared.error.BridgeError.TheVariants as errors
-use Rattle.interop.specs.Views.{Gives}
+use Rattle.interop.specs.Views.{refusal_of}
+use Rattle.laws.specs.Results.{Gives}
 
 -- what is made once there are no faults
 pub accepted : (fs : List Fault) (d x : Dates) (w : Whole) → unless_faulty fs d ≡ Ok x → (x ≡ d) × (unless_faulty fs w ≡ Ok w)
@@ -13,7 +14,7 @@ accepted [] d x w e = (cc, refl)
 accepted (f ∷ fs) d x w e = absurd cc
 
 -- the faults, whatever was to be made
-pub refused : (fs : List Fault) (d : Dates) (w : Whole) (e : BridgeError) → Gives (λ (x : Dates). x) (Err e) (unless_faulty fs d) → Gives whole (Err e) (unless_faulty fs w)
+pub refused : (fs : List Fault) (d : Dates) (w : Whole) (e : BridgeError) → Gives refusal_of (λ (x : Dates). x) (Err e) (unless_faulty fs d) → Gives refusal_of whole (Err e) (unless_faulty fs w)
 refused fs d w errors.Memory h = tt
 refused [] d w (errors.Fields xs) h = absurd cc
 refused (f ∷ fs) d w (errors.Fields xs) h = cc

@@ -5,7 +5,7 @@ use Rattle.literature_entries.specs.Fields.{Fields}
 use Rattle.literature_entries.specs.Views.{key, fields, parents}
 use Rattle.literature_entries.specs.Wholes.{Whole, Holding, wholes, whole}
 use Rattle.literature_entries.specs.declared.entry.Entry.{Entry, the_lemmas}
-use Rattle.interop_readings.specs.Values.{first_or}
+use Rattle.interop_values.specs.Values.{first_or}
 
 -- all that an entry holds
 pub whole_is : (e : Entry) → whole e ≡ Holding (key e) (fields e) (wholes (map whole (parents e)))
@@ -20,6 +20,6 @@ pub before_none : {V : Type 0} (x : Option V) → first_or x None ≡ x
 before_none None = refl
 before_none (Some v) = refl
 
--- an entry behind others
+-- an entry after others
 pub last : (es : List Entry) (e : Entry) (w : Whole) → whole e ≡ w → map whole (es ++ e ∷ []) ≡ map whole es ++ w ∷ []
 last es e w same = map-append whole es (e ∷ []) ∙ ap (λ (x : Whole). map whole es ++ x ∷ []) same

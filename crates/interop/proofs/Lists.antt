@@ -1,7 +1,7 @@
--- Lists one behind the other.
+-- Lists one after the other.
 use Rattle.std.proofs.Common.{◌≡◌, List, ◌++◌, ap, ◌∙◌, append_assoc}
 
--- four lists behind one, put there one after the other
+-- four lists after one, put there one after the other
 pub four_behind : {X : Type 0} (before one two three four a b c d : List X) → a ≡ before ++ one → b ≡ a ++ two → c ≡ b ++ three → d ≡ c ++ four → d ≡ before ++ (one ++ (two ++ (three ++ four)))
 four_behind {X} before one two three four a b c d ea eb ec ed =
     ed ∙ (ap (λ (x : List X). x ++ four) ec

@@ -8,7 +8,7 @@ use Rattle.literature.specs.Keys.{put}
 use Rattle.literature_entries.specs.Views.{key}
 use Rattle.literature_entries.specs.Wholes.{Whole, whole}
 use Rattle.literature_entries.specs.declared.entry.Entry.{Entry}
-use Rattle.interop_readings.specs.Values.{values}
+use Rattle.interop_values.specs.Values.{values}
 use Rattle.interop.specs.Bridge.{Fault, faults_of, work_of, unless_faulty}
 use Rattle.interop.specs.Shelf.{key_of, is_xdata, works_in, all_faults, all_works, put_behind, library_of, PutsBy, IsPut, AreAlike}
 use Rattle.interop.proofs.Entries.{whole_is}
@@ -49,7 +49,7 @@ faults_in es = flat_map (λ (e : Source). faults_of e.key (values e.fields)) es
 abbrev works_of : List Source → List Whole
 works_of es = map (λ (e : Source). work_of e.key (written_type e.entry_type) (values e.fields)) es
 
--- a work with others behind it
+-- a work with others after it
 pub work_step : (e : Source) (es : List Source) (ws ws' : List Whole) (fs fs' : List Fault) → is_xdata (written_type e.entry_type) ≡ false → IsPut ws fs e ws' fs' → unless_faulty (fs' ++ all_faults es) (put_behind ws' (all_works es)) ≡ unless_faulty (fs ++ all_faults (e ∷ es)) (put_behind ws (all_works (e ∷ es)))
 work_step e es ws ws' fs fs' is h =
     step_by (faults_of e.key (values e.fields)) (work_of e.key (written_type e.entry_type) (values e.fields)) ws ws' fs fs' (all_faults es) (all_works es) h

@@ -6,17 +6,17 @@ use Rattle.biblatex_content.specs.Styled.{Member}
 use Rattle.biblatex_content.specs.Views.{styled}
 use Rattle.biblatex_content.specs.declared.chunk.Chunk.{Chunk}
 use Rattle.biblatex_text.specs.declared.spanned.Spanned.{Spanned}
-use Rattle.literature_dates.specs.declared.date.Date.{Date}
-use Rattle.literature_types.specs.declared.entry_type.EntryType.{EntryType}
-use Rattle.literature_types.specs.declared.entry_type.EntryType.TheVariants as works
+use Rattle.literature_values.specs.declared.date.Date.{Date}
+use Rattle.literature_values.specs.declared.entry_type.EntryType.{EntryType}
+use Rattle.literature_values.specs.declared.entry_type.EntryType.TheVariants as works
 use Rattle.literature_entries.specs.Fields.{nothing_but}
-use Rattle.interop_readings.specs.Readings.{format_of}
+use Rattle.interop_values.specs.Readings.{format_of}
 use Rattle.interop.specs.Bridge.{parent, titled, conference_of}
 
--- a work of a title that was lent
-pub lent_title : (t : EntryType) (r : Option (Bor (List (Spanned Chunk)))) (x : Option (List Member)) → option_map (λ v. styled v.now) r ≡ x → option_to_list (option_map (λ v. titled t (styled v.now)) r) ≡ option_to_list (option_map (titled t) x)
-lent_title t None x e = ap (λ (y : Option (List Member)). option_to_list (option_map (titled t) y)) e
-lent_title t (Some v) x e = ap (λ (y : Option (List Member)). option_to_list (option_map (titled t) y)) e
+-- a work of a title that was borrowed
+pub seen_title : (t : EntryType) (r : Option (Bor (List (Spanned Chunk)))) (x : Option (List Member)) → option_map (λ v. styled v.now) r ≡ x → option_to_list (option_map (λ v. titled t (styled v.now)) r) ≡ option_to_list (option_map (titled t) x)
+seen_title t None x e = ap (λ (y : Option (List Member)). option_to_list (option_map (titled t) y)) e
+seen_title t (Some v) x e = ap (λ (y : Option (List Member)). option_to_list (option_map (titled t) y)) e
 
 -- neither a title nor a date
 pub no_conference : (r : Option (Bor (List (Spanned Chunk)))) (date : Option Date) → (is_some r || is_some date) ≡ false → conference_of (option_map (λ v. styled v.now) r) date ≡ []

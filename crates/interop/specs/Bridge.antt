@@ -5,14 +5,14 @@ use Rattle.biblatex_content.specs.Styled.{Member}
 use Rattle.biblatex_dates.specs.declared.error.TypeErrorKind.{TypeErrorKind}
 use Rattle.biblatex_entries.specs.Entries.{Source}
 use Rattle.biblatex_entries.specs.TypeNames.{TypeName, written_type}
-use Rattle.literature_dates.specs.declared.date.Date.{Date}
-use Rattle.literature_types.specs.declared.entry_type.EntryType.{EntryType}
-use Rattle.literature_types.specs.declared.entry_type.EntryType.TheVariants as works
+use Rattle.literature_values.specs.declared.date.Date.{Date}
+use Rattle.literature_values.specs.declared.entry_type.EntryType.{EntryType}
+use Rattle.literature_values.specs.declared.entry_type.EntryType.TheVariants as works
 use Rattle.literature_entries.specs.Fields.{Fields, nothing_but}
 use Rattle.interop.specs.Kinds.{Container, row_of}
-use Rattle.interop_readings.specs.Values.{Values, values}
-use Rattle.interop_readings.specs.Readings.{ReadDate, format_of, people_under, own_date, date_under, date_kept}
-use Rattle.interop.specs.Fields.{own_fields, held_fields}
+use Rattle.interop_values.specs.Values.{Values, values}
+use Rattle.interop_values.specs.Readings.{ReadDate, format_of, people_under, own_date, date_under, date_if_read}
+use Rattle.interop.specs.Fields.{own_fields, container_fields}
 use Rattle.literature_entries.specs.Wholes.{Whole, Holding, wholes}
 
 -- a field that cannot be read: the key of its entry, its written name, and why
@@ -48,8 +48,8 @@ abbrev pub titled_under : EntryType → List ℕ → Values → List Whole
 titled_under t name v = option_to_list (option_map (titled t) (v name))
 
 -- the work that holds the entry: its own title and authors, and what the fields say of it; the series is its parent
-abbrev pub holding : Values → EntryType → List Member → Whole
-holding v t ms = parent (held_fields v (record (nothing_but t) { title = Some (format_of ms); author = people_under (codes "bookauthor") v })) (titled_under works.Anthology (codes "series") v)
+abbrev pub container_entry : Values → EntryType → List Member → Whole
+container_entry v t ms = parent (container_fields v (record (nothing_but t) { title = Some (format_of ms); author = people_under (codes "bookauthor") v })) (titled_under works.Anthology (codes "series") v)
 
 -- the conference, where its title or its date is there
 abbrev pub conference_of : Option (List Member) → Option Date → List Whole
@@ -61,19 +61,19 @@ abbrev pub original_of : Option Date → List Whole
 original_of None = []
 original_of (Some d) = parent (record (nothing_but works.Original) { date = Some d }) [] ∷ []
 
--- parents that do not hang on the container: the work of several volumes, the series, which is given only where there is no container,
+-- parents that are not parents of the container: the work of several volumes, the series, which is given only where there is no container,
 -- the conference and the original
 abbrev pub further : List Whole → Values → List Whole
 further series v =
     titled_under works.Book (codes "maintitle") v ++
     (series ++
-    (conference_of (v (codes "eventtitle")) (date_kept (date_under (codes "eventdate") v)) ++
-    original_of (date_kept (date_under (codes "origdate") v))))
+    (conference_of (v (codes "eventtitle")) (date_if_read (date_under (codes "eventdate") v)) ++
+    original_of (date_if_read (date_under (codes "origdate") v))))
 
 -- an entry without a container, or in the container of a title
 abbrev pub entry_in : List ℕ → Values → EntryType → Option (EntryType × List Member) → Whole
-entry_in key v t None = Holding key (held_fields v (own_fields v t)) (wholes (further (titled_under works.Anthology (codes "series") v) v))
-entry_in key v t (Some held) = Holding key (own_fields v t) (wholes (holding v held.0 held.1 ∷ further [] v))
+entry_in key v t None = Holding key (container_fields v (own_fields v t)) (wholes (further (titled_under works.Anthology (codes "series") v) v))
+entry_in key v t (Some outer) = Holding key (own_fields v t) (wholes (container_entry v outer.0 outer.1 ∷ further [] v))
 
 -- the container of a row, where its title is there
 abbrev pub container_of : Option Container → Values → Option (EntryType × List Member)

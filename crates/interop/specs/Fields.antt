@@ -1,13 +1,13 @@
 -- What a library's entry says of itself, by the contents of the fields.
 use Rattle.std.specs.Prelude.{ℕ, Bool, true, false, List, Option, Some, None, codes}
-use Rattle.literature_types.specs.declared.entry_type.EntryType.{EntryType}
-use Rattle.literature_types.specs.declared.entry_type.EntryType.TheVariants as works
+use Rattle.literature_values.specs.declared.entry_type.EntryType.{EntryType}
+use Rattle.literature_values.specs.declared.entry_type.EntryType.TheVariants as works
 use Rattle.literature_entries.specs.Fields.{Fields, Serials, nothing_but}
-use Rattle.literature_values.specs.TypedViews.{Held}
+use Rattle.literature_values.specs.TypedViews.{ValueOrText}
 use Rattle.literature_numbers.specs.Numerics.{Numeral}
 use Rattle.literature_entries.specs.Names.{with_number}
-use Rattle.interop_readings.specs.Values.{Values, first_or}
-use Rattle.interop_readings.specs.Readings.{title_of, format_under, people_under, number_under, total_under, pages_under, bytes_under, publisher_of, own_date, date_under, date_kept, address_of}
+use Rattle.interop_values.specs.Values.{Values, first_or}
+use Rattle.interop_values.specs.Readings.{title_of, format_under, people_under, number_under, total_under, pages_under, bytes_under, publisher_of, own_date, date_under, date_if_read, address_of}
 
 -- numbers with one more under the name of a scheme, if there is one
 abbrev pub also : List ℕ → Option (List ℕ) → Option Serials → Option Serials
@@ -20,11 +20,11 @@ own_fields v t = record (nothing_but t) {
   title = title_of v;
   author = people_under (codes "author") v;
   translator = people_under (codes "translator") v;
-  date = date_kept (own_date v);
+  date = date_if_read (own_date v);
   chapter = number_under (codes "chapter") v;
   page_range = pages_under (codes "pages") v;
   page_total = total_under (codes "pagetotal") v;
-  url = address_of (date_kept (date_under (codes "urldate") v)) v;
+  url = address_of (date_if_read (date_under (codes "urldate") v)) v;
   serial_number = also (codes "doi") (bytes_under (codes "doi") v) None;
   note = format_under (codes "note") v;
   language = bytes_under (codes "langid") v;
@@ -35,7 +35,7 @@ is_periodical works.Periodical = true
 is_periodical _ = false
 
 -- the issue of a periodical, by `number` or else by `issue`; other works have none
-abbrev pub issue_of : Bool → Values → Option (Held Numeral)
+abbrev pub issue_of : Bool → Values → Option (ValueOrText Numeral)
 issue_of true v = first_or (number_under (codes "number") v) (number_under (codes "issue") v)
 issue_of false v = None
 
@@ -45,8 +45,8 @@ series_number true v = None
 series_number false v = bytes_under (codes "number") v
 
 -- what the fields say of the container, or of the entry itself where there is no container
-abbrev pub held_fields : Values → Fields → Fields
-held_fields v fs = record fs {
+abbrev pub container_fields : Values → Fields → Fields
+container_fields v fs = record fs {
   editor = people_under (codes "editor") v;
   publisher = publisher_of v;
   volume = number_under (codes "volume") v;

@@ -1,8 +1,8 @@
 -- What an entry of each type is in a library, and what it is part of.
 use Rattle.std.specs.Prelude.{ℕ, List, [], ◌∷◌, if◌then◌else◌, Option, Some, None, codes}
 use Rattle.biblatex_entries.specs.TypeNames.{TypeName, is_one_of}
-use Rattle.literature_types.specs.declared.entry_type.EntryType.{EntryType}
-use Rattle.literature_types.specs.declared.entry_type.EntryType.TheVariants as works
+use Rattle.literature_values.specs.declared.entry_type.EntryType.{EntryType}
+use Rattle.literature_values.specs.declared.entry_type.EntryType.TheVariants as works
 
 -- a work that holds others, and the field in which they name its title
 pub record Container : Type 0 where
@@ -20,7 +20,7 @@ alone t = record { entry_type = t; container = None }
 
 -- a type with a container, whose title stands in a field
 abbrev pub part_of : EntryType → List ℕ → EntryType → Row
-part_of held title t = record { entry_type = t; container = Some (record { entry_type = held; title = title }) }
+part_of outer title t = record { entry_type = t; container = Some (record { entry_type = outer; title = title }) }
 
 -- the row of a type that stands for it where entries are written
 abbrev pub row_of : TypeName → Row

@@ -4,7 +4,7 @@ use Rattle.std.specs.List.{flat_map}
 use Rattle.biblatex_entries.specs.Entries.{Source}
 use Rattle.biblatex_entries.specs.TypeNames.{TypeName, is_one_of, written_type}
 use Rattle.literature.specs.Keys.{put}
-use Rattle.interop_readings.specs.Values.{values}
+use Rattle.interop_values.specs.Values.{values}
 use Rattle.literature_entries.specs.Wholes.{Whole, Holding}
 use Rattle.interop.specs.Bridge.{Fault, bridged, faults_of, work_of, unless_faulty}
 
@@ -28,7 +28,7 @@ all_faults es = flat_map (λ e. faults_of e.key (values e.fields)) (works_in es)
 abbrev pub all_works : List Source → List Whole
 all_works es = map (λ e. work_of e.key (written_type e.entry_type) (values e.fields)) (works_in es)
 
--- works behind those that are there; of equal keys the last stands at the first's place
+-- works after those that are there; of equal keys the last stands at the first's place
 abbrev pub put_behind : List Whole → List Whole → List Whole
 put_behind ws [] = ws
 put_behind ws (w ∷ more) = put_behind (put key_of ws w) more
@@ -37,12 +37,12 @@ put_behind ws (w ∷ more) = put_behind (put key_of ws w) more
 abbrev pub library_of : List Source → Result (List Whole) (List Fault)
 library_of es = unless_faulty (all_faults es) (put_behind [] (all_works es))
 
--- A work is put on the shelf, or faults go behind the others.
+-- A work is put on the shelf, or faults go after the others.
 abbrev pub PutsBy : Result Whole (List Fault) → List Whole → List Fault → List Whole → List Fault → Type 0
 PutsBy (Ok w) ws fs ws' fs' = (ws' ≡ put key_of ws w) × (fs' ≡ fs)
 PutsBy (Err found) ws fs ws' fs' = (ws' ≡ ws) × (fs' ≡ fs ++ found)
 
--- The work that an entry is is put on the shelf, or its faults go behind the others.
+-- The work that an entry is is put on the shelf, or its faults go after the others.
 abbrev pub IsPut : List Whole → List Fault → Source → List Whole → List Fault → Type 0
 IsPut ws fs e ws' fs' = PutsBy (bridged e) ws fs ws' fs'
 

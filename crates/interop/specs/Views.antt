@@ -1,26 +1,26 @@
 -- What the code holds, as plain data.
-use Rattle.std.specs.Prelude.{◌≡◌, List, map, None, Result, Ok, Err, codes, string_bytes}
+use Rattle.std.specs.Prelude.{◌≡◌, List, map, Option, Some, None, codes, string_bytes}
 use Rattle.std.specs.Option.{option_map}
 use Rattle.interop.specs.Kinds.{Container, Row}
 use Rattle.interop.specs.Bridge.{Fault}
 use Rattle.interop.specs.DateFields.{field_name}
-use Rattle.interop.specs.declared.kinds.Container.{Container as HeldContainer}
-use Rattle.interop.specs.declared.kinds.Row.{Row as HeldRow}
-use Rattle.literature.specs.Kept.{entries}
+use Rattle.interop.specs.declared.kinds.Container.{Container as CodeContainer}
+use Rattle.interop.specs.declared.kinds.Row.{Row as CodeRow}
+use Rattle.literature.specs.Entries.{entries}
 use Rattle.literature.specs.declared.library.Library.{Library}
 use Rattle.literature_entries.specs.Wholes.{Whole, whole}
 use Rattle.literature_entries.specs.Fields.{Fields}
-use Rattle.interop_readings.specs.Values.{Values}
-use Rattle.interop_readings.specs.Readings.{own_date, date_under, date_kept}
+use Rattle.interop_values.specs.Values.{Values}
+use Rattle.interop_values.specs.Readings.{own_date, date_under, date_if_read}
 use Rattle.interop.specs.declared.dates.Dates.{Dates}
 use Rattle.interop.specs.declared.error.FieldFault.{FieldFault}
 use Rattle.interop.specs.declared.error.BridgeError.{BridgeError}
 use Rattle.interop.specs.declared.error.BridgeError.TheVariants as errors
 
-abbrev pub container : HeldContainer → Container
+abbrev pub container : CodeContainer → Container
 container c = record { entry_type = c.entry_type; title = c.title.now }
 
-abbrev pub row : HeldRow → Row
+abbrev pub row : CodeRow → Row
 row r = record { entry_type = r.entry_type; container = option_map container r.container }
 
 abbrev pub fault : FieldFault → Fault
@@ -30,19 +30,18 @@ fault f = record { key = string_bytes f.key; field = field_name f.field; kind = 
 abbrev pub shelf : Library → List Whole
 shelf l = map whole (entries l)
 
--- What was made, seen by view, or the faults, are what is wanted; of want of memory nothing is said.
-abbrev pub Gives : {X Y : Type 0} → (X → Y) → Result X BridgeError → Result Y (List Fault) → Type 0
-Gives view (Ok x) wanted = wanted ≡ Ok (view x)
-Gives view (Err errors.Memory) wanted = Unit {0}
-Gives view (Err (errors.Fields fs)) wanted = wanted ≡ Err (map fault fs.items)
+-- the faults that an error tells of; out of memory tells of none
+abbrev pub refusal_of : BridgeError → Option (List Fault)
+refusal_of errors.Memory = None
+refusal_of (errors.Fields fs) = Some (map fault fs.items)
 
 -- the dates of an entry as a library keeps them
 abbrev pub dates_of : Values → Dates
 dates_of v = record {
-  own = date_kept (own_date v);
-  event = date_kept (date_under (codes "eventdate") v);
-  original = date_kept (date_under (codes "origdate") v);
-  visited = date_kept (date_under (codes "urldate") v);
+  own = date_if_read (own_date v);
+  event = date_if_read (date_under (codes "eventdate") v);
+  original = date_if_read (date_under (codes "origdate") v);
+  visited = date_if_read (date_under (codes "urldate") v);
 }
 
 -- Nothing has been said yet that a container says.

@@ -7,29 +7,31 @@ ghost use Rattle.biblatex_entries.specs.TypeNames.{type_name, written_type};
 ghost use Rattle.biblatex_content.specs.Views.{styled};
 ghost use Rattle.literature.specs.Keys.{AreDistinct};
 ghost use Rattle.literature_entries.specs.Views as views;
-ghost use Rattle.interop_readings.specs.Values.{values};
+ghost use Rattle.interop_values.specs.Values.{values};
 ghost use Rattle.interop.specs.Kinds.{row_of};
-ghost use Rattle.literature_types.specs.declared.entry_type.EntryType.TheVariants as works;
+ghost use Rattle.literature_values.specs.declared.entry_type.EntryType.TheVariants as works;
 ghost use Rattle.literature_entries.specs.Wholes.{Holding, wholes, whole};
-ghost use Rattle.interop.specs.Fields.{held_fields};
+ghost use Rattle.interop.specs.Fields.{container_fields};
 ghost use Rattle.interop.specs.Bridge.{bridged, unless_faulty, work_of, container_of, further, titled_under};
 ghost use Rattle.interop.specs.Shelf.{is_xdata, all_faults, all_works, put_behind, library_of, IsPut, AreAlike};
-ghost use Rattle.interop.specs.Views.{container, dates_of, shelf, fault, row, Gives, IsBare};
+ghost use Rattle.interop.specs.Views.{container, dates_of, shelf, fault, row, IsBare, refusal_of};
+ghost use Rattle.laws.specs.Results.{Gives};
 
 use crate::dates::{Dates, read_dates};
 use crate::error::{BridgeError, FieldFault};
-use crate::fields::{hold, own_entry};
+use crate::fields::{own_entry, set_container_fields};
 use crate::kinds::{Container, row_of};
-use crate::parents::{holding, push_further};
+use crate::parents::{container_entry, push_further};
 use biblatex_bibliography::Bibliography;
 use biblatex_content::{Chunk, Spanned};
 use biblatex_entries::{Entry as SourceEntry, EntryType as SourceType};
 use biblatex_fields::Fields;
-use interop_readings::{owned, value};
+use interop_values::value;
 use literature::Library;
 use literature_entries::Entry;
-use literature_types::EntryType;
+use literature_values::EntryType;
 use std::alloc::{AllocError, Global};
+use texts::owned;
 
 /// What an entry of a file is in a library: its type, its fields and the works that it is part of, by the names under which its
 /// type and its fields are written.
@@ -38,7 +40,7 @@ use std::alloc::{AllocError, Global};
 /// `Fields` with all dates that cannot be read, in the order `date`, `eventdate`, `origdate`, `urldate`; `Memory` where a
 /// request for memory was refused.
 pub fn entry(alloc: Global, read: &SourceEntry) -> Result<Entry, BridgeError>
-    ensures { Gives whole result (bridged (source read.now)) }
+    ensures { Gives refusal_of whole result (bridged (source read.now)) }
 {
     let dates = read_dates(alloc, read.key.as_str(), &read.fields)?;
     Ok(work(alloc, read, dates)?)
@@ -55,8 +57,8 @@ fn work(alloc: Global, read: &SourceEntry, dates: Dates) -> Result<Entry, AllocE
     let entry = own_entry(alloc, key, row.entry_type, fields, dates)?;
     match container_of(row.container, fields) {
         Some((entry_type, title)) => {
-            let held = holding(alloc, fields, entry_type, title)?;
-            within(alloc, entry, held, fields, dates)
+            let outer = container_entry(alloc, fields, entry_type, title)?;
+            within(alloc, entry, outer, fields, dates)
         }
         None => by_itself(alloc, entry, fields, dates),
     }
@@ -66,15 +68,15 @@ fn work(alloc: Global, read: &SourceEntry, dates: Dates) -> Result<Entry, AllocE
 fn within(
     alloc: Global,
     mut entry: Entry,
-    held: Entry,
+    outer: Entry,
     fields: &Fields,
     dates: Dates,
 ) -> Result<Entry, AllocError>
     requires { dates ≡ dates_of (values fields.now) }
-    ensures { IfOk result (λ e. whole e ≡ Holding (views.key entry) (views.fields entry) (wholes (whole held ∷ further [] (values fields.now)))) }
+    ensures { IfOk result (λ e. whole e ≡ Holding (views.key entry) (views.fields entry) (wholes (whole outer ∷ further [] (values fields.now)))) }
 {
     let mut parents = Vec::new(alloc);
-    parents.push(held)?;
+    parents.push(outer)?;
     push_further(alloc, &mut parents, fields, None, dates)?;
     entry.set_parents(parents);
     Ok(entry)
@@ -89,9 +91,9 @@ fn by_itself(
 ) -> Result<Entry, AllocError>
     requires bare { IsBare (views.fields entry) }
     requires dates { dates ≡ dates_of (values fields.now) }
-    ensures { IfOk result (λ e. whole e ≡ Holding (views.key entry) (held_fields (values fields.now) (views.fields entry)) (wholes (further (titled_under works.Anthology (codes "series") (values fields.now)) (values fields.now)))) }
+    ensures { IfOk result (λ e. whole e ≡ Holding (views.key entry) (container_fields (values fields.now) (views.fields entry)) (wholes (further (titled_under works.Anthology (codes "series") (values fields.now)) (values fields.now)))) }
 {
-    hold(alloc, &mut entry, fields)?;
+    set_container_fields(alloc, &mut entry, fields)?;
     let parents = series_and_further(alloc, fields, dates)?;
     entry.set_parents(parents);
     Ok(entry)
@@ -113,12 +115,12 @@ fn series_and_further(
 
 /// The type of the container and its title, where the title is there.
 fn container_of<'f>(
-    held: Option<Container>,
+    wanted: Option<Container>,
     fields: &'f Fields,
 ) -> Option<(EntryType, &'f [Spanned<Chunk>])>
-    ensures { option_map (λ c. (c.0, styled c.1.now)) result ≡ container_of (option_map container held) (values fields.now) }
+    ensures { option_map (λ c. (c.0, styled c.1.now)) result ≡ container_of (option_map container wanted) (values fields.now) }
 {
-    let container = held?;
+    let container = wanted?;
     let title = value(fields, container.title)?;
     Some((container.entry_type, title))
 }
@@ -130,9 +132,9 @@ fn container_of<'f>(
 /// `Fields` with all dates that cannot be read, in the order of the file; `Memory` where a request for memory was refused.
 pub fn from_biblatex(alloc: Global, bibliography: &Bibliography) -> Result<Library, BridgeError>
     // The library of the entries, or all faults of works.
-    ensures library { Gives shelf result (library_of bibliography.now.entries) }
+    ensures library { Gives refusal_of shelf result (library_of bibliography.now.entries) }
     // The same as of any entries with equal keys, written types and contents under written names.
-    ensures alike { (es : List Source) → AreAlike es bibliography.now.entries → Gives shelf result (library_of es) }
+    ensures alike { (es : List Source) → AreAlike es bibliography.now.entries → Gives refusal_of shelf result (library_of es) }
 {
     let mut library = Library::new(alloc);
     let mut faults = Vec::new(alloc);
@@ -142,7 +144,7 @@ pub fn from_biblatex(alloc: Global, bibliography: &Bibliography) -> Result<Libra
 
 /// The library, unless there are faults.
 fn finished(library: Library, faults: Vec<FieldFault>) -> Result<Library, BridgeError>
-    ensures { Gives shelf result (unless_faulty (map fault faults.items) (shelf library)) }
+    ensures { Gives refusal_of shelf result (unless_faulty (map fault faults.items) (shelf library)) }
 {
     if faults.is_empty() {
         return Ok(library);
@@ -150,7 +152,7 @@ fn finished(library: Library, faults: Vec<FieldFault>) -> Result<Library, Bridge
     Err(BridgeError::Fields(faults))
 }
 
-/// Puts works into the library, or faults behind the others.
+/// Appends works into the library, or faults after the others.
 fn put_all(
     alloc: Global,
     library: &mut Library,
@@ -165,14 +167,14 @@ fn put_all(
     Ok(())
 }
 
-/// Puts an entry into the library, or its faults behind the others, unless it only lends its fields.
+/// Appends an entry into the library, or its faults after the others, unless it only lends its fields.
 fn put_work(
     alloc: Global,
     library: &mut Library,
     faults: &mut Vec<FieldFault>,
     read: &SourceEntry,
 ) -> Result<(), AllocError>
-    // The entries behind it make of the library and the faults what it makes of them with those behind it.
+    // The entries after it make of the library and the faults what it makes of them with those after it.
     ensures { OnOk result ((rest : List Source) → unless_faulty (map fault faults.new.items ++ all_faults rest) (put_behind (shelf library.new) (all_works rest)) ≡ unless_faulty (map fault faults.old.items ++ all_faults (source read.now ∷ rest)) (put_behind (shelf library.old) (all_works (source read.now ∷ rest)))) }
 {
     if is_xdata(&read.entry_type) {
@@ -182,16 +184,13 @@ fn put_work(
 }
 
 /// Whether entries of the type only lend their fields.
-fn is_xdata(entry_type: &SourceType) -> bool
+pub fn is_xdata(entry_type: &SourceType) -> bool
     ensures { result ≡ is_xdata (written_type (type_name entry_type.now)) }
 {
-    match entry_type {
-        SourceType::XData => true,
-        _ => false,
-    }
+    matches!(entry_type, SourceType::XData)
 }
 
-/// Puts an entry into the library, or its faults behind the others.
+/// Appends an entry into the library, or its faults after the others.
 fn put(
     alloc: Global,
     library: &mut Library,
@@ -207,7 +206,7 @@ fn put(
     }
 }
 
-/// Puts faults behind others.
+/// Appends faults after others.
 fn push_all(faults: &mut Vec<FieldFault>, found: Vec<FieldFault>) -> Result<(), AllocError>
     ensures { OnOk result (map fault faults.new.items ≡ map fault faults.old.items ++ map fault found.items) }
 {

@@ -4,9 +4,9 @@ ghost use Rattle.std.specs.Prelude.{◌≡◌, [], IfOk, OnOk, string_bytes};
 ghost use Rattle.std.specs.Option.{option_map};
 ghost use Rattle.literature_entries.specs.Views as views;
 ghost use Rattle.literature_numbers.specs.Views.{numeral};
-ghost use Rattle.literature_values.specs.TypedViews.{held};
-ghost use Rattle.interop_readings.specs.Values.{values};
-ghost use Rattle.interop.specs.Fields.{own_fields, is_periodical, issue_of, series_number, held_fields};
+ghost use Rattle.literature_values.specs.TypedViews.{value_or_text};
+ghost use Rattle.interop_values.specs.Values.{values};
+ghost use Rattle.interop.specs.Fields.{own_fields, is_periodical, issue_of, series_number, container_fields};
 ghost use Rattle.interop.specs.Views.{dates_of, IsBare};
 
 use crate::dates::Dates;
@@ -16,14 +16,13 @@ use crate::setting::{
     set_volume, set_volume_total,
 };
 use biblatex_fields::Fields;
-use interop_readings::{
+use interop_values::{
     address, format_under, number_under, pages_under, people_under, publisher, text_under, title,
     total_under,
 };
 use literature_entries::Entry;
 use literature_numbers::Numeric;
-use literature_types::EntryType;
-use literature_values::MaybeTyped;
+use literature_values::{EntryType, MaybeTyped};
 use std::alloc::{AllocError, Global};
 
 /// An entry of that key and type, with what the fields say of the entry itself.
@@ -55,9 +54,13 @@ pub(crate) fn own_entry(
 }
 
 /// Adds what the fields say of the container, or of the entry itself where there is no container.
-pub(crate) fn hold(alloc: Global, entry: &mut Entry, fields: &Fields) -> Result<(), AllocError>
+pub(crate) fn set_container_fields(
+    alloc: Global,
+    entry: &mut Entry,
+    fields: &Fields,
+) -> Result<(), AllocError>
     requires { IsBare (views.fields entry.old) }
-    ensures { OnOk result (views.Sets entry.old (held_fields (values fields.now) (views.fields entry.old)) entry.new) }
+    ensures { OnOk result (views.Sets entry.old (container_fields (values fields.now) (views.fields entry.old)) entry.new) }
 {
     let is_periodical = is_periodical(*entry.entry_type());
     set_editor(entry, people_under(alloc, fields, "editor")?);
@@ -91,7 +94,7 @@ fn issue(
     fields: &Fields,
     is_periodical: bool,
 ) -> Result<Option<MaybeTyped<Numeric>>, AllocError>
-    ensures { IfOk result (λ n. option_map (held numeral) n ≡ issue_of is_periodical (values fields.now)) }
+    ensures { IfOk result (λ n. option_map (value_or_text numeral) n ≡ issue_of is_periodical (values fields.now)) }
 {
     if !is_periodical {
         return Ok(None);

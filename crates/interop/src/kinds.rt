@@ -6,7 +6,7 @@ ghost use Rattle.interop.specs.Kinds.{alone, part_of, row_of};
 ghost use Rattle.interop.specs.Views.{row};
 
 use biblatex_entries::EntryType as SourceType;
-use literature_types::EntryType;
+use literature_values::EntryType;
 
 /// A work that holds others, and the field in which they name its title.
 #[derive(Clone, Copy)]

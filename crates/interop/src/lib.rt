@@ -9,5 +9,5 @@ mod kinds;
 mod parents;
 mod setting;
 
-pub use bridge::{entry, from_biblatex};
+pub use bridge::{entry, from_biblatex, is_xdata};
 pub use error::{BridgeError, DateField, FieldFault};

@@ -3,36 +3,34 @@
 ghost use Rattle.std.specs.Prelude.{◌≡◌, ◌||◌, ◌++◌, ◌∷◌, [], map, IfOk, OnOk, option_to_list, codes};
 ghost use Rattle.std.specs.Option.{option_map, is_some};
 ghost use Rattle.biblatex_content.specs.Views.{styled};
-ghost use Rattle.literature_types.specs.declared.entry_type.EntryType.TheVariants as works;
-ghost use Rattle.interop_readings.specs.Values.{values};
+ghost use Rattle.literature_values.specs.declared.entry_type.EntryType.TheVariants as works;
+ghost use Rattle.interop_values.specs.Values.{values};
 ghost use Rattle.literature_entries.specs.Wholes.{whole};
-ghost use Rattle.interop.specs.Bridge.{titled, titled_under, holding, conference_of, original_of, further};
+ghost use Rattle.interop.specs.Bridge.{titled, titled_under, container_entry, conference_of, original_of, further};
 ghost use Rattle.interop.specs.Views.{dates_of};
 
 use crate::dates::Dates;
-use crate::fields::hold;
+use crate::fields::set_container_fields;
 use crate::setting::{set_author, set_date, set_title};
 use biblatex_content::{Chunk, Spanned};
 use biblatex_fields::Fields;
-use interop_readings::{empty_text, format, format_if, people_under, value};
-use literature_dates::Date;
+use interop_values::{format, format_if, people_under, value};
 use literature_entries::Entry;
-use literature_types::EntryType;
+use literature_values::{Date, EntryType};
 use std::alloc::{AllocError, Global};
+use texts::empty_text;
 
 /// The work that holds an entry.
-pub(crate) fn holding(
+pub(crate) fn container_entry(
     alloc: Global,
     fields: &Fields,
     entry_type: EntryType,
     title: &[Spanned<Chunk>],
 ) -> Result<Entry, AllocError>
-    ensures { IfOk result (λ e. whole e ≡ holding (values fields.now) entry_type (styled title.now)) }
+    ensures { IfOk result (λ e. whole e ≡ container_entry (values fields.now) entry_type (styled title.now)) }
 {
-    let mut held = Entry::new(empty_text(alloc), entry_type);
-    set_title(&mut held, Some(format(alloc, title)?));
-    set_author(&mut held, people_under(alloc, fields, "bookauthor")?);
-    hold(alloc, &mut held, fields)?;
+    let title = format(alloc, title)?;
+    let author = people_under(alloc, fields, "bookauthor")?;
     let mut parents = Vec::new(alloc);
     push_titled(
         alloc,
@@ -40,11 +38,15 @@ pub(crate) fn holding(
         EntryType::Anthology,
         value(fields, "series"),
     )?;
-    held.set_parents(parents);
-    Ok(held)
+    let mut outer = Entry::new(empty_text(alloc), entry_type);
+    set_title(&mut outer, Some(title));
+    set_author(&mut outer, author);
+    set_container_fields(alloc, &mut outer, fields)?;
+    outer.set_parents(parents);
+    Ok(outer)
 }
 
-/// Puts the parents that do not hang on the container last; the series is among them where there is no container.
+/// Appends the parents that are not parents of the container; the series is among them where there is no container.
 pub(crate) fn push_further(
     alloc: Global,
     parents: &mut Vec<Entry>,
@@ -61,7 +63,7 @@ pub(crate) fn push_further(
     push_original(alloc, parents, dates.original)
 }
 
-/// Puts a work of a title alone last, where there is one.
+/// Appends a work of a title alone, where there is one.
 fn push_titled(
     alloc: Global,
     parents: &mut Vec<Entry>,
@@ -76,7 +78,7 @@ fn push_titled(
     }
 }
 
-/// Puts a work of a title alone last.
+/// Appends a work of a title alone.
 fn push_work(
     alloc: Global,
     parents: &mut Vec<Entry>,
@@ -85,12 +87,13 @@ fn push_work(
 ) -> Result<(), AllocError>
     ensures { OnOk result (map whole parents.new.items ≡ map whole parents.old.items ++ titled entry_type (styled title.now) ∷ []) }
 {
+    let title = format(alloc, title)?;
     let mut work = Entry::new(empty_text(alloc), entry_type);
-    set_title(&mut work, Some(format(alloc, title)?));
+    set_title(&mut work, Some(title));
     Ok(parents.push(work)?)
 }
 
-/// Puts the conference last, where its title or its date is there.
+/// Appends the conference, where its title or its date is there.
 #[tactic(auto, using(crate::proofs::Titled::no_conference))]
 fn push_conference(
     alloc: Global,
@@ -103,8 +106,9 @@ fn push_conference(
     if !has_conference(title, date) {
         return Ok(());
     }
+    let title = format_if(alloc, title)?;
     let mut conference = Entry::new(empty_text(alloc), EntryType::Conference);
-    set_title(&mut conference, format_if(alloc, title)?);
+    set_title(&mut conference, title);
     set_date(&mut conference, date);
     Ok(parents.push(conference)?)
 }
@@ -116,7 +120,7 @@ fn has_conference(title: Option<&[Spanned<Chunk>]>, date: Option<Date>) -> bool
     title.is_some() || date.is_some()
 }
 
-/// Puts the original last, where its date is there.
+/// Appends the original, where its date is there.
 fn push_original(
     alloc: Global,
     parents: &mut Vec<Entry>,

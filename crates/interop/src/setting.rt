@@ -7,14 +7,13 @@ ghost use Rattle.literature_numbers.specs.Views.{numeral};
 ghost use Rattle.literature_values.specs.TextViews.{format, publishing};
 ghost use Rattle.literature_entries.specs.Views.{people, fields, Sets};
 ghost use Rattle.literature_values.specs.OtherViews.{address};
-ghost use Rattle.literature_values.specs.TypedViews.{held};
-ghost use Rattle.interop_readings.specs.Values.{first_or};
+ghost use Rattle.literature_values.specs.TypedViews.{value_or_text};
+ghost use Rattle.interop_values.specs.Values.{first_or};
 ghost use Rattle.interop.specs.Fields.{also};
 
-use literature_dates::Date;
 use literature_entries::Entry;
 use literature_values::{
-    FormatString, MaybeTyped, Numeric, PageRanges, Person, Publisher, QualifiedUrl,
+    Date, FormatString, MaybeTyped, Numeric, PageRanges, Person, Publisher, QualifiedUrl,
 };
 use std::alloc::AllocError;
 
@@ -67,7 +66,7 @@ pub(crate) fn set_publisher(entry: &mut Entry, publisher: Option<Publisher>)
 }
 
 pub(crate) fn set_volume(entry: &mut Entry, volume: Option<MaybeTyped<Numeric>>)
-    ensures { Sets entry.old (record (fields entry.old) { volume = first_or (option_map (held numeral) volume) (fields entry.old).volume }) entry.new }
+    ensures { Sets entry.old (record (fields entry.old) { volume = first_or (option_map (value_or_text numeral) volume) (fields entry.old).volume }) entry.new }
 {
     if let Some(volume) = volume {
         entry.set_volume(volume);
@@ -83,7 +82,7 @@ pub(crate) fn set_volume_total(entry: &mut Entry, volume_total: Option<Numeric>)
 }
 
 pub(crate) fn set_issue(entry: &mut Entry, issue: Option<MaybeTyped<Numeric>>)
-    ensures { Sets entry.old (record (fields entry.old) { issue = first_or (option_map (held numeral) issue) (fields entry.old).issue }) entry.new }
+    ensures { Sets entry.old (record (fields entry.old) { issue = first_or (option_map (value_or_text numeral) issue) (fields entry.old).issue }) entry.new }
 {
     if let Some(issue) = issue {
         entry.set_issue(issue);
@@ -91,7 +90,7 @@ pub(crate) fn set_issue(entry: &mut Entry, issue: Option<MaybeTyped<Numeric>>)
 }
 
 pub(crate) fn set_chapter(entry: &mut Entry, chapter: Option<MaybeTyped<Numeric>>)
-    ensures { Sets entry.old (record (fields entry.old) { chapter = first_or (option_map (held numeral) chapter) (fields entry.old).chapter }) entry.new }
+    ensures { Sets entry.old (record (fields entry.old) { chapter = first_or (option_map (value_or_text numeral) chapter) (fields entry.old).chapter }) entry.new }
 {
     if let Some(chapter) = chapter {
         entry.set_chapter(chapter);
@@ -99,7 +98,7 @@ pub(crate) fn set_chapter(entry: &mut Entry, chapter: Option<MaybeTyped<Numeric>
 }
 
 pub(crate) fn set_edition(entry: &mut Entry, edition: Option<MaybeTyped<Numeric>>)
-    ensures { Sets entry.old (record (fields entry.old) { edition = first_or (option_map (held numeral) edition) (fields entry.old).edition }) entry.new }
+    ensures { Sets entry.old (record (fields entry.old) { edition = first_or (option_map (value_or_text numeral) edition) (fields entry.old).edition }) entry.new }
 {
     if let Some(edition) = edition {
         entry.set_edition(edition);
@@ -107,7 +106,7 @@ pub(crate) fn set_edition(entry: &mut Entry, edition: Option<MaybeTyped<Numeric>
 }
 
 pub(crate) fn set_page_range(entry: &mut Entry, page_range: Option<MaybeTyped<PageRanges>>)
-    ensures { Sets entry.old (record (fields entry.old) { page_range = first_or (option_map (held pages) page_range) (fields entry.old).page_range }) entry.new }
+    ensures { Sets entry.old (record (fields entry.old) { page_range = first_or (option_map (value_or_text pages) page_range) (fields entry.old).page_range }) entry.new }
 {
     if let Some(page_range) = page_range {
         entry.set_page_range(page_range);

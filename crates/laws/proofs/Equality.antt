@@ -11,7 +11,7 @@ use Rattle.std.proofs.lemmas.Iterator.Adapters.{option_map_id}
 use Rattle.std.proofs.lemmas.Str.{IsUtf8-string_bytes}
 use Rattle.laws.specs.Equality.{Shows}
 use Rattle.laws.specs.Text.{text}
-use Rattle.laws.proofs.Text.{text-chars}
+use Rattle.laws.proofs.Text.{text_of_chars}
 
 -- what is decided of a fact is decided of another that says the same
 pub Decides-moved : {P R : Type 0} (b : Bool) → Decides b P → (P → R) → (R → P) → Decides b R
@@ -25,7 +25,7 @@ Decides-never never = (λ h. search rules, λ p. absurd (never p))
 pub Shows-strings : Shows (string_eq {Z = Global}) (λ s. chars (string_bytes s))
 Shows-strings s t =
     Decides-moved (string_eq s t) (bytes_decides (string_bytes s) (string_bytes t)) (ap chars)
-    (λ e. sym (text-chars (string_bytes s) (IsUtf8-string_bytes s)) ∙ ap text e ∙ text-chars (string_bytes t) (IsUtf8-string_bytes t))
+    (λ e. sym (text_of_chars (string_bytes s) (IsUtf8-string_bytes s)) ∙ ap text e ∙ text_of_chars (string_bytes t) (IsUtf8-string_bytes t))
 
 pub Shows-options : {A V : Type 0} (same : A → A → Bool) (seen : A → V) → Shows same seen → Shows (option_eq same) (option_map seen)
 Shows-options same seen s None None = (λ h. refl, λ e. refl)

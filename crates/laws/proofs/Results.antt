@@ -1,7 +1,7 @@
 -- What steps in a row give.
-use Rattle.std.proofs.Common.{◌≡◌, Bool, true, false, cond, List, ℕ, Result, Ok, Err, refl}
-use Rattle.std.specs.Prelude.{IfOk, IsOk}
-use Rattle.laws.specs.Results.{◌>>=◌, Reads}
+use Rattle.std.proofs.Common.{◌≡◌, Bool, true, false, cond, List, ℕ, Option, Some, None, Result, Ok, Err, refl, sym}
+use Rattle.std.specs.Prelude.{IfOk, IsOk, is_some}
+use Rattle.laws.specs.Results.{◌>>=◌, Reads, EndsWith, Gives, GivesBack, BothRefuse, GivesOrRefuses}
 
 -- the value of a step that did not fail
 pub bind_ok : {F A B : Type 0} (r : Result A F) (f : A → Result B F) (y : B) → (r >>= f) ≡ Ok y → (x : A) × (r ≡ Ok x) × (f x ≡ Ok y)
@@ -56,7 +56,28 @@ if_ok_at {F} {A} Q r x e p = let h : IfOk {E = F} (Ok x) Q = rw e at p in h
 pub reads_ok : {F X Y : Type 0} (view : X → Y) (r : Result X F) (x : X) (rest : List ℕ) (read : Result (Y × List ℕ) F) → r ≡ Ok x → Reads view r rest read → read ≡ Ok (view x, rest)
 reads_ok {F} view r x rest read e h = let g : Reads {F = F} view (Ok x) rest read = rw e at h in g
 
--- a function whose reading has no fault answers Ok
+-- a function whose reading has no fault returns Ok
 pub reads_fine : {F X Y : Type 0} (view : X → Y) (r : Result X F) (rest : List ℕ) (read : Result (Y × List ℕ) F) → ((f : F) → read ≡ Err f → ⊥) → Reads view r rest read → IsOk r
 reads_fine view (Ok x) rest read never h = λ _. true
 reads_fine view (Err f) rest read never h = absurd (never f h)
+
+-- a refusal is not what a definition gives
+no_refusal : {F Y : Type 0} (refusal : Option F) (y : Y) → EndsWith refusal (done F y) → refusal ≡ None
+no_refusal None y h = refl
+no_refusal (Some f) y h = absurd cc
+
+-- where a definition gives a value, the call gives it back, seen by view
+pub gives_back : {E F V X : Type 0} (refusal : E → Option F) (view : X → V) (r : Result X E) (v : V) → Gives refusal view r (done F v) → GivesBack refusal view r v
+gives_back {E} {F} refusal view (Ok x) v same = ok_is {F = F} _ _ (sym same)
+gives_back refusal view (Err e) v same = no_refusal (refusal e) v same
+
+-- the same where both refuse
+neither_refuses : (F : Type 0) {G Y : Type 0} (refusal : Option G) (y : Y) → BothRefuse (is_some refusal) (done F y) → refusal ≡ None
+neither_refuses F None y h = refl
+neither_refuses F (Some g) y h =
+    let other = h.1 in
+    absurd cc
+
+pub gives_back_or_refuses : (F : Type 0) {E G V X : Type 0} (refusal : E → Option G) (view : X → V) (r : Result X E) (v : V) → GivesOrRefuses refusal view r (done F v) → GivesBack refusal view r v
+gives_back_or_refuses F refusal view (Ok x) v same = ok_is {F = F} _ _ (sym same)
+gives_back_or_refuses F refusal view (Err e) v same = neither_refuses F (refusal e) v same

@@ -13,8 +13,8 @@ chars-text bs cs u e =
     ap chars e ∙ chars-encodes cs fine
 
 -- a text is spelled from its characters
-pub text-chars : (bs : List ℕ) → IsUtf8 bs → text (chars bs) ≡ bs
-text-chars bs u = encodes-chars bs u
+pub text_of_chars : (bs : List ℕ) → IsUtf8 bs → text (chars bs) ≡ bs
+text_of_chars bs u = encodes-chars bs u
 
 pub text-append : (cs ds : List ℕ) → text (cs ++ ds) ≡ text cs ++ text ds
 text-append cs ds = encodes-append cs ds

@@ -1,5 +1,8 @@
 -- Characters and the texts that they spell. Characters are numbers, texts are bytes.
-use Rattle.std.specs.Prelude.{ℕ, List, map, encode_utf8_all}
+use Rattle.std.specs.Global.{Global}
+use Rattle.std.specs.Prelude.{ℕ, Bool, true, false, List, [], ◌∷◌, map, encode_utf8_all, String, string_bytes}
+use Rattle.std.specs.Borrow.{Bor}
+use Rattle.std.specs.Str.{chars}
 use Rattle.std.specs.Char.{to_ascii_lowercase}
 
 -- the bytes that spell the characters
@@ -9,3 +12,16 @@ text cs = encode_utf8_all cs
 -- the same in lower case, where only the ASCII letters have one
 abbrev pub lowered : List ℕ → List ℕ
 lowered cs = map to_ascii_lowercase (text cs)
+
+-- the characters of a text
+abbrev pub characters : String Global → List ℕ
+characters s = chars (string_bytes s)
+
+-- the characters of a borrowed text
+abbrev pub spelled : Bor (List ℕ) → List ℕ
+spelled s = chars s.now
+
+-- whether there is something in a list, as a character in a text
+abbrev pub is_filled : {A : Type 0} → List A → Bool
+is_filled [] = false
+is_filled (x ∷ xs) = true

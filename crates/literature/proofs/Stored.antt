@@ -28,7 +28,7 @@ found : (name : List ℕ) (es : Under) → AreInStep es
 found name [] h = refl
 found name (e ∷ es) h = λ i. cond (bytes_eq name (h.0 i)) (Some e.1) (found name es h.1 i)
 
--- one that was put behind others, or before them
+-- one that was put after others, or before them
 put_step : (b : Bool) (e : String Global × Entry) (entry : Entry) (es more : Under) (seen : List Entry) → values_of more ≡ seen
     → values_of (cond b ((e.0, entry) ∷ es) (e ∷ more)) ≡ cond b (entry ∷ values_of es) (e.1 ∷ seen)
 put_step true e entry es more seen i = refl

@@ -1,4 +1,4 @@
 pub mod Keys
 pub mod InStep
-pub mod Kept
+pub mod Entries
 pub mod Answers

@@ -21,7 +21,7 @@ pub struct Library {
 }
 
 impl Library {
-    ghost use Rattle.literature.specs.Kept.{entries};
+    ghost use Rattle.literature.specs.Entries.{entries};
 
     /// A library without entries.
     pub fn new(alloc: Global) -> Library
@@ -78,7 +78,7 @@ impl Library {
         Ok(())
     }
 
-    /// Takes the entry of that key out. Those behind it move up.
+    /// Takes the entry of that key out. Those after it move up.
     #[tactic(auto, using(crate::proofs::Stored::removed_in_step, crate::proofs::Stored::unique_keys))]
     pub fn remove(&mut self, key: &str) -> Option<Entry>
         ensures removed { result ≡ with_key views.key key.now (entries self.old) }
@@ -106,7 +106,7 @@ impl Library {
 }
 
 impl IntoIterator for Library {
-    ghost use Rattle.literature.specs.Kept.{entries};
+    ghost use Rattle.literature.specs.Entries.{entries};
 
     type Item = Entry;
 
@@ -121,7 +121,7 @@ impl IntoIterator for Library {
 }
 
 impl<'a> IntoIterator for &'a Library {
-    ghost use Rattle.literature.specs.Kept.{entries};
+    ghost use Rattle.literature.specs.Entries.{entries};
 
     type Item = &'a Entry;
 

@@ -3,9 +3,10 @@
 ghost use Rattle.std.specs.Prelude.{◌≡◌, ◌++◌, ◌∷◌, [], map, IfOk, OnOk};
 ghost use Rattle.std.specs.Str.{chars};
 ghost use Rattle.literature_selectors.specs.Reading.{selector_of};
-ghost use Rattle.literature_selectors.specs.Views.{meant, Means};
+ghost use Rattle.literature_selectors.specs.Views.{meant, fault};
+ghost use Rattle.laws.specs.Results.{Gives};
 ghost use Rattle.literature.specs.Answers.{answers, answered, shown};
-ghost use Rattle.literature.specs.Kept.{entries};
+ghost use Rattle.literature.specs.Entries.{entries};
 
 use crate::library::Library;
 use literature_entries::Entry;
@@ -25,7 +26,7 @@ impl Library {
     /// # Errors
     /// Those of `Selector::parse`.
     pub fn query(&self, alloc: Global, text: &str) -> Result<Vec<Selected<'_>>, SelectorError>
-        ensures { Means (λ v. map shown v.items) result (answered (selector_of (chars text.now)) (entries self.now)) }
+        ensures { Gives fault (λ v. map shown v.items) result (answered (selector_of (chars text.now)) (entries self.now)) }
     {
         let selector = Selector::parse(alloc, text)?;
         Ok(self.selected(alloc, &selector)?)

@@ -8,8 +8,8 @@ use Rattle.std.proofs.lemmas.Bool.Decides.{Decides-and, Decides-at}
 use denote.Enum.Bare.{same_true, true_same}
 use Rattle.laws.specs.Equality.{Shows}
 use Rattle.laws.proofs.Equality.{Decides-moved, Decides-never, Shows-options, Shows-options_themselves, Shows-lists, Shows-pairs}
-use Rattle.literature_types.specs.contracts.entry_type.EntryType.{the_type}
-use Rattle.literature_types.specs.contracts.entry_type.EntryTypePartialEq.TheImpl as types
+use Rattle.literature_values.specs.contracts.entry_type.EntryType.{the_type}
+use Rattle.literature_values.specs.contracts.entry_type.EntryTypePartialEq.TheImpl as types
 use Rattle.literature_numbers.specs.PageViews.{pages}
 use Rattle.literature_numbers.specs.Views.{numeral}
 use Rattle.literature_numbers.specs.contracts.numeric.Numeric.{the_row as numeric_row}
@@ -17,12 +17,12 @@ use Rattle.literature_numbers.specs.contracts.numeric.NumericPartialEq.TheImpl a
 use Rattle.literature_numbers.specs.contracts.page_ranges.PageRanges.{the_row as pages_row}
 use Rattle.literature_numbers.specs.contracts.page_ranges.PageRangesPartialEq.TheImpl as page_ranges
 use Rattle.literature_numbers.proofs.Equality.{Shows-Numeric}
-use Rattle.literature_dates.specs.contracts.date.DatePartialEq.TheImpl as date
-use Rattle.literature_dates.proofs.Equality.{Shows-Date}
+use Rattle.literature_values.specs.contracts.date.DatePartialEq.TheImpl as date
+use Rattle.literature_values.proofs.DateEquality.{Shows-Date}
 use Rattle.literature_values.specs.OtherViews.{address}
 use Rattle.literature_values.specs.PersonViews.{person}
 use Rattle.literature_values.specs.TextViews.{format as text, publishing}
-use Rattle.literature_values.specs.TypedViews.{held}
+use Rattle.literature_values.specs.TypedViews.{value_or_text}
 use Rattle.literature_values.specs.contracts.maybe_typed.MaybeTypedPartialEq.TheImpl as maybe_typed
 use Rattle.literature_values.specs.contracts.person.PersonPartialEq.TheImpl as one_person
 use Rattle.literature_values.specs.contracts.publisher.PublisherPartialEq.TheImpl as publisher
@@ -57,11 +57,11 @@ dates = Shows-options_themselves date.ghosts.eq Shows-Date
 numbers : Shows (option_eq numeric.ghosts.eq) (option_map numeral)
 numbers = Shows-options numeric.ghosts.eq numeral Shows-Numeric
 
-numbers_held : Shows (option_eq (maybe_typed.ghosts numeric_row numeric.ghosts numeric.dict).eq) (option_map (held numeral))
-numbers_held = Shows-options (maybe_typed.ghosts numeric_row numeric.ghosts numeric.dict).eq (held numeral) Shows-MaybeTyped-Numeric
+numbers_or_texts : Shows (option_eq (maybe_typed.ghosts numeric_row numeric.ghosts numeric.dict).eq) (option_map (value_or_text numeral))
+numbers_or_texts = Shows-options (maybe_typed.ghosts numeric_row numeric.ghosts numeric.dict).eq (value_or_text numeral) Shows-MaybeTyped-Numeric
 
-pages_held : Shows (option_eq (maybe_typed.ghosts pages_row page_ranges.ghosts page_ranges.dict).eq) (option_map (held pages))
-pages_held = Shows-options (maybe_typed.ghosts pages_row page_ranges.ghosts page_ranges.dict).eq (held pages) Shows-MaybeTyped-PageRanges
+pages_or_texts : Shows (option_eq (maybe_typed.ghosts pages_row page_ranges.ghosts page_ranges.dict).eq) (option_map (value_or_text pages))
+pages_or_texts = Shows-options (maybe_typed.ghosts pages_row page_ranges.ghosts page_ranges.dict).eq (value_or_text pages) Shows-MaybeTyped-PageRanges
 
 addresses : Shows (option_eq url.ghosts.eq) (option_map address)
 addresses = Shows-options url.ghosts.eq address Shows-QualifiedUrl
@@ -103,12 +103,12 @@ Shows-Details a b =
     (both (lists a.translator b.translator)
     (both (dates a.date b.date)
     (both (publishers a.publisher b.publisher)
-    (both (numbers_held a.volume b.volume)
+    (both (numbers_or_texts a.volume b.volume)
     (both (numbers a.volume_total b.volume_total)
-    (both (numbers_held a.issue b.issue)
-    (both (numbers_held a.chapter b.chapter)
-    (both (numbers_held a.edition b.edition)
-    (both (pages_held a.page_range b.page_range)
+    (both (numbers_or_texts a.issue b.issue)
+    (both (numbers_or_texts a.chapter b.chapter)
+    (both (numbers_or_texts a.edition b.edition)
+    (both (pages_or_texts a.page_range b.page_range)
     (both (numbers a.page_total b.page_total)
     (both (addresses a.url b.url)
     (both (serial_numbers a.serial_number b.serial_number)

@@ -7,7 +7,7 @@ use Rattle.std.specs.BTreeMap.{insert_entry}
 use Rattle.std.proofs.lemmas.Map.Text.{is_eq-slice_cmp}
 use Rattle.literature_entries.specs.Views.{pair}
 
--- a pair behind others, or the first one, by what a test says of it
+-- a pair after others, or the first one, by what a test says of it
 found_step : (b : Bool) (v : String Global) (rest : Option (String Global)) (seen : Option (List ℕ)) → seen ≡ option_map string_bytes rest
     → cond b (Some (string_bytes v)) seen ≡ option_map string_bytes (cond b (Some v) rest)
 found_step true v rest seen e = refl
@@ -21,7 +21,7 @@ number_found name (e ∷ es) =
     found_step (bytes_eq name (string_bytes e.0)) e.1 _ _ (number_found name es)
     ∙ ap (λ b. option_map string_bytes (cond b (Some e.1) (lookup (λ k. is_eq (slice_cmp nat_cmp name (string_bytes k))) es))) (sym (is_eq-slice_cmp name (string_bytes e.0)))
 
--- a pair before, at or behind another one
+-- a pair before, at or after another one
 put_step : (o : Ordering) (p e : String Global × String Global) (es more : List (String Global × String Global)) (seen : List (List ℕ × List ℕ)) → map pair more ≡ seen
     → map pair (match_ordering o (p ∷ e ∷ es) ((e.0, p.1) ∷ es) (e ∷ more))
     ≡ match_ordering o (pair p ∷ pair e ∷ map pair es) ((string_bytes e.0, string_bytes p.1) ∷ map pair es) (pair e ∷ seen)

@@ -2,7 +2,7 @@
 use Rattle.std.proofs.Common.{◌≡◌, ℕ, suc, ◌+◌, ◌<◌, ◌≤◌, max, List, [], ◌∷◌, ◌++◌, length, drop, get_or, drop-cons, add-one, refl, sym, ap, subst, ◌∙◌, Option, Some, None, Result, Ok, Err, IfOk, Bor, arith, rules}
 use Rattle.std.specs.List.{flat_map}
 use Rattle.literature_entries.specs.Ancestors.{height, levels, level_by_level, upwards, Ends, Asks, AsksFrom, borrowed, first_or, first_of}
-use Rattle.literature_entries.specs.Views.{parents, lent}
+use Rattle.literature_entries.specs.Views.{parents, seen_in}
 use Rattle.literature_entries.specs.declared.entry.Entry.{Entry, the_lemmas}
 
 -- an entry is one level above its parents
@@ -58,7 +58,7 @@ module _ {F T : Type 0} (step : F → Bor Entry → Option T → F → Type 0) w
       → Asks step g es answer last → Asks step f (b.now ∷ es) answer last
   asks_on f g last b o es answer s e rest = (b, o, g, refl, s, subst (λ p. Ends p g (Asks step g es) answer last) (sym e) rest)
 
--- an entry and those behind it
+-- an entry and those after it
 borrowed_next : (bs : List (Bor Entry)) (i : ℕ) (b : Bor Entry) → i < length bs → b ≡ get_or bs i b → borrowed (drop i bs) ≡ b.now ∷ borrowed (drop (i + 1) bs)
 borrowed_next bs i b below e =
     let cut : drop i bs ≡ get_or bs i b ∷ drop (i + 1) bs = rw add-one (drop-cons bs i b below) in
@@ -70,7 +70,7 @@ levels_below [] new some e = absurd (some refl)
 levels_below (b ∷ bs) new some e = let more = levels_more b.now (borrowed bs) in let same = ap levels e in omega (arith, more, same)
 
 module _ {F T : Type 0} (step : F → Bor Entry → Option T → F → Type 0) where
-  -- the next of the entries is asked, and then those behind it
+  -- the next of the entries is asked, and then those after it
   pub asks_next : (f last : F) (bs : List (Bor Entry)) (i : ℕ) (b : Bor Entry) (answer : Option T) → i < length bs → b ≡ get_or bs i b
       → Asks step f (b.now ∷ borrowed (drop (i + 1) bs)) answer last → Asks step f (borrowed (drop i bs)) answer last
   asks_next f last bs i b answer below e a = subst (λ es. Asks step f es answer last) (sym (borrowed_next bs i b below e)) a
@@ -112,20 +112,20 @@ module _ {F T : Type 0} (step : F → Bor Entry → Option T → F → Type 0) w
 
 module _ {F X V : Type 0} (step : F → Bor Entry → Option (Bor X) → F → Type 0) (view : X → V) (look : Entry → Option V) where
   found_or : (o answer : Option (Bor X)) (g last : F) (es : List Entry) → Ends o g (Asks step g es) answer last
-      → (Asks step g es answer last → lent view answer ≡ first_of look es) → lent view answer ≡ first_or (lent view o) (first_of look es)
+      → (Asks step g es answer last → seen_in view answer ≡ first_of look es) → seen_in view answer ≡ first_or (seen_in view o) (first_of look es)
   found_or None answer g last es e more = more e
-  found_or (Some x) answer g last es e more = ap (lent view) e.0
+  found_or (Some x) answer g last es e more = ap (seen_in view) e.0
 
   -- where each answer is a look at the entry, the first answer is what the look finds first
-  pub first_found : ((f g : F) (b : Bor Entry) (o : Option (Bor X)) → step f b o g → lent view o ≡ look b.now)
-      → (f last : F) (es : List Entry) (answer : Option (Bor X)) → Asks step f es answer last → lent view answer ≡ first_of look es
-  first_found says f last [] answer a = ap (lent view) a.0
+  pub first_found : ((f g : F) (b : Bor Entry) (o : Option (Bor X)) → step f b o g → seen_in view o ≡ look b.now)
+      → (f last : F) (es : List Entry) (answer : Option (Bor X)) → Asks step f es answer last → seen_in view answer ≡ first_of look es
+  first_found says f last [] answer a = ap (seen_in view) a.0
   first_found says f last (e ∷ es) answer a =
       found_or a.1 answer a.2 last es a.5 (λ rest. first_found says a.2 last es answer rest)
       ∙ ap (λ o. first_or o (first_of look es)) (says f a.2 a.0 a.1 a.4 ∙ ap look a.3)
 
   -- the same of what a call returned
   pub found_ok : {E : Type 0} → (f : F) (es : List Entry) (r : Result (Option (Bor X)) E) → IfOk r (AsksFrom step f es)
-      → ((f g : F) (b : Bor Entry) (o : Option (Bor X)) → step f b o g → lent view o ≡ look b.now) → IfOk r (λ answer. lent view answer ≡ first_of look es)
+      → ((f g : F) (b : Bor Entry) (o : Option (Bor X)) → step f b o g → seen_in view o ≡ look b.now) → IfOk r (λ answer. seen_in view answer ≡ first_of look es)
   found_ok f es (Ok answer) a says = first_found says f a.last es answer a.asked
   found_ok f es (Err x) a says = tt

@@ -47,7 +47,7 @@ module _ {F T : Type 0} where
       pub last : F
       pub asked : Asks f es answer last
 
--- the first, or what comes behind it
+-- the first, or what comes after it
 abbrev pub first_or : {V : Type 0} → Option V → Option V → Option V
 first_or None next = next
 first_or (Some v) next = Some v

@@ -5,9 +5,9 @@ use Rattle.literature_numbers.specs.Pages.{Part}
 use Rattle.literature_values.specs.OtherViews.{Address}
 use Rattle.literature_values.specs.PersonViews.{Named}
 use Rattle.literature_values.specs.TextViews.{Format, Publishing}
-use Rattle.literature_values.specs.TypedViews.{Held}
-use Rattle.literature_dates.specs.declared.date.Date.{Date}
-use Rattle.literature_types.specs.declared.entry_type.EntryType.{EntryType}
+use Rattle.literature_values.specs.TypedViews.{ValueOrText}
+use Rattle.literature_values.specs.declared.date.Date.{Date}
+use Rattle.literature_values.specs.declared.entry_type.EntryType.{EntryType}
 
 -- numbers by the names of their schemes, in order of the names
 abbrev pub Serials : Type 0
@@ -22,12 +22,12 @@ pub record Fields : Type 0 where
   pub translator : Option (List Named)
   pub date : Option Date
   pub publisher : Option Publishing
-  pub volume : Option (Held Numeral)
+  pub volume : Option (ValueOrText Numeral)
   pub volume_total : Option Numeral
-  pub issue : Option (Held Numeral)
-  pub chapter : Option (Held Numeral)
-  pub edition : Option (Held Numeral)
-  pub page_range : Option (Held (List Part))
+  pub issue : Option (ValueOrText Numeral)
+  pub chapter : Option (ValueOrText Numeral)
+  pub edition : Option (ValueOrText Numeral)
+  pub page_range : Option (ValueOrText (List Part))
   pub page_total : Option Numeral
   pub url : Option Address
   pub serial_number : Option Serials

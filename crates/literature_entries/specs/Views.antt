@@ -8,7 +8,7 @@ use Rattle.literature_numbers.specs.PageViews.{pages}
 use Rattle.literature_values.specs.OtherViews.{address}
 use Rattle.literature_values.specs.PersonViews.{Named, person}
 use Rattle.literature_values.specs.TextViews.{format, publishing}
-use Rattle.literature_values.specs.TypedViews.{held}
+use Rattle.literature_values.specs.TypedViews.{value_or_text}
 use Rattle.literature_values.specs.declared.person.Person.{Person}
 use Rattle.literature_values.specs.declared.serial_number.SerialNumber.{SerialNumber}
 use Rattle.literature_entries.specs.Fields.{Serials, Fields}
@@ -37,12 +37,12 @@ details d = record {
   translator = option_map (λ v. people v.items) d.translator;
   date = d.date;
   publisher = option_map publishing d.publisher;
-  volume = option_map (held numeral) d.volume;
+  volume = option_map (value_or_text numeral) d.volume;
   volume_total = option_map numeral d.volume_total;
-  issue = option_map (held numeral) d.issue;
-  chapter = option_map (held numeral) d.chapter;
-  edition = option_map (held numeral) d.edition;
-  page_range = option_map (held pages) d.page_range;
+  issue = option_map (value_or_text numeral) d.issue;
+  chapter = option_map (value_or_text numeral) d.chapter;
+  edition = option_map (value_or_text numeral) d.edition;
+  page_range = option_map (value_or_text pages) d.page_range;
   page_total = option_map numeral d.page_total;
   url = option_map address d.url;
   serial_number = option_map serials d.serial_number;
@@ -63,8 +63,8 @@ abbrev pub parents : Entry → List Entry
 parents e = (out-Entry e).parents.items
 
 -- what a borrowed value is, seen by view, where there is one
-abbrev pub lent : {X V : Type 0} → (X → V) → Option (Bor X) → Option V
-lent view x = option_map view (option_copied x)
+abbrev pub seen_in : {X V : Type 0} → (X → V) → Option (Bor X) → Option V
+seen_in view x = option_map view (option_copied x)
 
 -- an entry with other fields; its key and its parents stay
 abbrev pub Sets : Entry → Fields → Entry → Type 0

@@ -3,7 +3,7 @@
 ghost use Rattle.std.specs.Prelude.{◌≡◌, ◌∷◌, ◌++◌, IfOk, OnOk};
 ghost use Rattle.std.specs.List.{flat_map};
 ghost use Rattle.literature_entries.specs.Ancestors.{ancestors, Asks, AsksFrom, borrowed, first_of};
-ghost use Rattle.literature_entries.specs.Views.{parents, fields, lent};
+ghost use Rattle.literature_entries.specs.Views.{parents, fields, seen_in};
 ghost use Rattle.literature_values.specs.OtherViews.{address};
 
 use crate::entry::Entry;
@@ -59,7 +59,7 @@ impl Entry {
     /// # Errors
     /// Want of memory.
     pub fn date_any(&self) -> Result<Option<&Date>, AllocError>
-        ensures { IfOk result (λ d. lent (λ d. d) d ≡ first_of (λ e. (fields e).date) (self.now ∷ ancestors self.now)) }
+        ensures { IfOk result (λ d. seen_in (λ d. d) d ≡ first_of (λ e. (fields e).date) (self.now ∷ ancestors self.now)) }
     {
         self.map(|entry| entry.date())
     }
@@ -69,7 +69,7 @@ impl Entry {
     /// # Errors
     /// Want of memory.
     pub fn url_any(&self) -> Result<Option<&QualifiedUrl>, AllocError>
-        ensures { IfOk result (λ u. lent address u ≡ first_of (λ e. (fields e).url) (self.now ∷ ancestors self.now)) }
+        ensures { IfOk result (λ u. seen_in address u ≡ first_of (λ e. (fields e).url) (self.now ∷ ancestors self.now)) }
     {
         self.map(|entry| entry.url())
     }
@@ -103,7 +103,7 @@ fn parents_of<'a>(alloc: Global, entries: &[&'a Entry]) -> Result<Vec<&'a Entry>
     Ok(all)
 }
 
-/// Puts references to entries behind others.
+/// Appends references to entries after others.
 fn push_all<'a>(all: &mut Vec<&'a Entry>, entries: &'a [Entry]) -> Result<(), AllocError>
     ensures { OnOk result (borrowed all.new.items ≡ borrowed all.old.items ++ entries.now) }
 {

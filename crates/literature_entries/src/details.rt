@@ -4,10 +4,9 @@ ghost use Rattle.std.specs.Prelude.{◌≡◌};
 ghost use Rattle.literature_entries.specs.Fields.{nothing_but};
 ghost use Rattle.literature_entries.specs.Views.{details};
 
-use literature_types::EntryType;
 use literature_values::{
-    Date, FormatString, MaybeTyped, Numeric, PageRanges, Person, Publisher, QualifiedUrl,
-    SerialNumber,
+    Date, EntryType, FormatString, MaybeTyped, Numeric, PageRanges, Person, Publisher,
+    QualifiedUrl, SerialNumber,
 };
 
 /// The type and the fields of an entry.

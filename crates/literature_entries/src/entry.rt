@@ -6,7 +6,7 @@ ghost use Rattle.literature_entries.specs.Names.{has, of_work, of_part, of_addre
 ghost use Rattle.literature_entries.specs.Views as views;
 
 use crate::details::Details;
-use literature_types::EntryType;
+use literature_values::EntryType;
 
 /// An entry of a library: its key, its type and fields, and the works that it is part of. Two entries are equal where all of
 /// this is; their hash is that of the key. Comparing, dropping and `Debug` recurse as deep as ancestors go.

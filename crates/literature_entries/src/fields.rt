@@ -6,9 +6,9 @@ ghost use Rattle.literature_numbers.specs.PageViews.{pages};
 ghost use Rattle.literature_numbers.specs.Views.{numeral};
 ghost use Rattle.literature_values.specs.OtherViews.{address};
 ghost use Rattle.literature_values.specs.TextViews.{format, publishing};
-ghost use Rattle.literature_values.specs.TypedViews.{held};
+ghost use Rattle.literature_values.specs.TypedViews.{value_or_text};
 ghost use Rattle.literature_entries.specs.Fields.{Fields};
-ghost use Rattle.literature_entries.specs.Views.{serials, people, fields, lent, Sets};
+ghost use Rattle.literature_entries.specs.Views.{serials, people, fields, seen_in, Sets};
 
 use crate::entry::Entry;
 use literature_values::{
@@ -16,11 +16,11 @@ use literature_values::{
     SerialNumber,
 };
 
-/// Each getter answers the field, or none where it is not set; each setter changes that field alone.
+/// Each getter returns the field, or none where it is not set; each setter changes that field alone.
 impl Entry {
     /// The title.
     pub fn title(&self) -> Option<&FormatString>
-        ensures { lent format result ≡ (fields self.now).title }
+        ensures { seen_in format result ≡ (fields self.now).title }
     {
         self.details.title.as_ref()
     }
@@ -34,7 +34,7 @@ impl Entry {
 
     /// The authors.
     pub fn author(&self) -> Option<&[Person]>
-        ensures { lent people result ≡ (fields self.now).author }
+        ensures { seen_in people result ≡ (fields self.now).author }
     {
         people(&self.details.author)
     }
@@ -48,7 +48,7 @@ impl Entry {
 
     /// The editors.
     pub fn editor(&self) -> Option<&[Person]>
-        ensures { lent people result ≡ (fields self.now).editor }
+        ensures { seen_in people result ≡ (fields self.now).editor }
     {
         people(&self.details.editor)
     }
@@ -62,7 +62,7 @@ impl Entry {
 
     /// The translators.
     pub fn translator(&self) -> Option<&[Person]>
-        ensures { lent people result ≡ (fields self.now).translator }
+        ensures { seen_in people result ≡ (fields self.now).translator }
     {
         people(&self.details.translator)
     }
@@ -76,7 +76,7 @@ impl Entry {
 
     /// The date.
     pub fn date(&self) -> Option<&Date>
-        ensures { lent (λ d. d) result ≡ (fields self.now).date }
+        ensures { seen_in (λ d. d) result ≡ (fields self.now).date }
     {
         self.details.date.as_ref()
     }
@@ -90,7 +90,7 @@ impl Entry {
 
     /// The publisher.
     pub fn publisher(&self) -> Option<&Publisher>
-        ensures { lent publishing result ≡ (fields self.now).publisher }
+        ensures { seen_in publishing result ≡ (fields self.now).publisher }
     {
         self.details.publisher.as_ref()
     }
@@ -104,21 +104,21 @@ impl Entry {
 
     /// The volume.
     pub fn volume(&self) -> Option<&MaybeTyped<Numeric>>
-        ensures { lent (held numeral) result ≡ (fields self.now).volume }
+        ensures { seen_in (value_or_text numeral) result ≡ (fields self.now).volume }
     {
         self.details.volume.as_ref()
     }
 
     /// Sets the volume.
     pub fn set_volume(&mut self, volume: MaybeTyped<Numeric>)
-        ensures { Sets self.old (record (fields self.old) { volume = Some (held numeral volume) }) self.new }
+        ensures { Sets self.old (record (fields self.old) { volume = Some (value_or_text numeral volume) }) self.new }
     {
         self.details.volume = Some(volume);
     }
 
     /// The number of volumes.
     pub fn volume_total(&self) -> Option<&Numeric>
-        ensures { lent numeral result ≡ (fields self.now).volume_total }
+        ensures { seen_in numeral result ≡ (fields self.now).volume_total }
     {
         self.details.volume_total.as_ref()
     }
@@ -132,63 +132,63 @@ impl Entry {
 
     /// The issue.
     pub fn issue(&self) -> Option<&MaybeTyped<Numeric>>
-        ensures { lent (held numeral) result ≡ (fields self.now).issue }
+        ensures { seen_in (value_or_text numeral) result ≡ (fields self.now).issue }
     {
         self.details.issue.as_ref()
     }
 
     /// Sets the issue.
     pub fn set_issue(&mut self, issue: MaybeTyped<Numeric>)
-        ensures { Sets self.old (record (fields self.old) { issue = Some (held numeral issue) }) self.new }
+        ensures { Sets self.old (record (fields self.old) { issue = Some (value_or_text numeral issue) }) self.new }
     {
         self.details.issue = Some(issue);
     }
 
     /// The chapter.
     pub fn chapter(&self) -> Option<&MaybeTyped<Numeric>>
-        ensures { lent (held numeral) result ≡ (fields self.now).chapter }
+        ensures { seen_in (value_or_text numeral) result ≡ (fields self.now).chapter }
     {
         self.details.chapter.as_ref()
     }
 
     /// Sets the chapter.
     pub fn set_chapter(&mut self, chapter: MaybeTyped<Numeric>)
-        ensures { Sets self.old (record (fields self.old) { chapter = Some (held numeral chapter) }) self.new }
+        ensures { Sets self.old (record (fields self.old) { chapter = Some (value_or_text numeral chapter) }) self.new }
     {
         self.details.chapter = Some(chapter);
     }
 
     /// The edition.
     pub fn edition(&self) -> Option<&MaybeTyped<Numeric>>
-        ensures { lent (held numeral) result ≡ (fields self.now).edition }
+        ensures { seen_in (value_or_text numeral) result ≡ (fields self.now).edition }
     {
         self.details.edition.as_ref()
     }
 
     /// Sets the edition.
     pub fn set_edition(&mut self, edition: MaybeTyped<Numeric>)
-        ensures { Sets self.old (record (fields self.old) { edition = Some (held numeral edition) }) self.new }
+        ensures { Sets self.old (record (fields self.old) { edition = Some (value_or_text numeral edition) }) self.new }
     {
         self.details.edition = Some(edition);
     }
 
     /// The pages.
     pub fn page_range(&self) -> Option<&MaybeTyped<PageRanges>>
-        ensures { lent (held pages) result ≡ (fields self.now).page_range }
+        ensures { seen_in (value_or_text pages) result ≡ (fields self.now).page_range }
     {
         self.details.page_range.as_ref()
     }
 
     /// Sets the pages.
     pub fn set_page_range(&mut self, page_range: MaybeTyped<PageRanges>)
-        ensures { Sets self.old (record (fields self.old) { page_range = Some (held pages page_range) }) self.new }
+        ensures { Sets self.old (record (fields self.old) { page_range = Some (value_or_text pages page_range) }) self.new }
     {
         self.details.page_range = Some(page_range);
     }
 
     /// The number of pages.
     pub fn page_total(&self) -> Option<&Numeric>
-        ensures { lent numeral result ≡ (fields self.now).page_total }
+        ensures { seen_in numeral result ≡ (fields self.now).page_total }
     {
         self.details.page_total.as_ref()
     }
@@ -202,7 +202,7 @@ impl Entry {
 
     /// The address.
     pub fn url(&self) -> Option<&QualifiedUrl>
-        ensures { lent address result ≡ (fields self.now).url }
+        ensures { seen_in address result ≡ (fields self.now).url }
     {
         self.details.url.as_ref()
     }
@@ -216,7 +216,7 @@ impl Entry {
 
     /// The serial numbers.
     pub fn serial_number(&self) -> Option<&SerialNumber>
-        ensures { lent serials result ≡ (fields self.now).serial_number }
+        ensures { seen_in serials result ≡ (fields self.now).serial_number }
     {
         self.details.serial_number.as_ref()
     }
@@ -230,7 +230,7 @@ impl Entry {
 
     /// The note.
     pub fn note(&self) -> Option<&FormatString>
-        ensures { lent format result ≡ (fields self.now).note }
+        ensures { seen_in format result ≡ (fields self.now).note }
     {
         self.details.note.as_ref()
     }
@@ -244,7 +244,7 @@ impl Entry {
 
     /// The language.
     pub fn language(&self) -> Option<&str>
-        ensures { lent (λ s. s) result ≡ (fields self.now).language }
+        ensures { seen_in (λ s. s) result ≡ (fields self.now).language }
     {
         self.details.language.as_deref()
     }
@@ -259,7 +259,7 @@ impl Entry {
 
 /// The people, where there is a list of them.
 fn people(list: &Option<Vec<Person>>) -> Option<&[Person]>
-    ensures { lent people result ≡ option_map (λ v. people v.items) list.now }
+    ensures { seen_in people result ≡ option_map (λ v. people v.items) list.now }
 {
     match list {
         Some(people) => Some(people.as_slice()),

@@ -3,21 +3,21 @@
 ghost use Rattle.std.specs.Prelude.{◌≡◌, Some, codes, OnOk, OnErr, string_bytes};
 ghost use Rattle.std.specs.Option.{option_map};
 ghost use Rattle.literature_entries.specs.Names.{serial, with_serial, number_under, with_number};
-ghost use Rattle.literature_entries.specs.Views.{serials, fields, lent, Sets};
+ghost use Rattle.literature_entries.specs.Views.{serials, fields, seen_in, Sets};
 
 use crate::entry::Entry;
 use literature_values::SerialNumber;
 use std::alloc::AllocError;
 use std::collections::BTreeMap;
 
-/// Each getter answers the number, or none where it is not set. Each setter changes that number alone.
+/// Each getter returns the number, or none where it is not set. Each setter changes that number alone.
 ///
 /// # Errors
 /// Want of memory, where the entry is as it was.
 impl Entry {
     /// The number under the name of a scheme, as `serial`.
     pub fn keyed_serial_number(&self, key: &str) -> Option<&str>
-        ensures { lent (λ s. s) result ≡ serial key.now (fields self.now) }
+        ensures { seen_in (λ s. s) result ≡ serial key.now (fields self.now) }
     {
         number_under(&self.details.serial_number, key)
     }
@@ -32,7 +32,7 @@ impl Entry {
 
     /// The digital object identifier.
     pub fn doi(&self) -> Option<&str>
-        ensures { lent (λ s. s) result ≡ serial (codes "doi") (fields self.now) }
+        ensures { seen_in (λ s. s) result ≡ serial (codes "doi") (fields self.now) }
     {
         self.keyed_serial_number("doi")
     }
@@ -47,7 +47,7 @@ impl Entry {
 
     /// The International Standard Book Number.
     pub fn isbn(&self) -> Option<&str>
-        ensures { lent (λ s. s) result ≡ serial (codes "isbn") (fields self.now) }
+        ensures { seen_in (λ s. s) result ≡ serial (codes "isbn") (fields self.now) }
     {
         self.keyed_serial_number("isbn")
     }
@@ -62,7 +62,7 @@ impl Entry {
 
     /// The International Standard Serial Number.
     pub fn issn(&self) -> Option<&str>
-        ensures { lent (λ s. s) result ≡ serial (codes "issn") (fields self.now) }
+        ensures { seen_in (λ s. s) result ≡ serial (codes "issn") (fields self.now) }
     {
         self.keyed_serial_number("issn")
     }
@@ -77,7 +77,7 @@ impl Entry {
 
     /// The PubMed identifier.
     pub fn pmid(&self) -> Option<&str>
-        ensures { lent (λ s. s) result ≡ serial (codes "pmid") (fields self.now) }
+        ensures { seen_in (λ s. s) result ≡ serial (codes "pmid") (fields self.now) }
     {
         self.keyed_serial_number("pmid")
     }
@@ -92,7 +92,7 @@ impl Entry {
 
     /// The PubMed Central identifier.
     pub fn pmcid(&self) -> Option<&str>
-        ensures { lent (λ s. s) result ≡ serial (codes "pmcid") (fields self.now) }
+        ensures { seen_in (λ s. s) result ≡ serial (codes "pmcid") (fields self.now) }
     {
         self.keyed_serial_number("pmcid")
     }
@@ -107,7 +107,7 @@ impl Entry {
 
     /// The arXiv identifier.
     pub fn arxiv(&self) -> Option<&str>
-        ensures { lent (λ s. s) result ≡ serial (codes "arxiv") (fields self.now) }
+        ensures { seen_in (λ s. s) result ≡ serial (codes "arxiv") (fields self.now) }
     {
         self.keyed_serial_number("arxiv")
     }
@@ -124,7 +124,7 @@ impl Entry {
 /// The number under the name of a scheme.
 #[tactic(auto, using(crate::proofs::Pairs::number_found))]
 fn number_under<'n>(numbers: &'n Option<SerialNumber>, scheme: &str) -> Option<&'n str>
-    ensures { lent (λ s. s) result ≡ number_under scheme.now (option_map serials numbers.now) }
+    ensures { seen_in (λ s. s) result ≡ number_under scheme.now (option_map serials numbers.now) }
 {
     match numbers {
         Some(numbers) => match numbers.0.get(scheme) {

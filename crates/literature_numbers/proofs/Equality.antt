@@ -10,7 +10,8 @@ use Rattle.std.specs.Cmp.Lexicographic.{pointwise}
 use Rattle.laws.specs.Equality.{Shows}
 use Rattle.laws.proofs.Equality.{Decides-moved, Decides-never, Shows-strings, Shows-options, Shows-options_themselves, Shows-lists, Shows-pairs}
 use Rattle.literature_numbers.specs.Numerics.{Value, Number, Set, Numbers, Numeral, plain}
-use Rattle.literature_numbers.specs.Views.{value, numeral, characters}
+use Rattle.literature_numbers.specs.Views.{value, numeral}
+use Rattle.laws.specs.Text.{characters}
 use Rattle.literature_numbers.specs.declared.numeric.NumericValue.TheVariants as values
 use Rattle.literature_numbers.specs.declared.separator.NumericDelimiter.{NumericDelimiter}
 use Rattle.literature_numbers.specs.contracts.separator.NumericDelimiter.{the_type}

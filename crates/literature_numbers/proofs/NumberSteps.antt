@@ -4,10 +4,10 @@ use Rattle.laws.specs.Results.{◌>>=◌}
 use Rattle.laws.specs.Steps.{each}
 use Rattle.laws.proofs.Results.{bind_bind}
 use Rattle.laws.proofs.Steps.{each-none, each-some, each-err}
-use Rattle.text_reader.specs.Reading.{number_at}
+use Rattle.texts.specs.Reading.{number_at}
 use Rattle.literature_numbers.specs.Numerics.{Numbers, linked, next_number_at, numbers_at}
 use Rattle.literature_numbers.specs.declared.separator.NumericDelimiter.{NumericDelimiter}
-use Rattle.text_reader.specs.declared.reader.Unreadable.{Unreadable}
+use Rattle.texts.specs.declared.reader.Unreadable.{Unreadable}
 use Rattle.literature_numbers.proofs.Shorter.{numbers_shorten}
 
 -- what the numbers that are left make of those so far, of which the last has no separator yet

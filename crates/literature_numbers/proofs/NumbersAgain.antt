@@ -6,16 +6,16 @@ use Rattle.laws.specs.Results.{◌>>=◌}
 use Rattle.laws.specs.Runs.{AllPassTest, Bars}
 use Rattle.laws.specs.Steps.{each}
 use Rattle.laws.proofs.Steps.{each-none, each-some}
-use Rattle.text_reader.specs.Character.{passes}
-use Rattle.text_reader.specs.Reading.{number_at}
+use Rattle.texts.specs.Character.{passes}
+use Rattle.texts.specs.Reading.{number_at}
 use Rattle.literature_numbers.specs.Numerics.{Numbers, Value, Number, Set, linked, value_of, next_number_at, numbers_at}
 use Rattle.literature_numbers.specs.NumericText.{delimiter_text, separator_text, linked_text, value_text, IsCount, AreLinked, IsReadableValue}
-use Rattle.text_reader.specs.declared.character.Class.TheVariants.{Letter, Digit}
+use Rattle.texts.specs.declared.character.Class.TheVariants.{Letter, Digit}
 use Rattle.literature_numbers.specs.declared.separator.NumericDelimiter.{NumericDelimiter}
 use Rattle.literature_numbers.specs.declared.separator.NumericDelimiter.TheVariants.{Comma, Ampersand, Hyphen}
-use Rattle.text_reader.specs.declared.reader.Unreadable.{Unreadable}
+use Rattle.texts.specs.declared.reader.Unreadable.{Unreadable}
 use Rattle.literature_numbers.proofs.Shorter.{numbers_shorten}
-use Rattle.text_reader.proofs.Starts.{Starts, decimal_starts, number_again}
+use Rattle.texts.proofs.Starts.{Starts, decimal_starts, number_again}
 use Rattle.literature_numbers.proofs.Separators.{delimiter_again, letters_bar, no_separator}
 
 -- no digit begins a separator
@@ -57,7 +57,7 @@ first_count : (n : ℤ × Option NumericDelimiter) (ns : Numbers) → AreLinked 
 first_count n [] are = are.0
 first_count n (m ∷ ns) are = are.0
 
--- the numbers behind a first one, and what is read of them
+-- the numbers after a first one, and what is read of them
 record Again (n : ℤ) (o : Option NumericDelimiter) (ns : Numbers) (rest : List ℕ) : Type 0 where
   others : List (NumericDelimiter × ℤ)
   read : each next_number_at (separator_text o ++ (flat_map linked_text ns ++ rest)) ≡ Ok (others, rest)

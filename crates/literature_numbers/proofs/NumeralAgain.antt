@@ -1,18 +1,18 @@
 -- Numbers with letters before and after that were written are read back.
 use Rattle.std.proofs.Common.{◌≡◌, ℕ, List, [], ◌∷◌, ◌++◌, Option, Some, None, Result, Ok, Err, refl, sym, ap, ◌∙◌, arith, append-nil}
 use Rattle.laws.specs.Runs.{front_of, after, AllPassTest}
-use Rattle.laws.proofs.Results.{ok_is}
+use Rattle.laws.specs.Results.{GivesBack, GivesOrRefuses}
+use Rattle.laws.proofs.Results.{gives_back_or_refuses}
 use Rattle.laws.proofs.Runs.{cuts}
-use Rattle.text_reader.specs.Character.{passes}
+use Rattle.texts.specs.Character.{passes}
 use Rattle.literature_numbers.specs.Numerics.{Numeral, affix, numeral_of}
 use Rattle.literature_numbers.specs.NumericText.{value_text, affix_text, numeral_text, IsAffix, IsReadable}
-use Rattle.text_reader.specs.declared.character.Class.TheVariants.{Letter}
-use Rattle.literature_numbers.specs.Views.{Means, ReadsBack}
+use Rattle.texts.specs.declared.character.Class.TheVariants.{Letter}
+use Rattle.literature_numbers.specs.Views.{numeral, refusal_of}
 use Rattle.literature_numbers.specs.declared.numeric.Numeric.{Numeric}
 use Rattle.literature_numbers.specs.declared.numeric.NumericError.{NumericError}
-use Rattle.literature_numbers.specs.declared.numeric.NumericError.TheVariants as errors
-use Rattle.text_reader.specs.declared.reader.Unreadable.{Unreadable}
-use Rattle.text_reader.proofs.Starts.{digit_bars}
+use Rattle.texts.specs.declared.reader.Unreadable.{Unreadable}
+use Rattle.texts.proofs.Starts.{digit_bars}
 use Rattle.literature_numbers.proofs.NumbersAgain.{value_again, value_starts}
 
 affix_letters : (a : Option (List ℕ)) → IsAffix a → AllPassTest (passes Letter) (affix_text a)
@@ -45,12 +45,5 @@ numeral_again n is =
     rw (first.after, first.front, read, last_after, last_front, is_value, prefix, suffix) refl
 
 -- so what means what was written is what was written
-pub read_back : (r : Result Numeric NumericError) (cs : List ℕ) → Means r (numeral_of cs) → (n : Numeral) → IsReadable n → cs ≡ numeral_text n → ReadsBack r n
-read_back r cs means n is e = by_answer r (rw (ap numeral_of e ∙ numeral_again n is) at means)
-  where
-    by_answer : (r : Result Numeric NumericError) → Means r (Ok n) → ReadsBack r n
-    by_answer (Ok x) same = ok_is {F = Unreadable} _ _ (sym same)
-    by_answer (Err errors.Memory) same = tt
-    by_answer (Err errors.Malformed) same =
-        let other = same.1 in
-        absurd cc
+pub read_back : (r : Result Numeric NumericError) (cs : List ℕ) → GivesOrRefuses refusal_of numeral r (numeral_of cs) → (n : Numeral) → IsReadable n → cs ≡ numeral_text n → GivesBack refusal_of numeral r n
+read_back r cs means n is e = gives_back_or_refuses Unreadable refusal_of numeral r n (rw (ap numeral_of e ∙ numeral_again n is) at means)

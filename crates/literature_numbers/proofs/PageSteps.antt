@@ -4,7 +4,7 @@ use Rattle.laws.specs.Results.{◌>>=◌}
 use Rattle.literature_numbers.specs.Numerics.{Numbers}
 use Rattle.literature_numbers.specs.Pages.{Part, is_hyphen, opened, closed, pages_from}
 use Rattle.literature_numbers.specs.declared.separator.NumericDelimiter.{NumericDelimiter}
-use Rattle.text_reader.specs.declared.reader.Unreadable.{Unreadable}
+use Rattle.texts.specs.declared.reader.Unreadable.{Unreadable}
 
 -- what the numbers that are left make of the parts so far, where a range may be open
 abbrev pub pages_onto : List Part → Option ℤ → Numbers → Result (List Part) Unreadable

@@ -2,17 +2,17 @@
 use Rattle.std.proofs.Common.{◌≡◌, ℕ, true, List, [], ◌∷◌, ◌++◌, Option, Some, None, Result, Ok, Err, ℤ, refl, sym, ap, ◌∙◌, subst, append_assoc, append-nil}
 use Rattle.std.specs.Fmt.{signed_decimal}
 use Rattle.std.specs.List.{flat_map}
-use Rattle.laws.proofs.Results.{ok_is}
+use Rattle.laws.specs.Results.{GivesBack, GivesOrRefuses}
+use Rattle.laws.proofs.Results.{gives_back_or_refuses}
 use Rattle.literature_numbers.specs.Numerics.{Numbers, Numeral, plain, numbers_at}
 use Rattle.literature_numbers.specs.NumericText.{delimiter_text, separator_text, linked_text, IsCount, AreLinked}
 use Rattle.literature_numbers.specs.Pages.{Part, AmpersandPart, CommaPart, SinglePage, Range, page, pages_from, pages_of, part_text, pages_text, IsPage, IsSeparator, AreReadable}
-use Rattle.literature_numbers.specs.PageViews.{MeansPages, ReadsBackPages}
+use Rattle.literature_numbers.specs.PageViews.{pages, refusal_of_pages}
 use Rattle.literature_numbers.specs.declared.separator.NumericDelimiter.{NumericDelimiter}
 use Rattle.literature_numbers.specs.declared.separator.NumericDelimiter.TheVariants.{Comma, Ampersand, Hyphen}
 use Rattle.literature_numbers.specs.declared.page_ranges.PageRanges.{PageRanges}
 use Rattle.literature_numbers.specs.declared.page_ranges.PageRangesError.{PageRangesError}
-use Rattle.literature_numbers.specs.declared.page_ranges.PageRangesError.TheVariants as errors
-use Rattle.text_reader.specs.declared.reader.Unreadable.{Unreadable}
+use Rattle.texts.specs.declared.reader.Unreadable.{Unreadable}
 use Rattle.literature_numbers.proofs.NumbersAgain.{numbers_again}
 
 -- the numbers that parts were made of
@@ -87,12 +87,5 @@ pages_again ps are =
     rw (read, grouped) refl
 
 -- so what means what was written is what was written
-pub read_back_pages : (r : Result PageRanges PageRangesError) (cs : List ℕ) → MeansPages r (pages_of cs) → (ps : List Part) → AreReadable ps → cs ≡ pages_text ps → ReadsBackPages r ps
-read_back_pages r cs means ps are e = by_answer r (rw (ap pages_of e ∙ pages_again ps are) at means)
-  where
-    by_answer : (r : Result PageRanges PageRangesError) → MeansPages r (Ok ps) → ReadsBackPages r ps
-    by_answer (Ok x) same = ok_is {F = Unreadable} _ _ (sym same)
-    by_answer (Err errors.Memory) same = tt
-    by_answer (Err errors.Malformed) same =
-        let other = same.1 in
-        absurd cc
+pub read_back_pages : (r : Result PageRanges PageRangesError) (cs : List ℕ) → GivesOrRefuses refusal_of_pages pages r (pages_of cs) → (ps : List Part) → AreReadable ps → cs ≡ pages_text ps → GivesBack refusal_of_pages pages r ps
+read_back_pages r cs means ps are e = gives_back_or_refuses Unreadable refusal_of_pages pages r ps (rw (ap pages_of e ∙ pages_again ps are) at means)

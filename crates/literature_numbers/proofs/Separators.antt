@@ -3,13 +3,13 @@ use Rattle.std.proofs.Common.{◌≡◌, ℕ, true, false, List, [], ◌∷◌, 
 use Rattle.std.proofs.lemmas.Bool.Decides.{nat_tests}
 use Rattle.laws.specs.Runs.{AllPassTest, Bars}
 use Rattle.laws.proofs.Runs.{cuts}
-use Rattle.text_reader.specs.Character.{passes}
+use Rattle.texts.specs.Character.{passes}
 use Rattle.literature_numbers.specs.Numbers.{separator_at}
 use Rattle.literature_numbers.specs.NumericText.{delimiter_text}
-use Rattle.text_reader.specs.declared.character.Class.TheVariants.{Letter, Digit, Space, Dash}
+use Rattle.texts.specs.declared.character.Class.TheVariants.{Letter, Digit, Space, Dash}
 use Rattle.literature_numbers.specs.declared.separator.NumericDelimiter.{NumericDelimiter}
 use Rattle.literature_numbers.specs.declared.separator.NumericDelimiter.TheVariants.{Comma, Ampersand, Hyphen}
-use Rattle.text_reader.proofs.Starts.{Starts, digit_bars}
+use Rattle.texts.proofs.Starts.{Starts, digit_bars}
 
 -- a letter is of no other class, and no comma or ampersand
 letter_only : (c : ℕ) → passes Letter c ≡ true → (passes Digit c ≡ false) × (passes Space c ≡ false) × (passes Dash c ≡ false) × (eqb c 44 ≡ false) × (eqb c 38 ≡ false)

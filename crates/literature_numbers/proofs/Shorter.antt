@@ -6,15 +6,15 @@ use Rattle.laws.specs.Steps.{Shortens}
 use Rattle.laws.specs.Runs.{after}
 use Rattle.laws.proofs.Results.{ok_is}
 use Rattle.laws.proofs.Runs.{length-after}
-use Rattle.text_reader.specs.Character.{passes}
-use Rattle.text_reader.specs.Reading.{number_at}
+use Rattle.texts.specs.Character.{passes}
+use Rattle.texts.specs.Reading.{number_at}
 use Rattle.literature_numbers.specs.Numbers.{delimiter_at, between, separator_at}
 use Rattle.literature_numbers.specs.Numerics.{number_behind, next_number_at}
-use Rattle.text_reader.specs.declared.character.Class.TheVariants.{Space, Dash}
+use Rattle.texts.specs.declared.character.Class.TheVariants.{Space, Dash}
 use Rattle.literature_numbers.specs.declared.separator.NumericDelimiter.{NumericDelimiter}
 use Rattle.literature_numbers.specs.declared.separator.NumericDelimiter.TheVariants.{Comma, Ampersand, Hyphen}
-use Rattle.text_reader.specs.declared.reader.Unreadable.{Unreadable}
-use Rattle.text_reader.proofs.Shorter.{LeavesAtMost, number-leaves}
+use Rattle.texts.specs.declared.reader.Unreadable.{Unreadable}
+use Rattle.texts.proofs.Shorter.{LeavesAtMost, number-leaves}
 
 -- a separator takes a character at least
 abbrev TakesOne : ℕ → Option (NumericDelimiter × List ℕ) → Type 0

@@ -1,8 +1,8 @@
 -- What stands between numbers. Characters are numbers.
 use Rattle.std.specs.Prelude.{ℕ, ◌==◌, List, [], ◌∷◌, if◌then◌else◌, Option, Some, None}
 use Rattle.laws.specs.Runs.{after}
-use Rattle.text_reader.specs.Character.{passes}
-use Rattle.text_reader.specs.declared.character.Class.TheVariants.{Space, Dash}
+use Rattle.texts.specs.Character.{passes}
+use Rattle.texts.specs.declared.character.Class.TheVariants.{Space, Dash}
 use Rattle.literature_numbers.specs.declared.separator.NumericDelimiter.{NumericDelimiter}
 use Rattle.literature_numbers.specs.declared.separator.NumericDelimiter.TheVariants.{Comma, Ampersand, Hyphen}
 

@@ -3,9 +3,9 @@ use Rattle.std.specs.Prelude.{◌≡◌, ℕ, ◌<◌, ◌^◌, Bool, false, nat
 use Rattle.std.specs.List.{flat_map}
 use Rattle.std.specs.Fmt.{signed_decimal}
 use Rattle.laws.specs.Runs.{AllPassTest}
-use Rattle.text_reader.specs.Character.{passes}
+use Rattle.texts.specs.Character.{passes}
 use Rattle.literature_numbers.specs.Numerics.{Numbers, Value, Number, Set, Numeral}
-use Rattle.text_reader.specs.declared.character.Class.TheVariants.{Letter}
+use Rattle.texts.specs.declared.character.Class.TheVariants.{Letter}
 use Rattle.literature_numbers.specs.declared.separator.NumericDelimiter.{NumericDelimiter}
 use Rattle.literature_numbers.specs.declared.separator.NumericDelimiter.TheVariants.{Comma, Ampersand, Hyphen}
 

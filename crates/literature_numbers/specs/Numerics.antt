@@ -3,12 +3,12 @@ use Rattle.std.specs.Prelude.{ℕ, List, [], ◌∷◌, map, Option, Some, None,
 use Rattle.laws.specs.Results.{◌>>=◌}
 use Rattle.laws.specs.Steps.{each}
 use Rattle.laws.specs.Runs.{front_of, after}
-use Rattle.text_reader.specs.Character.{passes}
-use Rattle.text_reader.specs.Reading.{number_at, end_at}
+use Rattle.texts.specs.Character.{passes}
+use Rattle.texts.specs.Reading.{number_at, end_at}
 use Rattle.literature_numbers.specs.Numbers.{separator_at}
-use Rattle.text_reader.specs.declared.character.Class.TheVariants.{Letter}
+use Rattle.texts.specs.declared.character.Class.TheVariants.{Letter}
 use Rattle.literature_numbers.specs.declared.separator.NumericDelimiter.{NumericDelimiter}
-use Rattle.text_reader.specs.declared.reader.Unreadable.{Unreadable}
+use Rattle.texts.specs.declared.reader.Unreadable.{Unreadable}
 
 -- numbers in a row, each with the separator after it
 abbrev pub Numbers : Type 0
@@ -56,7 +56,7 @@ abbrev pub affix : List ℕ → Option (List ℕ)
 affix [] = None
 affix (c ∷ cs) = Some (c ∷ cs)
 
--- behind a separator a number is wanted
+-- after a separator a number is wanted
 abbrev pub number_behind : Option NumericDelimiter × List ℕ → Result (Option (NumericDelimiter × ℤ) × List ℕ) Unreadable
 number_behind (None, rest) = Ok (None, rest)
 number_behind (Some d, rest) = number_at rest >>= λ n. Ok (Some (d, n.0), n.1)
@@ -65,7 +65,7 @@ number_behind (Some d, rest) = number_at rest >>= λ n. Ok (Some (d, n.0), n.1)
 unfoldable pub next_number_at : List ℕ → Result (Option (NumericDelimiter × ℤ) × List ℕ) Unreadable
 next_number_at cs = number_behind (separator_at cs)
 
--- a number, and further ones behind separators
+-- a number, and further ones after separators
 unfoldable pub numbers_at : List ℕ → Result (Numbers × List ℕ) Unreadable
 numbers_at cs = do
   first ← number_at cs

@@ -1,5 +1,5 @@
 -- Page ranges of the code as callers see them.
-use Rattle.std.specs.Prelude.{◌≡◌, List, map, Option, Some, Result, Ok, Err, ℤ}
+use Rattle.std.specs.Prelude.{◌≡◌, List, map, Option, Some, None, Result, Ok, Err, ℤ}
 use Rattle.literature_numbers.specs.Pages.{Part, AmpersandPart, CommaPart, SinglePage, Range}
 use Rattle.literature_numbers.specs.Views.{numeral}
 use Rattle.literature_numbers.specs.declared.numeric.NumericError.{NumericError}
@@ -9,7 +9,8 @@ use Rattle.literature_numbers.specs.declared.page_ranges.PageRangesPart.{PageRan
 use Rattle.literature_numbers.specs.declared.page_ranges.PageRangesPart.TheVariants as parts
 use Rattle.literature_numbers.specs.declared.page_ranges.PageRangesError.{PageRangesError}
 use Rattle.literature_numbers.specs.declared.page_ranges.PageRangesError.TheVariants as errors
-use Rattle.text_reader.specs.declared.reader.Unreadable.{Unreadable}
+use Rattle.texts.specs.declared.reader.Unreadable.{Unreadable}
+use Rattle.texts.specs.declared.reader.Unreadable.TheVariants.{NotThere}
 
 -- a part, its numbers seen by value
 abbrev pub part : PageRangesPart → Part
@@ -27,17 +28,10 @@ abbrev pub pages_refusal : NumericError → PageRangesError
 pages_refusal numeric_errors.Memory = errors.Memory
 pages_refusal numeric_errors.Malformed = errors.Malformed
 
--- What a call answered is what the text means; or memory ran out.
-abbrev pub MeansPages : Result PageRanges PageRangesError → Result (List Part) Unreadable → Type 0
-MeansPages (Ok p) meant = meant ≡ Ok (pages p)
-MeansPages (Err errors.Memory) meant = Unit {0}
-MeansPages (Err errors.Malformed) meant = (e : Unreadable) × (meant ≡ Err e)
-
--- Reading what was written of pages gives the pages back; or memory ran out.
-abbrev pub ReadsBackPages : Result PageRanges PageRangesError → List Part → Type 0
-ReadsBackPages (Ok p) written = pages p ≡ written
-ReadsBackPages (Err errors.Memory) written = Unit {0}
-ReadsBackPages (Err errors.Malformed) written = ⊥
+-- the refusal that an error is; out of memory is none
+abbrev pub refusal_of_pages : PageRangesError → Option Unreadable
+refusal_of_pages errors.Memory = None
+refusal_of_pages errors.Malformed = Some NotThere
 
 -- The number that opened a range, or the refusal, is what is wanted.
 abbrev pub OpensRange : Result ℤ Unreadable → Result (Option ℤ) Unreadable → Type 0

@@ -2,13 +2,13 @@
 use Rattle.std.specs.Prelude.{◌≡◌, ℕ, Bool, true, false, ◌||◌, if◌then◌else◌, List, [], ◌∷◌, ◌++◌, Option, Some, None, Result, Ok, Err, ℤ}
 use Rattle.std.specs.List.{flat_map}
 use Rattle.laws.specs.Results.{◌>>=◌}
-use Rattle.text_reader.specs.Reading.{end_at}
+use Rattle.texts.specs.Reading.{end_at}
 use Rattle.literature_numbers.specs.Numerics.{Numbers, Numeral, plain, numbers_at}
 use Rattle.literature_numbers.specs.NumericText.{delimiter_text, numeral_text, is_plural, IsCount}
 use Rattle.literature_numbers.specs.declared.separator.NumericDelimiter.{NumericDelimiter}
 use Rattle.literature_numbers.specs.declared.separator.NumericDelimiter.TheVariants.{Comma, Ampersand, Hyphen}
-use Rattle.text_reader.specs.declared.reader.Unreadable.{Unreadable}
-use Rattle.text_reader.specs.declared.reader.Unreadable.TheVariants.{NotThere}
+use Rattle.texts.specs.declared.reader.Unreadable.{Unreadable}
+use Rattle.texts.specs.declared.reader.Unreadable.TheVariants.{NotThere}
 
 -- a separator, a page, or a range of pages
 pub data Part : Type 0 where

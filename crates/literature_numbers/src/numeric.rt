@@ -6,16 +6,17 @@ ghost use Rattle.std.specs.List.{flat_map};
 ghost use Rattle.std.specs.Option.{option_map};
 ghost use Rattle.std.specs.Str.{chars};
 ghost use Rattle.literature_numbers.specs.Numerics.{Numeral, plain, numeral_of, numbers_at, numbers_in, only_one, value_of, affix};
-ghost use Rattle.laws.specs.Text.{text as text_of};
+ghost use Rattle.laws.specs.Text.{text as text_of, characters};
+ghost use Rattle.laws.specs.Results.{GivesBack, GivesOrRefuses, GivesRestOrRefuses};
 ghost use Rattle.literature_numbers.specs.NumericText.{delimiter_text, linked_text, value_text, affix_text, numeral_text, is_plural, IsReadable};
-ghost use Rattle.text_reader.specs.Views.{left};
-ghost use Rattle.literature_numbers.specs.Views.{value, numeral, characters, Means, ReadsBack, ReadsInMemory};
+ghost use Rattle.texts.specs.Views.{left};
+ghost use Rattle.literature_numbers.specs.Views.{value, numeral, refusal_of};
 ghost use Rattle.literature_numbers.specs.declared.numeric.NumericError.TheVariants.{Memory, Malformed};
 
 use crate::separator::{NumericDelimiter, next_number};
 use std::alloc::{AllocError, AllocFailed, Global};
 use std::fmt;
-use text_reader::{Class, Reader, Unreadable, split_first};
+use texts::{Class, Reader, Unreadable, split_first};
 use thiserror::Error;
 
 /// One number, or several, each with the delimiter that follows it. A set that was read has two numbers or more.
@@ -92,9 +93,9 @@ impl Numeric {
     /// `Malformed` for every other text; `Memory` where a request for memory was refused.
     pub fn read(alloc: Global, text: &str) -> Result<Numeric, NumericError>
         // The numbers that the text spells, or the refusal of a text that spells none.
-        ensures reading { Means result (numeral_of (chars text.now)) }
+        ensures reading { GivesOrRefuses refusal_of numeral result (numeral_of (chars text.now)) }
         // What was printed of counts, with letters or none, is read back.
-        ensures back { (n : Numeral) → IsReadable n → chars text.now ≡ numeral_text n → ReadsBack result n }
+        ensures back { (n : Numeral) → IsReadable n → chars text.now ≡ numeral_text n → GivesBack refusal_of numeral result n }
     {
         read_numeric(alloc, text)
     }
@@ -115,7 +116,7 @@ impl NumericValue {
 /// The numbers that the text spells, with the letters before and after them.
 #[tactic(auto, unfolding(crate::specs::Numerics::numeral_of))]
 fn read_numeric(alloc: Global, text: &str) -> Result<Numeric, NumericError>
-    ensures { Means result (numeral_of (chars text.now)) }
+    ensures { GivesOrRefuses refusal_of numeral result (numeral_of (chars text.now)) }
 {
     let mut reader = Reader::new(text);
     let prefix = reader.run(Class::Letter);
@@ -134,7 +135,7 @@ pub(crate) fn read_numbers(
     alloc: Global,
     reader: &mut Reader,
 ) -> Result<Vec<(i32, Option<NumericDelimiter>)>, NumericError>
-    ensures { ReadsInMemory (λ v. v.items) result (left reader.new) (numbers_at (left reader.old)) }
+    ensures { GivesRestOrRefuses refusal_of (λ v. v.items) result (left reader.new) (numbers_at (left reader.old)) }
 {
     let mut number = reader.number()?;
     let mut numbers = Vec::new(alloc);

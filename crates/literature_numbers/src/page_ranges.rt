@@ -5,16 +5,17 @@ ghost use Rattle.std.specs.Fmt.{DisplaysOnOk};
 ghost use Rattle.std.specs.Option.{option_map};
 ghost use Rattle.std.specs.Str.{chars};
 ghost use Rattle.laws.specs.Text.{text as text_of};
+ghost use Rattle.laws.specs.Results.{GivesBack, GivesOrRefuses};
 ghost use Rattle.literature_numbers.specs.Pages.{pages_of, pages_from, page, opened, closed, is_hyphen, part_text, pages_text, has_more, first_number, Part, Range, AreReadable};
 ghost use Rattle.literature_numbers.specs.Views.{numeral};
-ghost use Rattle.literature_numbers.specs.PageViews.{part, pages, MeansPages, ReadsBackPages, OpensRange, pages_refusal};
+ghost use Rattle.literature_numbers.specs.PageViews.{part, pages, OpensRange, pages_refusal, refusal_of_pages};
 ghost use Rattle.literature_numbers.specs.declared.page_ranges.PageRangesError.TheVariants.{Memory, Malformed};
 
 use crate::numeric::{Numeric, NumericError, read_numbers};
 use crate::separator::NumericDelimiter;
 use std::alloc::{AllocError, AllocFailed, Global};
 use std::fmt;
-use text_reader::{Reader, Unreadable};
+use texts::{Reader, Unreadable};
 use thiserror::Error;
 
 /// A part of page ranges.
@@ -51,9 +52,9 @@ impl PageRanges {
     /// `Malformed` for every other text; `Memory` where a request for memory was refused.
     pub fn read(alloc: Global, text: &str) -> Result<PageRanges, PageRangesError>
         // The parts that the text spells, or the refusal of a text that spells none.
-        ensures reading { MeansPages result (pages_of (chars text.now)) }
+        ensures reading { GivesOrRefuses refusal_of_pages pages result (pages_of (chars text.now)) }
         // What was printed of pages and ranges of counts is read back.
-        ensures back { (ps : List Part) → AreReadable ps → chars text.now ≡ pages_text ps → ReadsBackPages result ps }
+        ensures back { (ps : List Part) → AreReadable ps → chars text.now ≡ pages_text ps → GivesBack refusal_of_pages pages result ps }
     {
         read_pages(alloc, text)
     }
@@ -93,7 +94,7 @@ impl PageRanges {
 /// The pages and ranges that the text spells.
 #[tactic(auto, unfolding(crate::specs::Pages::pages_of))]
 fn read_pages(alloc: Global, text: &str) -> Result<PageRanges, PageRangesError>
-    ensures { MeansPages result (pages_of (chars text.now)) }
+    ensures { GivesOrRefuses refusal_of_pages pages result (pages_of (chars text.now)) }
 {
     let mut reader = Reader::new(text);
     let numbers = read_numbers(alloc, &mut reader)?;
@@ -106,7 +107,7 @@ fn group(
     alloc: Global,
     numbers: &[(i32, Option<NumericDelimiter>)],
 ) -> Result<PageRanges, PageRangesError>
-    ensures { MeansPages result (pages_from None numbers.now) }
+    ensures { GivesOrRefuses refusal_of_pages pages result (pages_from None numbers.now) }
 {
     let mut ranges = Vec::new(alloc);
     let mut first = None;
@@ -141,7 +142,7 @@ fn opened(first: Option<i32>, number: i32) -> Result<i32, Unreadable>
     }
 }
 
-/// Puts a page or a range last, and the separator after it.
+/// Appends a page or a range, and the separator after it.
 fn push_closed(
     ranges: &mut Vec<PageRangesPart>,
     first: Option<i32>,

@@ -4,13 +4,13 @@ ghost use Rattle.std.specs.Prelude.{◌≡◌, MatchOption, Some, None};
 ghost use Rattle.std.specs.Str.{chars};
 ghost use Rattle.laws.specs.Results.{Reads};
 ghost use Rattle.laws.specs.Text.{text as text_of};
-ghost use Rattle.text_reader.specs.Views.{left};
+ghost use Rattle.texts.specs.Views.{left};
 ghost use Rattle.literature_numbers.specs.Numbers.{delimiter_at, separator_at};
 ghost use Rattle.literature_numbers.specs.Numerics.{next_number_at};
 ghost use Rattle.literature_numbers.specs.NumericText.{delimiter_text};
 
 use std::fmt;
-use text_reader::{Class, Reader, Unreadable, split_first, split_run};
+use texts::{CharacterClass, Class, Reader, Unreadable, split_first, split_run};
 
 /// What stands between two numbers.
 #[derive(Clone, Copy, Debug, PartialEq, Eq)]

@@ -5,15 +5,15 @@ use Rattle.std.specs.List.{list_any}
 use Rattle.std.proofs.lemmas.List.{at_drop_more, at_drop_all, append_assoc, append-nil, take-map, length-map, map-append}
 use Rattle.std.proofs.lemmas.Str.{IsUtf8-string_bytes}
 use Rattle.std.proofs.Math.Seq.{take-append_seam}
-use Rattle.laws.specs.Text.{text}
-use Rattle.laws.proofs.Text.{text-chars}
+use Rattle.laws.specs.Text.{text, characters}
+use Rattle.laws.proofs.Text.{text_of_chars}
 use Rattle.literature_entries.specs.declared.entry.Entry.{Entry}
 use Rattle.literature_selectors.specs.Trees.{trees_of}
 use Rattle.literature_selectors.specs.Trees as trees
 use Rattle.literature_selectors.specs.Holding.{meaning, each_takes}
 use Rattle.literature_selectors.specs.Bindings.{Bound, binds, sides, of_first, each_binds}
 use Rattle.literature_selectors.specs.Found.{Adds, all_named, named, side}
-use Rattle.literature_selectors.specs.Views.{tree, characters}
+use Rattle.literature_selectors.specs.Views.{tree}
 use Rattle.literature_selectors.specs.declared.node.Node.{Node, Binding, Alternatives, Multi}
 use Rattle.literature_selectors.specs.declared.binding.Named.{Named}
 use Rattle.literature_selectors.proofs.Views.{view_binding, view_alternatives, view_multi}
@@ -124,11 +124,11 @@ members_add n xs ps ns r old new is same h =
     let said = subst (λ b. IfOk r (Adds b (each_binds (map side xs.items) ps) old new)) (sym (above_members n xs ps is)) here in
     subst (λ b. IfOk r (Adds ((meaning (tree n)).above ps) b old new)) (sym (bound_each n xs ps is)) said
 
--- what a name and what stands behind it add
+-- what a name and what stands after it add
 pub name_adds : {F : Type 0} (n : Node) (s : String Global) (x : Box Node Global) (body : Node) (e : Entry) (name : List ℕ) (r : Result Bool F) (old new : List Named) → n ≡ Binding s x → body ≡ x.value → name ≡ string_bytes s
     → IfOk r (Adds ((meaning (tree body)).at e) ((name, e) ∷ (binds (tree body)).at e) old new) → IfOk r (Adds ((meaning (tree n)).at e) ((binds (tree n)).at e) old new)
 name_adds n s x body e name r old new is same_body same h =
-    let written : name ≡ text (characters s) = same ∙ sym (text-chars (string_bytes s) (IsUtf8-string_bytes s)) in
+    let written : name ≡ text (characters s) = same ∙ sym (text_of_chars (string_bytes s) (IsUtf8-string_bytes s)) in
     let whole : trees.Binding (characters s) (tree body) ≡ tree n = ap (λ b. trees.Binding (characters s) (tree b)) same_body ∙ sym (view_binding s x) ∙ ap tree (sym is) in
     let here = subst (λ m. IfOk r (Adds ((meaning (tree body)).at e) ((m, e) ∷ (binds (tree body)).at e) old new)) written h in
     subst (λ t. IfOk r (Adds ((meaning t).at e) ((binds t).at e) old new)) whole here
@@ -146,11 +146,11 @@ withdrawn h bound old now new more n r count e cut same failed =
       added = ap all_named cut ∙ ap (λ k. all_named (take k now)) count ∙ taken_back old now more e ∙ sym (append-nil (all_named old)) ∙ ap (λ b. all_named old ++ cond b bound []) (sym failed ∙ same);
     }
 
--- more behind more
+-- more after more
 pub added_on : (old now new : List Named) (a b : Bound) → all_named now ≡ all_named old ++ a → all_named new ≡ all_named now ++ b → all_named new ≡ all_named old ++ (a ++ b)
 added_on old now new a b e h = h ∙ ap (λ xs. xs ++ b) e ∙ append_assoc (all_named old) a b
 
--- a name is taken back where what stands behind it does not hold
+-- a name is taken back where what stands after it does not hold
 pub name_withdrawn : (h : Bool) (inner bound : Bound) (old now new last : List Named) (b : Named) (n : ℕ) (r : Bool) → n ≡ length old → now ≡ old ++ b ∷ [] → Adds h inner now new r → last ≡ take n new → r ≡ false
     → Adds h bound old last r
 name_withdrawn h inner bound old now new last b n r count push adds cut failed =

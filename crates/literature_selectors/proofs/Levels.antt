@@ -2,13 +2,12 @@
 use Rattle.std.proofs.Common.{◌≡◌, ℕ, zero, suc, ◌-◌, ◌<◌, ◌≤◌, Bool, true, false, cond, List, [], ◌∷◌, ◌++◌, length, Option, Some, None, Result, Ok, Err, refl, sym, ap, ◌∙◌, append_assoc, arith, eqb}
 use Rattle.std.specs.Prelude.{IfOk}
 use Rattle.std.specs.List.{flat_map}
-use Rattle.laws.specs.Results.{◌>>=◌}
-use Rattle.literature_types.specs.EntryTypes.{type_called}
+use Rattle.laws.specs.Results.{◌>>=◌, EndsWith}
+use Rattle.literature_values.specs.EntryTypes.{type_called}
 use Rattle.literature_selectors.specs.Tokens.{Token, Name, Sign}
 use Rattle.literature_selectors.specs.Trees.{Tree, Any, Entry, Not, Binding, Ancestry, with_attributes}
 use Rattle.literature_selectors.specs.Reading.{Fault, MissingValue, Reading, taken, each_behind, name_at, list_end, names_at, lists_at, listed_at, parted, alternatives_of, multi_of, TooDeep, Level, typed, named, closed, parenthesised, signed, unary_in, above, ancestry_in, level}
-use Rattle.literature_selectors.specs.Views.{EndsWith}
-use Rattle.literature_types.specs.declared.entry_type.EntryType.{EntryType}
+use Rattle.literature_values.specs.declared.entry_type.EntryType.{EntryType}
 use Rattle.literature_selectors.proofs.Repeats.{TakesOne, taken_leaves, AtMost, Leaves, each_leaves, name_leaves, each_goes_on, each_stops, each_fails, ends_bind}
 
 -- more may be allowed

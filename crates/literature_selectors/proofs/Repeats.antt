@@ -1,15 +1,14 @@
--- What stands behind each sign, read as a loop reads it.
+-- What stands after each sign, read as a loop reads it.
 use Rattle.std.proofs.Common.{◌≡◌, ℕ, zero, suc, ◌<◌, ◌≤◌, Bool, true, false, cond, List, [], ◌∷◌, ◌++◌, length, Option, Some, None, Result, Ok, Err, refl, sym, ap, subst, ◌∙◌, append_assoc, arith, eqb}
 use Rattle.std.specs.Prelude.{IfOk}
 use Rattle.std.proofs.lemmas.List.{append-nil}
-use Rattle.laws.specs.Results.{◌>>=◌}
+use Rattle.laws.specs.Results.{◌>>=◌, EndsWith}
 use Rattle.laws.proofs.Results.{bind_if_ok, bind_bind, if_ok_at}
 use Rattle.literature_selectors.specs.Tokens.{Token, Name, Sign}
 use Rattle.literature_selectors.specs.Trees.{Tree}
 use Rattle.literature_selectors.specs.Reading.{Fault, MissingComma, Reading, taken, one_more, each_below, each_behind, name_at, list_end, names_at, parted}
-use Rattle.literature_selectors.specs.Views.{EndsWith}
 
--- a fault stays where more is read behind it
+-- a fault stays where more is read after it
 pub ends_bind : {A B : Type 0} (o : Option Fault) (r : Result A Fault) (f : A → Result B Fault) → EndsWith o r → EndsWith o (r >>= f)
 ends_bind None r f h = tt
 ends_bind (Some g) r f h = ap (λ x. x >>= f) h
@@ -79,7 +78,7 @@ pub each_stops : {X : Type 0} (sign : ℕ) (read : Reading X) (ts rest : List To
 unfolding each_behind each_below
 each_stops sign read ts rest is = rw is refl
 
--- the sign stands here, and what is read behind it stands before what the rest gives
+-- the sign stands here, and what is read after it stands before what the rest gives
 pub each_goes_on : {X : Type 0} (sign : ℕ) (read : Reading X) → Leaves read → (ts rest more : List Token) (x : X) → taken sign ts ≡ (true, rest) → read rest ≡ Ok (x, more)
     → each_behind sign read ts ≡ (each_behind sign read more >>= λ q. Ok (x ∷ q.0, q.1))
 unfolding each_behind each_below
@@ -89,7 +88,7 @@ each_goes_on {X} sign read fine ts rest more x is reads =
     let same : each_below (length ts) sign read more ≡ each_below (suc (length more)) sign read more = enough sign read fine (length ts) (suc (length more)) more (omega arith) (omega arith) in
     rw (is, reads) (ap (λ (r : Result (List X × List Token) Fault). r >>= λ q. Ok (x ∷ q.0, q.1)) same)
 
--- what is read behind the sign is a fault
+-- what is read after the sign is a fault
 pub each_fails : {X : Type 0} (sign : ℕ) (read : Reading X) (ts rest : List Token) (o : Option Fault) → taken sign ts ≡ (true, rest) → EndsWith o (read rest) → EndsWith o (each_behind sign read ts)
 unfolding each_behind each_below
 each_fails sign read ts rest None is h = tt
@@ -114,7 +113,7 @@ pub front_fails : {X : Type 0} (sign : ℕ) (read : Reading X) (before : List X)
     → EndsWith o (with_front before (each_behind sign read ts))
 front_fails sign read before ts rest o is h = ends_bind o (each_behind sign read ts) (λ p. Ok (before ++ p.0, p.1)) (each_fails sign read ts rest o is h)
 
--- one and what stands behind the signs
+-- one and what stands after the signs
 pub parted_ends : (sign : ℕ) (join : Tree → List Tree → Tree) (read : Reading Tree) (ts rest more : List Token) (x : Tree) (xs : List Tree) → read ts ≡ Ok (x, rest) → each_behind sign read rest ≡ Ok (xs, more)
     → parted sign join read ts ≡ Ok (join x xs, more)
 unfolding parted

@@ -4,11 +4,11 @@ use Rattle.std.proofs.lemmas.Bool.{eqb-true}
 use Rattle.std.specs.List.{flat_map}
 use Rattle.laws.specs.Results.{◌>>=◌}
 use Rattle.laws.proofs.Results.{bind_ok, ok_is, if_ok_at}
-use Rattle.literature_types.specs.EntryTypes.{type_called}
+use Rattle.literature_values.specs.EntryTypes.{type_called}
 use Rattle.literature_selectors.specs.Tokens.{Token, Name, Sign, tokens}
 use Rattle.literature_selectors.specs.Trees.{Tree, Any, Entry, Not, Binding, Ancestry, one_or_alternatives, one_or_multi, with_attributes}
 use Rattle.literature_selectors.specs.Reading.{Fault, MissingValue, Reading, taken, one_more, each_below, each_behind, name_at, list_end, names_at, lists_at, listed_at, parted, alternatives_of, multi_of, Level, typed, named, closed, parenthesised, signed, unary_in, above, ancestry_in, level, selector_at, selector_of}
-use Rattle.literature_types.specs.declared.entry_type.EntryType.{EntryType}
+use Rattle.literature_values.specs.declared.entry_type.EntryType.{EntryType}
 use Rattle.literature_selectors.specs.Grammar.{Spells, Bars, AreBehind, IsName, AreNames, AreLists, AreParted, Within, IsPrimary, IsUnaryWith, IsAboveWith, IsAncestryWith, within, IsSelector}
 use Rattle.literature_selectors.proofs.Repeats.{Leaves, AtMost, taken_less, name_leaves, put}
 use Rattle.literature_selectors.proofs.Levels.{names_leaves, LevelLeaves, level_leaves, unary_leaves}
@@ -93,7 +93,7 @@ lists-takes ts p e =
     let lists = bind_ok (each_behind 91 names_at ts) (λ l. Ok (flat_map (λ ns. ns) l.0, l.1)) p e in
     given (λ q. AreLists ts q.0 q.1) (flat_map (λ ns. ns) lists.0.0) lists.0.1 p lists.2 (lists.0.0, behind-takes 91 AreNames names_at names-takes names_leaves ts lists.0 lists.1, refl)
 
--- the names of the lists behind a tree
+-- the names of the lists after a tree
 abbrev HasLists : Tree → Spells Tree
 HasLists x ts y rest = (names : List (List ℕ)) × AreLists ts names rest × (y ≡ with_attributes x names)
 
@@ -117,7 +117,7 @@ pub record Spelled (w : Within) (l : Level) : Type 0 where
   pub ancestry : Takes w.IsAncestry l.ancestry
   pub fine : LevelLeaves l
 
--- a primary and the lists behind it
+-- a primary and the lists after it
 listed_of : (w : Within) (x : Tree) (ts a : List Token) (p : Tree × List Token) → IsPrimary w ts x a → listed_at x a ≡ Ok p → IsUnaryWith w ts p.0 p.1
 listed_of w x ts a p primary e =
     let lists = listed-takes x a p e in

@@ -3,8 +3,8 @@ use Rattle.std.proofs.Common.{◌≡◌, ℕ, zero, suc, ◌<◌, Bool, true, fa
 use Rattle.std.specs.Option.{option_map_or}
 use Rattle.laws.specs.Runs.{front_of, after}
 use Rattle.laws.proofs.Runs.{length-after}
-use Rattle.text_reader.specs.Character.{passes}
-use Rattle.text_reader.specs.declared.character.Class.TheVariants.{Blank}
+use Rattle.texts.specs.Character.{passes}
+use Rattle.texts.specs.declared.character.Class.TheVariants.{Blank}
 use Rattle.literature_selectors.specs.Tokens.{Token, Name, Sign, is_name_character, is_sign, token_here, token_at, tokens_below, tokens}
 
 -- what follows a token is shorter than n

@@ -95,15 +95,15 @@ module _ (test : Entry → Bool) (bound : Entry → Bound) where
   tries_add_none es i old now h end =
       h.same ∙ sym (append-nil (all_named old)) ∙ ap (λ b. all_named old ++ b) (sym (h.binds ∙ ap (one_binds bound) (nothing_here es i end)))
 
--- a reference among others by the entry that it lends
-pub lent_at : (bs : List (Bor Entry)) (i : ℕ) (b : Bor Entry) → b ≡ get_or bs i b → i < length bs → b.now ≡ get_or (borrowed bs) i b.now
-lent_at bs i b is less = ap (λ x. x.now) is ∙ sym (get_or-map (λ x. x.now) bs i b b.now less)
+-- a reference among others by the entry that it borrows
+pub borrowed_at : (bs : List (Bor Entry)) (i : ℕ) (b : Bor Entry) → b ≡ get_or bs i b → i < length bs → b.now ≡ get_or (borrowed bs) i b.now
+borrowed_at bs i b is less = ap (λ x. x.now) is ∙ sym (get_or-map (λ x. x.now) bs i b b.now less)
 
 pub within : (bs : List (Bor Entry)) (i : ℕ) → i < length bs → i < length (borrowed bs)
 within bs i less = subst (λ k. i < k) (sym (length-map bs (λ x. x.now))) less
 
-pub lent_without : (bs : List (Bor Entry)) (i : ℕ) → borrowed (remove bs i) ≡ remove (borrowed bs) i
-lent_without bs i = map-append (λ x. x.now) (take i bs) (drop (suc i) bs) ∙ (λ j. sym (take-map (λ x. x.now) i bs) j ++ sym (drop-map (λ x. x.now) (suc i) bs) j)
+pub borrowed_without : (bs : List (Bor Entry)) (i : ℕ) → borrowed (remove bs i) ≡ remove (borrowed bs) i
+borrowed_without bs i = map-append (λ x. x.now) (take i bs) (drop (suc i) bs) ∙ (λ j. sym (take-map (λ x. x.now) i bs) j ++ sym (drop-map (λ x. x.now) (suc i) bs) j)
 
 others_say : {X : Type 0} (pass : List X → Bool) (o : Option (X × List X)) (ys : List X) → others o ≡ Some ys → and_others pass o ≡ pass ys
 others_say pass None ys e = absurd cc
@@ -183,7 +183,7 @@ turns_end ms i ps left old now h end =
       added = sym (append-nil (all_named now)) ∙ ap (λ b. all_named now ++ b) (sym nothing) ∙ h.binds ∙ ap (λ b. all_named old ++ cond b (each_binds (map side ms) ps) []) (sym whole);
     }
 
--- a member finds none among what was lent: what was bound is taken back
+-- a member finds none among what was borrowed: what was bound is taken back
 pub turns_withdrawn : (ms : List Node) (i : ℕ) (m : Node) (ps : List Entry) (lent left : List (Bor Entry)) (o : Option ℕ) (old now new last : List Named) (n : ℕ) → IsInTurn ms i ps (borrowed left) old now → i < length ms → m ≡ get_or ms i m
     → lent ≡ left → others (take_first (meaning (tree m)).at (borrowed lent)) ≡ option_map (remove (borrowed lent)) o → o ≡ None
     → all_named new ≡ all_named now ++ one_binds (binds (tree m)).at (take_first (meaning (tree m)).at (borrowed lent)) → n ≡ length old → last ≡ take n new
@@ -195,13 +195,13 @@ turns_withdrawn ms i m ps lent left o old now new last n h less is same taken no
     let unchanged = turns_fail_same m (borrowed lent) now new nothing added in
     withdrawn (each_takes (tests ms) ps) (each_binds (map side ms) ps) old new last _ n false count (added_on old now new h.more [] h.since unchanged) cut (sym fails) refl
 
--- a member takes one of what was lent
+-- a member takes one of what was borrowed
 pub turns_taken : (ms : List Node) (i : ℕ) (m : Node) (ps : List Entry) (lent left next : List (Bor Entry)) (o : Option ℕ) (place : ℕ) (old now new : List Named) → IsInTurn ms i ps (borrowed left) old now → i < length ms → m ≡ get_or ms i m
     → lent ≡ left → others (take_first (meaning (tree m)).at (borrowed lent)) ≡ option_map (remove (borrowed lent)) o → o ≡ Some place
     → all_named new ≡ all_named now ++ one_binds (binds (tree m)).at (take_first (meaning (tree m)).at (borrowed lent)) → next ≡ remove left place
     → IsInTurn ms (i + 1) ps (borrowed next) old new
 turns_taken ms i m ps lent left next o place old now new h less is same taken some added cut =
-    let without : others (take_first (meaning (tree m)).at (borrowed lent)) ≡ Some (borrowed (remove lent place)) = taken ∙ ap (option_map (remove (borrowed lent))) some ∙ ap Some (sym (lent_without lent place)) in
+    let without : others (take_first (meaning (tree m)).at (borrowed lent)) ≡ Some (borrowed (remove lent place)) = taken ∙ ap (option_map (remove (borrowed lent))) some ∙ ap Some (sym (borrowed_without lent place)) in
     let left_without : others (take_first (meaning (tree m)).at (borrowed left)) ≡ Some (borrowed (remove left place)) = subst (λ bs. others (take_first (meaning (tree m)).at (borrowed bs)) ≡ Some (borrowed (remove bs place))) same without in
     let left_added = subst (λ bs. all_named new ≡ all_named now ++ one_binds (binds (tree m)).at (take_first (meaning (tree m)).at (borrowed bs))) same added in
     turns_go_on ms i m ps (borrowed left) (borrowed next) old now new h less is (left_without ∙ ap (λ bs. Some (borrowed bs)) (sym cut)) left_added

@@ -4,8 +4,9 @@ use Rattle.std.specs.Global.{Global}
 use Rattle.std.specs.Prelude.{String, Box, map}
 use Rattle.literature_selectors.specs.Trees.{trees_of}
 use Rattle.literature_selectors.specs.Trees as trees
-use Rattle.literature_selectors.specs.Views.{tree, characters}
-use Rattle.literature_types.specs.declared.entry_type.EntryType.{EntryType}
+use Rattle.literature_selectors.specs.Views.{tree}
+use Rattle.laws.specs.Text.{characters}
+use Rattle.literature_values.specs.declared.entry_type.EntryType.{EntryType}
 use Rattle.literature_selectors.specs.declared.node.Node.{Node, Any, Entry, Not, Binding, Attributes, Alternatives, Multi, Ancestry, the_lemmas}
 
 pub view_any : tree Any ≡ trees.Any

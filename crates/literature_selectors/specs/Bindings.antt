@@ -43,7 +43,7 @@ each_binds [] ps = []
 each_binds (s ∷ ss) ps = taken_binds s.binds.at (each_binds ss) (take_first s.means.at ps)
 
 abbrev mutual
-  -- A name is bound to the entry at which what stands behind it holds. A choice binds what its first side does that holds,
+  -- A name is bound to the entry at which what stands after it holds. A choice binds what its first side does that holds,
   -- or that the parents satisfy. What asks of parents binds first what the entry does. Nothing is bound under a negation.
   pub binds : Tree → Binds
   binds trees.Any = at_first (meaning trees.Any).at (λ e. [])

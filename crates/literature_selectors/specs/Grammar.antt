@@ -3,10 +3,10 @@
 -- comma 44, the colon 58, > 62, [ 91, ] 93, | 124.
 use Rattle.std.specs.Prelude.{◌≡◌, ℕ, zero, suc, false, ◌==◌, List, [], ◌∷◌, Some, ◌⊎◌}
 use Rattle.std.specs.List.{flat_map}
-use Rattle.literature_types.specs.EntryTypes.{type_called}
+use Rattle.literature_values.specs.EntryTypes.{type_called}
 use Rattle.literature_selectors.specs.Tokens.{Token, Name, Sign, tokens}
 use Rattle.literature_selectors.specs.Trees.{Tree, Any, Entry, Not, Binding, Ancestry, one_or_alternatives, one_or_multi, with_attributes}
-use Rattle.literature_types.specs.declared.entry_type.EntryType.{EntryType}
+use Rattle.literature_values.specs.declared.entry_type.EntryType.{EntryType}
 
 -- tokens, what they spell, and the tokens that follow
 abbrev pub Spells : Type 0 → Type 1
@@ -18,7 +18,7 @@ Bars sign [] = Unit {0}
 Bars sign (Name n ∷ ts) = Unit {0}
 Bars sign (Sign c ∷ ts) = (c == sign) ≡ false
 
--- each behind the sign, and no further sign behind the last
+-- each after the sign, and no further sign after the last
 abbrev pub AreBehind : {X : Type 0} → ℕ → Spells X → Spells (List X)
 AreBehind sign Is ts [] rest = (ts ≡ rest) × Bars sign rest
 AreBehind sign Is ts (x ∷ xs) rest = (a : List Token) × (b : List Token) × (ts ≡ Sign sign ∷ a) × Is a x b × AreBehind sign Is b xs rest
@@ -27,7 +27,7 @@ AreBehind sign Is ts (x ∷ xs) rest = (a : List Token) × (b : List Token) × (
 abbrev pub IsName : Spells (List ℕ)
 IsName ts n rest = ts ≡ Name n ∷ rest
 
--- behind the bracket that begins a list: names parted by commas, and the bracket that ends it
+-- after the bracket that begins a list: names parted by commas, and the bracket that ends it
 abbrev pub AreNames : Spells (List (List ℕ))
 AreNames ts [] rest = ⊥
 AreNames ts (n ∷ ns) rest = (a : List Token) × (b : List Token) × IsName ts n a × AreBehind 44 IsName a ns b × (b ≡ Sign 93 ∷ rest)
@@ -65,7 +65,7 @@ IsLeftOut ts x rest = (a : List Token) × (ts ≡ Sign 91 ∷ a) × (ts ≡ rest
 abbrev pub IsPrimary : Within → Spells Tree
 IsPrimary inner ts x rest = IsStar ts x rest ⊎ (IsType ts x rest ⊎ (IsInParentheses inner ts x rest ⊎ IsLeftOut ts x rest))
 
--- a primary and the lists behind it
+-- a primary and the lists after it
 abbrev pub IsListed : Within → Spells Tree
 IsListed inner ts y rest = (x : Tree) × (a : List Token) × (names : List (List ℕ)) × IsPrimary inner ts x a × AreLists a names rest × (y ≡ with_attributes x names)
 

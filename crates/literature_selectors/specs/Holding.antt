@@ -4,8 +4,8 @@ use Rattle.std.specs.List.{list_any, list_all}
 use Rattle.std.specs.Option.{option_map}
 use Rattle.std.specs.Str.{bytes_eq}
 use Rattle.laws.specs.Text.{text}
-use Rattle.literature_types.specs.EntryTypes.{type_name}
-use Rattle.literature_types.specs.declared.entry_type.EntryType.{EntryType}
+use Rattle.literature_values.specs.EntryTypes.{type_name}
+use Rattle.literature_values.specs.declared.entry_type.EntryType.{EntryType}
 use Rattle.literature_entries.specs.declared.entry.Entry.{Entry}
 use Rattle.literature_entries.specs.Names.{has, are_some}
 use Rattle.literature_entries.specs.Views.{fields, parents}

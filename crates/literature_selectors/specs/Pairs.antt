@@ -8,7 +8,7 @@ use Rattle.literature_entries.specs.declared.entry.Entry.{Entry}
 use Rattle.literature_selectors.specs.Bindings.{Bound}
 use Rattle.literature_selectors.specs.declared.bindings.Bindings.{Bindings}
 
--- a name by its bytes, and the entry that is lent
+-- a name by its bytes, and the entry that is borrowed
 abbrev pub pair : String Global × Bor Entry → List ℕ × Entry
 pair p = (string_bytes p.0, p.1.now)
 

@@ -4,10 +4,10 @@
 use Rattle.std.specs.Prelude.{ℕ, zero, suc, Bool, true, false, ◌==◌, List, [], ◌∷◌, length, if◌then◌else◌, Option, Some, None, Result, Ok, Err}
 use Rattle.std.specs.List.{flat_map}
 use Rattle.laws.specs.Results.{◌>>=◌}
-use Rattle.literature_types.specs.EntryTypes.{type_called}
+use Rattle.literature_values.specs.EntryTypes.{type_called}
 use Rattle.literature_selectors.specs.Tokens.{Token, Name, Sign, tokens}
 use Rattle.literature_selectors.specs.Trees.{Tree, Any, Entry, Not, Binding, Ancestry, one_or_alternatives, one_or_multi, with_attributes}
-use Rattle.literature_types.specs.declared.entry_type.EntryType.{EntryType}
+use Rattle.literature_values.specs.declared.entry_type.EntryType.{EntryType}
 
 -- An operand is missing; a name is missing in a list; a name of a list is followed by neither a comma nor the end; a
 -- parenthesis is not closed; a name is no type's; a 129th level would be open.
@@ -29,7 +29,7 @@ taken sign [] = (false, [])
 taken sign (Name n ∷ ts) = (false, Name n ∷ ts)
 taken sign (Sign c ∷ ts) = if c == sign then (true, ts) else (false, Sign c ∷ ts)
 
--- behind the sign one more and then the others, without the sign none
+-- after the sign one more and then the others, without the sign none
 abbrev pub one_more : {X : Type 0} → Reading X → Reading (List X) → Bool × List Token → Result (List X × List Token) Fault
 one_more read others (false, ts) = Ok ([], ts)
 one_more read others (true, ts) = read ts >>= λ p. others p.1 >>= λ q. Ok (p.0 ∷ q.0, q.1)
@@ -39,7 +39,7 @@ unfoldable pub each_below : {X : Type 0} → ℕ → ℕ → Reading X → Readi
 each_below zero sign read ts = Ok ([], ts)
 each_below (suc n) sign read ts = one_more read (each_below n sign read) (taken sign ts)
 
--- As often as the sign stands: what is read behind it. Each sign is a token, so there are no more of them than tokens.
+-- As often as the sign stands: what is read after it. Each sign is a token, so there are no more of them than tokens.
 unfoldable pub each_behind : {X : Type 0} → ℕ → Reading X → Reading (List X)
 each_behind sign read ts = each_below (suc (length ts)) sign read ts
 
@@ -61,13 +61,13 @@ names_at ts = do
   rest ← list_end (taken 93 others.1)
   Ok (first.0 ∷ others.0, rest)
 
--- the names of the lists that stand here, each behind its bracket
+-- the names of the lists that stand here, each after its bracket
 unfoldable pub lists_at : Reading (List (List ℕ))
 lists_at ts = do
   lists ← each_behind 91 names_at ts
   Ok (flat_map (λ names. names) lists.0, lists.1)
 
--- a tree with the lists behind it
+-- a tree with the lists after it
 unfoldable pub listed_at : Tree → Reading Tree
 listed_at x ts = do
   names ← lists_at ts
@@ -88,33 +88,33 @@ alternatives_of read ts = parted 124 one_or_alternatives read ts
 abbrev pub multi_of : Reading Tree → Reading Tree
 multi_of read ts = parted 38 one_or_multi read ts
 
--- what a token that opens a level has read behind it
+-- what a token that opens a level has read after it
 pub record Level : Type 0 where
   pub unary : Reading Tree
   pub ancestry : Reading Tree
 
--- the type of a name, with the lists behind it
+-- the type of a name, with the lists after it
 abbrev pub typed : List ℕ → Option EntryType → Reading Tree
 typed n None ts = Err (UnknownEntryType n)
 typed n (Some t) ts = listed_at (Entry t) ts
 
--- a name before a colon binds what is read behind it, another one is that of a type
+-- a name before a colon binds what is read after it, another one is that of a type
 abbrev pub named : Level → List ℕ → Bool × List Token → Result (Tree × List Token) Fault
 named inner n (true, ts) = inner.unary ts >>= λ p. Ok (Binding n p.0, p.1)
 named inner n (false, ts) = typed n (type_called n) ts
 
--- past the parenthesis that closes, and the lists behind it
+-- past the parenthesis that closes, and the lists after it
 abbrev pub closed : Tree → Bool × List Token → Result (Tree × List Token) Fault
 closed x (true, ts) = listed_at x ts
 closed x (false, ts) = Err UnbalancedParens
 
--- behind an opening parenthesis
+-- after an opening parenthesis
 unfoldable pub parenthesised : Level → Reading Tree
 parenthesised inner ts = do
   inside ← alternatives_of inner.ancestry ts
   closed inside.0 (taken 41 inside.1)
 
--- a sign with what it opens: ! and * and [ (a list alone is one behind *) and (
+-- a sign with what it opens: ! and * and [ (a list alone is one after *) and (
 abbrev pub signed : Level → ℕ → Reading Tree
 signed inner c ts = if c == 33 then (inner.unary ts >>= λ p. Ok (Not p.0, p.1))
     else (if c == 42 then listed_at Any ts
@@ -122,13 +122,13 @@ signed inner c ts = if c == 33 then (inner.unary ts >>= λ p. Ok (Not p.0, p.1))
     else (if c == 40 then parenthesised inner ts
     else Err MissingValue)))
 
--- a negation, a binding, or a star, a type or a parenthesis with the lists behind it
+-- a negation, a binding, or a star, a type or a parenthesis with the lists after it
 unfoldable pub unary_in : Level → Reading Tree
 unary_in inner [] = Err MissingValue
 unary_in inner (Name n ∷ ts) = named inner n (taken 58 ts)
 unary_in inner (Sign c ∷ ts) = signed inner c ts
 
--- what the parents are asked, behind its sign
+-- what the parents are asked, after its sign
 abbrev pub above : Level → Tree → Bool × List Token → Result (Tree × List Token) Fault
 above inner x (true, ts) = inner.ancestry ts >>= λ p. Ok (Ancestry x p.0, p.1)
 above inner x (false, ts) = Ok (x, ts)

@@ -3,8 +3,8 @@ use Rattle.std.specs.Prelude.{ℕ, zero, suc, Bool, ◌==◌, ◌||◌, List, []
 use Rattle.std.specs.Option.{option_map_or}
 use Rattle.std.specs.Char.{is_ascii_alphanumeric}
 use Rattle.laws.specs.Runs.{front_of, after}
-use Rattle.text_reader.specs.Character.{passes}
-use Rattle.text_reader.specs.declared.character.Class.TheVariants.{Blank}
+use Rattle.texts.specs.Character.{passes}
+use Rattle.texts.specs.declared.character.Class.TheVariants.{Blank}
 
 -- a name, or a sign
 pub data Token : Type 0 where

@@ -1,6 +1,6 @@
 -- Selectors as plain data.
 use Rattle.std.specs.Prelude.{ℕ, List, [], ◌∷◌}
-use Rattle.literature_types.specs.declared.entry_type.EntryType.{EntryType}
+use Rattle.literature_values.specs.declared.entry_type.EntryType.{EntryType}
 
 mutual
   -- every entry, an entry of a type, what a selector does not ask, one with a name for what it holds at, one with names of

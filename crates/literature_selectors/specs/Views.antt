@@ -1,7 +1,8 @@
--- What the code holds and answers, without where it lies in memory.
+-- What the code has and returns, without where it lies in memory.
 use Rattle.std.specs.Global.{Global}
 use Rattle.std.specs.Prelude.{◌≡◌, ℕ, List, map, Option, Some, None, Result, Ok, Err, String, string_bytes}
 use Rattle.std.specs.Str.{chars}
+use Rattle.laws.specs.Text.{characters}
 use Rattle.literature_selectors.specs.Tokens.{Token, tokens}
 use Rattle.literature_selectors.specs.Trees.{Tree, Any, Entry, Not, Binding, Attributes, Alternatives, Multi, Ancestry, trees_of}
 use Rattle.literature_selectors.specs.Reading.{Fault, MissingValue, MalformedAttribute, MissingComma, UnbalancedParens, UnknownEntryType, TooDeep}
@@ -15,10 +16,6 @@ use Rattle.literature_selectors.specs.declared.error.SelectorError.TheVariants a
 -- the tokens that are left to read
 abbrev pub left : Reader → List Token
 left r = tokens (chars r.rest.now)
-
--- the characters of a text
-abbrev pub characters : String Global → List ℕ
-characters s = chars (string_bytes s)
 
 -- one node, with each selector in it already seen
 abbrev pub view_step : Node-F Tree → Tree
@@ -39,7 +36,7 @@ tree = fold-Node Tree view_step
 abbrev pub meant : Selector → Tree
 meant s = tree s.root
 
--- the fault that an error tells, or none for want of memory
+-- the fault that an error tells, or none where memory ran out
 abbrev pub fault : SelectorError → Option Fault
 fault errors.MissingValue = Some MissingValue
 fault errors.MalformedAttribute = Some MalformedAttribute
@@ -49,24 +46,6 @@ fault (errors.UnknownEntryType name) = Some (UnknownEntryType (characters name))
 fault errors.TooDeep = Some TooDeep
 fault errors.Memory = None
 
--- reading ends with that fault; want of memory says nothing
-abbrev pub EndsWith : {Y : Type 0} → Option Fault → Result Y Fault → Type 0
-EndsWith None read = Unit {0}
-EndsWith (Some f) read = read ≡ Err f
-
-abbrev pub Fails : {Y : Type 0} → SelectorError → Result Y Fault → Type 0
-Fails e read = EndsWith (fault e) read
-
--- What a function returned, seen by view, and what it left to read are what reading gives; or memory ran out.
-abbrev pub Gives : {X Y : Type 0} → (X → Y) → Result X SelectorError → List Token → Result (Y × List Token) Fault → Type 0
-Gives view (Ok x) rest read = read ≡ Ok (view x, rest)
-Gives view (Err e) rest read = Fails e read
-
--- the same of what a text spells, without a rest
-abbrev pub Means : {X Y : Type 0} → (X → Y) → Result X SelectorError → Result Y Fault → Type 0
-Means view (Ok x) read = read ≡ Ok (view x)
-Means view (Err e) read = Fails e read
-
 -- the error tells that the name is no type's; or memory ran out
 abbrev pub TellsUnknown : Option Fault → List ℕ → Type 0
 TellsUnknown None name = Unit {0}
@@ -74,8 +53,3 @@ TellsUnknown (Some f) name = f ≡ UnknownEntryType name
 
 abbrev pub IsUnknown : SelectorError → List ℕ → Type 0
 IsUnknown e name = TellsUnknown (fault e) name
-
--- What is answered is that tree; or memory ran out.
-abbrev pub ReadsAs : Result Selector SelectorError → Tree → Type 0
-ReadsAs (Ok s) x = meant s ≡ x
-ReadsAs (Err e) x = fault e ≡ None

@@ -4,11 +4,11 @@ ghost use Rattle.std.specs.Prelude.{◌≡◌, ◌∷◌, ◌++◌, ◌<◌, ◌
 ghost use Rattle.std.specs.Option.{option_map};
 ghost use Rattle.std.specs.List.{list_any};
 ghost use Rattle.literature_entries.specs.Views.{parents};
-ghost use Rattle.laws.specs.Text.{text};
+ghost use Rattle.laws.specs.Text.{text, characters};
 ghost use Rattle.literature_selectors.specs.Holding.{meaning, each_takes, take_first};
 ghost use Rattle.literature_selectors.specs.Bindings.{binds, of_first, each_binds, taken_binds};
 ghost use Rattle.literature_selectors.specs.Found.{Adds, all_named, side, borrowed};
-ghost use Rattle.literature_selectors.specs.Views.{tree, characters};
+ghost use Rattle.literature_selectors.specs.Views.{tree};
 
 use crate::holding::{has_each, is_of};
 use crate::node::Node;
@@ -22,7 +22,7 @@ pub(crate) struct Named<'s, 'e> {
     pub(crate) entry: &'e Entry,
 }
 
-/// Each answers whether the selector holds, and if so adds what is bound.
+/// Each returns whether the selector holds, and if so adds what is bound.
 impl Node {
     /// At an entry.
     #[cycle(binding)]

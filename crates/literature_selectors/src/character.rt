@@ -5,6 +5,8 @@ ghost use Rattle.std.specs.Str.{chars};
 ghost use Rattle.laws.specs.Runs.{front_of, after};
 ghost use Rattle.literature_selectors.specs.Tokens.{is_name_character, is_sign};
 
+use texts::{CharacterClass, split_run};
+
 /// Whether the character may stand in a name: an ASCII letter, a digit, a hyphen or an underscore.
 pub(crate) fn is_name_character(c: char) -> bool
     ensures { result ≡ is_name_character c }
@@ -22,15 +24,22 @@ pub(crate) fn is_sign(c: char) -> bool
     )
 }
 
+/// The characters of names.
+#[derive(Clone, Copy)]
+struct Name;
+
+impl CharacterClass for Name {
+    ghost passes = { λ _ c. is_name_character c };
+
+    fn contains(self, c: char) -> bool {
+        is_name_character(c)
+    }
+}
+
 /// The longest front that is of a name, and what follows it.
 pub(crate) fn split_name(text: &str) -> (&str, &str)
     ensures front { chars result.0.now ≡ front_of is_name_character (chars text.now) }
     ensures rest { chars result.1.now ≡ after is_name_character (chars text.now) }
 {
-    for (i, c) in text.char_indices() {
-        if !is_name_character(c) {
-            return text.split_at(i);
-        }
-    }
-    text.split_at(text.len())
+    split_run(text, Name)
 }

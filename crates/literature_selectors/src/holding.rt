@@ -5,11 +5,12 @@ ghost use Rattle.std.specs.Option.{option_map};
 ghost use Rattle.std.specs.List.{list_any};
 ghost use Rattle.literature_selectors.specs.Holding.{meaning, is_of, has_each, each_takes, take_first};
 ghost use Rattle.literature_selectors.specs.Left.{left_of, is_among, taken_places};
-ghost use Rattle.literature_selectors.specs.Views.{tree, characters};
+ghost use Rattle.literature_selectors.specs.Views.{tree};
+ghost use Rattle.laws.specs.Text.{characters};
 
 use crate::node::Node;
 use literature_entries::Entry;
-use literature_types::EntryType;
+use literature_values::EntryType;
 
 /// The place of a parent that was taken, and those that were taken before.
 #[derive(Clone, Copy)]

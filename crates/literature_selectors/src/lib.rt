@@ -15,6 +15,6 @@ mod token;
 
 pub use bindings::Bindings;
 pub use error::SelectorError;
-pub use literature_types::EntryType;
+pub use literature_values::EntryType;
 pub use select::BoundSelect;
 pub use selector::Selector;

@@ -4,9 +4,10 @@ ghost use Rattle.std.specs.Prelude.{◌≡◌, IfOk, map};
 ghost use Rattle.std.specs.Str.{chars};
 ghost use Rattle.literature_selectors.specs.Trees.{Tree, one_or_alternatives, one_or_multi, with_attributes};
 ghost use Rattle.literature_selectors.specs.Trees as trees;
-ghost use Rattle.literature_selectors.specs.Views.{tree, characters};
+ghost use Rattle.literature_selectors.specs.Views.{tree};
+ghost use Rattle.laws.specs.Text.{characters};
 
-use literature_types::EntryType;
+use literature_values::EntryType;
 use std::alloc::{AllocError, Global};
 
 /// What is asked of an entry and of its parents.

@@ -23,7 +23,7 @@ impl<'s> Reader<'s> {
         Reader { rest: text }
     }
 
-    /// The first token that is left, and the reader behind it.
+    /// The first token that is left, and the reader after it.
     #[tactic(auto, using(crate::proofs::Tokens::tokens_none, crate::proofs::Tokens::tokens_some))]
     pub(crate) fn first(&self) -> Option<(Token<'s>, Reader<'s>)>
         ensures { MatchOption result (left self.now ≡ []) (λ x. left self.now ≡ token x.0 ∷ left x.1) }

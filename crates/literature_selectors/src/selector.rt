@@ -9,7 +9,8 @@ ghost use Rattle.literature_selectors.specs.Holding.{holds};
 ghost use Rattle.literature_selectors.specs.Pairs.{pairs, named_in};
 ghost use Rattle.literature_selectors.specs.Reading.{selector_of};
 ghost use Rattle.literature_selectors.specs.Trees.{Tree};
-ghost use Rattle.literature_selectors.specs.Views.{meant, Means, ReadsAs};
+ghost use Rattle.literature_selectors.specs.Views.{meant, fault};
+ghost use Rattle.laws.specs.Results.{GivesBack, Gives};
 
 use crate::bindings::Bindings;
 use crate::error::SelectorError;
@@ -37,9 +38,9 @@ impl Selector {
         // What is read is spelled by the longest expression at the text's beginning.
         ensures found { IfOk result (λ s. IsSelector (chars text.now) (meant s)) }
         // What is spelled there is read, unless memory runs out.
-        ensures only { (x : Tree) → IsSelector (chars text.now) x → ReadsAs result x }
+        ensures only { (x : Tree) → IsSelector (chars text.now) x → GivesBack fault meant result x }
         // The tree, or the first fault from the left.
-        ensures reading { Means meant result (selector_of (chars text.now)) }
+        ensures reading { Gives fault meant result (selector_of (chars text.now)) }
     {
         rooted(alloc, text)
     }
@@ -97,7 +98,7 @@ impl Selector {
 
 /// The selector of the tree that the text spells.
 fn rooted(alloc: Global, text: &str) -> Result<Selector, SelectorError>
-    ensures { Means meant result (selector_of (chars text.now)) }
+    ensures { Gives fault meant result (selector_of (chars text.now)) }
 {
     let root = read_selector(alloc, text)?;
     Ok(Selector { root })

@@ -6,7 +6,7 @@ ghost use Rattle.literature_selectors.specs.Tokens.{token_at};
 ghost use Rattle.literature_selectors.specs.TokenViews.{token};
 
 use crate::character::{is_name_character, is_sign, split_name};
-use text_reader::{Class, split_first, split_run};
+use texts::{Class, split_first, split_run};
 
 /// A name, or a sign of the language.
 #[derive(Clone, Copy)]
@@ -15,7 +15,7 @@ pub(crate) enum Token<'s> {
     Sign(char),
 }
 
-/// The first token behind white space, and what follows it.
+/// The first token after white space, and what follows it.
 #[tactic(auto, unfolding(crate::specs::Tokens::token_at))]
 pub(crate) fn split_token(text: &str) -> Option<(Token<'_>, &str)>
     ensures { MatchOption result (token_at (chars text.now) ≡ None) (λ x. token_at (chars text.now) ≡ Some (token x.0, chars x.1.now)) }

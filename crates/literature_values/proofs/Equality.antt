@@ -5,7 +5,8 @@ use Rattle.std.specs.Option.{option_eq, option_map}
 use Rattle.std.proofs.lemmas.Bool.Decides.{Decides-and}
 use Rattle.laws.specs.Equality.{Shows}
 use Rattle.laws.proofs.Equality.{Decides-moved, Decides-never, Shows-strings, Shows-options, Shows-options_themselves, Shows-lists, Shows-pairs}
-use Rattle.literature_numbers.specs.Views.{characters, numeral}
+use Rattle.literature_numbers.specs.Views.{numeral}
+use Rattle.laws.specs.Text.{characters}
 use Rattle.literature_values.specs.TextViews.{chunk, chunks, format, publishing}
 use Rattle.literature_values.specs.PersonViews.{person}
 use Rattle.std.proofs.lemmas.Bool.{true≢false}
@@ -22,9 +23,9 @@ use Rattle.literature_numbers.proofs.Equality.{Shows-Numeric, Shows-PageRanges}
 use Rattle.url.specs.Parts.{serialize}
 use Rattle.url.specs.contracts.Url.{the_row}
 use Rattle.url.specs.contracts.traits.UrlPartialEq.TheImpl as url
-use Rattle.literature_dates.specs.contracts.date.DatePartialEq.TheImpl as date
-use Rattle.literature_dates.proofs.Equality.{Shows-Date}
-use Rattle.literature_values.specs.TypedViews.{Held, Value, Text, held}
+use Rattle.literature_values.specs.contracts.date.DatePartialEq.TheImpl as date
+use Rattle.literature_values.proofs.DateEquality.{Shows-Date}
+use Rattle.literature_values.specs.TypedViews.{ValueOrText, Value, Text, value_or_text}
 use Rattle.literature_values.specs.declared.maybe_typed.MaybeTyped.TheVariants as typed
 use Rattle.literature_values.specs.OtherViews.{address, numbers_by_scheme}
 use Rattle.literature_values.specs.contracts.text.ChunkKind.{the_type}
@@ -81,27 +82,27 @@ Shows-SerialNumber s t =
     (Shows-pairs string_eq characters string_eq characters Shows-strings Shows-strings) s.0.entries t.0.entries
 
 -- a text is no value
-abbrev is_text : {V : Type 0} → Held V → Bool
+abbrev is_text : {V : Type 0} → ValueOrText V → Bool
 is_text (Value v) = false
 is_text (Text cs) = true
 
-abbrev value_or : {V : Type 0} → V → Held V → V
+abbrev value_or : {V : Type 0} → V → ValueOrText V → V
 value_or v (Value w) = w
 value_or v (Text cs) = v
 
-abbrev text_of : {V : Type 0} → Held V → List ℕ
+abbrev text_of : {V : Type 0} → ValueOrText V → List ℕ
 text_of (Value v) = []
 text_of (Text cs) = cs
 
 -- at any type, where it is known what `==` answers there
-pub Shows-MaybeTyped : (T : RattleType) (g : Ghosts T.Denot) (d : Dict) {V : Type 0} (seen : T.Denot → V) → Shows g.eq seen → Shows ((maybe_typed.ghosts T g d).eq) (held seen)
+pub Shows-MaybeTyped : (T : RattleType) (g : Ghosts T.Denot) (d : Dict) {V : Type 0} (seen : T.Denot → V) → Shows g.eq seen → Shows ((maybe_typed.ghosts T g d).eq) (value_or_text seen)
 Shows-MaybeTyped T g d seen s (typed.Typed v) (typed.Typed w) = Decides-moved (g.eq v w) (s v w) (ap Value) (ap (value_or (seen v)))
 Shows-MaybeTyped T g d seen s (typed.Typed v) (typed.String t) = Decides-never (λ e. true≢false (sym (ap is_text e)))
 Shows-MaybeTyped T g d seen s (typed.String r) (typed.Typed w) = Decides-never (λ e. true≢false (ap is_text e))
 Shows-MaybeTyped T g d seen s (typed.String r) (typed.String t) = Decides-moved (string_eq r t) (Shows-strings r t) (ap Text) (ap text_of)
 
 -- an address that can be read is seen as it is written
-pub Shows-MaybeTyped-Url : Shows ((maybe_typed.ghosts the_row url.ghosts url.dict).eq) (held serialize)
+pub Shows-MaybeTyped-Url : Shows ((maybe_typed.ghosts the_row url.ghosts url.dict).eq) (value_or_text serialize)
 Shows-MaybeTyped-Url = Shows-MaybeTyped the_row url.ghosts url.dict serialize (λ a b. bytes_decides (serialize a) (serialize b))
 
 pub Shows-QualifiedUrl : Shows qualified_url.ghosts.eq address
@@ -111,8 +112,8 @@ Shows-QualifiedUrl a b =
     (Shows-MaybeTyped-Url a.value b.value) (Shows-options_themselves date.ghosts.eq Shows-Date a.visit_date b.visit_date))
     (λ e i. record { value = e.0 i; visit_date = e.1 i }) (λ e. (ap (λ v. v.value) e, ap (λ v. v.visit_date) e))
 
-pub Shows-MaybeTyped-Numeric : Shows ((maybe_typed.ghosts numeric_row numeric.ghosts numeric.dict).eq) (held numeral)
+pub Shows-MaybeTyped-Numeric : Shows ((maybe_typed.ghosts numeric_row numeric.ghosts numeric.dict).eq) (value_or_text numeral)
 Shows-MaybeTyped-Numeric = Shows-MaybeTyped numeric_row numeric.ghosts numeric.dict numeral Shows-Numeric
 
-pub Shows-MaybeTyped-PageRanges : Shows ((maybe_typed.ghosts pages_row page_ranges.ghosts page_ranges.dict).eq) (held pages)
+pub Shows-MaybeTyped-PageRanges : Shows ((maybe_typed.ghosts pages_row page_ranges.ghosts page_ranges.dict).eq) (value_or_text pages)
 Shows-MaybeTyped-PageRanges = Shows-MaybeTyped pages_row page_ranges.ghosts page_ranges.dict pages Shows-PageRanges

@@ -11,10 +11,10 @@ use Rattle.laws.proofs.Results.{ok_is}
 use Rattle.laws.proofs.Text.{text-append}
 use Rattle.laws.proofs.Runs.{length-after, front-after}
 use Rattle.laws.proofs.Steps.{each-none, each-some}
-use Rattle.text_reader.specs.Character.{passes}
-use Rattle.text_reader.specs.Reading.{taken}
+use Rattle.texts.specs.Character.{passes}
+use Rattle.texts.specs.Reading.{taken}
 use Rattle.literature_values.specs.Initials.{Run, Style, initial, further, joined_runs, run_behind, run_from, next_run_at, initials_of}
-use Rattle.text_reader.specs.declared.character.Class.TheVariants.{Blank, Apart, Name}
+use Rattle.texts.specs.declared.character.Class.TheVariants.{Blank, Apart, Name}
 
 taken-leaves : (c : ℕ) (cs : List ℕ) → length (taken c cs).1 ≤ length cs
 taken-leaves c [] = omega arith
@@ -42,7 +42,7 @@ runs_shorten cs rest r is =
     by_run (c ∷ run) parts e =
         omega (arith, ap (λ (p : Option Run × List ℕ). length p.1) e, taken-leaves 45 (after (passes Blank) cs), length-after (passes Blank) cs, length-after (passes Apart) (taken 45 (after (passes Blank) cs)).1)
 
--- all initials of the runs that are left, each behind another one
+-- all initials of the runs that are left, each after another one
 abbrev others : Style → Result (List Run × List ℕ) ⊥ → List ℕ
 others s (Ok p) = flat_map (further s) p.0
 others s (Err e) = absurd e

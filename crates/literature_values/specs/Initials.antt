@@ -6,9 +6,9 @@ use Rattle.laws.specs.Steps.{each}
 use Rattle.laws.specs.Runs.{front_of, after}
 use Rattle.laws.specs.Text.{text}
 use Rattle.unicode_segmentation.specs.Grapheme.{graphemes}
-use Rattle.text_reader.specs.Character.{passes}
-use Rattle.text_reader.specs.Reading.{taken}
-use Rattle.text_reader.specs.declared.character.Class.TheVariants.{Blank, Apart, Name}
+use Rattle.texts.specs.Character.{passes}
+use Rattle.texts.specs.Reading.{taken}
+use Rattle.texts.specs.declared.character.Class.TheVariants.{Blank, Apart, Name}
 
 -- a run of a name without white space and hyphens, and whether a hyphen stands before it
 pub record Run : Type 0 where
@@ -39,27 +39,27 @@ cluster cs = chars (first_piece (graphemes true (text cs)))
 
 -- how initials are parted: a delimiter, cut before the white space at its end, and hyphens where that is asked
 pub record Style : Type 0 where
-  pub kept : List ℕ
+  pub trimmed : List ℕ
   pub dropped : List ℕ
   pub with_hyphen : Bool
 
 -- the style of a delimiter
 abbrev pub style : List ℕ → Bool → Style
-style delimiter hyphen = record { kept = drop_trailing_whitespace delimiter; dropped = drop (length (drop_trailing_whitespace delimiter)) delimiter; with_hyphen = hyphen }
+style delimiter hyphen = record { trimmed = drop_trailing_whitespace delimiter; dropped = drop (length (drop_trailing_whitespace delimiter)) delimiter; with_hyphen = hyphen }
 
 -- the first cluster of a run, and the delimiter without the white space at its end
 abbrev pub initial : Style → List ℕ → List ℕ
-initial s name = cluster name ++ s.kept
+initial s name = cluster name ++ s.trimmed
 
 -- between two initials: a hyphen, where one is asked and stands there, or the white space at the delimiter's end
 abbrev pub between : Style → Bool → List ℕ
 between s hyphen = if s.with_hyphen && hyphen then 45 ∷ [] else s.dropped
 
--- an initial behind another one
+-- an initial after another one
 abbrev pub further : Style → Run → List ℕ
 further s r = between s r.is_hyphenated ++ initial s r.name
 
--- the first initial, and the others behind it
+-- the first initial, and the others after it
 abbrev pub joined : Style → List Run → List ℕ
 joined s [] = []
 joined s (r ∷ rs) = initial s r.name ++ flat_map (further s) rs

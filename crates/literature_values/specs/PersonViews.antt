@@ -5,7 +5,7 @@ use Rattle.std.specs.Option.{option_map}
 use Rattle.std.specs.Str.{chars}
 use Rattle.std.specs.Borrow.{Bor}
 use Rattle.literature_values.specs.Initials.{Run, Style}
-use Rattle.literature_numbers.specs.Views.{characters}
+use Rattle.laws.specs.Text.{characters}
 use Rattle.literature_values.specs.declared.person.InitialsStyle.{InitialsStyle}
 use Rattle.literature_values.specs.declared.person.Person.{Person}
 use Rattle.literature_values.specs.declared.person.NameRun.{NameRun}
@@ -32,7 +32,7 @@ run r = record { is_hyphenated = r.is_hyphenated; name = chars r.name.now }
 
 -- a style by its characters
 abbrev pub initials_style : InitialsStyle → Style
-initials_style s = record { kept = chars s.kept.now; dropped = chars s.dropped.now; with_hyphen = s.with_hyphen }
+initials_style s = record { trimmed = chars s.trimmed.now; dropped = chars s.dropped.now; with_hyphen = s.with_hyphen }
 
 -- the characters of a text, where there is one
 abbrev pub borrowed : Option (Bor (List ℕ)) → List ℕ

@@ -1,7 +1,7 @@
 -- Texts of the code as callers see them: their characters.
 use Rattle.std.specs.Prelude.{ℕ, List, map, Option}
 use Rattle.std.specs.Option.{option_map}
-use Rattle.literature_numbers.specs.Views.{characters}
+use Rattle.laws.specs.Text.{characters}
 use Rattle.literature_values.specs.declared.publisher.Publisher.{Publisher}
 use Rattle.literature_values.specs.declared.text.ChunkKind.{ChunkKind}
 use Rattle.literature_values.specs.declared.text.StringChunk.{StringChunk}

@@ -1,9 +1,10 @@
 -- Values that keep a text which is not read.
 use Rattle.std.specs.Prelude.{◌≡◌, ℕ, List, Option, Some, None, Result, Ok, Err, string_bytes}
-use Rattle.text_reader.specs.declared.reader.Unreadable.{Unreadable}
+use Rattle.texts.specs.declared.reader.Unreadable.{Unreadable}
 use Rattle.literature_numbers.specs.Numerics.{Numeral}
 use Rattle.literature_numbers.specs.Pages.{Part}
-use Rattle.literature_numbers.specs.Views.{characters, numeral}
+use Rattle.literature_numbers.specs.Views.{numeral}
+use Rattle.laws.specs.Text.{characters}
 use Rattle.literature_numbers.specs.PageViews.{pages}
 use Rattle.literature_numbers.specs.declared.numeric.Numeric.{Numeric}
 use Rattle.literature_numbers.specs.declared.page_ranges.PageRanges.{PageRanges}
@@ -11,13 +12,13 @@ use Rattle.literature_values.specs.declared.maybe_typed.MaybeTyped.{MaybeTyped}
 use Rattle.literature_values.specs.declared.maybe_typed.MaybeTyped.TheVariants as typed
 
 -- a value as it is seen, or the characters of a text
-pub data Held (V : Type 0) : Type 0 where
-  Value : V → Held V
-  Text : List ℕ → Held V
+pub data ValueOrText (V : Type 0) : Type 0 where
+  Value : V → ValueOrText V
+  Text : List ℕ → ValueOrText V
 
-abbrev pub held : {T V : Type 0} → (T → V) → MaybeTyped T → Held V
-held seen (typed.Typed v) = Value (seen v)
-held seen (typed.String s) = Text (characters s)
+abbrev pub value_or_text : {T V : Type 0} → (T → V) → MaybeTyped T → ValueOrText V
+value_or_text seen (typed.Typed v) = Value (seen v)
+value_or_text seen (typed.String s) = Text (characters s)
 
 -- the value as it prints, or the text
 abbrev pub printed : {T : Type 0} → (T → Option (List ℕ)) → MaybeTyped T → Option (List ℕ)

@@ -2,12 +2,16 @@
 
 ghost use Rattle.std.specs.Prelude.{◌≡◌, ◌↔◌, IsTrue};
 ghost use Rattle.literature_numbers.specs.Views.{numeral};
+ghost use Rattle.literature_values.specs.EntryTypes.{type_name};
 ghost use Rattle.literature_values.specs.OtherViews.{address, numbers_by_scheme};
 ghost use Rattle.literature_values.specs.PersonViews.{person};
 ghost use Rattle.literature_values.specs.TextViews.{format, publishing};
-ghost use Rattle.literature_values.specs.TypedViews.{held};
+ghost use Rattle.literature_values.specs.TypedViews.{value_or_text};
 
-use crate::{FormatString, MaybeTyped, Numeric, Person, Publisher, QualifiedUrl, SerialNumber};
+use crate::{
+    Date, EntryType, FormatString, MaybeTyped, Numeric, Person, Publisher, QualifiedUrl,
+    SerialNumber,
+};
 
 /// Whether two people are equal.
 pub fn are_equal_people(a: &Person, b: &Person) -> bool
@@ -46,7 +50,21 @@ pub fn are_equal_serials(a: &SerialNumber, b: &SerialNumber) -> bool
 
 /// Whether two numbers that may be texts are equal.
 pub fn are_equal_numbers(a: &MaybeTyped<Numeric>, b: &MaybeTyped<Numeric>) -> bool
-    ensures { IsTrue result ↔ (held numeral a.now ≡ held numeral b.now) }
+    ensures { IsTrue result ↔ (value_or_text numeral a.now ≡ value_or_text numeral b.now) }
+{
+    *a == *b
+}
+
+/// Whether two dates are equal.
+pub fn are_equal_dates(a: &Date, b: &Date) -> bool
+    ensures { IsTrue result ↔ (a.now ≡ b.now) }
+{
+    *a == *b
+}
+
+/// Whether two types of entries are equal.
+pub fn are_equal_types(a: &EntryType, b: &EntryType) -> bool
+    ensures { IsTrue result ↔ (type_name a.now ≡ type_name b.now) }
 {
     *a == *b
 }

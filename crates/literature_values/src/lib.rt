@@ -1,7 +1,9 @@
-//! Values of bibliographic entries: texts, people, publishers, addresses and serial numbers. Numbers, page ranges and
-//! dates are handed on.
+//! Values of bibliographic entries: types, texts, people, dates, publishers, addresses and serial numbers. Numbers and
+//! page ranges are re-exported.
 #![tactic(auto)]
 
+mod date;
+mod entry_type;
 mod equal;
 mod maybe_typed;
 mod person;
@@ -10,11 +12,12 @@ mod qualified_url;
 mod serial_number;
 mod text;
 
+pub use date::{Date, DateError};
+pub use entry_type::EntryType;
 pub use equal::{
-    are_equal_addresses, are_equal_numbers, are_equal_people, are_equal_publishers,
-    are_equal_serials, are_equal_texts,
+    are_equal_addresses, are_equal_dates, are_equal_numbers, are_equal_people,
+    are_equal_publishers, are_equal_serials, are_equal_texts, are_equal_types,
 };
-pub use literature_dates::{Date, DateError};
 pub use literature_numbers::{
     Numeric, NumericDelimiter, NumericError, NumericValue, PageRanges, PageRangesError,
     PageRangesPart,

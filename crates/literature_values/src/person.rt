@@ -7,11 +7,11 @@ ghost use Rattle.std.specs.Str.{chars, drop_trailing_whitespace};
 ghost use Rattle.laws.specs.Text.{text as text_of};
 ghost use Rattle.literature_values.specs.Initials.{next_run_at, cluster, style, initial, between, further, initials_of};
 ghost use Rattle.literature_values.specs.PersonViews.{person, run, initials_style, borrowed, given};
-ghost use Rattle.text_reader.specs.Views.{left};
+ghost use Rattle.texts.specs.Views.{left};
 
 use std::alloc::AllocError;
 use std::fmt;
-use text_reader::{Class, Reader, split_first};
+use texts::{Class, Reader, split_first};
 use unicode_segmentation::UnicodeSegmentation;
 
 /// A person by name.
@@ -26,7 +26,7 @@ pub struct Person {
 /// How initials are parted: by a delimiter, cut before the white space at its end, and by hyphens where that is asked.
 #[derive(Clone, Copy)]
 struct InitialsStyle<'s> {
-    kept: &'s str,
+    trimmed: &'s str,
     dropped: &'s str,
     with_hyphen: bool,
 }
@@ -37,7 +37,7 @@ impl Person {
     /// white space at the delimiter's end. The white space at the end of the last delimiter is not written.
     ///
     /// # Errors
-    /// What the writer answers when it refuses a text.
+    /// What the writer returns when it refuses a text.
     pub fn initials<W: fmt::Write>(
         &self,
         writer: &mut W,
@@ -71,9 +71,9 @@ impl Clone for Person {
 fn style<'s>(delimiter: Option<&'s str>, with_hyphen: bool) -> InitialsStyle<'s>
     ensures { initials_style result ≡ style (borrowed delimiter.entry) with_hyphen }
 {
-    let (kept, dropped) = split_trailing(borrowed(delimiter));
+    let (trimmed, dropped) = split_trailing(borrowed(delimiter));
     InitialsStyle {
-        kept,
+        trimmed,
         dropped,
         with_hyphen,
     }
@@ -105,7 +105,7 @@ fn write_initials<W: fmt::Write>(given: &str, style: InitialsStyle, writer: &mut
     Ok(())
 }
 
-/// Writes the initial of a run behind another one.
+/// Writes the initial of a run after another one.
 fn write_further<W: fmt::Write>(next: NameRun, style: InitialsStyle, writer: &mut W) -> fmt::Result
     ensures { IsOk result → WritesInCalls W.write_str_gives writer.old (text_of (further (initials_style style.entry) (run next.entry))) writer.new }
 {
@@ -128,7 +128,7 @@ fn write_initial<W: fmt::Write>(name: &str, style: InitialsStyle, writer: &mut W
     ensures { IsOk result → WritesInCalls W.write_str_gives writer.old (text_of (initial (initials_style style.entry) (chars name.now))) writer.new }
 {
     write_text(first_cluster(name), writer)?;
-    write_text(style.kept, writer)
+    write_text(style.trimmed, writer)
 }
 
 /// Writes a text.
@@ -173,7 +173,7 @@ fn first_cluster(text: &str) -> &str
 
 /// The text without the white space at its end, and that white space.
 fn split_trailing(text: &str) -> (&str, &str)
-    ensures kept { chars result.0.now ≡ drop_trailing_whitespace (chars text.now) }
+    ensures trimmed { chars result.0.now ≡ drop_trailing_whitespace (chars text.now) }
     ensures dropped { chars result.1.now ≡ drop (length (drop_trailing_whitespace (chars text.now))) (chars text.now) }
 {
     text.split_at(text.trim_end().len())

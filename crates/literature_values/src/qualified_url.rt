@@ -1,7 +1,7 @@
 //! Addresses.
 
+use crate::Date;
 use crate::maybe_typed::MaybeTyped;
-use literature_dates::Date;
 use url::Url;
 
 /// An address, and the day of the last visit.

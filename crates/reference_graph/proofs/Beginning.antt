@@ -5,7 +5,7 @@ use Rattle.std.proofs.lemmas.Bool.{cases_lt}
 use Rattle.reference_graph.specs.References.{references_of}
 use Rattle.reference_graph.specs.declared.search.Place.TheVariants.{New, Done}
 use Rattle.reference_graph.specs.Search.{place_of, unread_of, begun}
-use Rattle.reference_graph.specs.Kept.{IsKept, tally}
+use Rattle.reference_graph.specs.Invariant.{IsInvariant, tally}
 use Rattle.reference_graph.specs.Order.{is_marked}
 
 begun_place : (R : List (List ℕ)) (v : ℕ) → ((v < length R) × (place_of (begun R) v ≡ New)) ⊎ ((length R ≤ v) × (place_of (begun R) v ≡ Done))
@@ -33,17 +33,17 @@ nothing_in R v r ge k h =
     let e : length (references_of R v) ≡ 0 = ap (λ (x : List ℕ). length x) (get_or_past R v [] ge) in
     omega arith
 
-pub begun_kept : (R : List (List ℕ)) → IsKept R (begun R)
-begun_kept R = record {
+pub begun_invariant : (R : List (List ℕ)) → IsInvariant R (begun R)
+begun_invariant R = record {
   places_long = length-replicate (length R) New;
   unread_long = length-map R (λ (r : List ℕ). length r);
   marks_long = length-replicate (length R) false;
   placed = λ i h. absurd (omega arith);
-  held = λ v i e. elim (begun_place R v) [ inl p ↦ absurd cc | inr p ↦ absurd cc ];
+  found = λ v i e. elim (begun_place R v) [ inl p ↦ absurd cc | inr p ↦ absurd cc ];
   within = λ v. let e = begun_unread R v in omega arith;
   fresh = λ v e. begun_unread R v;
   reading_rises = λ i j h lt. absurd (omega arith);
-  reading_held = λ f c. absurd (omega (arith, c.1));
+  reading_found = λ f c. absurd (omega (arith, c.1));
   starts_rise = λ i j h lt. absurd (omega arith);
   starts_read = λ b c. absurd (omega (arith, c.1));
   starts_first = λ h. absurd (omega arith);

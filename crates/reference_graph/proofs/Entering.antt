@@ -7,7 +7,7 @@ use Rattle.reference_graph.specs.References.{references_of}
 use Rattle.reference_graph.specs.declared.search.Place.{Place}
 use Rattle.reference_graph.specs.declared.search.Place.TheVariants.{New, At, Done}
 use Rattle.reference_graph.specs.Search.{State, place_of, unread_of, entered}
-use Rattle.reference_graph.specs.Kept.{IsKept, IsSettled, NoStart, Reaches, IsMet, tally}
+use Rattle.reference_graph.specs.Invariant.{IsInvariant, IsSettled, NoStart, Reaches, IsMet, tally}
 use Rattle.reference_graph.proofs.Lists.{set_read, push_read, push_rises}
 use Rattle.reference_graph.proofs.Walks.{reaches_itself}
 use Rattle.reference_graph.proofs.Places.{there_is}
@@ -53,8 +53,8 @@ counted_once s w v there new e =
           omega arith
     ]
 
-pub entered_kept : (R : List (List ℕ)) (s : State) → IsKept R s → (w : ℕ) → place_of s w ≡ New → ((i : ℕ) → i < length s.path → Reaches R (get_or s.path i 0) w) → IsKept R (entered s w)
-entered_kept R s k w new reaches =
+pub entered_invariant : (R : List (List ℕ)) (s : State) → IsInvariant R s → (w : ℕ) → place_of s w ≡ New → ((i : ℕ) → i < length s.path → Reaches R (get_or s.path i 0) w) → IsInvariant R (entered s w)
+entered_invariant R s k w new reaches =
     let n = length s.path in
     let there : w < length s.places = there_is s w New new (λ e. absurd cc) in
     let longer : length (s.path ++ w ∷ []) ≡ length s.path + 1 = length_push s.path w in
@@ -69,7 +69,7 @@ entered_kept R s k w new reaches =
           | inr q ↦ absurd (q.0 refl)
         ]
       ];
-      held = λ v i e. elim (set_read s.places w v (At (length s.path)) Done there) [
+      found = λ v i e. elim (set_read s.places w v (At (length s.path)) Done there) [
         | inl q ↦
             let same : At (length s.path) ≡ At i = sym q.1 ∙ e in
             let f : length s.path ≡ i = cc in
@@ -79,7 +79,7 @@ entered_kept R s k w new reaches =
               | inr p ↦ (lt, p.1 ∙ sym q.0)
             ]
         | inr q ↦
-            let h = k.held v i (sym q.1 ∙ e) in
+            let h = k.found v i (sym q.1 ∙ e) in
             let lt : i < length (s.path ++ w ∷ []) = omega arith in
             elim (push_read s.path w i lt) [
               | inl p ↦ (lt, p.1 ∙ h.1)
@@ -88,12 +88,12 @@ entered_kept R s k w new reaches =
       ];
       within = k.within;
       fresh = λ v e. k.fresh v ((was_at s w v New there e (λ f. absurd cc)).1);
-      reading_rises = push_rises s.reading (length s.path) k.reading_rises k.reading_held;
-      reading_held = λ f c. elim (Contains-push_cases s.reading (length s.path) f c) [
-        | inl h ↦ let lt = k.reading_held f h in omega arith
+      reading_rises = push_rises s.reading (length s.path) k.reading_rises k.reading_found;
+      reading_found = λ f c. elim (Contains-push_cases s.reading (length s.path) f c) [
+        | inl h ↦ let lt = k.reading_found f h in omega arith
         | inr e ↦ omega arith
       ];
-      starts_rise = push_rises s.starts (length s.path) k.starts_rise (λ b c. k.reading_held b (k.starts_read b c));
+      starts_rise = push_rises s.starts (length s.path) k.starts_rise (λ b c. k.reading_found b (k.starts_read b c));
       starts_read = λ b c. elim (Contains-push_cases s.starts (length s.path) b c) [
         | inl h ↦ Contains-append_left s.reading (length s.path ∷ []) b (k.starts_read b h)
         | inr e ↦ subst (λ (x : ℕ). Contains (s.reading ++ length s.path ∷ []) x) e (Contains-push s.reading (length s.path))
@@ -150,18 +150,18 @@ entered_itself s w new = elim (set_read s.places w w (At (length s.path)) Done (
   | inr q ↦ absurd (q.0 refl)
 ]
 
--- what holds behind the first number of a path
+-- what holds after the first number of a path
 pub record IsEntered (R : List (List ℕ)) (old new : State) (v : ℕ) : Type 0 where
-  pub kept : IsKept R new
+  pub holds : IsInvariant R new
   pub met : (x : ℕ) → IsMet old x → IsMet new x
   pub itself : IsMet new v
 
-pub entered_first : (R : List (List ℕ)) (s : State) → IsKept R s → (v : ℕ) → place_of s v ≡ New → s.path ≡ [] → IsEntered R s (entered s v) v
+pub entered_first : (R : List (List ℕ)) (s : State) → IsInvariant R s → (v : ℕ) → place_of s v ≡ New → s.path ≡ [] → IsEntered R s (entered s v) v
 entered_first R s k v new none =
     let z : length s.path ≡ 0 = ap (λ (xs : List ℕ). length xs) none in
     let here = entered_itself s v new in
     record {
-      kept = entered_kept R s k v new (λ i hi. absurd (omega arith));
+      holds = entered_invariant R s k v new (λ i hi. absurd (omega arith));
       met = λ x. entered_met s v x new;
       itself = λ e. absurd cc;
     }

@@ -6,33 +6,33 @@ use Rattle.reference_graph.specs.References.{references_of}
 use Rattle.reference_graph.specs.declared.search.Place.{Place}
 use Rattle.reference_graph.specs.declared.search.Place.TheVariants.{New, At, Done}
 use Rattle.reference_graph.specs.Search.{State, place_of, last, weight, entered}
-use Rattle.reference_graph.specs.Kept.{IsKept, IsSettled, IsMet, Reaches, IsCutTo, FollowsTo}
+use Rattle.reference_graph.specs.Invariant.{IsInvariant, IsSettled, IsMet, Reaches, IsCutTo, FollowsTo}
 use Rattle.reference_graph.proofs.Lists.{has_last, last_top}
 use Rattle.reference_graph.proofs.Walks.{reaches_on, refers}
-use Rattle.reference_graph.proofs.Entering.{entered_kept, entered_met, entered_itself}
-use Rattle.reference_graph.proofs.Merging.{merged_kept, merged_settled}
+use Rattle.reference_graph.proofs.Entering.{entered_invariant, entered_met, entered_itself}
+use Rattle.reference_graph.proofs.Merging.{merged_invariant, merged_settled}
 use Rattle.reference_graph.proofs.Weighing.{entered_less}
 
 -- the number at place q is the one that was met last
 pub record IsLast (R : List (List ℕ)) (s : State) (q : ℕ) : Type 0 where
-  pub kept : IsKept R s
+  pub holds : IsInvariant R s
   pub reading : Contains s.reading q
   pub inside : q < length s.path
   pub top : (b : ℕ) → Contains s.starts b → b ≤ q
 
-pub is_last : (R : List (List ℕ)) (s : State) (q : ℕ) → IsKept R s → 0 < length s.reading → q ≡ last s.reading → IsLast R s q
+pub is_last : (R : List (List ℕ)) (s : State) (q : ℕ) → IsInvariant R s → 0 < length s.reading → q ≡ last s.reading → IsLast R s q
 is_last R s q k some e =
     let c = has_last s.reading q some (sym e) in
     record {
-      kept = k;
+      holds = k;
       reading = c;
-      inside = k.reading_held q c;
+      inside = k.reading_found q c;
       top = λ b h. let t = last_top s.reading b k.reading_rises (k.starts_read b h) in omega arith;
     }
 
--- what holds behind it
+-- what holds after it
 pub record IsFollowed (R : List (List ℕ)) (old new : State) (q r : ℕ) : Type 0 where
-  pub kept : IsKept R new
+  pub holds : IsInvariant R new
   pub settled : IsSettled new q r
   pub met : (v : ℕ) → IsMet old v → IsMet new v
   pub less : weight new ≤ weight old
@@ -42,14 +42,14 @@ pub record IsFollowed (R : List (List ℕ)) (old new : State) (q r : ℕ) : Type
 
 reaches_all : (R : List (List ℕ)) (s : State) (q r : ℕ) → IsLast R s q → Contains (references_of R (get_or s.path q 0)) r → (i : ℕ) → i < length s.path → Reaches R (get_or s.path i 0) r
 reaches_all R s q r l c i hi =
-    reaches_on R (get_or s.path i 0) (get_or s.path q 0) r (l.kept.joined i q hi l.inside (λ b h low high. let t = l.top b h in absurd (omega arith))) (refers R (get_or s.path q 0) r c)
+    reaches_on R (get_or s.path i 0) (get_or s.path q 0) r (l.holds.joined i q hi l.inside (λ b h low high. let t = l.top b h in absurd (omega arith))) (refers R (get_or s.path q 0) r c)
 
 followed_new : (R : List (List ℕ)) (s : State) (q r : ℕ) → place_of s r ≡ New → IsLast R s q → Contains (references_of R (get_or s.path q 0)) r → IsFollowed R s (entered s r) q r
 followed_new R s q r e l c =
     let inside = l.inside in
     let w = entered_less s r e in
     record {
-      kept = entered_kept R s l.kept r e (reaches_all R s q r l c);
+      holds = entered_invariant R s l.holds r e (reaches_all R s q r l c);
       settled = inr (length s.path, entered_itself s r e, λ b h low high. absurd (omega arith));
       met = λ v. entered_met s r v e;
       less = omega arith;
@@ -60,10 +60,10 @@ followed_new R s q r e l c =
 
 followed_on : (R : List (List ℕ)) (s : State) (q r p : ℕ) (starts : List ℕ) → place_of s r ≡ At p → IsCutTo p s.starts starts → IsLast R s q → Contains (references_of R (get_or s.path q 0)) r → IsFollowed R s (record s { starts = starts }) q r
 followed_on R s q r p starts e cut l c =
-    let h = l.kept.held r p e in
+    let h = l.holds.found r p e in
     let edge : Reaches R (get_or s.path q 0) (get_or s.path p 0) = subst (λ (x : ℕ). Reaches R (get_or s.path q 0) x) (sym h.1) (refers R (get_or s.path q 0) r c) in
     record {
-      kept = merged_kept R s l.kept p q starts cut h.0 l.inside l.top edge;
+      holds = merged_invariant R s l.holds p q starts cut h.0 l.inside l.top edge;
       settled = merged_settled s p q r starts cut e;
       met = λ v m. m;
       less = omega arith;
@@ -76,7 +76,7 @@ pub followed : (R : List (List ℕ)) (s new : State) (q r : ℕ) (p : Place) →
 followed R s new q r New e f l c = subst (λ (x : State). IsFollowed R s x q r) (sym f) (followed_new R s q r e l c)
 followed R s new q r (At p) e f l c = subst (λ (x : State). IsFollowed R s x q r) (sym f.1) (followed_on R s q r p new.starts e f.0 l c)
 followed R s new q r Done e f l c = subst (λ (x : State). IsFollowed R s x q r) (sym f) (record {
-  kept = l.kept;
+  holds = l.holds;
   settled = inl e;
   met = λ v m. m;
   less = omega arith;

@@ -4,24 +4,24 @@ use Rattle.std.proofs.lemmas.Bool.{cases_lt}
 use Rattle.reference_graph.specs.References.{references_of}
 use Rattle.reference_graph.specs.declared.search.Place.TheVariants.{At}
 use Rattle.reference_graph.specs.Search.{State, place_of}
-use Rattle.reference_graph.specs.Kept.{IsKept, IsSettled, Reaches, IsCutTo}
+use Rattle.reference_graph.specs.Invariant.{IsInvariant, IsSettled, Reaches, IsCutTo}
 use Rattle.reference_graph.proofs.Walks.{reaches_on}
 
 fewer : (s : State) (new : List ℕ) (p i r : ℕ) → IsCutTo p s.starts new → IsSettled s i r → IsSettled (record s { starts = new }) i r
 fewer s new p i r cut (inl d) = inl d
 fewer s new p i r cut (inr (j, a, none)) = inr (j, a, λ b c low high. none b (cut.from b c) low high)
 
-pub merged_kept : (R : List (List ℕ)) (s : State) → IsKept R s → (p q : ℕ) (new : List ℕ) → IsCutTo p s.starts new → p < length s.path → q < length s.path → ((b : ℕ) → Contains s.starts b → b ≤ q) → Reaches R (get_or s.path q 0) (get_or s.path p 0) → IsKept R (record s { starts = new })
-merged_kept R s k p q new cut hp hq top edge = record {
+pub merged_invariant : (R : List (List ℕ)) (s : State) → IsInvariant R s → (p q : ℕ) (new : List ℕ) → IsCutTo p s.starts new → p < length s.path → q < length s.path → ((b : ℕ) → Contains s.starts b → b ≤ q) → Reaches R (get_or s.path q 0) (get_or s.path p 0) → IsInvariant R (record s { starts = new })
+merged_invariant R s k p q new cut hp hq top edge = record {
   places_long = k.places_long;
   unread_long = k.unread_long;
   marks_long = k.marks_long;
   placed = k.placed;
-  held = k.held;
+  found = k.found;
   within = k.within;
   fresh = k.fresh;
   reading_rises = k.reading_rises;
-  reading_held = k.reading_held;
+  reading_found = k.reading_found;
   starts_rise = cut.rises;
   starts_read = λ b c. k.starts_read b (cut.from b c);
   starts_first = λ h. cut.all 0 (k.starts_first h) (omega arith);

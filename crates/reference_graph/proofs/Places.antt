@@ -3,7 +3,7 @@ use Rattle.std.proofs.Common.{◌≡◌, ℕ, ◌<◌, ◌⊎◌, inl, inr, List
 use Rattle.reference_graph.specs.declared.search.Place.{Place}
 use Rattle.reference_graph.specs.declared.search.Place.TheVariants.{New, At, Done}
 use Rattle.reference_graph.specs.Search.{State, place_of}
-use Rattle.reference_graph.specs.Kept.{IsKept}
+use Rattle.reference_graph.specs.Invariant.{IsInvariant}
 use Rattle.reference_graph.proofs.Lists.{within_list}
 
 pub new_or_met : (p : Place) → (p ≡ New) ⊎ (p ≡ New → ⊥)
@@ -21,7 +21,7 @@ pub there_is : (s : State) (v : ℕ) (p : Place) → place_of s v ≡ p → (p �
 there_is s v p e ne = within_list s.places v p Done e ne
 
 -- the numbers of the path differ
-pub same_place : (R : List (List ℕ)) (s : State) → IsKept R s → (i j : ℕ) → i < length s.path → j < length s.path → get_or s.path i 0 ≡ get_or s.path j 0 → i ≡ j
+pub same_place : (R : List (List ℕ)) (s : State) → IsInvariant R s → (i j : ℕ) → i < length s.path → j < length s.path → get_or s.path i 0 ≡ get_or s.path j 0 → i ≡ j
 same_place R s k i j hi hj e =
     let p : place_of s (get_or s.path i 0) ≡ At i = k.placed i hi in
     let q : place_of s (get_or s.path j 0) ≡ At j = k.placed j hj in
@@ -29,7 +29,7 @@ same_place R s k i j hi hj e =
     cc
 
 -- the numbers of the path are there
-pub path_below : (R : List (List ℕ)) (s : State) → IsKept R s → (i : ℕ) → i < length s.path → get_or s.path i 0 < length R
+pub path_below : (R : List (List ℕ)) (s : State) → IsInvariant R s → (i : ℕ) → i < length s.path → get_or s.path i 0 < length R
 path_below R s k i hi =
     let l = k.places_long in
     let h = there_is s (get_or s.path i 0) (At i) (k.placed i hi) (λ e. absurd cc) in

@@ -3,20 +3,20 @@ use Rattle.std.proofs.Common.{◌≡◌, ℕ, ◌-◌, ◌<◌, ◌≤◌, inl, 
 use Rattle.std.proofs.lemmas.Bool.{cases_lt}
 use Rattle.reference_graph.specs.References.{references_of}
 use Rattle.reference_graph.specs.Search.{State, place_of, unread_of, taken}
-use Rattle.reference_graph.specs.Kept.{IsKept, IsSettled}
+use Rattle.reference_graph.specs.Invariant.{IsInvariant, IsSettled}
 use Rattle.reference_graph.proofs.Lists.{set_read, within_list}
 use Rattle.reference_graph.proofs.Places.{same_place}
 
-pub taken_kept : (R : List (List ℕ)) (s : State) → IsKept R s → (q v : ℕ) → Contains s.reading q → get_or s.path q 0 ≡ v → 0 < unread_of s v → IsSettled s q (get_or (references_of R v) (unread_of s v - 1) 0) → IsKept R (taken s v)
-taken_kept R s k q v hq is some new =
+pub taken_invariant : (R : List (List ℕ)) (s : State) → IsInvariant R s → (q v : ℕ) → Contains s.reading q → get_or s.path q 0 ≡ v → 0 < unread_of s v → IsSettled s q (get_or (references_of R v) (unread_of s v - 1) 0) → IsInvariant R (taken s v)
+taken_invariant R s k q v hq is some new =
     let there : v < length s.unread = within_list s.unread v (unread_of s v) 0 refl (λ e. omega arith) in
-    let inside : q < length s.path = k.reading_held q hq in
+    let inside : q < length s.path = k.reading_found q hq in
     record {
       places_long = k.places_long;
       unread_long = length-set s.unread v (unread_of s v - 1) ∙ k.unread_long;
       marks_long = k.marks_long;
       placed = k.placed;
-      held = k.held;
+      found = k.found;
       within = λ x. let w = k.within x in elim (set_read s.unread v x (unread_of s v - 1) 0 there) [
         | inl e ↦ let here : unread_of s v ≤ length (references_of R x) = subst (λ (y : ℕ). unread_of s y ≤ length (references_of R x)) e.0 w in omega arith
         | inr e ↦ omega arith
@@ -30,7 +30,7 @@ taken_kept R s k q v hq is some new =
         | inr p ↦ p.1 ∙ k.fresh x e
       ];
       reading_rises = k.reading_rises;
-      reading_held = k.reading_held;
+      reading_found = k.reading_found;
       starts_rise = k.starts_rise;
       starts_read = k.starts_read;
       starts_first = k.starts_first;

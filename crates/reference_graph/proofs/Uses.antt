@@ -13,7 +13,7 @@ none_circular R marks told none i c =
     let b = none i in
     cc
 
--- where none is circular, each stands behind all that it refers to
+-- where none is circular, each stands after all that it refers to
 pub all_behind : (R : List (List ℕ)) (order : List ℕ) → IsOrder R order → ((i : ℕ) → IsCircular R i → ⊥) → (k r : ℕ) → k < length order → Contains (references_of R (get_or order k 0)) r → r < length R → Contains (take k order) r
 all_behind R order o none k r h c lt = o.behind k h (none (get_or order k 0)) r c lt
 

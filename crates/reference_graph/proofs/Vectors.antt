@@ -7,7 +7,7 @@ use Rattle.reference_graph.specs.References.{lists, references_of}
 use Rattle.reference_graph.specs.declared.search.Place.{Place}
 use Rattle.reference_graph.specs.declared.search.Place.TheVariants.{New}
 use Rattle.reference_graph.specs.Search.{State, begun}
-use Rattle.reference_graph.specs.Kept.{IsRing}
+use Rattle.reference_graph.specs.Invariant.{IsRing}
 
 -- the list of a number that there is
 pub list_of : (vectors : List (Vec ℕ Global)) (v : ℕ) (x : Vec ℕ Global) → v < length vectors → x ≡ get_or vectors v x → references_of (lists vectors) v ≡ x.items

@@ -1,7 +1,7 @@
 -- Walks along references.
 use Rattle.std.proofs.Common.{◌≡◌, ℕ, zero, suc, List, Contains, refl, sym, subst}
 use Rattle.reference_graph.specs.References.{references_of, Walk, IsCircular}
-use Rattle.reference_graph.specs.Kept.{Reaches}
+use Rattle.reference_graph.specs.Invariant.{Reaches}
 
 -- one walk after another
 pub goes_on : (R : List (List ℕ)) (a b c n : ℕ) → Walk R a b n → Reaches R b c → Reaches R a c

@@ -1,4 +1,4 @@
 pub mod References
 pub mod Order
 pub mod Search
-pub mod Kept
+pub mod Invariant

@@ -1,4 +1,4 @@
-//! References between numbered things: which of them reach themselves, and an order in which each comes behind all that it
+//! References between numbered things: which of them reach themselves, and an order in which each comes after all that it
 //! refers to.
 #![tactic(auto)]
 

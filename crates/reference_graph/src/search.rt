@@ -1,11 +1,9 @@
 //! The search through the references.
 
-ghost use Rattle.std.specs.Prelude.{◌≡◌, ◌-◌, ◌<◌, ◌≤◌, ◌↔◌, ℕ, [], length, map, Contains, IfOk, IsTrue, MatchOption};
-ghost use Rattle.std.specs.Prelude.{slice_index};
+ghost use Rattle.std.specs.Prelude.{◌≡◌, ◌-◌, ◌<◌, ◌≤◌, ◌↔◌, ℕ, [], length, map, Contains, IfOk, IsTrue, MatchOption, slice_index};
 ghost use Rattle.reference_graph.specs.References.{lists, references_of};
-ghost use Rattle.reference_graph.specs.Search.{seen, begun, entered, left, finished, written, last};
-ghost use Rattle.reference_graph.specs.Search.{place_of, unread_of, is_new};
-ghost use Rattle.reference_graph.specs.Kept.{IsKept, Rising, IsRing, IsCutTo, IsMet, IsStep, FollowsTo};
+ghost use Rattle.reference_graph.specs.Search.{seen, begun, entered, left, finished, written, last, place_of, unread_of, is_new};
+ghost use Rattle.reference_graph.specs.Invariant.{IsInvariant, Rising, IsRing, IsCutTo, IsMet, IsStep, FollowsTo};
 
 use std::alloc::{AllocError, Global};
 
@@ -21,7 +19,7 @@ pub(crate) enum Place {
 }
 
 /// A search, depth first. The numbers of the path stand in groups side by side: those of a group reach each other, and
-/// reach those of the groups behind.
+/// reach those of the groups after.
 #[derive(Drop)]
 pub(crate) struct Search {
     /// Where each number is.
@@ -107,7 +105,7 @@ impl Search {
 
     /// The number at the place, which was met last, is read whole; its group is, if it begins with it.
     pub fn leave(&mut self, references: &[Vec<usize>], place: usize) -> Result<(), AllocError>
-        requires kept { IsKept (lists references.now) (seen self.old) }
+        requires holds { IsInvariant (lists references.now) (seen self.old) }
         requires some { 0 < length self.old.reading.items }
         requires last { place ≡ last self.old.reading.items }
         requires whole { unread_of (seen self.old) (slice_index self.old.path.items place) ≡ 0 }
@@ -123,7 +121,7 @@ impl Search {
 
     /// Reads one more reference of the number at the place, which was met last, or leaves it.
     pub fn step(&mut self, references: &[Vec<usize>], place: usize) -> Result<(), AllocError>
-        requires kept { IsKept (lists references.now) (seen self.old) }
+        requires holds { IsInvariant (lists references.now) (seen self.old) }
         requires some { 0 < length self.old.reading.items }
         requires last { place ≡ last self.old.reading.items }
         ensures { IfOk result (λ _. IsStep (lists references.now) (seen self.old) (seen self.new)) }
@@ -141,9 +139,9 @@ impl Search {
     /// Orders the number and all that it leads to.
     pub fn visit(&mut self, references: &[Vec<usize>], number: usize) -> Result<(), AllocError>
         requires there { number < length references.now }
-        requires kept { IsKept (lists references.now) (seen self.old) }
+        requires holds { IsInvariant (lists references.now) (seen self.old) }
         requires free { self.old.path.items ≡ [] }
-        ensures kept { IfOk result (λ _. IsKept (lists references.now) (seen self.new)) }
+        ensures holds { IfOk result (λ _. IsInvariant (lists references.now) (seen self.new)) }
         ensures free { IfOk result (λ _. self.new.path.items ≡ []) }
         ensures met { IfOk result (λ _. (v : ℕ) → IsMet (seen self.old) v → IsMet (seen self.new) v) }
         ensures itself { IfOk result (λ _. IsMet (seen self.new) number) }
@@ -169,7 +167,7 @@ fn lengths(alloc: Global, references: &[Vec<usize>]) -> Result<Vec<usize>, Alloc
         .collect(alloc)
 }
 
-/// Takes away the places behind the one that is given.
+/// Takes away the places after the one that is given.
 fn cut_to(starts: &mut Vec<usize>, place: usize)
     requires { Rising starts.old.items }
     ensures { IsCutTo place starts.old.items starts.new.items }

@@ -4,7 +4,7 @@ use Rattle.literature_selectors.specs.Bindings.{binds}
 use Rattle.literature_selectors.specs.Found.{borrowed}
 use Rattle.literature_selectors.specs.Views.{tree}
 use Rattle.literature_selectors.proofs.Adding.{search_finds, search_goes_on, search_ends, choice_adds, choice_adds_above, members_add, name_adds, name_withdrawn, ancestry_withdrawn}
-use Rattle.literature_selectors.proofs.Turns.{tries_find, tries_add, tries_go_on, lent_at, within, turns_withdrawn, turns_taken}
+use Rattle.literature_selectors.proofs.Turns.{tries_find, tries_add, tries_go_on, borrowed_at, within, turns_withdrawn, turns_taken}
 use Rattle.literature_selectors.proofs.+binding.Goals as goal
 
 pub node::Node::bind-returns-in-Binding : goal.node::Node::bind-returns-in-Binding
@@ -43,19 +43,19 @@ binding::bind_each-loop-member-preserved t c =
 pub node::Node::bind_first-returns-then-branch-clause-taken : goal.node::Node::bind_first-returns-then-branch-clause-taken
 node::Node::bind_first-returns-then-branch-clause-taken t c =
     tries_find (meaning (tree c.args.self.now)).at (binds (tree c.args.self.now)).at (borrowed c.args.entries.now) c.loop-place.place c.index-entries-place.result.now c.args.found.now.items c.loop-place.found.items c.loop-place.invariant
-    (within c.args.entries.now c.loop-place.place c.loop-place-test.true) (lent_at c.args.entries.now c.loop-place.place c.index-entries-place.result c.index-entries-place.is c.loop-place-test.true)
+    (within c.args.entries.now c.loop-place.place c.loop-place-test.true) (borrowed_at c.args.entries.now c.loop-place.place c.index-entries-place.result c.index-entries-place.is c.loop-place-test.true)
     (sym c.in_ok-bind.ensures.answered ∙ c.if-branch.true)
 
 pub node::Node::bind_first-returns-then-branch-clause-added : goal.node::Node::bind_first-returns-then-branch-clause-added
 node::Node::bind_first-returns-then-branch-clause-added t c =
     tries_add (meaning (tree c.args.self.now)).at (binds (tree c.args.self.now)).at (borrowed c.args.entries.now) c.loop-place.place c.index-entries-place.result.now c.args.found.now.items c.loop-place.found.items c.bind.new.found.items c.in_ok-bind.field-0 c.loop-place.invariant
-    (within c.args.entries.now c.loop-place.place c.loop-place-test.true) (lent_at c.args.entries.now c.loop-place.place c.index-entries-place.result c.index-entries-place.is c.loop-place-test.true)
+    (within c.args.entries.now c.loop-place.place c.loop-place-test.true) (borrowed_at c.args.entries.now c.loop-place.place c.index-entries-place.result c.index-entries-place.is c.loop-place-test.true)
     c.in_ok-bind.ensures (sym c.in_ok-bind.ensures.answered ∙ c.if-branch.true)
 
 pub node::Node::bind_first-loop-place-preserved : goal.node::Node::bind_first-loop-place-preserved
 node::Node::bind_first-loop-place-preserved t c =
     tries_go_on (meaning (tree c.args.self.now)).at (binds (tree c.args.self.now)).at (borrowed c.args.entries.now) c.loop-place.place c.index-entries-place.result.now c.args.found.now.items c.loop-place.found.items c.bind.new.found.items c.in_ok-bind.field-0 c.loop-place.invariant
-    (within c.args.entries.now c.loop-place.place c.loop-place-test.true) (lent_at c.args.entries.now c.loop-place.place c.index-entries-place.result c.index-entries-place.is c.loop-place-test.true)
+    (within c.args.entries.now c.loop-place.place c.loop-place-test.true) (borrowed_at c.args.entries.now c.loop-place.place c.index-entries-place.result c.index-entries-place.is c.loop-place-test.true)
     c.in_ok-bind.ensures (sym c.in_ok-bind.ensures.answered ∙ c.if-branch.false)
 
 pub node::Node::bind_name-returns-then-not-holds : goal.node::Node::bind_name-returns-then-not-holds

@@ -1,5 +1,5 @@
 use Rattle.std.proofs.Common.{◌≡◌, ◌++◌, replicate}
-use Rattle.biblatex_content.specs.Views.{characters}
+use Rattle.laws.specs.Text.{characters}
 use Rattle.biblatex_content.proofs.ordinary.push_dashes.Given as goal
 
 abbrev pub invariant-loop : goal.invariant-loop

@@ -1,7 +1,7 @@
 use Rattle.std.proofs.Common.{◌≡◌, true, [], ◌∷◌, sym, ◌∙◌, rules}
 use Rattle.std.specs.Str.{IsAscii}
 use Rattle.std.proofs.lemmas.Str.{chars-IsAscii}
-use Rattle.biblatex_content_tokens.specs.Token.{begins_command}
+use Rattle.biblatex_tex.specs.Token.{begins_command}
 use Rattle.biblatex_content.specs.Writing.{written_character}
 use Rattle.biblatex_content.proofs.Written.{guard_stands}
 use Rattle.biblatex_content.proofs.writing.open_group.Goals as goal

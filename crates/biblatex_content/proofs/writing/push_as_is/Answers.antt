@@ -5,7 +5,7 @@ use Rattle.std.specs.Str.Iter.{chars_rest}
 use Rattle.std.proofs.lemmas.Str.{chars-nil}
 use Rattle.std.proofs.lemmas.List.{append-nil, nil_from_length}
 use Rattle.laws.proofs.Text.{next_char}
-use Rattle.biblatex_content.specs.Views.{characters}
+use Rattle.laws.specs.Text.{characters}
 use Rattle.biblatex_content.specs.Writing.{written_as_is}
 use Rattle.biblatex_content.proofs.writing.push_as_is.Goals as goal
 

@@ -2,7 +2,7 @@ use Rattle.std.proofs.Common.{◌≡◌, ◌++◌}
 use Rattle.std.specs.List.{flat_map}
 use Rattle.std.specs.Str.{chars, IsUtf8}
 use Rattle.std.specs.Str.Iter.{chars_rest}
-use Rattle.biblatex_content.specs.Views.{characters}
+use Rattle.laws.specs.Text.{characters}
 use Rattle.biblatex_content.specs.Writing.{written_as_is}
 use Rattle.biblatex_content.proofs.writing.push_as_is.Given as goal
 

@@ -5,7 +5,7 @@ use Rattle.std.proofs.lemmas.Str.{chars-nil}
 use Rattle.std.proofs.lemmas.List.{nil_from_length}
 use Rattle.laws.proofs.Text.{next_char}
 use Rattle.biblatex_content.specs.Styled.{letters}
-use Rattle.biblatex_content.specs.Views.{characters}
+use Rattle.laws.specs.Text.{characters}
 use Rattle.biblatex_content.specs.Writing.{written_behind}
 use Rattle.biblatex_content.proofs.Written.{letter_more}
 use Rattle.biblatex_content.proofs.writing.push_run.Goals as goal

@@ -2,7 +2,8 @@ use Rattle.std.proofs.Common.{◌+◌, List, ◌∷◌, ◌++◌, drop, sym, ap,
 use Rattle.std.proofs.lemmas.List.{at_drop_more}
 use Rattle.biblatex_text.specs.declared.spanned.Spanned.{Spanned}
 use Rattle.biblatex_content.specs.declared.chunk.Chunk.{Chunk}
-use Rattle.biblatex_content.specs.Views.{characters, styled}
+use Rattle.biblatex_content.specs.Views.{styled}
+use Rattle.laws.specs.Text.{characters}
 use Rattle.biblatex_content.specs.Writing.{written_verbatim}
 use Rattle.biblatex_content.proofs.Written.{verbatim_more}
 use Rattle.biblatex_content.proofs.writing.push_verbatim.Goals as goal

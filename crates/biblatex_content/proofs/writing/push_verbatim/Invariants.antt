@@ -1,5 +1,6 @@
 use Rattle.std.proofs.Common.{◌≡◌, ◌++◌, drop}
-use Rattle.biblatex_content.specs.Views.{characters, styled}
+use Rattle.biblatex_content.specs.Views.{styled}
+use Rattle.laws.specs.Text.{characters}
 use Rattle.biblatex_content.specs.Writing.{written_verbatim}
 use Rattle.biblatex_content.proofs.writing.push_verbatim.Given as goal
 

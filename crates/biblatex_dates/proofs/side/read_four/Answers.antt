@@ -2,11 +2,11 @@ use Rattle.std.proofs.Common.{rules, ◌≡◌, ◌≤◌, ℕ, true, false, Lis
 use Rattle.std.specs.Str.Parse.{digits_value}
 use Rattle.laws.specs.Runs.{front_of}
 use Rattle.laws.proofs.Results.{ok_is}
-use Rattle.text_reader.specs.Character.{passes}
-use Rattle.text_reader.specs.declared.character.Class.TheVariants.{Digit}
-use Rattle.text_reader.specs.Views.{left}
-use Rattle.text_reader.proofs.Digits.{run_bytes, digits_parsed}
-use Rattle.text_reader.proofs.Bounds.{run_below}
+use Rattle.texts.specs.Character.{passes}
+use Rattle.texts.specs.declared.character.Class.TheVariants.{Digit}
+use Rattle.texts.specs.Views.{left}
+use Rattle.texts.proofs.Digits.{run_bytes, digits_parsed}
+use Rattle.texts.proofs.Bounds.{run_below}
 use Rattle.biblatex_dates.proofs.Bounds.{is_four, is_other}
 use Rattle.biblatex_dates.proofs.side.read_four.Goals as goal
 

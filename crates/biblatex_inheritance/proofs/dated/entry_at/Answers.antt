@@ -1,5 +1,5 @@
-use Rattle.biblatex_inheritance.proofs.Dating.{lent_is}
+use Rattle.biblatex_inheritance.proofs.Dating.{borrowed_is}
 use Rattle.biblatex_inheritance.proofs.dated.entry_at.Goals as goal
 
 pub returns : goal.returns
-returns c = lent_is c.args.entries.now c.args.number c.get.result _ c.get.ensures.lookup.1 c.get.ensures.lookup.3
+returns c = borrowed_is c.args.entries.now c.args.number c.get.result _ c.get.ensures.lookup.1 c.get.ensures.lookup.3

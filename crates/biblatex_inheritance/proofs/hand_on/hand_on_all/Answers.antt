@@ -4,8 +4,8 @@ use Rattle.std.specs.Str.{bytes_eq}
 use Rattle.biblatex_content.specs.Views.{styled}
 use Rattle.biblatex_fields.specs.Fields.{Named, value_named}
 use Rattle.biblatex_inheritance.specs.Table.{is_among, never}
-use Rattle.biblatex_inheritance.specs.Views.{HandsOn, lent_fields}
-use Rattle.biblatex_inheritance.proofs.HandingOn.{field_more, field_never, lent_last, lent_more}
+use Rattle.biblatex_inheritance.specs.Views.{HandsOn, borrowed_fields}
+use Rattle.biblatex_inheritance.proofs.HandingOn.{field_more, field_never, borrowed_last, borrowed_more}
 use Rattle.biblatex_inheritance.proofs.hand_on.hand_on_all.Goals as goal
 
 pub loop-name-preserved-in-Continue-1 : goal.loop-name-preserved-in-Continue-1
@@ -13,10 +13,10 @@ loop-name-preserved-in-Continue-1 c =
     let name = string_bytes c.in-Some.name.now in
     let value = styled c.in-Some.value.now.items in
     let barred : is_among never name ≡ false = ap (is_among never) (sym c.as_str.ensures.value) ∙ (sym c.is_never.ensures ∙ c.if-not-is_never.true) in (
-      subst (λ (fs : List Named). HandsOn c.args.fields.now c.put_lacking.new.fields (λ q. if is_among never q then None else value_named q fs)) (sym (lent_last c.loop-name.yielded c.in-Some.name c.in-Some.value))
-          (field_more c.args.fields.now c.loop-name.fields c.put_lacking.new.fields (lent_fields c.loop-name.yielded) name value barred c.loop-name.invariant.0
+      subst (λ (fs : List Named). HandsOn c.args.fields.now c.put_lacking.new.fields (λ q. if is_among never q then None else value_named q fs)) (sym (borrowed_last c.loop-name.yielded c.in-Some.name c.in-Some.value))
+          (field_more c.args.fields.now c.loop-name.fields c.put_lacking.new.fields (borrowed_fields c.loop-name.yielded) name value barred c.loop-name.invariant.0
           (subst (λ (n : List ℕ). HandsOn c.loop-name.fields c.put_lacking.new.fields (λ q. if bytes_eq q n then Some value else None)) c.as_str-then-not-is_never.ensures.value c.in_ok-put_lacking.ensures)),
-      lent_more c.args.from.now c.loop-name.yielded c.in-Some.name c.in-Some.value _ _ c.loop-name.invariant.1 c.in-Some.ensures.steps,
+      borrowed_more c.args.from.now c.loop-name.yielded c.in-Some.name c.in-Some.value _ _ c.loop-name.invariant.1 c.in-Some.ensures.steps,
     )
 
 pub loop-name-preserved : goal.loop-name-preserved
@@ -24,7 +24,7 @@ loop-name-preserved c =
     let name = string_bytes c.in-Some.name.now in
     let value = styled c.in-Some.value.now.items in
     let barred : is_among never name ≡ true = ap (is_among never) (sym c.as_str.ensures.value) ∙ (sym c.is_never.ensures ∙ c.if-not-is_never.false) in (
-      subst (λ (fs : List Named). HandsOn c.args.fields.now c.loop-name.fields (λ q. if is_among never q then None else value_named q fs)) (sym (lent_last c.loop-name.yielded c.in-Some.name c.in-Some.value))
-          (field_never c.args.fields.now c.loop-name.fields (lent_fields c.loop-name.yielded) name value barred c.loop-name.invariant.0),
-      lent_more c.args.from.now c.loop-name.yielded c.in-Some.name c.in-Some.value _ _ c.loop-name.invariant.1 c.in-Some.ensures.steps,
+      subst (λ (fs : List Named). HandsOn c.args.fields.now c.loop-name.fields (λ q. if is_among never q then None else value_named q fs)) (sym (borrowed_last c.loop-name.yielded c.in-Some.name c.in-Some.value))
+          (field_never c.args.fields.now c.loop-name.fields (borrowed_fields c.loop-name.yielded) name value barred c.loop-name.invariant.0),
+      borrowed_more c.args.from.now c.loop-name.yielded c.in-Some.name c.in-Some.value _ _ c.loop-name.invariant.1 c.in-Some.ensures.steps,
     )

@@ -1,9 +1,9 @@
 use Rattle.std.proofs.Common.{◌≡◌, ◌++◌, length}
-use Rattle.biblatex_lists.specs.Parts.{lent, parts}
+use Rattle.biblatex_lists.specs.Parts.{borrowed, parts}
 use Rattle.biblatex_lists.proofs.parting.parts.Given as goal
 
 abbrev pub invariant-loop-part : goal.invariant-loop-part
-invariant-loop-part l = lent l.parts.items ++ parts l.rest ≡ parts l.text
+invariant-loop-part l = borrowed l.parts.items ++ parts l.rest ≡ parts l.text
 
 abbrev pub decreases-loop-part : goal.decreases-loop-part
 decreases-loop-part l = length l.rest

@@ -1,5 +1,5 @@
 use Rattle.std.proofs.Common.{◌≡◌, take}
-use Rattle.biblatex_content.specs.Views.{characters}
+use Rattle.laws.specs.Text.{characters}
 use Rattle.biblatex_lists.specs.StyledChars.{plain}
 use Rattle.biblatex_lists.proofs.styled_char.plain_text.Given as goal
 

@@ -1,10 +1,10 @@
 use Rattle.std.proofs.Common.{◌≡◌, ◌++◌, length}
-use Rattle.biblatex_lists.specs.Parts.{lent}
+use Rattle.biblatex_lists.specs.Parts.{borrowed}
 use Rattle.biblatex_people.specs.Words.{cut_at}
 use Rattle.biblatex_people.proofs.words.cut_at.Given as goal
 
 abbrev pub invariant-loop-part : goal.invariant-loop-part
-invariant-loop-part l = lent l.parts.items ++ cut_at l.mark l.rest ≡ cut_at l.mark l.text
+invariant-loop-part l = borrowed l.parts.items ++ cut_at l.mark l.rest ≡ cut_at l.mark l.text
 
 abbrev pub decreases-loop-part : goal.decreases-loop-part
 decreases-loop-part l = length l.rest

@@ -1,10 +1,10 @@
 use Rattle.std.proofs.Common.{◌≡◌, ◌++◌, length}
-use Rattle.biblatex_lists.specs.Parts.{lent}
+use Rattle.biblatex_lists.specs.Parts.{borrowed}
 use Rattle.biblatex_people.specs.Words.{words}
 use Rattle.biblatex_people.proofs.words.push_words_of.Given as goal
 
 abbrev pub invariant-loop-word : goal.invariant-loop-word
-invariant-loop-word l = lent l.list.items ++ words l.rest ≡ lent l.fn.list.items ++ words l.text
+invariant-loop-word l = borrowed l.list.items ++ words l.rest ≡ borrowed l.fn.list.items ++ words l.text
 
 abbrev pub decreases-loop-word : goal.decreases-loop-word
 decreases-loop-word l = length l.rest

@@ -2,7 +2,7 @@ use Rattle.std.proofs.Common.{◌≡◌, ◌++◌, ◌-◌, ℕ, List, length, t
 use Rattle.std.specs.Str.{chars, IsUtf8}
 use Rattle.std.proofs.lemmas.Str.{chars-append, IsUtf8-take}
 use Rattle.laws.specs.Text.{text}
-use Rattle.laws.proofs.Text.{text-append, text-chars}
+use Rattle.laws.proofs.Text.{text-append, text_of_chars}
 use Rattle.cite.specs.Page as specs
 use Rattle.cite.proofs.Ends.{stripped, stays}
 use Rattle.cite.proofs.closing.without_end.Goals as goal
@@ -24,4 +24,4 @@ returns-in-None-clause-value c =
     let whole = c.args.text.now in
     let end = c.args.end.now in
     sym (stays (chars end) (chars whole) (λ front e. c.in-None.ensures.cases (text front)
-    (sym (text-chars whole c.utf8.text) ∙ (ap text e ∙ (text-append front (chars end) ∙ ap (λ (x : List ℕ). text front ++ x) (text-chars end c.utf8.end))))))
+    (sym (text_of_chars whole c.utf8.text) ∙ (ap text e ∙ (text-append front (chars end) ∙ ap (λ (x : List ℕ). text front ++ x) (text_of_chars end c.utf8.end))))))

@@ -5,7 +5,7 @@ use Rattle.std.specs.Option.{option_map}
 use Rattle.std.specs.Str.{chars, IsUtf8}
 use Rattle.std.specs.Str.Pattern.{FindsText}
 use Rattle.cite.specs.Marker.{cut_at_opening}
-use Rattle.cite.specs.Views.{spelled}
+use Rattle.laws.specs.Text.{spelled}
 use Rattle.cite.proofs.Opening.{lacks, finds}
 use Rattle.cite.proofs.document.split_opening.Goals as goal
 

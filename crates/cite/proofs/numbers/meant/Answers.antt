@@ -4,7 +4,7 @@ use Rattle.std.specs.Option.{option_map}
 use Rattle.std.specs.Borrow.{Bor}
 use Rattle.literature_entries.specs.Wholes.{Whole, whole}
 use Rattle.literature_entries.specs.declared.entry.Entry.{Entry}
-use Rattle.laws.proofs.Text.{text-chars}
+use Rattle.laws.proofs.Text.{text_of_chars}
 use Rattle.cite.specs.Works.{meaning}
 use Rattle.cite.specs.Views.{works_in}
 use Rattle.cite.proofs.numbers.meant.Goals as goal
@@ -16,4 +16,4 @@ found (Some e) m is = sym is
 
 pub returns : goal.returns
 returns c =
-    found c.get.result _ (c.get.ensures ∙ ap (λ (n : List ℕ). meaning n (works_in c.args.works.now)) (sym (text-chars c.args.name.now c.utf8.name)))
+    found c.get.result _ (c.get.ensures ∙ ap (λ (n : List ℕ). meaning n (works_in c.args.works.now)) (sym (text_of_chars c.args.name.now c.utf8.name)))

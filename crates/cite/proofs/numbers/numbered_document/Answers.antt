@@ -3,7 +3,8 @@ use Rattle.std.specs.Prelude.{string_bytes}
 use Rattle.literature_entries.specs.Wholes.{whole}
 use Rattle.cite.specs.declared.document.Citation.{Citation}
 use Rattle.cite.specs.Marker as marker
-use Rattle.cite.specs.Views.{citation, citations, spelled, works_in}
+use Rattle.cite.specs.Views.{citation, citations, works_in}
+use Rattle.laws.specs.Text.{spelled}
 use Rattle.cite.specs.Orders.{cited_works}
 use Rattle.std.proofs.lemmas.List.{drop_all}
 use Rattle.cite.proofs.Elements.{no_citation, citations-from}
@@ -43,7 +44,7 @@ returns-in_default c =
     let cut = from cs slice i c.deref-citation-items.ensures.value c.loop-citation-test.true in
     let counted = subst (λ (r : List marker.Citation). Counted (works_in c.args.works.now) (cited_works c.loop-citation.order) (string_bytes c.loop-citation.output) r (citations cs) (spelled c.args.document.now.tail)) cut c.loop-citation.invariant in
     fails (works_in c.args.works.now) (cited_works c.loop-citation.order) (string_bytes c.loop-citation.output) (citation here) (citations (drop (i + 1) cs)) (citations cs) (spelled c.args.document.now.tail) counted c.in_default.ensures
-    ∙ ap (λ (n : List ℕ). Some n) (sym c.in_ok-owned.ensures)
+    ∙ ap (λ (n : List ℕ). Some n) (sym c.in_ok-owned.ensures.spelled)
 
 pub returns : goal.returns
 returns c =

@@ -6,15 +6,15 @@ use Rattle.literature_entries.specs.Views.{key}
 use Rattle.literature_entries.specs.Wholes.{Whole, whole}
 use Rattle.literature_entries.specs.declared.entry.Entry.{Entry}
 use Rattle.literature.specs.Keys.{with_key}
-use Rattle.literature.specs.Kept.{entries}
+use Rattle.literature.specs.Entries.{entries}
 use Rattle.interop.specs.Views.{shelf}
 use Rattle.interop.specs.Shelf.{key_of}
 use Rattle.cite.proofs.Keys.{found_is}
 use Rattle.cite.proofs.works.work_of.Goals as goal
 
-lent : (o : Option (Bor Entry)) → option_map (λ (e : Bor Entry). whole e.now) o ≡ option_map whole (option_copied o)
-lent None = refl
-lent (Some e) = refl
+seen_in : (o : Option (Bor Entry)) → option_map (λ (e : Bor Entry). whole e.now) o ≡ option_map whole (option_copied o)
+seen_in None = refl
+seen_in (Some e) = refl
 
 pub returns : goal.returns
 returns c =
@@ -22,5 +22,5 @@ returns c =
     let found : option_copied c.get.result ≡ with_key key name (entries c.args.library.now) =
     c.get.ensures ∙ ap (λ (n : List ℕ). with_key key n (entries c.args.library.now)) c.as_str.ensures.value in
     let work : option_map (λ (e : Bor Entry). whole e.now) c.get.result ≡ with_key key_of name (shelf c.args.library.now) =
-    lent c.get.result ∙ (ap (option_map whole) found ∙ found_is name (entries c.args.library.now)) in
+    seen_in c.get.result ∙ (ap (option_map whole) found ∙ found_is name (entries c.args.library.now)) in
     rw (sym c.if-is_xdata.ensures) work

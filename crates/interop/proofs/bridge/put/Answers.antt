@@ -1,6 +1,6 @@
 use Rattle.std.proofs.Common.{List, map, refl, subst, sym, ap, ◌∙◌, Result}
 use Rattle.std.proofs.lemmas.Result.{on_ok_weaker}
-use Rattle.literature.specs.Kept.{entries}
+use Rattle.literature.specs.Entries.{entries}
 use Rattle.literature_entries.specs.Wholes.{Whole, whole}
 use Rattle.literature_entries.specs.declared.entry.Entry.{Entry}
 use Rattle.interop.specs.Bridge.{Fault}

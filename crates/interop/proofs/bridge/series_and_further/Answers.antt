@@ -1,12 +1,12 @@
 use Rattle.std.proofs.Common.{◌++◌, List, map, ap, ◌∙◌, codes, option_to_list}
 use Rattle.std.specs.Option.{option_map}
 use Rattle.biblatex_content.specs.Views.{styled}
-use Rattle.literature_types.specs.declared.entry_type.EntryType.TheVariants as works
+use Rattle.literature_values.specs.declared.entry_type.EntryType.TheVariants as works
 use Rattle.literature_entries.specs.Wholes.{Whole, whole}
 use Rattle.literature_entries.specs.declared.entry.Entry.{Entry}
-use Rattle.interop_readings.specs.Values.{values}
+use Rattle.interop_values.specs.Values.{values}
 use Rattle.interop.specs.Bridge.{further, titled}
-use Rattle.interop.proofs.Titled.{lent_title}
+use Rattle.interop.proofs.Titled.{seen_title}
 use Rattle.interop.proofs.bridge.series_and_further.Goals as goal
 
 pub returns : goal.returns
@@ -15,4 +15,4 @@ returns c =
     let given = option_to_list (option_map (λ v. titled works.Anthology (styled v.now)) c.value.result) in
     c.in_ok-push_further.ensures
     ∙ (ap (λ (es : List Entry). map whole es ++ further given v) c.new-parents.ensures.items
-    ∙ ap (λ (series : List Whole). further series v) (lent_title works.Anthology c.value.result (v (codes "series")) c.value.ensures))
+    ∙ ap (λ (series : List Whole). further series v) (seen_title works.Anthology c.value.result (v (codes "series")) c.value.ensures))

@@ -2,7 +2,7 @@ use Rattle.std.proofs.Common.{[], ◌∷◌, ◌++◌, List, map, ap, ◌∙◌}
 use Rattle.literature_entries.specs.Views.{key, fields}
 use Rattle.literature_entries.specs.Wholes.{whole}
 use Rattle.literature_entries.specs.declared.entry.Entry.{Entry}
-use Rattle.interop_readings.specs.Values.{values}
+use Rattle.interop_values.specs.Values.{values}
 use Rattle.interop.specs.Bridge.{further}
 use Rattle.interop.proofs.Entries.{holds}
 use Rattle.interop.proofs.bridge.within.Goals as goal
@@ -11,9 +11,9 @@ pub returns : goal.returns
 returns c =
     let v = values c.args.fields.now in
     let entry = c.args.entry in
-    holds c.set_parents.new.self (key entry) (fields entry) (whole c.args.held ∷ further [] v)
+    holds c.set_parents.new.self (key entry) (fields entry) (whole c.args.outer ∷ further [] v)
     c.set_parents.ensures.key c.set_parents.ensures.fields
     (ap (λ (es : List Entry). map whole es) c.set_parents.ensures.parents
     ∙ (c.in_ok-push_further.ensures
     ∙ (ap (λ (es : List Entry). map whole es ++ further [] v) c.in_ok-push.ensures.items
-    ∙ ap (λ (es : List Entry). map whole (es ++ c.args.held ∷ []) ++ further [] v) c.new-parents.ensures.items)))
+    ∙ ap (λ (es : List Entry). map whole (es ++ c.args.outer ∷ []) ++ further [] v) c.new-parents.ensures.items)))

@@ -1,8 +1,8 @@
 use Rattle.std.proofs.Common.{◌≡◌, ◌≢◌, [], List, ap, ◌++◌, ◌∙◌, map, codes, length, arith}
 use Rattle.std.specs.Vec.{vec_len}
 use Rattle.std.proofs.lemmas.Grind.{common_steps}
-use Rattle.interop_readings.specs.Values.{values}
-use Rattle.interop_readings.specs.Readings.{ReadDate, own_date, date_under}
+use Rattle.interop_values.specs.Values.{values}
+use Rattle.interop_values.specs.Readings.{ReadDate, own_date, date_under}
 use Rattle.interop.specs.Bridge.{fault_in}
 use Rattle.interop.specs.declared.error.FieldFault.{FieldFault}
 use Rattle.interop.specs.Views.{fault, dates_of}
@@ -14,12 +14,12 @@ pub returns : goal.returns
 returns c =
     let key = c.args.key.now in
     let v = values c.args.fields.now in
-    let f1 = c.kept.new.faults.items in
-    let f2 = c.kept-2.new.faults.items in
-    let f3 = c.kept-3.new.faults.items in
-    let f4 = c.kept-4.new.faults.items in
+    let f1 = c.date_or_fault.new.faults.items in
+    let f2 = c.date_or_fault-2.new.faults.items in
+    let f3 = c.date_or_fault-3.new.faults.items in
+    let f4 = c.date_or_fault-4.new.faults.items in
     let is_some : f4 ≢ [] = λ e.
-    let none : vec_len c.kept-4.new.faults ≡ 0 = c.kept-4.new.faults.ok.0 ∙ ap length e in
+    let none : vec_len c.date_or_fault-4.new.faults ≡ 0 = c.date_or_fault-4.new.faults.ok.0 ∙ ap length e in
     absurd (grind (arith, common_steps)) in
     some f4 _ (dates_of v) (four_behind []
     (fault_in key (codes "date") (own_date v))

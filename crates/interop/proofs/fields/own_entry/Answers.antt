@@ -4,10 +4,10 @@ use Rattle.literature_numbers.specs.PageViews.{pages}
 use Rattle.literature_numbers.specs.Views.{numeral}
 use Rattle.literature_values.specs.OtherViews.{address}
 use Rattle.literature_values.specs.TextViews.{format}
-use Rattle.literature_values.specs.TypedViews.{held}
+use Rattle.literature_values.specs.TypedViews.{value_or_text}
 use Rattle.literature_entries.specs.Views.{people}
-use Rattle.interop_readings.specs.Values.{values}
-use Rattle.interop_readings.specs.Readings.{address_of}
+use Rattle.interop_values.specs.Values.{values}
+use Rattle.interop_values.specs.Readings.{address_of}
 use Rattle.interop.specs.declared.dates.Dates.{Dates}
 use Rattle.interop.proofs.FieldByField.{own_set, put_title, put_author, put_translator, put_date, put_chapter, put_page_range, put_page_total, put_url, put_number, put_note, put_language}
 use Rattle.interop.proofs.fields.own_entry.Goals as goal
@@ -22,8 +22,8 @@ returns-clause-fields c =
     let author = option_map (λ v. people v.items) c.in_ok-people_under.field-0 in
     let translator = option_map (λ v. people v.items) c.in_ok-people_under-2.field-0 in
     let date = c.args.dates.own in
-    let chapter = option_map (held numeral) c.in_ok-number_under.field-0 in
-    let page_range = option_map (held pages) c.in_ok-pages_under.field-0 in
+    let chapter = option_map (value_or_text numeral) c.in_ok-number_under.field-0 in
+    let page_range = option_map (value_or_text pages) c.in_ok-pages_under.field-0 in
     let page_total = option_map numeral c.in_ok-total_under.field-0 in
     let url = option_map address c.in_ok-address.field-0 in
     let doi = option_map string_bytes c.in_ok-text_under.field-0 in

@@ -1,12 +1,12 @@
 use Rattle.std.proofs.Common.{◌≡◌, [], ◌++◌, List, map, ap, ◌∙◌}
 use Rattle.std.specs.Option.{option_map}
 use Rattle.biblatex_content.specs.Views.{styled}
-use Rattle.literature_types.specs.declared.entry_type.EntryType.TheVariants as works
+use Rattle.literature_values.specs.declared.entry_type.EntryType.TheVariants as works
 use Rattle.literature_entries.specs.Fields.{nothing_but}
 use Rattle.literature_entries.specs.Wholes.{Whole, whole}
 use Rattle.literature_entries.specs.declared.entry.Entry.{Entry}
 use Rattle.literature_values.specs.TextViews.{format}
-use Rattle.interop_readings.specs.Readings.{format_of}
+use Rattle.interop_values.specs.Readings.{format_of}
 use Rattle.interop.specs.Bridge.{parent}
 use Rattle.interop.proofs.Entries.{holds, last, before_none}
 use Rattle.interop.proofs.FieldByField.{put_title, put_date}
@@ -15,7 +15,7 @@ use Rattle.interop.proofs.parents.push_conference.Goals as goal
 
 pub returns : goal.returns
 returns c =
-    let title = option_map format c.in_ok-format_if.field-0 in
+    let title = option_map format c.in_ok-title.title in
     let date = c.args.date in
     let e = c.set_date.new.entry in
     let old = c.args.parents.now.items in
@@ -23,7 +23,7 @@ returns c =
     let made : whole e ≡ parent fs [] = holds e [] fs []
     (c.set_date.ensures.0 ∙ (c.set_title.ensures.0 ∙ (c.new-conference.ensures.key ∙ c.empty_text.ensures.bytes)))
     (c.set_date.ensures.1 ∙ (ap (put_date date) (c.set_title.ensures.1 ∙ ap (put_title title) c.new-conference.ensures.fields)
-    ∙ (λ i. record (nothing_but works.Conference) { title = (before_none title ∙ c.in_ok-format_if.ensures) i; date = before_none date i })))
+    ∙ (λ i. record (nothing_but works.Conference) { title = (before_none title ∙ c.in_ok-title.ensures) i; date = before_none date i })))
     (ap (λ (es : List Entry). map whole es) (c.set_date.ensures.2 ∙ (c.set_title.ensures.2 ∙ c.new-conference.ensures.parents))) in
     ap (λ (es : List Entry). map whole es) c.in_ok-push.ensures.items
     ∙ (last old e (parent fs []) made

@@ -3,14 +3,14 @@ use Rattle.std.specs.Option.{option_map}
 use Rattle.std.proofs.lemmas.Result.{on_ok_weaker}
 use Rattle.biblatex_content.specs.Styled.{Member}
 use Rattle.biblatex_content.specs.Views.{styled}
-use Rattle.literature_types.specs.declared.entry_type.EntryType.TheVariants as works
+use Rattle.literature_values.specs.declared.entry_type.EntryType.TheVariants as works
 use Rattle.literature_entries.specs.Wholes.{Whole, whole}
-use Rattle.interop_readings.specs.Values.{values}
-use Rattle.interop_readings.specs.Readings.{date_under, date_kept}
+use Rattle.interop_values.specs.Values.{values}
+use Rattle.interop_values.specs.Readings.{date_under, date_if_read}
 use Rattle.interop.specs.Bridge.{titled, titled_under, conference_of, original_of}
 use Rattle.interop.specs.declared.dates.Dates.{Dates}
 use Rattle.interop.proofs.Lists.{four_behind}
-use Rattle.interop.proofs.Titled.{lent_title}
+use Rattle.interop.proofs.Titled.{seen_title}
 use Rattle.interop.proofs.parents.push_further.Goals as goal
 
 pub returns : goal.returns
@@ -21,15 +21,15 @@ returns c =
     let two = map whole c.push_titled-2.new.parents.items in
     let three = map whole c.push_conference.new.parents.items in
     let four = map whole c.push_original.new.parents.items in
-    let event = date_kept (date_under (codes "eventdate") v) in
+    let event = date_if_read (date_under (codes "eventdate") v) in
     on_ok_weaker c.push_original.result
     (λ e. four_behind before
     (titled_under works.Book (codes "maintitle") v)
     (option_to_list (option_map (λ v. titled works.Anthology (styled v.now)) c.args.series))
     (conference_of (v (codes "eventtitle")) event)
-    (original_of (date_kept (date_under (codes "origdate") v)))
+    (original_of (date_if_read (date_under (codes "origdate") v)))
     one two three four
-    (c.in_ok-push_titled.ensures ∙ ap (λ (ws : List Whole). before ++ ws) (lent_title works.Book c.value.result (v (codes "maintitle")) c.value.ensures))
+    (c.in_ok-push_titled.ensures ∙ ap (λ (ws : List Whole). before ++ ws) (seen_title works.Book c.value.result (v (codes "maintitle")) c.value.ensures))
     c.in_ok-push_titled-2.ensures
     (c.in_ok-push_conference.ensures
     ∙ (ap (λ (d : Dates). two ++ conference_of (option_map (λ v. styled v.now) c.value-2.result) d.event) c.requires

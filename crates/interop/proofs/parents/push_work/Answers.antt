@@ -4,7 +4,7 @@ use Rattle.literature_entries.specs.Fields.{nothing_but}
 use Rattle.literature_entries.specs.Wholes.{whole}
 use Rattle.literature_entries.specs.declared.entry.Entry.{Entry}
 use Rattle.literature_values.specs.TextViews.{format}
-use Rattle.interop_readings.specs.Readings.{format_of}
+use Rattle.interop_values.specs.Readings.{format_of}
 use Rattle.interop.specs.Bridge.{titled}
 use Rattle.interop.proofs.Entries.{holds, last}
 use Rattle.interop.proofs.FieldByField.{put_title}
@@ -16,7 +16,7 @@ returns c =
     let t = c.args.entry_type in
     let made : whole c.set_title.new.entry ≡ titled t ms = holds c.set_title.new.entry [] (record (nothing_but t) { title = Some (format_of ms) }) []
     (c.set_title.ensures.0 ∙ (c.new-work.ensures.key ∙ c.empty_text.ensures.bytes))
-    (c.set_title.ensures.1 ∙ (ap (put_title (Some (format c.in_ok-format.field-0))) c.new-work.ensures.fields ∙ (λ i. record (nothing_but t) { title = Some (c.in_ok-format.ensures i) })))
+    (c.set_title.ensures.1 ∙ (ap (put_title (Some (format c.in_ok-title.title))) c.new-work.ensures.fields ∙ (λ i. record (nothing_but t) { title = Some (c.in_ok-title.ensures i) })))
     (ap (λ (es : List Entry). map whole es) (c.set_title.ensures.2 ∙ c.new-work.ensures.parents)) in
     ap (λ (es : List Entry). map whole es) c.in_ok-push.ensures.items
     ∙ last c.args.parents.now.items c.set_title.new.entry (titled t ms) made

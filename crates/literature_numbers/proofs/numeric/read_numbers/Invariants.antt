@@ -1,6 +1,6 @@
 use Rattle.std.proofs.Common.{◌≡◌, length}
 use Rattle.literature_numbers.specs.Numerics.{numbers_at}
-use Rattle.text_reader.specs.Views.{left}
+use Rattle.texts.specs.Views.{left}
 use Rattle.literature_numbers.proofs.NumberSteps.{numbers_onto}
 use Rattle.literature_numbers.proofs.numeric.read_numbers.Given as goal
 

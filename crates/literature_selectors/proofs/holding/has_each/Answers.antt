@@ -3,13 +3,12 @@ use Rattle.std.specs.List.{list_all}
 use Rattle.std.proofs.lemmas.List.{take_all}
 use Rattle.std.proofs.lemmas.List.Folds.{list_all_at, list_all_more}
 use Rattle.std.proofs.lemmas.Str.{IsUtf8-string_bytes}
-use Rattle.laws.specs.Text.{text}
-use Rattle.laws.proofs.Text.{text-chars}
+use Rattle.laws.specs.Text.{text, characters}
+use Rattle.laws.proofs.Text.{text_of_chars}
 use Rattle.literature_entries.specs.declared.entry.Entry.{Entry}
 use Rattle.literature_entries.specs.Names.{has, are_some}
 use Rattle.literature_entries.specs.Views.{fields, parents}
 use Rattle.literature_selectors.specs.Holding.{has_each}
-use Rattle.literature_selectors.specs.Views.{characters}
 use Rattle.literature_selectors.proofs.holding.has_each.Goals as goal
 
 -- a field by the bytes of its name
@@ -17,7 +16,7 @@ abbrev HasNamed : Entry → String Global → Bool
 HasNamed e s = has (string_bytes s) (fields e) (are_some (parents e))
 
 by_bytes : (e : Entry) (s : String Global) → has (text (characters s)) (fields e) (are_some (parents e)) ≡ HasNamed e s
-by_bytes e s = ap (λ n. has n (fields e) (are_some (parents e))) (text-chars (string_bytes s) (IsUtf8-string_bytes s))
+by_bytes e s = ap (λ n. has n (fields e) (are_some (parents e))) (text_of_chars (string_bytes s) (IsUtf8-string_bytes s))
 
 one_by_one : (e : Entry) (ss : List (String Global)) → has_each (map characters ss) e ≡ list_all (HasNamed e) ss
 one_by_one e [] = refl

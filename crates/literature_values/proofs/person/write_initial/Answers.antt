@@ -14,5 +14,5 @@ returns g c = λ ok.
     let first = c.in_ok-write_text.ensures (refl {a = true}) in
     let last = c.write_text-2.ensures ok in
     subst (λ (t : List ℕ). WritesInCalls g.W.Write.write_str_gives c.args.writer.now t c.write_text-2.new.writer)
-    ((λ i. text (c.first_cluster.ensures i) ++ text style.kept) ∙ sym (text-append (cluster (chars c.args.name.now)) style.kept))
+    ((λ i. text (c.first_cluster.ensures i) ++ text style.trimmed) ∙ sym (text-append (cluster (chars c.args.name.now)) style.trimmed))
     (writes_in_calls_append _ _ _ _ _ _ first last)

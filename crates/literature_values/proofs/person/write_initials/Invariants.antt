@@ -1,5 +1,5 @@
 use Rattle.std.proofs.Common.{length}
-use Rattle.text_reader.specs.Views.{left}
+use Rattle.texts.specs.Views.{left}
 use Rattle.literature_values.specs.PersonViews.{initials_style}
 use Rattle.literature_values.proofs.InitialSteps.{WritesSoFar}
 use Rattle.std.specs.Str.{chars}

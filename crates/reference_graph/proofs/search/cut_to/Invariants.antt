@@ -1,5 +1,5 @@
 use Rattle.std.proofs.Common.{ℕ, ◌≤◌, Contains, vec_len}
-use Rattle.reference_graph.specs.Kept.{Rising}
+use Rattle.reference_graph.specs.Invariant.{Rising}
 use Rattle.reference_graph.proofs.search.cut_to.Given as goal
 
 abbrev pub invariant-loop-start : goal.invariant-loop-start

@@ -3,7 +3,7 @@ use Rattle.biblatex_entries.specs.Entries.{sources}
 use Rattle.biblatex_bibliography.proofs.Within.{known}
 use Rattle.biblatex_bibliography.proofs.bibliography.Bibliography.alias.Goals as goal
 
-pub invariant_of-self-2 : goal.invariant_of-self-2
-invariant_of-self-2 c =
+pub invariant_of-self : goal.invariant_of-self
+invariant_of-self c =
     let count = length (sources c.self.inside.entries.items) in
     c.bind.ensures.within count (known _ c.in-Some.place count c.in-Some.ensures (c.self.invariant c.args.name.now)) c.self.invariant

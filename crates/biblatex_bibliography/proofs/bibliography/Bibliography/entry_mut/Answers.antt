@@ -5,9 +5,9 @@ use borrow.Follows.Closed.{read_of}
 use Rattle.std.proofs.lemmas.List.{length-set, length-map}
 use Rattle.std.proofs.lemmas.Option.{slice_get-map}
 use Rattle.biblatex_entries.specs.Entries.{source}
-use Rattle.biblatex_bibliography.specs.Bibliographies.{Held}
+use Rattle.biblatex_bibliography.specs.Bibliographies.{Indexed}
 use Rattle.biblatex_bibliography.specs.Places.{meaning_in, names_in, AreWithin}
-use Rattle.biblatex_bibliography.proofs.Lent.{written_at, item}
+use Rattle.biblatex_bibliography.proofs.Borrowed.{written_at, item}
 use Rattle.biblatex_bibliography.proofs.bibliography.Bibliography.entry_mut.Goals as goal
 
 pub invariant_of-self-lent : goal.invariant_of-self-lent
@@ -27,6 +27,6 @@ returns c =
       record {
         writes_back = tt;
         value = item items c.args.place c.get_mut.result c.get_mut.ensures.item ∙ (sym (slice_get-map source items c.args.place)
-            ∙ ap (λ (h : Held). slice_get h.entries c.args.place) c.self.view_is);
+            ∙ ap (λ (h : Indexed). slice_get h.entries c.args.place) c.self.view_is);
       },
     )

@@ -5,9 +5,9 @@ use Rattle.std.proofs.lemmas.Option.{slice_get-map}
 use Rattle.std.specs.Option.{ghost_name_of}
 use borrow.Follows.Closed.{read_of}
 use Rattle.biblatex_entries.specs.Entries.{source, sources}
-use Rattle.biblatex_bibliography.specs.Bibliographies.{Held, seen, entry_named}
+use Rattle.biblatex_bibliography.specs.Bibliographies.{Indexed, seen, entry_named}
 use Rattle.biblatex_bibliography.specs.Places.{meaning_in, names_in, AreWithin}
-use Rattle.biblatex_bibliography.proofs.Lent.{written, item}
+use Rattle.biblatex_bibliography.proofs.Borrowed.{written, item}
 use Rattle.biblatex_bibliography.proofs.bibliography.Bibliography.get_mut.Goals as goal
 
 pub invariant_of-self-lent : goal.invariant_of-self-lent
@@ -27,5 +27,5 @@ returns c =
       (λ i. read_of (ghost_name_of c.get_mut.result) (λ w. written items places c.args.name.now c.in_ok-meant.meant c.args.self.now c.in_ok-meant.ensures c.self.view_is w i) (c.self.view_is i)),
       item items c.in_ok-meant.meant c.get_mut.result c.get_mut.ensures.item ∙ (sym (slice_get-map source items c.in_ok-meant.meant)
           ∙ (ap (option_and_then (slice_get (sources items))) c.in_ok-meant.ensures
-          ∙ ap (λ (h : Held). entry_named c.args.name.now (seen h)) c.self.view_is)),
+          ∙ ap (λ (h : Indexed). entry_named c.args.name.now (seen h)) c.self.view_is)),
     )

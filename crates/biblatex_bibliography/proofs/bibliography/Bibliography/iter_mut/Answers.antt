@@ -2,9 +2,9 @@ use Rattle.std.proofs.Common.{rules, ℕ, sym, ap, subst, ◌∙◌}
 use Rattle.std.specs.List.{refill, length_refill}
 use Rattle.std.proofs.lemmas.List.{length-map}
 use Rattle.biblatex_entries.specs.Entries.{source, sources}
-use Rattle.biblatex_bibliography.specs.Bibliographies.{Held}
+use Rattle.biblatex_bibliography.specs.Bibliographies.{Indexed}
 use Rattle.biblatex_bibliography.specs.Places.{meaning_in, names_in, AreWithin}
-use Rattle.biblatex_bibliography.proofs.Lent.{rewritten}
+use Rattle.biblatex_bibliography.proofs.Borrowed.{rewritten}
 use Rattle.biblatex_bibliography.proofs.bibliography.Bibliography.iter_mut.Goals as goal
 
 pub invariant_of-self-lent : goal.invariant_of-self-lent
@@ -20,7 +20,7 @@ returns c =
       (search rules, λ w. rewritten v.len v.items c.self.inside.places c.args.self.now v.ok.0 c.self.view_is w),
       record {
         writes_back = tt;
-        value = ap sources (c.iter_mut.ensures.rest ∙ c.as_mut_slice.ensures.value) ∙ ap (λ (h : Held). h.entries) c.self.view_is;
+        value = ap sources (c.iter_mut.ensures.rest ∙ c.as_mut_slice.ensures.value) ∙ ap (λ (h : Indexed). h.entries) c.self.view_is;
         runs = c.iter_mut.ensures.runs;
       },
     )

@@ -1,6 +1,7 @@
 use Rattle.std.proofs.Common.{◌≡◌, [], refl, ◌∙◌}
 use Rattle.std.proofs.lemmas.List.{append-nil}
-use Rattle.biblatex_content.specs.Views.{characters, joined, styled}
+use Rattle.biblatex_content.specs.Views.{joined, styled}
+use Rattle.laws.specs.Text.{characters}
 use Rattle.biblatex_content.proofs.joining.Joining.close_run.Goals as goal
 
 pub returns-clause-styled : goal.returns-clause-styled

@@ -4,10 +4,10 @@ use Rattle.std.specs.Prelude.{Vec}
 use Rattle.std.specs.Str.{chars}
 use Rattle.std.proofs.lemmas.List.{nil_from_length, reverse-append}
 use Rattle.std.proofs.lemmas.Result.{err_from_is_err_and}
-use Rattle.biblatex_content_tokens.specs.declared.token.Token as code
+use Rattle.biblatex_tex.specs.declared.token.Token as code
 use Rattle.biblatex_content.specs.Ordinary.{steps, begun}
 use Rattle.biblatex_content.specs.OrdinaryViews.{state}
-use Rattle.biblatex_content_tokens.specs.TokenViews.{token, tokens}
+use Rattle.biblatex_tex.specs.TokenViews.{token, tokens}
 use Rattle.biblatex_content.specs.Views.{joined}
 use Rattle.biblatex_content.proofs.Pieces.{behind-fails, behind-stops, behind-ends}
 use Rattle.biblatex_content.proofs.joining.Joining.push_tokens.Goals as goal

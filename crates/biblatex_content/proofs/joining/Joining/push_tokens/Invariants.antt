@@ -1,7 +1,7 @@
 use Rattle.std.proofs.Common.{◌≡◌, length, reverse}
 use Rattle.biblatex_content.specs.Ordinary.{steps, begun}
 use Rattle.biblatex_content.specs.OrdinaryViews.{state}
-use Rattle.biblatex_content_tokens.specs.TokenViews.{tokens}
+use Rattle.biblatex_tex.specs.TokenViews.{tokens}
 use Rattle.biblatex_content.specs.Views.{joined}
 use Rattle.biblatex_content.proofs.joining.Joining.push_tokens.Given as goal
 

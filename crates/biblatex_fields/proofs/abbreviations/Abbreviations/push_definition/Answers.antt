@@ -45,7 +45,6 @@ returns-in_err-contents-in-Spelled c =
     let p = err_from_is_err_and c.from_residual-in_err-contents-in-Spelled.result c.from_residual-in_err-contents-in-Spelled.ensures.1 in
     let g = c.args.self.now in
     let each = resolved_read g c.args.is_verbatim in
-    let fs = map frame c.pop.new.self.items in
     let next = piece_seen c.in-Some-split_first.next.now in
     let ps = frame c.in-Some-split_first.rest in
     let before = frame_split c.loop-frame.frames.items c.pop.new.self.items c.in-Some.frame c.in-Some-split_first.rest c.in-Some-split_first.next.now c.in-Some.ensures.items c.in-Some-split_first.ensures.cases.0 in
@@ -54,7 +53,7 @@ returns-in_err-contents-in-Spelled c =
     let is = rw c.in-Spelled.is at c.in_ok-text.ensures in
     let text = text_read c.args.is_verbatim next.raw.start next.raw.end (chars c.in-Spelled.text.now) done in
     let more : (f : Refusal) → text ≡ Err f → whole ≡ Err f = λ f e. sym c.loop-frame.invariant
-    ∙ (ap (λ (x : List (List Resolved)). stack_read each x done) before ∙ next_spelled g c.args.is_verbatim fs next ps done (chars c.in-Spelled.text.now) (Err f) is e) in
+    ∙ (ap (λ (x : List (List Resolved)). stack_read each x done) before ∙ next_spelled g c.args.is_verbatim (map frame c.pop.new.self.items) next ps done (chars c.in-Spelled.text.now) (Err f) is e) in
     rw (p.1, p.2) (refused placed_so_far placed_so_far c.in_err-contents-in-Spelled.field-0.0 text whole c.in_err-contents-in-Spelled.ensures more)
 
 pub loop-frame-smaller-in-Spelled : goal.loop-frame-smaller-in-Spelled

@@ -7,7 +7,8 @@ use Rattle.biblatex_content.specs.Places.{placed_so_far}
 use Rattle.biblatex_content.specs.Styled.{Member}
 use Rattle.biblatex_fields.specs.Abbreviations.{Refusal, spelled, defined, pieces_at, sense}
 use Rattle.biblatex_fields.specs.Value.{read}
-use Rattle.biblatex_fields.specs.Views.{Gives, sense_seen}
+use Rattle.biblatex_fields.specs.Views.{sense_seen, refusal_of}
+use Rattle.laws.specs.Results.{Gives}
 use Rattle.biblatex_fields.proofs.Refused.{refused}
 use Rattle.biblatex_fields.proofs.Stack.{read_sensed, read_refused}
 use Rattle.biblatex_fields.proofs.abbreviations.Abbreviations.push_piece.Goals as goal
@@ -25,12 +26,12 @@ pub returns-in-Spelled : goal.returns-in-Spelled
 returns-in-Spelled c =
     let g = c.args.self.now in
     let is = rw c.in-Spelled.is at c.in_ok-text.ensures.sense in
-    subst (λ (r : Result (List (At Member)) Refusal). Gives placed_so_far c.push_text.result r)
+    subst (λ (r : Result (List (At Member)) Refusal). Gives refusal_of placed_so_far c.push_text.result r)
     (sym (read_sensed g c.args.is_verbatim c.in_ok-text.ensures.flags (piece c.args.raw.now) (placed_so_far c.args.contents) (spelled (chars c.in-Spelled.text.now)) is)) c.push_text.ensures
 
 pub returns-in-Defined : goal.returns-in-Defined
 returns-in-Defined c =
     let g = c.args.self.now in
     let is = rw c.in-Defined.is at c.in_ok-text.ensures.sense in
-    subst (λ (r : Result (List (At Member)) Refusal). Gives placed_so_far c.push_definition.result r)
+    subst (λ (r : Result (List (At Member)) Refusal). Gives refusal_of placed_so_far c.push_definition.result r)
     (sym (read_sensed g c.args.is_verbatim c.in_ok-text.ensures.flags (piece c.args.raw.now) (placed_so_far c.args.contents) (defined (pieces_at g.definitions c.in-Defined.place)) is)) c.push_definition.ensures

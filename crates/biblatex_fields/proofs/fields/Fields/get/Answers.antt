@@ -1,7 +1,7 @@
 use Rattle.std.proofs.Common.{◌∙◌}
-use Rattle.biblatex_fields.proofs.Entries.{lent, value_there}
+use Rattle.biblatex_fields.proofs.Entries.{borrowed, value_there}
 use Rattle.biblatex_fields.proofs.fields.Fields.get.Goals as goal
 
 pub returns : goal.returns
 returns c =
-    rw (← c.self.view_is) (lent c.get.result _ c.get.ensures.value ∙ value_there c.args.name.now c.self.inside.values.entries)
+    rw (← c.self.view_is) (borrowed c.get.result _ c.get.ensures.value ∙ value_there c.args.name.now c.self.inside.values.entries)

@@ -1,6 +1,5 @@
-use Rattle.std.proofs.Common.{List, ap, ◌∙◌}
+use Rattle.std.proofs.Common.{List, ap, ◌∙◌, string_bytes}
 use Rattle.biblatex_fields.specs.Fields.{Named, named_of, value_named, with_field}
-use Rattle.std.proofs.Common.{string_bytes}
 use Rattle.biblatex_content.specs.Views.{styled}
 use Rattle.biblatex_fields.proofs.LookUps.{put_found}
 use Rattle.biblatex_fields.proofs.Entries.{put_there, ordered_there}

@@ -1,5 +1,5 @@
 use Rattle.std.proofs.Common.{List, ap, sym, subst, ◌∙◌}
-use Rattle.biblatex_fields.specs.Openings.{Resolved, StandIn, kept_at, unresolved_at}
+use Rattle.biblatex_fields.specs.Openings.{Resolved, StandIn, pieces_of_opening, unresolved_at}
 use Rattle.biblatex_fields.proofs.StandIns.{stand_read}
 use Rattle.biblatex_fields.proofs.glossary.Glossary.pieces.Goals as goal
 
@@ -8,5 +8,5 @@ returns c =
     let g = c.args.self.now in
     let vs = c.args.resolved.now in
     let os = c.args.openings.now in
-    subst (λ (x : List Resolved). StandIn g c.args.is_verbatim x (unresolved_at g.definitions c.args.place)) (sym (c.kept_at.ensures ∙ ap (kept_at os vs) c.target.ensures))
+    subst (λ (x : List Resolved). StandIn g c.args.is_verbatim x (unresolved_at g.definitions c.args.place)) (sym (c.pieces_of_opening.ensures ∙ ap (pieces_of_opening os vs) c.target.ensures))
     (stand_read g c.args.is_verbatim vs os c.args.place c.requires.resolved c.requires.openings)

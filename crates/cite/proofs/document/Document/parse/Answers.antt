@@ -1,9 +1,10 @@
 use Rattle.std.proofs.Common.{◌≡◌, ℕ, [], ◌∷◌, ◌++◌, length, Err, sym, ap, ◌∙◌, arith}
 use Rattle.std.specs.Str.{chars}
 use Rattle.std.proofs.lemmas.List.{map_push}
-use Rattle.laws.proofs.Text.{text-chars}
+use Rattle.laws.proofs.Text.{text_of_chars}
 use Rattle.cite.specs.Verdict.{marker_stage, no_marker}
-use Rattle.cite.specs.Views.{left, citation, citations, spelled}
+use Rattle.cite.specs.Views.{left, citation, citations}
+use Rattle.laws.specs.Text.{spelled}
 use Rattle.cite.proofs.Citing.{citations_shorten}
 use Rattle.cite.proofs.Documents.{begins, goes_on, ends, fails, room}
 use Rattle.cite.proofs.document.Document.parse.Goals as goal
@@ -31,7 +32,7 @@ returns c =
 pub offset_of-offset-requires : goal.offset_of-offset-requires
 offset_of-offset-requires c =
     let enough = room (citations c.loop-citation.citations.items) (left c.loop-citation.rest) (spelled c.in-Err.field-0.opened) (chars c.args.text.now) c.loop-citation.invariant c.in-Err.ensures in
-    omega (arith, enough, ap length (text-chars c.args.text.now c.utf8.text))
+    omega (arith, enough, ap length (text_of_chars c.args.text.now c.utf8.text))
 
 pub returns-in-Err : goal.returns-in-Err
 returns-in-Err c =

@@ -2,7 +2,7 @@ use Rattle.std.proofs.Common.{◌≡◌, ℕ, List, [], ◌++◌, sym, ap, ◌�
 use Rattle.std.specs.Str.{chars}
 use Rattle.std.specs.Prelude.{string_bytes}
 use Rattle.std.proofs.lemmas.Str.{chars-nil}
-use Rattle.literature_numbers.specs.Views.{characters}
+use Rattle.laws.specs.Text.{characters}
 use Rattle.cite.proofs.page.Page.put_formula.Goals as goal
 
 pub returns : goal.returns

@@ -1,7 +1,7 @@
 use Rattle.std.proofs.Common.{◌≡◌, ◌++◌, map}
 use Rattle.literature_selectors.specs.Views.{meant}
 use Rattle.literature.specs.Answers.{answers, shown}
-use Rattle.literature.specs.Kept.{entries}
+use Rattle.literature.specs.Entries.{entries}
 use Rattle.literature.proofs.library.Library.selected.Given as goal
 
 abbrev pub invariant-loop-entry : goal.invariant-loop-entry

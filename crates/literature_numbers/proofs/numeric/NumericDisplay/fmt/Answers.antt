@@ -1,10 +1,10 @@
 use Rattle.std.proofs.Common.{refl, List, ℕ, ◌++◌, sym, ap, ◌∙◌, true}
 use Rattle.std.specs.Option.{option_map}
 use Rattle.std.proofs.Output.{has_written_of_eq, has_written_append}
-use Rattle.laws.specs.Text.{text}
+use Rattle.laws.specs.Text.{text, characters}
 use Rattle.laws.proofs.Text.{text-append}
 use Rattle.literature_numbers.specs.NumericText.{value_text, affix_text}
-use Rattle.literature_numbers.specs.Views.{value, characters}
+use Rattle.literature_numbers.specs.Views.{value}
 use Rattle.literature_numbers.proofs.numeric.NumericDisplay.fmt.Goals as goal
 
 pub returns-clause-writes : goal.returns-clause-writes

@@ -4,7 +4,8 @@ use Rattle.std.proofs.lemmas.Result.{err_from_is_err_and}
 use Rattle.laws.proofs.Results.{if_ok_at}
 use Rattle.literature_selectors.specs.Trees.{one_or_alternatives, one_or_multi}
 use Rattle.literature_selectors.specs.Reading.{unary_in, level}
-use Rattle.literature_selectors.specs.Views.{left, tree, fault, EndsWith, Gives}
+use Rattle.literature_selectors.specs.Views.{left, tree, fault}
+use Rattle.laws.specs.Results.{EndsWith, GivesRest}
 use Rattle.literature_selectors.proofs.Repeats.{taken_less, AtMost, front_goes_on, front_stops, front_fails, parted_ends, parted_fails_later}
 use Rattle.literature_selectors.proofs.Levels.{unary_leaves, level_leaves, no_level_unary, no_level_ancestry, unary_below, ancestry_below}
 use Rattle.literature_selectors.proofs.reader.Reader.+selector.Goals as goal
@@ -95,7 +96,7 @@ ancestry-returns-then-levels-eq0 below c =
 pub ancestry-returns : goal.ancestry-returns
 ancestry-returns below c =
     let some : 0 < c.args.levels = omega arith in
-    subst (λ r. Gives tree c.ancestry_in.result (left c.ancestry_in.new.self) r) (sym (ancestry_below c.args.levels (left c.args.self.now) some)) c.ancestry_in.ensures
+    subst (λ r. GivesRest fault tree c.ancestry_in.result (left c.ancestry_in.new.self) r) (sym (ancestry_below c.args.levels (left c.args.self.now) some)) c.ancestry_in.ensures
 
 pub unary-returns-then-levels-eq0 : goal.unary-returns-then-levels-eq0
 unary-returns-then-levels-eq0 below c =
@@ -105,4 +106,4 @@ unary-returns-then-levels-eq0 below c =
 pub unary-returns : goal.unary-returns
 unary-returns below c =
     let some : 0 < c.args.levels = omega arith in
-    subst (λ r. Gives tree c.unary_in.result (left c.unary_in.new.self) r) (sym (unary_below c.args.levels (left c.args.self.now) some)) c.unary_in.ensures
+    subst (λ r. GivesRest fault tree c.unary_in.result (left c.unary_in.new.self) r) (sym (unary_below c.args.levels (left c.args.self.now) some)) c.unary_in.ensures

@@ -3,7 +3,9 @@ use Rattle.std.proofs.lemmas.List.{map-append, append-nil}
 use Rattle.std.proofs.lemmas.Result.{err_from_is_err_and}
 use Rattle.laws.proofs.Results.{if_ok_at}
 use Rattle.literature_selectors.specs.Reading.{names_at}
-use Rattle.literature_selectors.specs.Views.{left, characters, fault, EndsWith}
+use Rattle.literature_selectors.specs.Views.{left, fault}
+use Rattle.laws.specs.Results.{EndsWith}
+use Rattle.laws.specs.Text.{characters}
 use Rattle.literature_selectors.proofs.Repeats.{taken_less, AtMost}
 use Rattle.literature_selectors.proofs.Levels.{names_leaves, lists_go_on, lists_end, lists_fail}
 use Rattle.literature_selectors.proofs.reader.Reader.lists.Goals as goal

@@ -13,9 +13,9 @@ loop-place-init c =
     let s = seen c.args.self.now in
     let v = c.args.number in
     let new : place_of s v ≡ New = new_told (place_of s v) (sym c.if-not-is_new.ensures) in
-    let e = subst (λ (x : State). IsEntered R s x v) (sym c.in_ok-enter.ensures) (entered_first R s c.requires.kept v new c.requires.free) in
-    record { kept = e.kept; met = e.met; itself = e.itself }
+    let e = subst (λ (x : State). IsEntered R s x v) (sym c.in_ok-enter.ensures) (entered_first R s c.requires.holds v new c.requires.free) in
+    record { holds = e.holds; met = e.met; itself = e.itself }
 
 pub returns-clause-free : goal.returns-clause-free
 returns-clause-free c =
-    path_empty (lists c.args.references.now) (seen c.loop-place.self) c.loop-place.invariant.kept (ap (λ (xs : List ℕ). length xs) (sym c.deref.ensures.value) ∙ c.in_default.ensures)
+    path_empty (lists c.args.references.now) (seen c.loop-place.self) c.loop-place.invariant.holds (ap (λ (xs : List ℕ). length xs) (sym c.deref.ensures.value) ∙ c.in_default.ensures)

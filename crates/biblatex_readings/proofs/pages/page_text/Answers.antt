@@ -1,6 +1,0 @@
-use Rattle.std.proofs.Common.{arith}
-use Rattle.biblatex_readings.proofs.Texts.{shown_page}
-use Rattle.biblatex_readings.proofs.pages.page_text.Goals as goal
-
-pub returns : goal.returns
-returns c = shown_page c.to_string.result c.args.page (omega (arith, c.ranges.page)) c.to_string.ensures.ok

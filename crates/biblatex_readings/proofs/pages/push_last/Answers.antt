@@ -1,6 +1,0 @@
-use Rattle.biblatex_content.specs.Views.{characters}
-use Rattle.biblatex_readings.proofs.Texts.{behind_dash}
-use Rattle.biblatex_readings.proofs.pages.push_last.Goals as goal
-
-pub returns : goal.returns
-returns c = behind_dash c.push_page.result (characters c.args.text.now) (characters c.push_text.new.text) (characters c.push_page.new.text) _ c.in_ok-push_text.ensures c.push_page.ensures

@@ -1,7 +1,0 @@
-use Rattle.std.specs.Prelude.{string_bytes}
-use Rattle.std.proofs.lemmas.Str.{IsUtf8-string_bytes}
-use Rattle.biblatex_content.proofs.Characters.{chars-put}
-use Rattle.biblatex_readings.proofs.pages.push_text.Goals as goal
-
-pub returns : goal.returns
-returns c = chars-put c.push_str.result (string_bytes c.args.text.now) c.args.more.now (string_bytes c.push_str.new.self) (IsUtf8-string_bytes c.args.text.now) c.push_str.ensures.bytes

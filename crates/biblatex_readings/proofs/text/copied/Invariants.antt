@@ -1,7 +1,0 @@
-use Rattle.std.proofs.Common.{◌≡◌, take}
-use Rattle.biblatex_content.specs.Views.{styled}
-use Rattle.biblatex_readings.specs.Plain.{spans}
-use Rattle.biblatex_readings.proofs.text.copied.Given as goal
-
-abbrev pub invariant-loop-chunk : goal.invariant-loop-chunk
-invariant-loop-chunk l = (styled l.copies.items ≡ styled (take l.chunk-index l.chunks)) × (spans l.copies.items ≡ spans (take l.chunk-index l.chunks))

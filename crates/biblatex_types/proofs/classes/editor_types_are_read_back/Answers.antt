@@ -1,5 +1,0 @@
-use Rattle.biblatex_types.proofs.Holding.{editors_hold}
-use Rattle.biblatex_types.proofs.classes.editor_types_are_read_back.Goals as goal
-
-pub returns : goal.returns
-returns c = editors_hold

@@ -1,5 +1,0 @@
-use Rattle.biblatex_types.proofs.Holding.{texts_hold}
-use Rattle.biblatex_types.proofs.classes.lists_of_texts_are_read_back.Goals as goal
-
-pub returns : goal.returns
-returns c = texts_hold

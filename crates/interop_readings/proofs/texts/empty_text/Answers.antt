@@ -1,5 +1,0 @@
-use Rattle.std.proofs.lemmas.Str.{chars-nil}
-use Rattle.interop_readings.proofs.texts.empty_text.Goals as goal
-
-pub returns-clause-characters : goal.returns-clause-characters
-returns-clause-characters c = rw c.new.ensures.bytes chars-nil

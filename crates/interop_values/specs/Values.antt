@@ -1,0 +1,52 @@
+-- The contents of an entry's fields, by the names under which the fields are written.
+use Rattle.std.specs.Prelude.{ℕ, Bool, List, [], ◌∷◌, if◌then◌else◌, Option, Some, None, option_and_then, codes}
+use Rattle.std.specs.List.{list_any}
+use Rattle.std.specs.Map.{lookup}
+use Rattle.std.specs.Str.{bytes_eq}
+use Rattle.biblatex_content.specs.Styled.{Member}
+use Rattle.biblatex_fields.specs.Fields.{Named, value_named}
+use Rattle.biblatex_entries.specs.Typed.{characters_of}
+
+-- what stands under each written name
+abbrev pub Values : Type 0
+Values = List ℕ → Option (List Member)
+
+-- a content; an empty one is none, but a formula is something, even one without characters
+abbrev pub filled : Option (List Member) → Option (List Member)
+filled None = None
+filled (Some []) = None
+filled (Some (m ∷ ms)) = Some (m ∷ ms)
+
+-- the first, or what comes after it
+abbrev pub first_or : {V : Type 0} → Option V → Option V → Option V
+first_or None next = next
+first_or (Some v) next = Some v
+
+-- the fields that are written under another name than they may be read under: that name, and the other one
+abbrev pub other_names : List (List ℕ × List ℕ)
+other_names =
+    (codes "journaltitle", codes "journal") ∷
+    (codes "location", codes "address") ∷
+    (codes "institution", codes "school") ∷
+    (codes "annotation", codes "annote") ∷
+    (codes "eprinttype", codes "archiveprefix") ∷
+    (codes "eprintclass", codes "primaryclass") ∷
+    (codes "sortkey", codes "key") ∷
+    (codes "file", codes "pdf") ∷ []
+
+-- whether no field is written under a name
+abbrev pub is_never_written : List ℕ → Bool
+is_never_written name = list_any (λ names. bytes_eq name names.1) other_names
+
+-- the content of a field by its other name, where it has one
+abbrev pub by_other_name : List ℕ → List Named → Option (List Member)
+by_other_name name fs = option_and_then (λ other. filled (value_named other fs)) (lookup (bytes_eq name) other_names)
+
+-- what stands under a written name: of two fields that are written as one, the one that was read under it, unless it is empty; under the
+-- other of the two names nothing stands
+abbrev pub values : List Named → Values
+values fs name = if is_never_written name then None else first_or (filled (value_named name fs)) (by_other_name name fs)
+
+-- the characters under a name; none where nothing stands under it
+abbrev pub text_under : List ℕ → Values → List ℕ
+text_under name v = characters_of (v name)

@@ -1,0 +1,303 @@
+//! The contents of fields as values of a library.
+
+ghost use Rattle.std.specs.Prelude.{◌≡◌, ◌++◌, [], map, codes, IfOk, OnOk, Some, None, string_bytes};
+ghost use Rattle.std.specs.Option.{option_map};
+ghost use Rattle.url.specs.Parser.{parse_url};
+ghost use Rattle.url.specs.Parts.{serialize};
+ghost use Rattle.biblatex_content.specs.Styled.{letters};
+ghost use Rattle.biblatex_content.specs.Views.{styled};
+ghost use Rattle.biblatex_people.specs.Views.{named};
+ghost use Rattle.literature_numbers.specs.PageViews.{pages};
+ghost use Rattle.literature_numbers.specs.Views.{numeral};
+ghost use Rattle.laws.specs.Text.{characters};
+ghost use Rattle.literature_values.specs.PersonViews.{person};
+ghost use Rattle.literature_values.specs.TextViews.{chunks, format, publishing};
+ghost use Rattle.literature_entries.specs.Views.{people};
+ghost use Rattle.literature_values.specs.OtherViews.{address};
+ghost use Rattle.literature_values.specs.TypedViews.{value_or_text};
+ghost use Rattle.interop_values.specs.Values.{values, first_or};
+ghost use Rattle.interop_values.specs.Pieces.{pieces_of};
+ghost use Rattle.interop_values.specs.Views.{Grows};
+ghost use Rattle.interop_values.specs.Readings.{format_of, with_subtitle, title_of, format_under, part, person_of, people_of, people_under, number_under, total_under, pages_under, bytes_of, bytes_under, publishing_of, publisher_of, url_or, address_of};
+
+use crate::pieces::Pieces;
+use crate::values::{text, value};
+use biblatex_content::{Chunk, Spanned};
+use biblatex_fields::Fields;
+use biblatex_people::{Person as SourcePerson, read_people};
+use biblatex_values::plain_text;
+use literature_values::{
+    ChunkedString, Date, FormatString, MaybeTyped, Numeric, NumericError, PageRanges, Person,
+    Publisher, QualifiedUrl,
+};
+use std::alloc::{AllocError, Global};
+use texts::has_text;
+use url::{ParseError, Url};
+
+/// The content in pieces.
+fn pieces(alloc: Global, value: &[Spanned<Chunk>]) -> Result<ChunkedString, AllocError>
+    ensures { IfOk result (λ s. chunks s ≡ pieces_of (styled value.now)) }
+{
+    let mut pieces = Pieces::new(alloc);
+    pieces.push_chunks(value)?;
+    pieces.finish()
+}
+
+/// The content in pieces, where there is one.
+fn pieces_if(
+    alloc: Global,
+    value: Option<&[Spanned<Chunk>]>,
+) -> Result<Option<ChunkedString>, AllocError>
+    ensures { IfOk result (λ s. option_map chunks s ≡ option_map (λ v. pieces_of (styled v.now)) value.entry) }
+{
+    match value {
+        Some(value) => Ok(Some(pieces(alloc, value)?)),
+        None => Ok(None),
+    }
+}
+
+/// A text without a short form.
+pub fn format(alloc: Global, value: &[Spanned<Chunk>]) -> Result<FormatString, AllocError>
+    ensures { IfOk result (λ f. format f ≡ format_of (styled value.now)) }
+{
+    Ok(FormatString {
+        value: pieces(alloc, value)?,
+        short: None,
+    })
+}
+
+/// A text without a short form, where there is one.
+pub fn format_if(
+    alloc: Global,
+    value: Option<&[Spanned<Chunk>]>,
+) -> Result<Option<FormatString>, AllocError>
+    ensures { IfOk result (λ f. option_map format f ≡ option_map (λ v. format_of (styled v.now)) value.entry) }
+{
+    match value {
+        Some(value) => Ok(Some(format(alloc, value)?)),
+        None => Ok(None),
+    }
+}
+
+/// The text under a name.
+pub fn format_under(
+    alloc: Global,
+    fields: &Fields,
+    name: &str,
+) -> Result<Option<FormatString>, AllocError>
+    ensures { IfOk result (λ f. option_map format f ≡ format_under name.now (values fields.now)) }
+{
+    format_if(alloc, value(fields, name))
+}
+
+/// The title of an entry, with its subtitle and its short form.
+pub fn title(alloc: Global, fields: &Fields) -> Result<Option<FormatString>, AllocError>
+    ensures { IfOk result (λ f. option_map format f ≡ title_of (values fields.now)) }
+{
+    match value(fields, "title") {
+        Some(title) => Ok(Some(FormatString {
+            value: with_subtitle(alloc, title, value(fields, "subtitle"))?,
+            short: pieces_if(alloc, value(fields, "shorttitle"))?,
+        })),
+        None => Ok(None),
+    }
+}
+
+/// A title, and a colon, a space and the subtitle after it.
+fn with_subtitle(
+    alloc: Global,
+    title: &[Spanned<Chunk>],
+    subtitle: Option<&[Spanned<Chunk>]>,
+) -> Result<ChunkedString, AllocError>
+    ensures { IfOk result (λ s. chunks s ≡ pieces_of (with_subtitle (styled title.now) (option_map (λ v. styled v.now) subtitle.entry))) }
+{
+    let mut pieces = Pieces::new(alloc);
+    pieces.push_chunks(title)?;
+    push_subtitle(&mut pieces, subtitle)?;
+    pieces.finish()
+}
+
+/// Appends a colon, a space and the subtitle.
+fn push_subtitle(pieces: &mut Pieces, subtitle: Option<&[Spanned<Chunk>]>) -> Result<(), AllocError>
+    ensures { OnOk result (Grows pieces.old pieces.new (with_subtitle [] (option_map (λ v. styled v.now) subtitle.entry))) }
+{
+    let Some(subtitle) = subtitle else {
+        return Ok(());
+    };
+    pieces.push_text(false, ": ")?;
+    pieces.push_chunks(subtitle)
+}
+
+/// The people under a name, if there are any.
+pub fn people_under(
+    alloc: Global,
+    fields: &Fields,
+    name: &str,
+) -> Result<Option<Vec<Person>>, AllocError>
+    ensures { IfOk result (λ p. option_map (λ v. people v.items) p ≡ people_under name.now (values fields.now)) }
+{
+    match value(fields, name) {
+        Some(value) => people_in(alloc, value),
+        None => Ok(None),
+    }
+}
+
+/// The people that a content names, if there are any.
+fn people_in(alloc: Global, value: &[Spanned<Chunk>]) -> Result<Option<Vec<Person>>, AllocError>
+    ensures { IfOk result (λ p. option_map (λ v. people v.items) p ≡ people_of (Some (styled value.now))) }
+{
+    let people = read_people(alloc, value)?;
+    if people.is_empty() {
+        return Ok(None);
+    }
+    Ok(Some(people_of(alloc, people)?))
+}
+
+/// People as a library holds them.
+fn people_of(alloc: Global, read: Vec<SourcePerson>) -> Result<Vec<Person>, AllocError>
+    ensures { IfOk result (λ v. people v.items ≡ map person_of (map named read.items)) }
+{
+    let mut all = Vec::with_capacity(alloc, read.len())?;
+    for person in read {
+        all.push(person_of(person))?;
+    }
+    Ok(all)
+}
+
+/// A person as a library holds one.
+fn person_of(read: SourcePerson) -> Person
+    ensures { person result ≡ person_of (named read) }
+{
+    Person {
+        name: read.name,
+        given_name: part(read.given_name),
+        prefix: part(read.prefix),
+        suffix: part(read.suffix),
+    }
+}
+
+/// A part of a name; an empty one is absent.
+fn part(text: String) -> Option<String>
+    ensures { option_map characters result ≡ part (characters text) }
+{
+    if has_text(text.as_str()) {
+        return Some(text);
+    }
+    None
+}
+
+/// The numbers under a name, or the text where it spells none.
+pub fn number_under(
+    alloc: Global,
+    fields: &Fields,
+    name: &str,
+) -> Result<Option<MaybeTyped<Numeric>>, AllocError>
+    ensures { IfOk result (λ n. option_map (value_or_text numeral) n ≡ number_under name.now (values fields.now)) }
+{
+    match value(fields, name) {
+        Some(value) => {
+            let text = plain_text(alloc, value)?;
+            Ok(Some(MaybeTyped::<Numeric>::read(alloc, text.as_str())?))
+        }
+        None => Ok(None),
+    }
+}
+
+/// The numbers under a name, where the text spells some.
+pub fn total_under(
+    alloc: Global,
+    fields: &Fields,
+    name: &str,
+) -> Result<Option<Numeric>, AllocError>
+    ensures { IfOk result (λ n. option_map numeral n ≡ total_under name.now (values fields.now)) }
+{
+    let text = text(alloc, fields, name)?;
+    match Numeric::read(alloc, text.as_str()) {
+        Ok(numeric) => Ok(Some(numeric)),
+        Err(NumericError::Malformed) => Ok(None),
+        Err(NumericError::Memory) => Err(AllocError),
+    }
+}
+
+/// The page ranges under a name, or the text where it spells none.
+pub fn pages_under(
+    alloc: Global,
+    fields: &Fields,
+    name: &str,
+) -> Result<Option<MaybeTyped<PageRanges>>, AllocError>
+    ensures { IfOk result (λ p. option_map (value_or_text pages) p ≡ pages_under name.now (values fields.now)) }
+{
+    match value(fields, name) {
+        Some(value) => {
+            let text = plain_text(alloc, value)?;
+            Ok(Some(MaybeTyped::<PageRanges>::read(alloc, text.as_str())?))
+        }
+        None => Ok(None),
+    }
+}
+
+/// The characters under a name.
+pub fn text_under(alloc: Global, fields: &Fields, name: &str) -> Result<Option<String>, AllocError>
+    ensures { IfOk result (λ s. option_map string_bytes s ≡ bytes_under name.now (values fields.now)) }
+{
+    match value(fields, name) {
+        Some(value) => Ok(Some(plain_text(alloc, value)?)),
+        None => Ok(None),
+    }
+}
+
+/// The publisher by name and place, where one of them is there.
+pub fn publisher(alloc: Global, fields: &Fields) -> Result<Option<Publisher>, AllocError>
+    ensures { IfOk result (λ p. option_map publishing p ≡ publisher_of (values fields.now)) }
+{
+    let name = publisher_name(fields);
+    let location = value(fields, "location");
+    if name.is_none() && location.is_none() {
+        return Ok(None);
+    }
+    Ok(Some(Publisher {
+        name: format_if(alloc, name)?,
+        location: format_if(alloc, location)?,
+    }))
+}
+
+/// The name of the publisher, else of the institution, else of the organization.
+fn publisher_name(fields: &Fields) -> Option<&[Spanned<Chunk>]>
+    ensures { option_map (λ v. styled v.now) result ≡ first_or (values fields.now (codes "publisher")) (first_or (values fields.now (codes "institution")) (values fields.now (codes "organization"))) }
+{
+    if let Some(publisher) = value(fields, "publisher") {
+        return Some(publisher);
+    }
+    if let Some(institution) = value(fields, "institution") {
+        return Some(institution);
+    }
+    value(fields, "organization")
+}
+
+/// The address under `url`, and the day of the last visit.
+pub fn address(
+    alloc: Global,
+    fields: &Fields,
+    visit_date: Option<Date>,
+) -> Result<Option<QualifiedUrl>, AllocError>
+    ensures { IfOk result (λ u. option_map address u ≡ address_of visit_date (values fields.now)) }
+{
+    match value(fields, "url") {
+        Some(value) => Ok(Some(QualifiedUrl {
+            value: url_or_text(alloc, plain_text(alloc, value)?)?,
+            visit_date,
+        })),
+        None => Ok(None),
+    }
+}
+
+/// The address that a text is, or the text.
+fn url_or_text(alloc: Global, text: String) -> Result<MaybeTyped<Url>, AllocError>
+    ensures { IfOk result (λ u. value_or_text serialize u ≡ url_or (characters text) (parse_url None (string_bytes text))) }
+{
+    match Url::parse(alloc, text.as_str()) {
+        Ok(url) => Ok(MaybeTyped::Typed(url)),
+        Err(ParseError::OutOfMemory) | Err(ParseError::Overflow) => Err(AllocError),
+        Err(_) => Ok(MaybeTyped::String(text)),
+    }
+}

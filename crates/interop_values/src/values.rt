@@ -1,0 +1,123 @@
+//! The contents of an entry's fields, by the names under which they are written.
+
+ghost use Rattle.std.specs.Prelude.{◌≡◌, [], List, IfOk};
+ghost use Rattle.std.specs.Option.{option_map};
+ghost use Rattle.std.specs.Map.{lookup};
+ghost use Rattle.std.specs.Str.{bytes_eq};
+ghost use Rattle.laws.specs.Text.{text as text_of, characters, is_filled};
+ghost use Rattle.biblatex_content.specs.Views.{styled, members};
+ghost use Rattle.biblatex_fields.specs.Fields.{value_named};
+ghost use Rattle.interop_values.specs.Values.{filled, first_or, is_never_written, other_names, by_other_name, values, text_under};
+
+use biblatex_content::{Chunk, Chunks, Spanned};
+use biblatex_fields::Fields;
+use biblatex_values::plain_text;
+use std::alloc::{AllocError, Global};
+use texts::{empty_text, has_text};
+
+/// The content under a written name. Of two fields that are written as one, the one that was read under that name counts; an
+/// empty one is absent.
+pub fn value<'f>(fields: &'f Fields, name: &str) -> Option<&'f [Spanned<Chunk>]>
+    ensures { option_map (λ v. styled v.now) result ≡ values fields.now name.now }
+{
+    let value = by_either_name(fields, name)?;
+    if is_never_written(name) {
+        return None;
+    }
+    Some(value)
+}
+
+/// The content of a field by its name, else by its other name.
+fn by_either_name<'f>(fields: &'f Fields, name: &str) -> Option<&'f [Spanned<Chunk>]>
+    ensures { option_map (λ v. styled v.now) result ≡ first_or (filled (value_named name.now fields.now)) (by_other_name name.now fields.now) }
+{
+    match filled(fields.get(name)) {
+        Some(value) => Some(value),
+        None => by_other_name(fields, name),
+    }
+}
+
+/// The characters under a written name; none where nothing stands there.
+pub fn text(alloc: Global, fields: &Fields, name: &str) -> Result<String, AllocError>
+    ensures { IfOk result (λ s. characters s ≡ text_under name.now (values fields.now)) }
+{
+    match value(fields, name) {
+        Some(value) => plain_text(alloc, value),
+        None => Ok(empty_text(alloc)),
+    }
+}
+
+/// The content of a field by its other name, where it has one.
+fn by_other_name<'f>(fields: &'f Fields, name: &str) -> Option<&'f [Spanned<Chunk>]>
+    ensures { option_map (λ v. styled v.now) result ≡ by_other_name name.now fields.now }
+{
+    let other = other_name(name)?;
+    filled(fields.get(other))
+}
+
+/// The content, unless it is empty.
+fn filled(value: Option<&Chunks>) -> Option<&[Spanned<Chunk>]>
+    ensures { option_map (λ v. styled v.now) result ≡ filled (option_map (λ v. styled v.now.items) value.entry) }
+{
+    match value {
+        Some(value) if has_members(value.as_slice()) => Some(value.as_slice()),
+        _ => None,
+    }
+}
+
+/// Whether chunks spell anything.
+#[tactic(auto, using(crate::proofs::Members::some_before, crate::proofs::Members::none_before))]
+fn has_members(value: &[Spanned<Chunk>]) -> bool
+    ensures { result ≡ is_filled (styled value.now) }
+{
+    for chunk in value {
+        if is_filled(&chunk.v) {
+            return true;
+        }
+    }
+    false
+}
+
+/// Whether a chunk spells anything. A formula does, even an empty one.
+fn is_filled(chunk: &Chunk) -> bool
+    ensures { result ≡ is_filled (members chunk.now) }
+{
+    match chunk {
+        Chunk::Normal(text) | Chunk::Verbatim(text) => has_text(text.as_str()),
+        Chunk::Math(_) => true,
+    }
+}
+
+/// The other name under which a field may be read that is written under a name.
+fn other_name(name: &str) -> Option<&'static str>
+    ensures { option_map (λ s. s.now) result ≡ lookup (bytes_eq name.now) other_names }
+{
+    match name {
+        "journaltitle" => Some("journal"),
+        "location" => Some("address"),
+        "institution" => Some("school"),
+        "annotation" => Some("annote"),
+        "eprinttype" => Some("archiveprefix"),
+        "eprintclass" => Some("primaryclass"),
+        "sortkey" => Some("key"),
+        "file" => Some("pdf"),
+        _ => None,
+    }
+}
+
+/// Whether no field is written under a name.
+fn is_never_written(name: &str) -> bool
+    ensures { result ≡ is_never_written name.now }
+{
+    matches!(
+        name,
+        "journal"
+            | "address"
+            | "school"
+            | "annote"
+            | "archiveprefix"
+            | "primaryclass"
+            | "key"
+            | "pdf"
+    )
+}

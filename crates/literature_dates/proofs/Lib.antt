@@ -1,2 +1,0 @@
-pub mod DatesAgain
-pub mod Equality

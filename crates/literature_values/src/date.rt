@@ -1,0 +1,260 @@
+//! Dates.
+
+ghost use Rattle.std.specs.Prelude.{◌≡◌, ◌≤◌, Some, Ok, IfOk, unsigned_abs};
+ghost use Rattle.std.specs.Fmt.{DisplaysOnOk};
+ghost use Rattle.std.specs.Str.{chars};
+ghost use Rattle.laws.specs.Results.{Reads, Passes};
+ghost use Rattle.literature_values.specs.Dates.{minutes_at, offset_at, clock_at, time_at, year_at, side_of, year_alone, in_month, day_of, month_of, date_of};
+ghost use Rattle.laws.specs.Text.{text as text_of};
+ghost use Rattle.literature_values.specs.DateText.{month_text, mark_text, date_text, Exists};
+ghost use Rattle.texts.specs.Views.{left};
+ghost use Rattle.literature_values.specs.declared.date.DateError.TheVariants.{UnknownFormat};
+ghost use Rattle.literature_values.specs.declared.date.Date.{Date};
+
+use date_parts::{has_day, read_part, signed_year, write_counted, write_year};
+use std::fmt;
+use texts::{Reader, Unreadable};
+use thiserror::Error;
+
+/// A year, or a month or a day of it. Months and days count from zero.
+#[derive(Clone, Copy, Debug, PartialEq, Eq)]
+pub struct Date {
+    pub year: i32,
+    pub month: Option<u8>,
+    pub day: Option<u8>,
+    pub approximate: bool,
+}
+
+/// Why a text was not read as a date.
+#[derive(Clone, Copy, Debug, PartialEq, Eq, Error)]
+pub enum DateError {
+    /// The text is not of the shape of a date.
+    #[error("unknown date format")]
+    UnknownFormat,
+    /// There is no such month.
+    #[error("month out of bounds")]
+    MonthOutOfBounds,
+    /// The month has no such day.
+    #[error("day out of bounds")]
+    DayOutOfBounds,
+}
+
+/// What a text of the shape of a date spells, as written.
+#[derive(Clone, Copy)]
+struct Side {
+    year: i32,
+    month: Option<u16>,
+    day: Option<u16>,
+    is_marked: bool,
+}
+
+impl Date {
+    /// Reads a date: a year of four digits, negative after a hyphen; a hyphen and a month; a hyphen and a day, each of
+    /// one or two digits; `T` and a time, which is dropped; a mark `?`, `~`, `%` or U+00A0, by which the date is
+    /// approximate. The year 0 is the one before 1. The months 21 to 24 are seasons, which leave the year alone.
+    ///
+    /// # Errors
+    /// `UnknownFormat` for a text of another shape, else `MonthOutOfBounds` for a month that is none of twelve, else
+    /// `DayOutOfBounds` for a day that the month has not. Takes no memory.
+    pub fn read(text: &str) -> Result<Date, DateError>
+        // The date that the text spells, or its first fault.
+        ensures reading { result ≡ date_of (side_of (chars text.now)) }
+        // What was printed of an existing date is read back.
+        ensures back { (d : Date) → Exists d → chars text.now ≡ date_text d → result ≡ Ok d }
+    {
+        read_date(text)
+    }
+}
+
+/// The date that the text spells.
+fn read_date(text: &str) -> Result<Date, DateError>
+    ensures { result ≡ date_of (side_of (chars text.now)) }
+{
+    let side = read_side(text)?;
+    dated(side)
+}
+
+/// The date as written.
+#[tactic(auto, unfolding(crate::specs::Dates::side_of))]
+fn read_side(text: &str) -> Result<Side, Unreadable>
+    ensures reads { result ≡ side_of (chars text.now) }
+    ensures years { IfOk result (λ s. unsigned_abs s.year ≤ 9999) }
+{
+    let mut reader = Reader::new(text);
+    let is_negative = reader.take('-');
+    let year = read_year(&mut reader, is_negative)?;
+    let month = read_part(&mut reader)?;
+    let day = read_part(&mut reader)?;
+    read_time(&mut reader, day)?;
+    let is_marked = reader.take_mark();
+    reader.end()?;
+    Ok(Side {
+        year,
+        month,
+        day,
+        is_marked,
+    })
+}
+
+/// Four digits, as a year before or after the year 0.
+fn read_year(reader: &mut Reader, is_negative: bool) -> Result<i32, Unreadable>
+    ensures reads { Reads (λ y. y) result (left reader.new) (year_at is_negative (left reader.old)) }
+    ensures years { IfOk result (λ y. unsigned_abs y ≤ 9999) }
+{
+    let year = reader.digits(4, 4)?;
+    Ok(signed_year(is_negative, year))
+}
+
+/// After a day, `T` and a time, or nothing.
+fn read_time(reader: &mut Reader, day: Option<u16>) -> Result<(), Unreadable>
+    ensures { Passes result (left reader.new) (time_at day (left reader.old)) }
+{
+    if day.is_some() && reader.take('T') {
+        return read_clock(reader);
+    }
+    Ok(())
+}
+
+/// Hours and minutes, seconds or none, an offset or none.
+#[tactic(auto, unfolding(crate::specs::Dates::clock_at))]
+fn read_clock(reader: &mut Reader) -> Result<(), Unreadable>
+    ensures { Passes result (left reader.new) (clock_at (left reader.old)) }
+{
+    read_minutes(reader)?;
+    if reader.take(':') {
+        reader.digits(2, 2)?;
+    }
+    read_offset(reader)
+}
+
+/// Hours and minutes.
+#[tactic(auto, unfolding(crate::specs::Dates::minutes_at))]
+fn read_minutes(reader: &mut Reader) -> Result<(), Unreadable>
+    ensures { Passes result (left reader.new) (minutes_at (left reader.old)) }
+{
+    reader.digits(2, 2)?;
+    reader.expect(':')?;
+    reader.digits(2, 2)?;
+    Ok(())
+}
+
+/// `Z`, or a sign, hours and minutes, or nothing.
+#[tactic(auto, unfolding(crate::specs::Dates::offset_at))]
+fn read_offset(reader: &mut Reader) -> Result<(), Unreadable>
+    ensures { Passes result (left reader.new) (offset_at (left reader.old)) }
+{
+    if reader.take('Z') {
+        return Ok(());
+    }
+    if reader.take('+') || reader.take('-') {
+        return read_minutes(reader);
+    }
+    Ok(())
+}
+
+/// The date that a text of the shape means.
+fn dated(side: Side) -> Result<Date, DateError>
+    requires { unsigned_abs side.year ≤ 9999 }
+    ensures { result ≡ month_of side side.month }
+{
+    let Some(month) = side.month else {
+        return Ok(year_alone(side));
+    };
+    if (21..=24).contains(&month) {
+        return Ok(year_alone(side));
+    }
+    if !(1..=12).contains(&month) {
+        return Err(DateError::MonthOutOfBounds);
+    }
+    dated_in_month(side, month)
+}
+
+/// The year, without month and day.
+fn year_alone(side: Side) -> Date
+    ensures { result ≡ year_alone side }
+{
+    Date {
+        year: side.year,
+        month: None,
+        day: None,
+        approximate: side.is_marked,
+    }
+}
+
+/// The month, and the day where there is one, which the month must have.
+fn dated_in_month(side: Side, month: u16) -> Result<Date, DateError>
+    requires years { unsigned_abs side.year ≤ 9999 }
+    requires first { 1 ≤ month }
+    requires last { month ≤ 12 }
+    ensures { result ≡ day_of side month side.day }
+{
+    match side.day {
+        None => Ok(in_month(side, month, None)),
+        Some(day) if has_day(side.year, month, day) => {
+            Ok(in_month(side, month, Some((day - 1) as u8)))
+        }
+        Some(_) => Err(DateError::DayOutOfBounds),
+    }
+}
+
+/// The date of a month that counts from one, and of a day that counts from zero.
+fn in_month(side: Side, month: u16, day: Option<u8>) -> Date
+    requires first { 1 ≤ month }
+    requires last { month ≤ 12 }
+    ensures { result ≡ in_month side month day }
+{
+    Date {
+        year: side.year,
+        month: Some((month - 1) as u8),
+        day,
+        approximate: side.is_marked,
+    }
+}
+
+impl From<Unreadable> for DateError {
+    ghost from_gives = { λ _ e. e ≡ UnknownFormat };
+
+    fn from(_unreadable: Unreadable) -> DateError {
+        DateError::UnknownFormat
+    }
+}
+
+/// The year in four digits or more, after a hyphen where it is negative; a hyphen and the month; a hyphen and the day,
+/// each in two digits; `~` where the date is approximate. A day without a month is not printed.
+impl fmt::Display for Date {
+    ghost output = { λ d. Some (text_of (date_text d)) };
+
+    fn fmt<W: fmt::Write>(&self, f: &mut fmt::Formatter<W>) -> fmt::Result {
+        write_year(self.year, f)?;
+        write_month(self.month, self.day, f)?;
+        write_mark(self.approximate, f)
+    }
+}
+
+/// Writes the month, and the day after it.
+fn write_month<W: fmt::Write>(
+    month: Option<u8>,
+    day: Option<u8>,
+    f: &mut fmt::Formatter<W>,
+) -> fmt::Result
+    ensures { DisplaysOnOk W.write_str_gives f.old result (Some (text_of (month_text month day))) f.new }
+{
+    let Some(month) = month else {
+        return Ok(());
+    };
+    write_counted(month, f)?;
+    match day {
+        Some(day) => write_counted(day, f),
+        None => Ok(()),
+    }
+}
+
+/// Writes the mark of an approximate date.
+fn write_mark<W: fmt::Write>(is_approximate: bool, f: &mut fmt::Formatter<W>) -> fmt::Result
+    ensures { DisplaysOnOk W.write_str_gives f.old result (Some (text_of (mark_text is_approximate))) f.new }
+{
+    if is_approximate {
+        return f.write_str("~");
+    }
+    Ok(())
+}

@@ -1,5 +1,0 @@
-pub mod Digits
-pub mod Starts
-pub mod Shorter
-pub mod Writing
-pub mod Bounds

@@ -1,7 +1,0 @@
-use Rattle.std.specs.Str.Iter.{char_indices_rest, char_indices_offset}
-use Rattle.laws.proofs.Cut.{Runs}
-use Rattle.text_reader.specs.Character.{passes}
-use Rattle.text_reader.proofs.character.split_run.Given as goal
-
-abbrev pub invariant-loop-i : goal.invariant-loop-i
-invariant-loop-i l = Runs (passes l.class) l.text (char_indices_rest l.i-iterator) (char_indices_offset l.i-iterator)

@@ -1,0 +1,11 @@
+//! Reads a text from the left: runs of a class of characters, numbers and digits, and where the text ends. What is found
+//! is borrowed; nothing takes memory.
+#![tactic(auto)]
+
+mod character;
+mod growing;
+mod reader;
+
+pub use character::{CharacterClass, Class, split_first, split_run};
+pub use growing::{empty_text, has_text, owned, push_character, push_text, take_text};
+pub use reader::{Reader, Unreadable};

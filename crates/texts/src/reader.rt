@@ -1,0 +1,122 @@
+//! Reads a text from the left, and borrows what it finds.
+
+ghost use Rattle.std.specs.Prelude.{◌≡◌, ◌<◌, ◌≤◌, ◌^◌, ◌&&◌, nat_le, IfOk};
+ghost use Rattle.std.specs.Str.{chars};
+ghost use Rattle.laws.specs.Results.{Reads, Passes};
+ghost use Rattle.laws.specs.Runs.{front_of, after};
+ghost use Rattle.texts.specs.Character.{passes};
+ghost use Rattle.texts.specs.Reading.{number_at, end_at, digits_at, token_at, taken, mark_at};
+ghost use Rattle.texts.specs.Views.{left};
+
+use crate::character::{CharacterClass, Class, split_first, split_run};
+
+/// The text cannot be read.
+#[derive(Clone, Copy)]
+pub enum Unreadable {
+    /// What is wanted does not stand there.
+    NotThere,
+}
+
+/// What is left to read.
+#[derive(Drop)]
+pub struct Reader<'s> {
+    pub rest: &'s str,
+}
+
+impl<'s> Reader<'s> {
+    pub fn new(text: &'s str) -> Reader<'s>
+        ensures { left result ≡ chars text.now }
+    {
+        Reader { rest: text }
+    }
+
+    /// The longest run of the class that stands here.
+    pub fn run(&mut self, class: Class) -> &'s str
+        ensures front { chars result.now ≡ front_of (passes class) (left self.old) }
+        ensures rest { left self.new ≡ after (passes class) (left self.old) }
+    {
+        let (front, rest) = split_run(self.rest, class);
+        self.rest = rest;
+        front
+    }
+
+    /// The number that stands here.
+    pub fn number(&mut self) -> Result<i32, Unreadable>
+        ensures { Reads (λ n. n) result (left self.new) (number_at (left self.old)) }
+    {
+        match self.run(Class::Digit).parse::<i32>() {
+            Ok(number) => Ok(number),
+            Err(_) => Err(Unreadable::NotThere),
+        }
+    }
+
+    /// The digits that stand here, so many at least and so many at most.
+    pub fn digits(&mut self, least: usize, most: usize) -> Result<u16, Unreadable>
+        requires some { 0 < least }
+        requires few { most ≤ 4 }
+        ensures reads { Reads (λ n. n) result (left self.new) (digits_at least most (left self.old)) }
+        ensures below { IfOk result (λ n. n < 10 ^ most) }
+    {
+        let digits = self.run(Class::Digit);
+        if !is_within(least, most, digits.len()) {
+            return Err(Unreadable::NotThere);
+        }
+        Ok(digits.parse::<u16>().unwrap())
+    }
+
+    /// Takes the character, which must stand here.
+    pub fn expect(&mut self, wanted: char) -> Result<(), Unreadable>
+        ensures { Passes result (left self.new) (token_at wanted (left self.old)) }
+    {
+        match split_first(self.rest) {
+            Some((c, rest)) if c == wanted => {
+                self.rest = rest;
+                Ok(())
+            }
+            _ => Err(Unreadable::NotThere),
+        }
+    }
+
+    /// Takes the character where it stands here, and says whether it does.
+    pub fn take(&mut self, wanted: char) -> bool
+        ensures { taken wanted (left self.old) ≡ (result, left self.new) }
+    {
+        match split_first(self.rest) {
+            Some((c, rest)) if c == wanted => {
+                self.rest = rest;
+                true
+            }
+            _ => false,
+        }
+    }
+
+    /// Takes a mark where one stands here, and says whether one does.
+    pub fn take_mark(&mut self) -> bool
+        ensures { mark_at (left self.old) ≡ (result, left self.new) }
+    {
+        match split_first(self.rest) {
+            Some((c, rest)) if Class::Mark.contains(c) => {
+                self.rest = rest;
+                true
+            }
+            _ => false,
+        }
+    }
+
+    /// The text must be at its end.
+    pub fn end(&mut self) -> Result<(), Unreadable>
+        ensures { Passes result (left self.new) (end_at (left self.old)) }
+    {
+        match split_first(self.rest) {
+            None => Ok(()),
+            Some(_) => Err(Unreadable::NotThere),
+        }
+    }
+}
+
+/// Whether a count is as wanted.
+fn is_within(least: usize, most: usize, count: usize) -> bool
+    ensures { result ≡ nat_le least count && nat_le count most }
+{
+    least <= count && count <= most
+}
