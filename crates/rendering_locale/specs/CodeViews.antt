@@ -1,0 +1,12 @@
+-- Codes of languages without where they lie in memory.
+use Rattle.std.specs.Prelude.{ℕ, List, string_bytes}
+use Rattle.std.specs.Borrow.{Bor}
+use Rattle.rendering_locale.specs.declared.code.LocaleCode.{LocaleCode}
+
+-- a code
+abbrev pub code_seen : LocaleCode → List ℕ
+code_seen c = string_bytes c.0
+
+-- a borrowed code
+abbrev pub borrowed_code : Bor LocaleCode → List ℕ
+borrowed_code c = code_seen c.now

@@ -1,0 +1,5 @@
+pub mod Locales
+pub mod Codes
+pub mod Lookup
+pub mod CodeViews
+pub mod Views

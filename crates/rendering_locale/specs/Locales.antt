@@ -1,0 +1,41 @@
+-- Locales: the words, dates and endings of a language.
+use Rattle.std.specs.Prelude.{ℕ, Bool, List, Option}
+use Rattle.rendering_taxonomy.specs.Formats.{Changes}
+use Rattle.rendering_taxonomy.specs.declared.date.DateForm.{DateForm}
+use Rattle.rendering_taxonomy.specs.declared.date.DatePartForm.{DatePartForm}
+use Rattle.rendering_taxonomy.specs.declared.term.Term.{Term}
+use Rattle.rendering_taxonomy.specs.declared.term.TermForm.{TermForm}
+
+-- a term in a form, with its texts for one and for more than one
+pub record LocalizedTerm : Type 0 where
+  pub name : Term
+  pub form : TermForm
+  pub single : Option (List ℕ)
+  pub multiple : Option (List ℕ)
+
+-- the endings of ordinal numbers by number, and the one of all others
+pub record Ordinals : Type 0 where
+  pub endings : List (ℕ × List ℕ)
+  pub default : List ℕ
+
+-- a part of a date: which and how it is printed, its look, its affixes, and whether its full stops go
+pub record DatePart : Type 0 where
+  pub form : DatePartForm
+  pub strips_periods : Bool
+  pub formatting : Changes
+  pub prefix : List ℕ
+  pub suffix : List ℕ
+
+-- a form of a language's dates: the parts in order, and what stands between them
+pub record LocalizedDate : Type 0 where
+  pub form : DateForm
+  pub parts : List DatePart
+  pub delimiter : List ℕ
+
+-- A locale, of a language or of all. Its ordinals and whether punctuation goes inside quotes may be left open.
+pub record Locale : Type 0 where
+  pub lang : Option (List ℕ)
+  pub terms : List LocalizedTerm
+  pub dates : List LocalizedDate
+  pub ordinals : Option Ordinals
+  pub punctuation_in_quote : Option Bool

@@ -1,0 +1,65 @@
+//! Locales as they are written down.
+
+use crate::code::LocaleCode;
+use rendering_taxonomy::{DateForm, DatePartForm, FormattingChanges, Term, TermForm};
+
+/// A term in a form.
+#[derive(Debug, PartialEq, Eq, Drop)]
+pub struct LocalizedTerm {
+    pub name: Term,
+    pub form: TermForm,
+    /// The text for one.
+    pub single: Option<String>,
+    /// The text for more than one.
+    pub multiple: Option<String>,
+}
+
+/// The ending of an ordinal number.
+#[derive(Debug, PartialEq, Eq, Drop)]
+pub struct OrdinalEnding {
+    /// The last digit or the last two digits of the number.
+    pub number: u8,
+    pub ending: String,
+}
+
+/// The endings of ordinal numbers. Of equal numbers the first counts.
+#[derive(Debug, PartialEq, Eq, Drop)]
+pub struct Ordinals {
+    pub endings: Vec<OrdinalEnding>,
+    /// The ending of all other numbers.
+    pub default: String,
+}
+
+/// A part of a date: which and how it is printed, and what stands round it.
+#[derive(Debug, PartialEq, Eq, Drop)]
+pub struct DatePart {
+    pub form: DatePartForm,
+    /// Whether its full stops are left out.
+    pub strip_periods: bool,
+    pub formatting: FormattingChanges,
+    pub prefix: String,
+    pub suffix: String,
+}
+
+/// A form of a language's dates.
+#[derive(Debug, PartialEq, Eq, Drop)]
+pub struct LocalizedDate {
+    pub form: DateForm,
+    /// The parts in the order in which they are printed.
+    pub parts: Vec<DatePart>,
+    /// The text between two parts.
+    pub delimiter: String,
+}
+
+/// A locale of a language, or of all languages where none is named.
+#[derive(Debug, PartialEq, Eq, Drop)]
+pub struct Locale {
+    pub lang: Option<LocaleCode>,
+    /// Of equal names and forms the first counts.
+    pub terms: Vec<LocalizedTerm>,
+    /// Of equal forms the first counts.
+    pub dates: Vec<LocalizedDate>,
+    pub ordinals: Option<Ordinals>,
+    /// Whether punctuation goes inside quotes.
+    pub punctuation_in_quote: Option<bool>,
+}

@@ -1,0 +1,77 @@
+-- How characters look.
+use Rattle.std.specs.Prelude.{ℕ, Bool, ◌==◌, ◌&&◌, Option, None}
+use Rattle.std.specs.Option.{unwrap_or}
+use Rattle.rendering_taxonomy.specs.declared.formatting.FontStyle.{FontStyle}
+use Rattle.rendering_taxonomy.specs.declared.formatting.FontStyle.TheVariants as styles
+use Rattle.rendering_taxonomy.specs.declared.formatting.FontVariant.{FontVariant}
+use Rattle.rendering_taxonomy.specs.declared.formatting.FontVariant.TheVariants as variants
+use Rattle.rendering_taxonomy.specs.declared.formatting.FontWeight.{FontWeight}
+use Rattle.rendering_taxonomy.specs.declared.formatting.FontWeight.TheVariants as weights
+use Rattle.rendering_taxonomy.specs.declared.formatting.TextDecoration.{TextDecoration}
+use Rattle.rendering_taxonomy.specs.declared.formatting.TextDecoration.TheVariants as decorations
+use Rattle.rendering_taxonomy.specs.declared.formatting.VerticalAlign.{VerticalAlign}
+use Rattle.rendering_taxonomy.specs.declared.formatting.VerticalAlign.TheVariants as aligns
+use Rattle.rendering_taxonomy.specs.declared.formatting.Formatting.{Formatting}
+
+-- the places of the values of each attribute
+abbrev pub style_place : FontStyle → ℕ
+style_place styles.Normal = 0
+style_place styles.Italic = 1
+style_place styles.Oblique = 2
+
+-- of the variant
+abbrev pub variant_place : FontVariant → ℕ
+variant_place variants.Normal = 0
+variant_place variants.SmallCaps = 1
+
+-- of the weight
+abbrev pub weight_place : FontWeight → ℕ
+weight_place weights.Normal = 0
+weight_place weights.Bold = 1
+weight_place weights.Light = 2
+
+-- of the decoration
+abbrev pub decoration_place : TextDecoration → ℕ
+decoration_place decorations.None = 0
+decoration_place decorations.Underline = 1
+
+-- of the place on the line
+abbrev pub align_place : VerticalAlign → ℕ
+align_place aligns.None = 0
+align_place aligns.Sup = 1
+align_place aligns.Sub = 2
+
+-- characters as they look where nothing is said of them
+abbrev pub plain : Formatting
+plain = record { font_style = styles.Normal; font_variant = variants.Normal; font_weight = weights.Normal; text_decoration = decorations.None; vertical_align = aligns.None }
+
+-- whether two look alike
+abbrev pub looks_like : Formatting → Formatting → Bool
+looks_like f g =
+    style_place f.font_style == style_place g.font_style
+    && variant_place f.font_variant == variant_place g.font_variant
+    && weight_place f.font_weight == weight_place g.font_weight
+    && decoration_place f.text_decoration == decoration_place g.text_decoration
+    && align_place f.vertical_align == align_place g.vertical_align
+
+-- what is said of the look of characters; what is not said stays as it is around
+pub record Changes : Type 0 where
+  pub font_style : Option FontStyle
+  pub font_variant : Option FontVariant
+  pub font_weight : Option FontWeight
+  pub text_decoration : Option TextDecoration
+  pub vertical_align : Option VerticalAlign
+
+-- nothing is said
+abbrev pub unchanged : Changes
+unchanged = record { font_style = None; font_variant = None; font_weight = None; text_decoration = None; vertical_align = None }
+
+-- how characters look inside
+abbrev pub changed : Changes → Formatting → Formatting
+changed c f = record {
+  font_style = unwrap_or c.font_style f.font_style;
+  font_variant = unwrap_or c.font_variant f.font_variant;
+  font_weight = unwrap_or c.font_weight f.font_weight;
+  text_decoration = unwrap_or c.text_decoration f.text_decoration;
+  vertical_align = unwrap_or c.vertical_align f.vertical_align;
+}

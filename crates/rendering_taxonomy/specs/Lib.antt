@@ -1,0 +1,5 @@
+pub mod Variables
+pub mod Kinds
+pub mod Terms
+pub mod Formats
+pub mod NameForms

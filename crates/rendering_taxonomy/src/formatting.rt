@@ -1,0 +1,68 @@
+//! How characters look, and where an element stands.
+
+/// The style of a font.
+#[derive(Clone, Copy, Debug, PartialEq, Eq, Hash)]
+pub enum FontStyle {
+    Normal,
+    Italic,
+    Oblique,
+}
+
+/// The variant of a font.
+#[derive(Clone, Copy, Debug, PartialEq, Eq, Hash)]
+pub enum FontVariant {
+    Normal,
+    SmallCaps,
+}
+
+/// The weight of a font.
+#[derive(Clone, Copy, Debug, PartialEq, Eq, Hash)]
+pub enum FontWeight {
+    Normal,
+    Bold,
+    Light,
+}
+
+/// The decoration of a text.
+#[derive(Clone, Copy, Debug, PartialEq, Eq, Hash)]
+pub enum TextDecoration {
+    None,
+    Underline,
+}
+
+/// Where a text stands on its line.
+#[derive(Clone, Copy, Debug, PartialEq, Eq, Hash)]
+pub enum VerticalAlign {
+    None,
+    Sup,
+    Sub,
+}
+
+/// Where an element stands.
+#[derive(Clone, Copy, Debug, PartialEq, Eq, Hash)]
+pub enum Display {
+    Block,
+    LeftMargin,
+    RightInline,
+    Indent,
+}
+
+/// How characters look.
+#[derive(Clone, Copy, Debug, PartialEq, Eq, Hash)]
+pub struct Formatting {
+    pub font_style: FontStyle,
+    pub font_variant: FontVariant,
+    pub font_weight: FontWeight,
+    pub text_decoration: TextDecoration,
+    pub vertical_align: VerticalAlign,
+}
+
+/// What is said of the look of characters; what is left open stays as it is around.
+#[derive(Clone, Copy, Debug, Default, PartialEq, Eq, Hash)]
+pub struct FormattingChanges {
+    pub font_style: Option<FontStyle>,
+    pub font_variant: Option<FontVariant>,
+    pub font_weight: Option<FontWeight>,
+    pub text_decoration: Option<TextDecoration>,
+    pub vertical_align: Option<VerticalAlign>,
+}

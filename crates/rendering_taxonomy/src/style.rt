@@ -1,0 +1,53 @@
+//! Attributes of a whole style.
+
+/// Where citations stand.
+#[derive(Clone, Copy, Debug, PartialEq, Eq, Hash)]
+pub enum StyleClass {
+    InText,
+    Note,
+}
+
+/// What citations are made of.
+#[derive(Clone, Copy, Debug, PartialEq, Eq, Hash)]
+pub enum StyleCategory {
+    Author,
+    AuthorDate,
+    Label,
+    Note,
+    Numeric,
+}
+
+/// How citations of more than one cite are collapsed.
+#[derive(Clone, Copy, Debug, PartialEq, Eq, Hash)]
+pub enum Collapse {
+    CitationNumber,
+    Year,
+    YearSuffix,
+    YearSuffixRanged,
+}
+
+/// How given names are added to tell cites apart.
+#[derive(Clone, Copy, Debug, PartialEq, Eq, Hash)]
+pub enum DisambiguationRule {
+    ByCite,
+    AllNames,
+    AllNamesWithInitials,
+    PrimaryName,
+    PrimaryNameWithInitials,
+}
+
+/// Which names of a bibliography item are substituted.
+#[derive(Clone, Copy, Debug, PartialEq, Eq, Hash)]
+pub enum SubsequentAuthorSubstituteRule {
+    CompleteAll,
+    CompleteEach,
+    PartialEach,
+    PartialFirst,
+}
+
+/// How the second field of bibliography items is aligned.
+#[derive(Clone, Copy, Debug, PartialEq, Eq, Hash)]
+pub enum SecondFieldAlign {
+    Margin,
+    Flush,
+}
