@@ -1,5 +1,5 @@
-pub mod Members
-pub mod Faults
-pub mod Marks
-pub mod Plain
-pub mod Unique
+pub mod ShownMembers
+pub mod ProgramFaults
+pub mod PlaceLines
+pub mod ShownPlain
+pub mod ProgramUnique

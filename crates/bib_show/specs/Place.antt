@@ -1,7 +1,12 @@
--- Where a byte of a source stands, as a reader counts: its line and its column, and that line with a mark below the place.
-use Rattle.std.specs.Prelude.{ℕ, ◌+◌, not, ◌==◌, List, [], ◌∷◌, ◌++◌, take, drop, flat_map, if◌then◌else◌}
-use Rattle.std.specs.Fmt.{is_char_start, char_count}
+-- Where a byte of a source stands, as a reader counts: its line and its column. And how that line is shown, with a mark below the place.
+use Rattle.std.specs.Prelude.{ℕ, Bool, ◌+◌, not, ◌&&◌, ◌==◌, List, [], ◌∷◌, ◌++◌, length, take, drop, map, flat_map, if◌then◌else◌}
+use Rattle.std.specs.Char.{is_control}
+use Rattle.std.specs.Char.Escape.{escape_unicode}
+use Rattle.std.specs.Str.{chars}
+use Rattle.std.specs.Str.Lines.{strip_carriage_return}
+use Rattle.std.specs.Str.Lossy.{utf8_lossy}
 use Rattle.laws.specs.Runs.{front_of}
+use Rattle.laws.specs.Text.{text}
 
 -- where reading has come to: how many lines have ended, and what was read of the line that has not
 pub record Position : Type 0 where
@@ -21,21 +26,44 @@ position_from p (b ∷ bs) = position_from (next_position p b) bs
 abbrev pub position_at : List ℕ → ℕ → Position
 position_at source at = position_from (record { ended = 0; read = [] }) (take at source)
 
--- the line with that place
+-- the bytes of the line with that place: those before it, and those from it on, less the carriage return at their end, if there is one
+abbrev pub line_before : List ℕ → ℕ → List ℕ
+line_before source at = (position_at source at).read
+
+abbrev pub line_after : List ℕ → ℕ → List ℕ
+line_after source at = strip_carriage_return (front_of (λ b. not (b == 10)) (drop at source))
+
+-- the characters of such bytes; U+FFFD stands for bytes that are of no character
+abbrev pub line_characters : List ℕ → List ℕ
+line_characters bytes = chars (utf8_lossy bytes)
+
+-- a control character other than a tab
+abbrev pub is_escaped : ℕ → Bool
+is_escaped c = is_control c && not (c == 9)
+
+-- the characters that show one of a line: \u{..} with its number in hexadecimal digits, or itself
+abbrev pub shown_in_line : ℕ → List ℕ
+shown_in_line c = if is_escaped c then escape_unicode c else c ∷ []
+
+-- those that show bytes of a line
+abbrev pub shown_line : List ℕ → List ℕ
+shown_line bytes = flat_map shown_in_line (line_characters bytes)
+
+-- the line with that place, as it is shown
 abbrev pub line_at : List ℕ → ℕ → List ℕ
-line_at source at = (position_at source at).read ++ front_of (λ b. not (b == 10)) (drop at source)
+line_at source at = text (shown_line (line_before source at) ++ shown_line (line_after source at))
 
--- a blank for each character: a tab for a tab, a space for any other; a byte that goes on with a character has none
-abbrev pub blank : ℕ → List ℕ
-blank b = if b == 9 then 9 ∷ [] else (if is_char_start b then 32 ∷ [] else [])
+-- what stands below a character: a tab below a tab, a space below any other
+abbrev pub blank : ℕ → ℕ
+blank c = if c == 9 then 9 else 32
 
--- a caret below the place, after a blank for each character before it
+-- a caret below the place, after a blank below each character that is shown before it
 abbrev pub mark_at : List ℕ → ℕ → List ℕ
-mark_at source at = flat_map blank (position_at source at).read ++ 94 ∷ []
+mark_at source at = map blank (shown_line (line_before source at)) ++ 94 ∷ []
 
--- the numbers of the line and of the column, both from one
+-- the numbers of the line and of the column, both from one; a column is a character of the source
 abbrev pub line_number : List ℕ → ℕ → ℕ
 line_number source at = (position_at source at).ended + 1
 
 abbrev pub column_number : List ℕ → ℕ → ℕ
-column_number source at = char_count (position_at source at).read + 1
+column_number source at = length (line_characters (line_before source at)) + 1

@@ -1,15 +1,41 @@
--- What the program shows and says.
-use Rattle.std.specs.Prelude.{◌≡◌, ℕ, true, List, [], ◌∷◌, ◌++◌, Option, None, IfSome, Ok, ◌⊎◌, codes}
-use Rattle.std.specs.Str.{chars, is_utf8}
+-- What the program writes and says.
+use Rattle.std.specs.Prelude.{◌≡◌, ℕ, true, List, [], ◌∷◌, ◌++◌, Option, Some, None, is_some, Ok, Err, codes, string_bytes, if◌then◌else◌}
+use Rattle.std.specs.Str.{bytes_eq, chars, is_utf8}
 use Rattle.std.specs.Borrow.{Bor}
-use Rattle.std.specs.Io.KnownBytes.{Appends}
-use Rattle.sinks.specs.Sinks.{HasFailed}
+use Rattle.sinks.specs.Files.{Outcome}
+use Rattle.sinks.specs.Programs.{line, no_memory, not_written}
+use Rattle.sinks.specs.declared.files.ReadFault.TheVariants.{Memory, Unreadable}
 use Rattle.biblatex.specs.Bibliographies.{Listed}
 use Rattle.biblatex.specs.Resolved.{TextMeans}
 use Rattle.bib_show.specs.Shown.{shown, AreAllInOrder}
 use Rattle.bib_show.specs.Refusals.{IsSourceFault}
 use Rattle.bib_show.specs.declared.program.RunFault.{RunFault}
 use Rattle.bib_show.specs.declared.program.RunFault.TheVariants as faults
+
+-- an option is a word that asks for a text of the program's own, and names no file
+abbrev pub help_text : List ℕ
+help_text =
+    codes "usage: bib_show FILE\n"
+    ++ codes "       bib_show --help | --version\n"
+    ++ codes "\n"
+    ++ codes "Shows the entries of the BibLaTeX file FILE, their references resolved: for each\n"
+    ++ codes "entry a line with its type and its key, and a line for each of its fields. Of a\n"
+    ++ codes "file that is refused it shows the line and the column of the first fault.\n"
+    ++ codes "\n"
+    ++ codes "Exit status: 0 if everything was written to standard output, else 1; then\n"
+    ++ codes "standard error says why.\n"
+
+abbrev pub version_text : List ℕ
+version_text = codes "bib_show 0.1.0\n"
+
+abbrev pub information : List ℕ → Option (List ℕ)
+information word = if bytes_eq word (codes "--help") then Some help_text else (if bytes_eq word (codes "--version") then Some version_text else None)
+
+-- the paths of the files that words ask for: the one word, unless it is an option
+abbrev pub asked : List (Bor (List ℕ)) → List (Bor (List ℕ))
+asked [] = []
+asked (word ∷ []) = if is_some (information word.now) then [] else word ∷ []
+asked (word ∷ more ∷ words) = []
 
 -- what is shown of a text that means entries: those entries, their references resolved, their fields in the order of names
 pub record IsShownOf (source output : List ℕ) : Type 0 where
@@ -19,59 +45,48 @@ pub record IsShownOf (source output : List ℕ) : Type 0 where
   pub in_order : AreAllInOrder resolved.entries
   pub output_is : output ≡ shown resolved.entries
 
--- something is shown of the source, and this holds of it
-abbrev pub Shows : List ℕ → (List ℕ → Type 0) → Type 0
-Shows source P = (output : List ℕ) × IsShownOf source output × P output
+-- What is to be written: of a file that was read, what is shown of its bytes; for a word, the text that it asks for, or else that of
+-- the file at that path; for words, that of the one.
+abbrev pub IsFileOutput : Outcome → List ℕ → Type 0
+IsFileOutput (Ok source) output = IsShownOf source output
+IsFileOutput (Err fault) output = ⊥
 
--- the one word is a path, and where the bytes there are known, something is shown of them, of which this holds
-abbrev pub Serves : (List ℕ → Option (List ℕ)) → List (Bor (List ℕ)) → (List ℕ → Type 0) → Type 0
-Serves holds [] P = ⊥
-Serves holds (path ∷ []) P = IfSome (holds path.now) (λ source. Shows source P)
-Serves holds (path ∷ more ∷ words) P = ⊥
+abbrev pub IsWordOutput : Option (List ℕ) → Outcome → List ℕ → Type 0
+IsWordOutput (Some text) read output = output ≡ text
+IsWordOutput None read output = IsFileOutput read output
 
--- it is as it was, but for a call of `write` that failed or took nothing
-abbrev pub IsUntouched : {O : Type 0} → O → O → ℕ → ℕ → Type 0
-IsUntouched old new failed_before failed_after = (new ≡ old) ⊎ HasFailed failed_before failed_after
+abbrev pub IsOutput : (List ℕ → Outcome) → List (Bor (List ℕ)) → List ℕ → Type 0
+IsOutput read [] output = ⊥
+IsOutput read (word ∷ []) output = IsWordOutput (information word.now) (read word.now) output
+IsOutput read (word ∷ more ∷ words) output = ⊥
 
--- the program's name, what it says, a line feed
-abbrev pub line : List ℕ → List ℕ
-line said = codes "bib_show: " ++ (said ++ 10 ∷ [])
+-- some output is to be written, and this holds of it
+abbrev pub Serves : (List ℕ → Outcome) → List (Bor (List ℕ)) → (List ℕ → Type 0) → Type 0
+Serves read words P = (output : List ℕ) × IsOutput read words output × P output
 
 abbrev pub usage : List ℕ
-usage = line (codes "usage: bib_show FILE")
+usage = line (codes "bib_show") (codes "usage: bib_show FILE")
 
-abbrev pub no_memory : List ℕ
-no_memory = line (codes "out of memory")
+-- Why nothing is to be written, and what is said of it: a file cannot be read, or its bytes are refused; an option is no fault; there is
+-- not one word. Where memory ran out, that is said.
+abbrev pub IsFileFault : List ℕ → Outcome → List ℕ → Type 0
+IsFileFault path (Ok source) said = IsSourceFault path source said
+IsFileFault path (Err Unreadable) said = said ≡ line (codes "bib_show") (codes "cannot read " ++ path)
+IsFileFault path (Err Memory) said = ⊥
 
-abbrev pub not_written : List ℕ
-not_written = line (codes "write failed")
+abbrev pub IsWordFault : Option (List ℕ) → List ℕ → Outcome → List ℕ → Type 0
+IsWordFault (Some text) path read said = ⊥
+IsWordFault None path read said = IsFileFault path read said
 
--- Why a file is not shown, and what is said of it: its bytes are not known, and it cannot be read; or its bytes are refused, as far as
--- they are known.
-abbrev pub CannotRead : (List ℕ → Option (List ℕ)) → List ℕ → List ℕ → Type 0
-CannotRead holds path said = (holds path ≡ None) × (said ≡ line (codes "cannot read " ++ path))
+abbrev pub IsFault : (List ℕ → Outcome) → List (Bor (List ℕ)) → List ℕ → Type 0
+IsFault read [] said = said ≡ usage
+IsFault read (word ∷ []) said = IsWordFault (information word.now) word.now (read word.now) said
+IsFault read (word ∷ more ∷ words) said = said ≡ usage
 
-abbrev pub IsFileFault : (List ℕ → Option (List ℕ)) → List ℕ → List ℕ → Type 0
-IsFileFault holds path said = CannotRead holds path said ⊎ IfSome (holds path) (λ source. IsSourceFault path source said)
-
--- Why words are not served, and what is said of it: they are not one, or the file is not shown.
-abbrev pub IsFault : (List ℕ → Option (List ℕ)) → List (Bor (List ℕ)) → List ℕ → Type 0
-IsFault holds [] said = said ≡ usage
-IsFault holds (path ∷ []) said = IsFileFault holds path.now said
-IsFault holds (path ∷ more ∷ words) said = said ≡ usage
-
--- one of these, or there was no memory, or the output was not taken whole
-abbrev pub IsReason : (List ℕ → Type 0) → ℕ → ℕ → List ℕ → Type 0
-IsReason Faults failed_before failed_after said = Faults said ⊎ ((said ≡ no_memory) ⊎ ((said ≡ not_written) × HasFailed failed_before failed_after))
-
--- what is said of a fault
+-- what is said of a fault in the program
 abbrev pub said_of : RunFault → List ℕ
 said_of faults.Usage = usage
-said_of (faults.Path path) = line (codes "cannot read " ++ path.now)
-said_of faults.Memory = no_memory
-said_of faults.Write = not_written
-said_of (faults.Refused lines) = lines.items
-
--- known bytes grow by one of these, or some call failed
-abbrev pub Says : (List ℕ → Type 0) → Option (List ℕ) → Option (List ℕ) → ℕ → ℕ → Type 0
-Says Reasons old new failed_before failed_after = ((said : List ℕ) × Reasons said × Appends old new said) ⊎ HasFailed failed_before failed_after
+said_of (faults.Path path) = line (codes "bib_show") (codes "cannot read " ++ path.now)
+said_of faults.Memory = no_memory (codes "bib_show")
+said_of faults.Write = not_written (codes "bib_show")
+said_of (faults.Refused lines) = string_bytes lines

@@ -3,28 +3,10 @@ use Rattle.std.specs.Prelude.{◌≡◌, ℕ, true, false, List, [], ◌∷◌, 
 use Rattle.std.specs.Str.{chars, is_utf8}
 use Rattle.std.specs.Str.Lossy.{utf8_valid_len}
 use Rattle.std.specs.Fmt.{decimal}
-use Rattle.biblatex.specs.Token.{token_name}
-use Rattle.biblatex.specs.Fault.{Fault}
-use Rattle.biblatex.specs.Fault.TheVariants as faults
-use Rattle.biblatex.specs.Reading.{Reason, Refusal, raw, unknown_abbreviation, abbreviation_cycle, malformed_command, duplicate_key, reference_cycle, unreadable_date}
+use Rattle.biblatex.specs.Errors.{reason_text}
+use Rattle.biblatex.specs.Reading.{Refusal}
 use Rattle.biblatex.specs.Resolved.{TextMeans}
 use Rattle.bib_show.specs.Place.{line_at, mark_at, line_number, column_number}
-
--- why a text is not of the raw grammar
-abbrev pub fault_text : Fault → List ℕ
-fault_text faults.UnexpectedEof = codes "unexpected end of file"
-fault_text (faults.Unexpected token) = codes "unexpected " ++ token_name token
-fault_text (faults.Expected token) = codes "expected " ++ token_name token
-
--- why a text is refused
-abbrev pub reason_text : Reason → List ℕ
-reason_text (raw fault) = fault_text fault
-reason_text (unknown_abbreviation name) = codes "unknown abbreviation " ++ name
-reason_text (abbreviation_cycle name) = codes "circular abbreviation " ++ name
-reason_text malformed_command = codes "malformed command"
-reason_text (duplicate_key key) = codes "duplicate key " ++ key
-reason_text (reference_cycle key) = codes "circular reference " ++ key
-reason_text (unreadable_date kind) = codes "unreadable date"
 
 -- FILE:LINE:COLUMN: and why, then the line, then the mark below the place
 abbrev pub refusal_lines : List ℕ → List ℕ → ℕ → List ℕ → List ℕ

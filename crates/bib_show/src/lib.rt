@@ -1,12 +1,13 @@
 //! Shows what a BibLaTeX file says once its references are resolved, or where its first mistake stands. `show` is the library's
-//! call, `run` is the program over any files and writers.
+//! call, `run` is the program over files that were read and any writers.
 #![tactic(auto)]
 
+mod escape;
 mod member;
 mod place;
 mod program;
 mod refusal;
 mod shown;
 
-pub use program::run;
+pub use program::{paths, run};
 pub use shown::show;

@@ -2,13 +2,13 @@
 
 ghost use Rattle.std.specs.Prelude.{◌≡◌, ◌++◌, ◌∷◌, [], false, IfOk, OnOk, string_bytes, Bool, List, ℕ};
 ghost use Rattle.std.specs.Str.{chars};
-ghost use Rattle.std.specs.Char.Escape.{escape_unicode};
 ghost use Rattle.laws.specs.Runs.{front_of, after};
-ghost use Rattle.laws.specs.Text.{text as text_of, is_filled};
+ghost use Rattle.laws.specs.Text.{is_filled};
 ghost use Rattle.biblatex.specs.Contents.{members, styled};
 ghost use Rattle.biblatex.specs.Styled.{Member, Math, letters};
 ghost use Rattle.bib_show.specs.Shown.{is_marked, is_plain, kind_of, shown_characters, turning, shown_from};
 
+use crate::escape::push_escape;
 use biblatex::{Chunk, Spanned};
 use std::alloc::AllocError;
 use texts::{CharacterClass, has_text, split_first, split_run};
@@ -127,14 +127,4 @@ fn is_marked(c: char) -> bool
         ' '..='~' => false,
         _ => c.is_control(),
     }
-}
-
-/// Shows the number of a character.
-fn push_escape(out: &mut String, c: char) -> Result<(), AllocError>
-    ensures { OnOk result (string_bytes out.new ≡ string_bytes out.old ++ text_of (escape_unicode c)) }
-{
-    for mark in c.escape_unicode() {
-        out.push(mark)?;
-    }
-    Ok(())
 }

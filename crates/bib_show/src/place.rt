@@ -1,11 +1,16 @@
-//! Where a byte of a source stands, as a reader counts.
+//! Where a byte of a source stands, as a reader counts, and how its line is shown.
 
-ghost use Rattle.std.specs.Prelude.{◌≡◌, ◌<◌, ◌≤◌, ◌+◌, ◌++◌, ◌∷◌, [], ◌^◌, ◌==◌, not, take, drop, flat_map, length, IfOk, OnOk};
+ghost use Rattle.std.specs.Prelude.{◌≡◌, ◌<◌, ◌≤◌, ◌+◌, ◌++◌, ◌∷◌, [], ◌^◌, ◌==◌, not, take, drop, map, flat_map, length, IfOk, OnOk, string_bytes};
+ghost use Rattle.std.specs.Str.{chars};
+ghost use Rattle.std.specs.Str.Lines.{strip_carriage_return};
 ghost use Rattle.laws.specs.Runs.{front_of};
-ghost use Rattle.bib_show.specs.Place.{blank, next_position, position_from, position_at, line_at, mark_at, line_number, column_number};
+ghost use Rattle.laws.specs.Text.{characters};
+ghost use Rattle.bib_show.specs.Place.{next_position, position_from, line_at, mark_at, line_number, column_number, is_escaped, shown_in_line, shown_line, blank};
 ghost use Rattle.bib_show.specs.Views.{position, nothing_read};
 
+use crate::escape::push_escape;
 use std::alloc::{AllocError, Global};
+use texts::{empty_text, push_character, split_first};
 
 /// How far reading has come: how many lines have ended, and what was read of the line that has not.
 #[derive(Drop)]
@@ -14,33 +19,37 @@ struct Position {
     read: Vec<u8>,
 }
 
-/// A place in a source: the number of its line, the line, and a line with a caret below the place.
+/// A place in a source: its line and its column, that line as it is shown, and a line with a caret below the place.
 #[derive(Drop)]
 pub(crate) struct Place {
     /// The number of the line, from one.
     pub(crate) number: usize,
-    /// The line, without its line feed.
-    pub(crate) line: Vec<u8>,
-    /// A blank for each character of the line before the place, and a caret: as many as the number of the column, from one.
-    pub(crate) mark: Vec<u8>,
+    /// The number of the column, from one: a column is a character of the source.
+    pub(crate) column: usize,
+    /// The line as it is shown, without its line feed.
+    pub(crate) line: String,
+    /// A blank for each character that is shown before the place, and a caret.
+    pub(crate) mark: String,
 }
 
 impl Place {
     /// The place after so many bytes of the source; past its end, its end.
-    #[tactic(auto, using(crate::proofs::Marks::length_mark))]
     pub(crate) fn new(alloc: Global, source: &[u8], at: usize) -> Result<Place, AllocError>
         ensures number { IfOk result (λ p. p.number ≡ line_number source.now at) }
-        ensures line { IfOk result (λ p. p.line.items ≡ line_at source.now at) }
-        ensures mark { IfOk result (λ p. p.mark.items ≡ mark_at source.now at) }
-        ensures column { IfOk result (λ p. length p.mark.items ≡ column_number source.now at) }
+        ensures column { IfOk result (λ p. p.column ≡ column_number source.now at) }
+        ensures line { IfOk result (λ p. string_bytes p.line ≡ line_at source.now at) }
+        ensures mark { IfOk result (λ p. string_bytes p.mark ≡ mark_at source.now at) }
     {
-        let (before, behind) = split_place(source, at);
-        let Position { ended, mut read } = come_to(alloc, before)?;
-        let mark = mark_below(alloc, read.as_slice())?;
-        push_line_end(&mut read, behind)?;
+        let (before, rest) = split_place(source, at);
+        let Position { ended, read } = come_to(alloc, before)?;
+        let before = String::from_utf8_lossy(alloc, read.as_slice())?;
+        let mut line = shown_text(alloc, before.as_str())?;
+        let mark = mark_below(alloc, line.as_str())?;
+        push_bytes(alloc, &mut line, line_end(rest))?;
         Ok(Place {
             number: ended + 1,
-            line: read,
+            column: char_count(before.as_str()) + 1,
+            line,
             mark,
         })
     }
@@ -49,7 +58,7 @@ impl Place {
 /// What stands before the place, and what stands after it.
 fn split_place(source: &[u8], at: usize) -> (&[u8], &[u8])
     ensures before { result.0.now ≡ take at source.now }
-    ensures behind { result.1.now ≡ drop at source.now }
+    ensures rest { result.1.now ≡ drop at source.now }
 {
     if at < source.len() {
         source.split_at(at)
@@ -93,40 +102,112 @@ impl Position {
     }
 }
 
-/// Appends what stands before the first line feed.
-fn push_line_end(line: &mut Vec<u8>, behind: &[u8]) -> Result<(), AllocError>
-    ensures { OnOk result (line.new.items ≡ line.old.items ++ front_of (λ b. not (b == 10)) behind.now) }
+/// What stands before the end of the line: before the first line feed, less the carriage return at its end, if there is one.
+fn line_end(rest: &[u8]) -> &[u8]
+    ensures { result.now ≡ strip_carriage_return (front_of (λ b. not (b == 10)) rest.now) }
 {
-    let mut rest = behind;
-    while let Some((byte, more)) = rest.split_first() {
+    without_return(before_line_feed(rest))
+}
+
+/// What stands before the first line feed.
+fn before_line_feed(rest: &[u8]) -> &[u8]
+    ensures { result.now ≡ front_of (λ b. not (b == 10)) rest.now }
+{
+    for (i, byte) in rest.iter().enumerate() {
         if *byte == b'\n' {
-            return Ok(());
+            return &rest[..i];
         }
-        line.push(*byte)?;
+    }
+    rest
+}
+
+/// The bytes, less the carriage return at their end, if there is one.
+fn without_return(bytes: &[u8]) -> &[u8]
+    ensures { result.now ≡ strip_carriage_return bytes.now }
+{
+    match bytes.split_last() {
+        Some((b'\r', front)) => front,
+        _ => bytes,
+    }
+}
+
+/// How many characters there are.
+fn char_count(text: &str) -> usize
+    ensures count { result ≡ length (chars text.now) }
+    ensures small { result < 2 ^ 63 }
+{
+    // The length of a slice says that its characters can be counted.
+    let _size = text.as_bytes().len();
+    text.chars().count()
+}
+
+/// What shows a text of a line.
+fn shown_text(alloc: Global, text: &str) -> Result<String, AllocError>
+    ensures { IfOk result (λ s. characters s ≡ flat_map shown_in_line (chars text.now)) }
+{
+    let mut shown = empty_text(alloc);
+    push_shown(&mut shown, text)?;
+    Ok(shown)
+}
+
+/// Appends what shows bytes of a line.
+fn push_bytes(alloc: Global, line: &mut String, bytes: &[u8]) -> Result<(), AllocError>
+    ensures { OnOk result (characters line.new ≡ characters line.old ++ shown_line bytes.now) }
+{
+    let text = String::from_utf8_lossy(alloc, bytes)?;
+    push_shown(line, text.as_str())
+}
+
+/// Appends what shows a text of a line.
+fn push_shown(line: &mut String, text: &str) -> Result<(), AllocError>
+    ensures { OnOk result (characters line.new ≡ characters line.old ++ flat_map shown_in_line (chars text.now)) }
+{
+    let mut rest = text;
+    while let Some((c, more)) = split_first(rest) {
+        push_shown_character(line, c)?;
         rest = more;
     }
     Ok(())
 }
 
-/// A blank for each character of these bytes, and a caret.
-fn mark_below(alloc: Global, bytes: &[u8]) -> Result<Vec<u8>, AllocError>
-    ensures { IfOk result (λ mark. mark.items ≡ flat_map blank bytes.now ++ 94 ∷ []) }
+/// Appends what shows a character of a line.
+fn push_shown_character(line: &mut String, c: char) -> Result<(), AllocError>
+    ensures { OnOk result (characters line.new ≡ characters line.old ++ shown_in_line c) }
 {
-    let mut mark = Vec::new(alloc);
-    for byte in bytes {
-        push_blank(&mut mark, *byte)?;
+    if is_escaped(c) {
+        push_escape(line, c)
+    } else {
+        push_character(line, c)
     }
-    mark.push(b'^')?;
+}
+
+/// Whether the character is a control character other than a tab.
+fn is_escaped(c: char) -> bool
+    ensures { result ≡ is_escaped c }
+{
+    c.is_control() && c != '\t'
+}
+
+/// A blank below each character, and a caret.
+fn mark_below(alloc: Global, shown: &str) -> Result<String, AllocError>
+    ensures { IfOk result (λ mark. string_bytes mark ≡ map blank (chars shown.now) ++ 94 ∷ []) }
+{
+    let mut mark = String::new(alloc);
+    let mut rest = shown;
+    while let Some((c, more)) = split_first(rest) {
+        push_blank(&mut mark, c)?;
+        rest = more;
+    }
+    mark.push('^')?;
     Ok(mark)
 }
 
-/// Puts a blank for the character last that the byte begins, if it begins one.
-fn push_blank(mark: &mut Vec<u8>, byte: u8) -> Result<(), AllocError>
-    ensures { OnOk result (mark.new.items ≡ mark.old.items ++ blank byte) }
+/// Appends the blank below a character: a tab below a tab, a space below any other.
+fn push_blank(mark: &mut String, c: char) -> Result<(), AllocError>
+    ensures { OnOk result (string_bytes mark.new ≡ string_bytes mark.old ++ blank c ∷ []) }
 {
-    match byte {
-        b'\t' => Ok(mark.push(b'\t')?),
-        0x80..=0xBF => Ok(()),
-        _ => Ok(mark.push(b' ')?),
+    match c {
+        '\t' => mark.push('\t'),
+        _ => mark.push(' '),
     }
 }

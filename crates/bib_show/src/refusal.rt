@@ -2,11 +2,9 @@
 
 ghost use Rattle.std.specs.Prelude.{◌≡◌, ◌++◌, ◌∷◌, [], IfOk, OnOk, string_bytes, codes};
 ghost use Rattle.std.specs.Fmt.{decimal};
-ghost use Rattle.biblatex.specs.Errors.{reason};
-ghost use Rattle.bib_show.specs.Refusals.{reason_text, refusal_lines};
+ghost use Rattle.bib_show.specs.Refusals.{refusal_lines};
 
 use crate::place::Place;
-use biblatex::ParseErrorKind;
 use std::alloc::{AllocError, Global};
 use std::fmt::Write;
 
@@ -17,56 +15,34 @@ pub(crate) fn refusal_lines(
     source: &[u8],
     at: usize,
     why: &str,
-) -> Result<Vec<u8>, AllocError>
-    ensures { IfOk result (λ lines. lines.items ≡ refusal_lines path.now source.now at why.now) }
+) -> Result<String, AllocError>
+    ensures { IfOk result (λ lines. string_bytes lines ≡ refusal_lines path.now source.now at why.now) }
 {
     let place = Place::new(alloc, source, at)?;
-    let mut head = String::new(alloc);
-    push_head(&mut head, path, place.number, place.mark.len(), why)?;
-    let mut lines = Vec::new(alloc);
-    lines.extend_from_slice(head.as_bytes())?;
-    lines.extend_from_slice(place.line.as_slice())?;
-    lines.push(b'\n')?;
-    lines.extend_from_slice(place.mark.as_slice())?;
-    lines.push(b'\n')?;
+    let mut lines = String::new(alloc);
+    push_head(&mut lines, path, place.number, place.column, why)?;
+    push_line(&mut lines, place.line.as_str())?;
+    push_line(&mut lines, place.mark.as_str())?;
     Ok(lines)
 }
 
 /// `FILE:LINE:COLUMN:` and why.
 fn push_head(
-    head: &mut String,
+    lines: &mut String,
     path: &str,
-    line: usize,
+    number: usize,
     column: usize,
     why: &str,
 ) -> Result<(), AllocError>
-    ensures { OnOk result (string_bytes head.new ≡ string_bytes head.old ++ (path.now ++ (58 ∷ (decimal line ++ (58 ∷ (decimal column ++ (codes ": " ++ (why.now ++ 10 ∷ [])))))))) }
+    ensures { OnOk result (string_bytes lines.new ≡ string_bytes lines.old ++ (path.now ++ (58 ∷ (decimal number ++ (58 ∷ (decimal column ++ (codes ": " ++ (why.now ++ 10 ∷ [])))))))) }
 {
-    write!(head, "{path}:{line}:{column}: {why}\n")
+    write!(lines, "{path}:{number}:{column}: {why}\n")
 }
 
-/// Why a text is refused.
-pub(crate) fn reason_of(alloc: Global, kind: &ParseErrorKind) -> Result<String, AllocError>
-    ensures { IfOk result (λ s. string_bytes s ≡ reason_text (reason kind.now)) }
+/// A line.
+fn push_line(lines: &mut String, line: &str) -> Result<(), AllocError>
+    ensures { OnOk result (string_bytes lines.new ≡ string_bytes lines.old ++ (line.now ++ 10 ∷ [])) }
 {
-    let mut text = String::new(alloc);
-    push_reason(&mut text, kind)?;
-    Ok(text)
-}
-
-/// Says why a text is refused.
-fn push_reason(text: &mut String, kind: &ParseErrorKind) -> Result<(), AllocError>
-    ensures { OnOk result (string_bytes text.new ≡ string_bytes text.old ++ reason_text (reason kind.now)) }
-{
-    match kind {
-        ParseErrorKind::UnexpectedEof => text.push_str("unexpected end of file"),
-        ParseErrorKind::Unexpected(token) => write!(text, "unexpected {token}"),
-        ParseErrorKind::Expected(token) => write!(text, "expected {token}"),
-        ParseErrorKind::UnknownAbbreviation(name) => write!(text, "unknown abbreviation {name}"),
-        ParseErrorKind::AbbreviationCycle(name) => write!(text, "circular abbreviation {name}"),
-        ParseErrorKind::MalformedCommand => text.push_str("malformed command"),
-        ParseErrorKind::DuplicateKey(key) => write!(text, "duplicate key {key}"),
-        ParseErrorKind::ReferenceCycle(key) => write!(text, "circular reference {key}"),
-        ParseErrorKind::ResolutionError(_) => text.push_str("unreadable date"),
-    }
+    lines.push_str(line)?;
+    lines.push('\n')
 }

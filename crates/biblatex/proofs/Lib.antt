@@ -1,1 +1,3 @@
-pub use Rattle.biblatex_bibliography.proofs.Unique
+pub use Rattle.biblatex_bibliography.proofs.ResolvedUnique
+pub use Rattle.biblatex_bibliography.proofs.Lines
+pub use Rattle.biblatex_bibliography.proofs.OneLine

@@ -1,7 +1,9 @@
-pub mod Binding
-pub mod Within
-pub mod Names
-pub mod Borrowed
-pub mod Resolving
-pub mod Loading
-pub mod Unique
+pub mod PlacesBinding
+pub mod PlacesWithin
+pub mod PlacesNames
+pub mod LendingBorrowed
+pub mod ResolvedEntries
+pub mod ReadingLoaded
+pub mod ResolvedUnique
+pub mod Lines
+pub mod OneLine

@@ -1,8 +1,10 @@
--- Refusals and results as they lie in memory.
-use Rattle.std.specs.Prelude.{ℕ, List, map, Option, Some, None, string_bytes}
+-- Refusals and results as they lie in memory, and what is said of refusals.
+use Rattle.std.specs.Prelude.{ℕ, List, ◌++◌, map, Option, Some, None, string_bytes, codes}
 use Rattle.std.specs.Borrow.{Bor}
+use Rattle.biblatex_text.specs.Token.{token_name}
 use Rattle.biblatex_text.specs.Views.{part}
 use Rattle.biblatex_text.specs.declared.spanned.Spanned.{Spanned}
+use Rattle.biblatex_text.specs.declared.token.Fault.{Fault}
 use Rattle.biblatex_text.specs.declared.token.Fault.TheVariants as faults
 use Rattle.biblatex_bibliography.specs.Bibliographies.{Indexed, seen}
 use Rattle.biblatex_bibliography.specs.Reading.{Reason, raw, unknown_abbreviation, abbreviation_cycle, malformed_command, duplicate_key, reference_cycle, unreadable_date, Refusal, Loaded}
@@ -34,3 +36,24 @@ loaded_in l = loaded_of l.bibliography l.keys.items
 abbrev pub refusal_of : ParseError → Option Refusal
 refusal_of errors.Memory = None
 refusal_of (errors.Refused kind span) = Some (record { reason = reason kind; start = span.start; end = span.end })
+
+-- why a text is not of the raw grammar
+abbrev pub fault_text : Fault → List ℕ
+fault_text faults.UnexpectedEof = codes "unexpected end of file"
+fault_text (faults.Unexpected token) = codes "unexpected " ++ token_name token
+fault_text (faults.Expected token) = codes "expected " ++ token_name token
+
+-- why a text is refused
+abbrev pub reason_text : Reason → List ℕ
+reason_text (raw fault) = fault_text fault
+reason_text (unknown_abbreviation name) = codes "unknown abbreviation " ++ name
+reason_text (abbreviation_cycle name) = codes "circular abbreviation " ++ name
+reason_text malformed_command = codes "malformed command"
+reason_text (duplicate_key key) = codes "duplicate key " ++ key
+reason_text (reference_cycle key) = codes "circular reference " ++ key
+reason_text (unreadable_date kind) = codes "unreadable date"
+
+-- what is said of an error
+abbrev pub error_text : ParseError → List ℕ
+error_text errors.Memory = codes "out of memory"
+error_text (errors.Refused kind span) = reason_text (reason kind)

@@ -5,3 +5,4 @@ pub mod Keys
 pub mod Reading
 pub mod Resolved
 pub mod Errors
+pub mod Lines

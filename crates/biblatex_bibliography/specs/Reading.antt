@@ -63,14 +63,14 @@ unless_known true l key e = Err (refused_at key (duplicate_key e.key))
 unless_known false l key e = Ok (record { listed = pushed e l.listed; keys = l.keys ++ key ∷ [] })
 
 -- one more entry: its fields are read, then its key is looked at
-abbrev pub entry_behind : Glossary → Loaded → Entry → Result Loaded Refusal
-entry_behind g l e = or_refusal (fields_of g e.fields) >>= λ fs. unless_known (is_some (l.listed.place (text e.key.v))) l e.key (source_of e fs)
+abbrev pub entry_after : Glossary → Loaded → Entry → Result Loaded Refusal
+entry_after g l e = or_refusal (fields_of g e.fields) >>= λ fs. unless_known (is_some (l.listed.place (text e.key.v))) l e.key (source_of e fs)
 
 -- entries in the order of the text, after those that were read
-abbrev pub entries_behind : Glossary → Loaded → List (At Entry) → Result Loaded Refusal
-entries_behind g l [] = Ok l
-entries_behind g l (e ∷ es) = entry_behind g l e.v >>= λ more. entries_behind g more es
+abbrev pub entries_after : Glossary → Loaded → List (At Entry) → Result Loaded Refusal
+entries_after g l [] = Ok l
+entries_after g l (e ∷ es) = entry_after g l e.v >>= λ more. entries_after g more es
 
 -- all entries of a text, where each name of an abbreviation means what the glossary says
 abbrev pub loaded : Glossary → List (At Entry) → Result Loaded Refusal
-loaded g es = entries_behind g nothing_loaded es
+loaded g es = entries_after g nothing_loaded es

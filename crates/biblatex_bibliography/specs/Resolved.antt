@@ -40,20 +40,20 @@ pub record IsResolved (read resolved : Listed) : Type 0 where
   pub acyclic : NoneIsCircular (references read)
   pub readable : (i : ℕ) → i < length read.entries → fault_at read.entries (references read) (tables resolved.entries) i ≡ None
 
--- the refusal of an entry that is not resolved, at its key
+-- the refusal of entries that are not resolved, at the key of the one that reaches itself or whose date cannot be read
 abbrev pub unresolved_at : List (At (List ℕ)) → ResolveError → Option Refusal
 unresolved_at keys errors.Memory = None
 unresolved_at keys (errors.ReferenceCycle n) = option_map (λ key. refused_at key (reference_cycle (text key.v))) (slice_get keys n)
-unresolved_at keys (errors.UnreadableDate n kind) = option_map (λ key. refused_at key (unreadable_date kind)) (slice_get keys n)
+unresolved_at keys (errors.UnreadableDate f) = option_map (λ key. refused_at key (unreadable_date f.kind)) (slice_get keys f.reference)
 
--- the number of the entry that is refused
+-- the number of the entry at whose key the refusal stands
 abbrev pub number_of : ResolveError → Option ℕ
 number_of errors.Memory = None
 number_of (errors.ReferenceCycle n) = Some n
-number_of (errors.UnreadableDate n kind) = Some n
+number_of (errors.UnreadableDate f) = Some f.reference
 
--- Entries that are not resolved: the first of them that reaches itself is refused; else the first that needs a date and has a
--- reference whose date cannot be read, for the fault of its first such reference.
+-- Entries that are not resolved: the first of them that reaches itself is refused; else, of the first that needs a date and has a
+-- reference whose date cannot be read, the first such reference.
 pub record IsUnresolved (read : Loaded) (r : Refusal) : Type 0 where
   pub error : ResolveError
   pub why : IsRefusedAs read.listed.entries (references read.listed) error

@@ -15,7 +15,7 @@ use crate::error::{ParseError, ParseErrorKind};
 use crate::reading::load;
 use biblatex_dates::TypeErrorKind;
 use biblatex_fields::{Abbreviations, Spanned};
-use biblatex_inheritance::ResolveError;
+use biblatex_inheritance::{DateFault, ResolveError};
 use biblatex_text::{Fault, RawBibliography, RawError};
 use std::alloc::{AllocError, Global};
 use texts::owned;
@@ -40,7 +40,7 @@ fn kind_of(fault: Fault) -> ParseErrorKind
     }
 }
 
-/// Why entries are not resolved, at the key of the entry that is refused.
+/// Why entries are not resolved, at the key of the entry that reaches itself or whose date cannot be read.
 fn unresolved(
     alloc: Global,
     keys: &[Spanned<&str>],
@@ -52,7 +52,9 @@ fn unresolved(
     match error {
         ResolveError::Memory => Ok(ParseError::Memory),
         ResolveError::ReferenceCycle(number) => circular(alloc, &keys[number]),
-        ResolveError::UnreadableDate(number, kind) => Ok(unreadable(&keys[number], kind)),
+        ResolveError::UnreadableDate(DateFault { reference, kind }) => {
+            Ok(unreadable(&keys[reference], kind))
+        }
     }
 }
 
@@ -66,7 +68,7 @@ fn circular(alloc: Global, key: &Spanned<&str>) -> Result<ParseError, AllocError
     })
 }
 
-/// The entry of this key would inherit a date that cannot be read.
+/// The entry of this key has a date that cannot be read and that another one would inherit.
 fn unreadable(key: &Spanned<&str>, kind: TypeErrorKind) -> ParseError
     ensures { refusal_of result ≡ Some (refused_at (part key.now) (unreadable_date kind)) }
 {
@@ -82,7 +84,8 @@ impl Bibliography {
     /// # Errors
     /// `Refused` with the first fault: the first one of the raw grammar from the left; else, entry by entry, that of its fields
     /// and their pieces in order, then a key that has a meaning already; else the first entry that reaches itself; else the
-    /// first that needs a date and refers to one whose date cannot be read. `Memory` where a request for memory was refused.
+    /// first reference whose date cannot be read of the first entry that needs a date and has one. `Memory` where a request for
+    /// memory was refused.
     pub fn parse(alloc: Global, source: &str) -> Result<Bibliography, ParseError>
         ensures { Answers refusal_of seen result (TextMeans (chars source.now)) }
     {

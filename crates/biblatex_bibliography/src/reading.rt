@@ -107,7 +107,7 @@ fn load_entry<'s>(
     keys: &mut Vec<Spanned<&'s str>>,
     raw: RawEntry<'s>,
 ) -> Result<(), ParseError>
-    ensures { Leaves refusal_of result (loaded_of bibliography.new keys.new.items) (specs.entry_behind abbreviations.now (loaded_of bibliography.old keys.old.items) (raw_entry raw.entry)) }
+    ensures { Leaves refusal_of result (loaded_of bibliography.new keys.new.items) (specs.entry_after abbreviations.now (loaded_of bibliography.old keys.old.items) (raw_entry raw.entry)) }
 {
     let fields = fields_of(alloc, abbreviations, &raw)?;
     let entry = entry_of(alloc, &raw, fields)?;

@@ -14,7 +14,7 @@ use Rattle.biblatex_content.specs.Styled.{Member, Letter, letters}
 use Rattle.laws.specs.Text.{characters, is_filled}
 use Rattle.biblatex_content.specs.Tidy.{spaced, is_space, squeezed, without_last_space, tidied, stays, is_tidy, is_tidy_text}
 use Rattle.biblatex_content.specs.Places.{all_at, spaced_at, squeezed_at, without_last_space_at, tidied_at, places_of, AreDone}
-use Rattle.biblatex_content.proofs.Reaches.{one_place}
+use Rattle.biblatex_content.proofs.PlacesReached.{one_place}
 
 first_of_two : (a b : Bool) → a && b ≡ true → a ≡ true
 first_of_two true b e = refl

@@ -54,13 +54,13 @@ kept_in (Groups kept) marks = kept
 kept_in mode marks = length marks
 
 -- characters, of which the first takes the marks that wait
-abbrev pub marked_behind : List ℕ → State → State
-marked_behind cs s = record s { done = s.done ++ letters s.kind (marked s.marks cs); marks = [] }
+abbrev pub marked_after : List ℕ → State → State
+marked_after cs s = record s { done = s.done ++ letters s.kind (marked s.marks cs); marks = [] }
 
 -- characters are given; where there is none, the marks that waited for it go
 abbrev pub given : List ℕ → State → State
 given [] s = record s { marks = take (kept_in s.mode s.marks) s.marks; mode = Free }
-given (c ∷ cs) s = record (marked_behind (c ∷ cs) s) { mode = Free }
+given (c ∷ cs) s = record (marked_after (c ∷ cs) s) { mode = Free }
 
 -- blanks before an argument are no argument
 abbrev pub given_text : List ℕ → State → State

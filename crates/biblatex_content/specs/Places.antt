@@ -39,8 +39,8 @@ abbrev pub placed_so_far : Contents → List (At Member)
 placed_so_far c = placed c.chunks.items
 
 -- what reading a piece at this place gives, after these members
-abbrev pub behind_at : ℕ → ℕ → List (At Member) → Result (List Member) Malformed → Result (List (At Member)) Malformed
-behind_at start end done read = read >>= λ ms. Ok (done ++ all_at start end ms)
+abbrev pub after_at : ℕ → ℕ → List (At Member) → Result (List Member) Malformed → Result (List (At Member)) Malformed
+after_at start end done read = read >>= λ ms. Ok (done ++ all_at start end ms)
 
 -- Tidying: what goes leaves no trace, and what stays keeps its place.
 
@@ -123,11 +123,11 @@ owed_at start end Nothing = []
 owed_at start end (Space kind) = record { v = Letter kind 32; start = start; end = end } ∷ []
 
 -- what is still to be written of a text in which the gap stands before these members
-abbrev pub tidied_behind_at : ℕ → ℕ → Gap → List (At Member) → List (At Member)
-tidied_behind_at start end Beginning ms = tidied_at ms
-tidied_behind_at start end Nothing ms = without_last_space_at (squeezed_at false (map spaced_at ms))
-tidied_behind_at start end (Space kind) ms = without_last_space_at (record { v = Letter kind 32; start = start; end = end } ∷ squeezed_at true (map spaced_at ms))
+abbrev pub tidied_after_at : ℕ → ℕ → Gap → List (At Member) → List (At Member)
+tidied_after_at start end Beginning ms = tidied_at ms
+tidied_after_at start end Nothing ms = without_last_space_at (squeezed_at false (map spaced_at ms))
+tidied_after_at start end (Space kind) ms = without_last_space_at (record { v = Letter kind 32; start = start; end = end } ∷ squeezed_at true (map spaced_at ms))
 
 -- the places of the chunks of what was tidied, and of these members after it once they are tidied
 abbrev pub places_to_come : Tidying → List (At Member) → List (ℕ × ℕ)
-places_to_come t ms = places_with t.contents (tidied_behind_at t.space.start t.space.end t.gap ms)
+places_to_come t ms = places_with t.contents (tidied_after_at t.space.start t.space.end t.gap ms)

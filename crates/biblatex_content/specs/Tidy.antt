@@ -51,10 +51,10 @@ is_tidy_text (chunks.Verbatim s) = is_tidy true (characters s)
 is_tidy_text (chunks.Math s) = false
 
 -- what is still to be written of a text in which the gap stands before these members
-abbrev pub tidied_behind : Gap → List Member → List Member
-tidied_behind Beginning ms = tidied ms
-tidied_behind Nothing ms = without_last_space (squeezed false (map spaced ms))
-tidied_behind (Space kind) ms = without_last_space (Letter kind 32 ∷ squeezed true (map spaced ms))
+abbrev pub tidied_after : Gap → List Member → List Member
+tidied_after Beginning ms = tidied ms
+tidied_after Nothing ms = without_last_space (squeezed false (map spaced ms))
+tidied_after (Space kind) ms = without_last_space (Letter kind 32 ∷ squeezed true (map spaced ms))
 
 -- the space that a gap becomes
 abbrev pub owed : Gap → List Member
@@ -64,4 +64,4 @@ owed (Space kind) = Letter kind 32 ∷ []
 
 -- what has been written, and what is still to be written of these members
 abbrev pub to_come : Tidying → List Member → List Member
-to_come t ms = joined t.contents ++ tidied_behind t.gap ms
+to_come t ms = joined t.contents ++ tidied_after t.gap ms

@@ -52,8 +52,8 @@ abbrev pub joined : Joining → List Member
 joined j = styled j.chunks.items ++ letters j.kind (characters j.run)
 
 -- what reading gives, after these members
-abbrev pub behind : List Member → Result (List Member) Malformed → Result (List Member) Malformed
-behind done read = read >>= λ ms. Ok (done ++ ms)
+abbrev pub following : List Member → Result (List Member) Malformed → Result (List Member) Malformed
+following done read = read >>= λ ms. Ok (done ++ ms)
 
 -- where chunks stand
 abbrev pub spans : List (Spanned Chunk) → List (Range ℕ)

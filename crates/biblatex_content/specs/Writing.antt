@@ -67,5 +67,5 @@ written_content false ms = written_ordinary ms
 written_content true ms = written_verbatim ms
 
 -- an ordinary field of which this text stands already, where a group may be open and these members are to come
-abbrev pub written_behind : String Global → Bool → List Member → List ℕ
-written_behind text is_open ms = characters text ++ written_from is_open ms
+abbrev pub written_after : String Global → Bool → List Member → List ℕ
+written_after text is_open ms = characters text ++ written_from is_open ms

@@ -6,10 +6,10 @@ ghost use Rattle.biblatex_content.specs.declared.chunk.Kind.TheVariants.{Normal,
 ghost use Rattle.biblatex_content.specs.Styled.{letters};
 ghost use Rattle.biblatex_content.specs.Ordinary.{ordinary};
 ghost use Rattle.biblatex_content.specs.Parted.{are_parted, is_full};
-ghost use Rattle.biblatex_content.specs.Places.{all_at, placed_so_far, behind_at, tidied_at, places, places_of};
+ghost use Rattle.biblatex_content.specs.Places.{all_at, placed_so_far, after_at, tidied_at, places, places_of};
 ghost use Rattle.biblatex_content.specs.Tidy.{tidied};
 ghost use Rattle.biblatex_content.specs.Verbatim.{verbatim_text};
-ghost use Rattle.biblatex_content.specs.Views.{so_far, styled, members, behind};
+ghost use Rattle.biblatex_content.specs.Views.{so_far, styled, members, following};
 ghost use Rattle.biblatex_tex.specs.Results.{refusal_of};
 ghost use Rattle.laws.specs.Results.{Gives};
 
@@ -116,10 +116,10 @@ impl Contents {
     /// # Errors
     ///
     /// `MalformedCommand` where a brace has no partner, the last character is a lone backslash, or an accent has no argument.
-    #[tactic(auto, using(crate::proofs::PlainPieces::ordinary_plain))]
+    #[tactic(auto, using(crate::proofs::OrdinaryPlain::ordinary_plain))]
     pub fn push_ordinary(mut self, piece: Spanned<&str>) -> Result<Contents, ContentError>
-        ensures read { Gives refusal_of so_far result (behind (so_far self) (ordinary (chars piece.entry.v.now))) }
-        ensures placed { Gives refusal_of placed_so_far result (behind_at piece.entry.span.start piece.entry.span.end (placed_so_far self) (ordinary (chars piece.entry.v.now))) }
+        ensures read { Gives refusal_of so_far result (following (so_far self) (ordinary (chars piece.entry.v.now))) }
+        ensures placed { Gives refusal_of placed_so_far result (after_at piece.entry.span.start piece.entry.span.end (placed_so_far self) (ordinary (chars piece.entry.v.now))) }
     {
         if is_plain(piece.v) {
             self.push_plain(piece)?;

@@ -82,7 +82,7 @@ impl Joining {
     }
 
     /// Appends a chunk after the finished ones, at the bytes from the start to the end.
-    #[tactic(auto, using(crate::proofs::Neighbours::last_kind_behind, crate::proofs::Neighbours::parted_behind))]
+    #[tactic(auto, using(crate::proofs::PartedNeighbours::last_kind_after, crate::proofs::PartedNeighbours::parted_after))]
     fn push_chunk(&mut self, chunk: Chunk, start: usize, end: usize) -> Result<(), AllocError>
         ensures chunks { OnOk result (styled self.new.chunks.items ≡ styled self.old.chunks.items ++ members chunk) }
         ensures places { OnOk result (places self.new.chunks.items ≡ places self.old.chunks.items ++ (start, end) ∷ []) }

@@ -7,11 +7,11 @@ ghost use Rattle.laws.specs.Text.{text, characters};
 ghost use Rattle.biblatex_tex.specs.Character.{passes};
 ghost use Rattle.biblatex_tex.specs.declared.character.Class.TheVariants.{Plain};
 ghost use Rattle.biblatex_tex.specs.declared.error.ContentError.TheVariants.{Memory};
-ghost use Rattle.biblatex_content.specs.Ordinary.{kept_in, given, marked_behind, given_text, text_in, accented, opened, closed_to, closed_in, dollar, dashes, hyphens_in, sign, command, unit, in_math, step, begun, ended_in, ordinary};
+ghost use Rattle.biblatex_content.specs.Ordinary.{kept_in, given, marked_after, given_text, text_in, accented, opened, closed_to, closed_in, dollar, dashes, hyphens_in, sign, command, unit, in_math, step, begun, ended_in, ordinary};
 ghost use Rattle.biblatex_tex.specs.Command.{sign_mark, letter_mark};
 ghost use Rattle.biblatex_tex.specs.Token.{written};
 ghost use Rattle.biblatex_tex.specs.TokenViews.{token};
-ghost use Rattle.biblatex_content.specs.Views.{joined, styled, behind};
+ghost use Rattle.biblatex_content.specs.Views.{joined, styled, following};
 ghost use Rattle.biblatex_tex.specs.Results.{refusal_of};
 ghost use Rattle.laws.specs.Results.{Gives, Leaves};
 ghost use Rattle.biblatex_content.specs.OrdinaryViews.{state};
@@ -47,7 +47,7 @@ pub(crate) struct Frame {
 }
 
 /// Whether each character of the piece stands for itself.
-#[tactic(auto, using(crate::proofs::PlainPieces::nothing_filled))]
+#[tactic(auto, using(crate::proofs::OrdinaryPlain::nothing_filled))]
 pub(crate) fn is_plain(piece: &str) -> bool
     ensures { result ≡ true → after (passes Plain) (chars piece.now) ≡ [] }
 {
@@ -146,7 +146,7 @@ impl Reading {
 
     /// Appends letters, with the marks that wait on the first, which is the last of the list.
     fn push_letters(&mut self, mut letters: Vec<char>) -> Result<(), AllocError>
-        ensures { OnOk result (state self.new ≡ marked_behind (reverse letters.items) (state self.old)) }
+        ensures { OnOk result (state self.new ≡ marked_after (reverse letters.items) (state self.old)) }
     {
         put_marks(self.alloc, &mut letters, &mut self.marks)?;
         self.contents.push_reversed(self.kind, letters)
@@ -154,7 +154,7 @@ impl Reading {
 
     /// Appends a text, with the marks that wait on its first character.
     fn push_text(&mut self, piece: &str) -> Result<(), AllocError>
-        ensures { OnOk result (state self.new ≡ marked_behind (chars piece.now) (state self.old)) }
+        ensures { OnOk result (state self.new ≡ marked_after (chars piece.now) (state self.old)) }
     {
         if self.marks.is_empty() {
             return self.contents.push_str(self.kind, piece);
@@ -164,7 +164,7 @@ impl Reading {
 
     /// Appends a character, with the marks that wait.
     fn push_character(&mut self, c: char) -> Result<(), AllocError>
-        ensures { OnOk result (state self.new ≡ marked_behind (c ∷ []) (state self.old)) }
+        ensures { OnOk result (state self.new ≡ marked_after (c ∷ []) (state self.old)) }
     {
         if self.marks.is_empty() {
             return self.contents.push(self.kind, c);
@@ -414,7 +414,7 @@ impl Reading {
 impl Joining {
     /// The same with a piece of an ordinary field after it.
     fn push_tokens(self, piece: &str) -> Result<Joining, ContentError>
-        ensures { Gives refusal_of joined result (behind (joined self) (ordinary (chars piece.now))) }
+        ensures { Gives refusal_of joined result (following (joined self) (ordinary (chars piece.now))) }
     {
         let alloc = self.allocator();
         let mut tokens = paired_tokens(alloc, piece)?;
@@ -427,7 +427,7 @@ impl Joining {
 }
 
 /// The chunks of a piece of an ordinary field.
-#[tactic(auto, using(crate::proofs::Pieces::behind_nothing))]
+#[tactic(auto, using(crate::proofs::OrdinaryPieces::after_nothing))]
 pub(crate) fn read_ordinary(alloc: Global, piece: &str) -> Result<Chunks, ContentError>
     ensures { Gives refusal_of (λ cs. styled cs.items) result (ordinary (chars piece.now)) }
 {

@@ -5,7 +5,7 @@ ghost use Rattle.std.specs.List.{flat_map};
 ghost use Rattle.std.specs.Str.{chars};
 ghost use Rattle.biblatex_content.specs.Styled.{Member, Letter, Math, letters};
 ghost use Rattle.biblatex_tex.specs.Token.{begins_command};
-ghost use Rattle.biblatex_content.specs.Writing.{escaped, written_character, guard, closing, turning, is_grouped, written_ordinary, written_as_is, written_verbatim, written_content, written_behind};
+ghost use Rattle.biblatex_content.specs.Writing.{escaped, written_character, guard, closing, turning, is_grouped, written_ordinary, written_as_is, written_verbatim, written_content, written_after};
 ghost use Rattle.biblatex_content.specs.Views.{members, styled};
 ghost use Rattle.laws.specs.Text.{characters};
 
@@ -86,7 +86,7 @@ fn turn(text: &mut String, is_open: bool, kind: Kind, c: char) -> Result<(), All
 
 /// Writes characters of the kind after a text in which a group may be open, and says whether one is open then.
 fn push_run(text: &mut String, is_open: bool, kind: Kind, run: &str) -> Result<bool, AllocError>
-    ensures { IfOk result (λ is_next. (ms : List Member) → written_behind text.new is_next ms ≡ written_behind text.old is_open (letters kind (chars run.now) ++ ms)) }
+    ensures { IfOk result (λ is_next. (ms : List Member) → written_after text.new is_next ms ≡ written_after text.old is_open (letters kind (chars run.now) ++ ms)) }
 {
     let mut is_open = is_open;
     for c in run.chars() {
@@ -99,7 +99,7 @@ fn push_run(text: &mut String, is_open: bool, kind: Kind, run: &str) -> Result<b
 
 /// Writes a math piece after a text in which a group may be open; then none is open.
 fn push_math(text: &mut String, is_open: bool, math: &str) -> Result<(), AllocError>
-    ensures { OnOk result ((ms : List Member) → written_behind text.new false ms ≡ written_behind text.old is_open (Math (chars math.now) ∷ ms)) }
+    ensures { OnOk result ((ms : List Member) → written_after text.new false ms ≡ written_after text.old is_open (Math (chars math.now) ∷ ms)) }
 {
     close_group(text, is_open)?;
     push_character(text, '$')?;
@@ -109,7 +109,7 @@ fn push_math(text: &mut String, is_open: bool, math: &str) -> Result<(), AllocEr
 
 /// Writes a chunk after a text in which a group may be open, and says whether one is open then.
 fn push_chunk(text: &mut String, is_open: bool, chunk: &Chunk) -> Result<bool, AllocError>
-    ensures { IfOk result (λ is_next. (ms : List Member) → written_behind text.new is_next ms ≡ written_behind text.old is_open (members chunk.now ++ ms)) }
+    ensures { IfOk result (λ is_next. (ms : List Member) → written_after text.new is_next ms ≡ written_after text.old is_open (members chunk.now ++ ms)) }
 {
     match chunk {
         Chunk::Normal(normal) => push_run(text, is_open, Kind::Normal, normal.as_str()),

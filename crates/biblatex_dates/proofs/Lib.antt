@@ -1,5 +1,5 @@
-pub mod Bounds
-pub mod Months
-pub mod DatesAgain
-pub mod Existing
+pub mod SideBounds
+pub mod PartsMonths
+pub mod WrittenAgain
+pub mod ShapeExists
 pub mod PartsExist

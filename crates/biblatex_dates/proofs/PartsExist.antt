@@ -15,7 +15,7 @@ use Rattle.biblatex_dates.specs.declared.date.DateValue.{DateValue}
 use Rattle.biblatex_dates.specs.declared.date.DateValue.TheVariants.{At, After, Before, Between}
 use Rattle.biblatex_dates.specs.declared.datetime.Datetime.{Datetime}
 use Rattle.biblatex_dates.specs.declared.datetime.Time.{Time}
-use Rattle.biblatex_dates.proofs.Existing.{IsYear, IsDate, any_ok, digits_small, signed_small, month_exists, day_exists}
+use Rattle.biblatex_dates.proofs.ShapeExists.{IsYear, IsDate, any_ok, digits_small, signed_small, month_exists, day_exists}
 
 year_part_small : (cs : List ℕ) → IfOk (year_part cs) IsYear
 unfolding year_part

@@ -24,23 +24,23 @@ abbrev pub last_at : List ℕ → Result Side Unreadable
 last_at cs = side_at cs >>= λ s. end_at s.1 >>= λ rest. Ok s.0
 
 -- after the slash: an open end, as two points or nothing say, or another side
-abbrev pub slash_behind : Side → List ℕ → Result Shape Unreadable
-slash_behind a [] = Ok (Since a)
-slash_behind a (c ∷ cs) = if c == 46 then (token_at 46 cs >>= λ points. end_at points >>= λ rest. Ok (Since a)) else (last_at (c ∷ cs) >>= λ b. Ok (Range a b))
+abbrev pub slash_after : Side → List ℕ → Result Shape Unreadable
+slash_after a [] = Ok (Since a)
+slash_after a (c ∷ cs) = if c == 46 then (token_at 46 cs >>= λ points. end_at points >>= λ rest. Ok (Since a)) else (last_at (c ∷ cs) >>= λ b. Ok (Range a b))
 
 -- after the first side: the end, or a slash
-abbrev pub first_behind : Side → Bool × List ℕ → Result Shape Unreadable
-first_behind a (false, rest) = end_at rest >>= λ rest. Ok (One a)
-first_behind a (true, rest) = slash_behind a rest
+abbrev pub first_after : Side → Bool × List ℕ → Result Shape Unreadable
+first_after a (false, rest) = end_at rest >>= λ rest. Ok (One a)
+first_after a (true, rest) = slash_after a rest
 
 -- after the beginning, which may be open
-abbrev pub opening_behind : Bool × List ℕ → Result Shape Unreadable
-opening_behind (true, rest) = last_at rest >>= λ b. Ok (Until b)
-opening_behind (false, rest) = side_at rest >>= λ a. first_behind a.0 (taken 47 a.1)
+abbrev pub opening_after : Bool × List ℕ → Result Shape Unreadable
+opening_after (true, rest) = last_at rest >>= λ b. Ok (Until b)
+opening_after (false, rest) = side_at rest >>= λ a. first_after a.0 (taken 47 a.1)
 
 -- one side, two sides with a slash between, or one side with an open end or beginning
 unfoldable pub shape_of : List ℕ → Result Shape Unreadable
-shape_of cs = opening_at cs >>= opening_behind
+shape_of cs = opening_at cs >>= opening_after
 
 -- the marks of two sides are those of the whole
 abbrev pub joined : Mark → Mark → Mark

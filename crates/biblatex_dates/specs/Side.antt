@@ -38,9 +38,9 @@ minutes_at cs = do
   Ok ((hour.0, minute.0), minute.1)
 
 -- after a colon two digits are wanted; else no second has passed
-abbrev pub seconds_behind : Bool × List ℕ → Result (ℕ × List ℕ) Unreadable
-seconds_behind (false, rest) = Ok (0, rest)
-seconds_behind (true, rest) = digits_at 2 2 rest
+abbrev pub seconds_after : Bool × List ℕ → Result (ℕ × List ℕ) Unreadable
+seconds_after (false, rest) = Ok (0, rest)
+seconds_after (true, rest) = digits_at 2 2 rest
 
 -- the hours and minutes after a sign
 abbrev pub signed_offset_at : Bool → List ℕ → Result (Option TimeOffset × List ℕ) Unreadable
@@ -55,19 +55,19 @@ offset_at (c ∷ cs) = if c == 90 then Ok (Some Utc, cs) else (if c == 43 then s
 unfoldable pub clock_at : List ℕ → Result (Time × List ℕ) Unreadable
 clock_at cs = do
   minutes ← minutes_at cs
-  second ← seconds_behind (taken 58 minutes.1)
+  second ← seconds_after (taken 58 minutes.1)
   offset ← offset_at second.1
   Ok (record { hour = minutes.0.0; minute = minutes.0.1; second = second.0; offset = offset.0 }, offset.1)
 
 -- after a `T` a time is wanted
-abbrev pub clock_behind : Bool × List ℕ → Result (Option Time × List ℕ) Unreadable
-clock_behind (false, rest) = Ok (None, rest)
-clock_behind (true, rest) = clock_at rest >>= λ t. Ok (Some t.0, t.1)
+abbrev pub clock_after : Bool × List ℕ → Result (Option Time × List ℕ) Unreadable
+clock_after (false, rest) = Ok (None, rest)
+clock_after (true, rest) = clock_at rest >>= λ t. Ok (Some t.0, t.1)
 
 -- after a day, `T` and a time, or nothing
 abbrev pub time_at : Option ℕ → List ℕ → Result (Option Time × List ℕ) Unreadable
 time_at None cs = Ok (None, cs)
-time_at (Some d) cs = clock_behind (taken 84 cs)
+time_at (Some d) cs = clock_after (taken 84 cs)
 
 abbrev pub no_mark : Mark
 no_mark = record { uncertain = false; approximate = false }

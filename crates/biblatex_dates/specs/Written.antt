@@ -11,8 +11,8 @@ use Rattle.biblatex_dates.specs.declared.datetime.TimeOffset.{TimeOffset}
 use Rattle.biblatex_dates.specs.declared.datetime.TimeOffset.TheVariants.{Utc, Offset}
 
 -- a character, and two digits or more after it
-abbrev pub behind : ℕ → ℕ → List ℕ
-behind c n = c ∷ padded 2 n
+abbrev pub following : ℕ → ℕ → List ℕ
+following c n = c ∷ padded 2 n
 
 -- a plus or a hyphen
 abbrev pub sign : Bool → ℕ
@@ -21,7 +21,7 @@ sign false = 45
 
 -- a sign, hours, a colon and minutes
 abbrev pub signed_offset_text : Bool → ℕ → ℕ → List ℕ
-signed_offset_text positive hours minutes = behind (sign positive) hours ++ behind 58 minutes
+signed_offset_text positive hours minutes = following (sign positive) hours ++ following 58 minutes
 
 -- `Z`, or how far a clock is from it
 abbrev pub offset_text : Option TimeOffset → List ℕ
@@ -31,7 +31,7 @@ offset_text (Some (Offset positive hours minutes)) = signed_offset_text positive
 
 -- `T`, hours, minutes and seconds with colons between, and the offset
 abbrev pub clock_text : Time → List ℕ
-clock_text t = behind 84 t.hour ++ (behind 58 t.minute ++ (behind 58 t.second ++ offset_text t.offset))
+clock_text t = following 84 t.hour ++ (following 58 t.minute ++ (following 58 t.second ++ offset_text t.offset))
 
 abbrev pub time_text : Option Time → List ℕ
 time_text None = []

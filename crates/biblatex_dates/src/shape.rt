@@ -4,7 +4,7 @@ ghost use Rattle.std.specs.Prelude.{◌≡◌, Ok};
 ghost use Rattle.std.specs.Str.{chars};
 ghost use Rattle.laws.specs.Results.{Reads};
 ghost use Rattle.texts.specs.Views.{left};
-ghost use Rattle.biblatex_dates.specs.Shape.{opening_at, last_at, slash_behind, shape_of, joined, mark_of, value_of, date_of};
+ghost use Rattle.biblatex_dates.specs.Shape.{opening_at, last_at, slash_after, shape_of, joined, mark_of, value_of, date_of};
 
 use crate::date::{Date, DateValue};
 use crate::error::TypeErrorKind;
@@ -84,7 +84,7 @@ pub(crate) fn read_shape(text: &str) -> Result<Shape, Unreadable>
     }
     let first = read_side(&mut reader)?;
     if reader.take('/') {
-        return read_behind_slash(reader.rest, first);
+        return read_after_slash(reader.rest, first);
     }
     reader.end()?;
     Ok(Shape::One(first))
@@ -116,8 +116,8 @@ fn read_last(text: &str) -> Result<Side, Unreadable>
 }
 
 /// The text after the slash: an open end, or another side.
-fn read_behind_slash(text: &str, first: Side) -> Result<Shape, Unreadable>
-    ensures { result ≡ slash_behind first (chars text.now) }
+fn read_after_slash(text: &str, first: Side) -> Result<Shape, Unreadable>
+    ensures { result ≡ slash_after first (chars text.now) }
 {
     match split_first(text) {
         None => Ok(Shape::Since(first)),

@@ -4,7 +4,7 @@ ghost use Rattle.std.specs.Prelude.{◌≡◌, ◌≤◌, ◌<◌, unsigned_abs,
 ghost use Rattle.laws.specs.Results.{Reads};
 ghost use Rattle.texts.specs.Reading.{digits_at, taken};
 ghost use Rattle.texts.specs.Views.{left};
-ghost use Rattle.biblatex_dates.specs.Side.{four_at, year_at, minutes_at, seconds_behind, offset_at, signed_offset_at, clock_at, time_at, mark_at, side_at};
+ghost use Rattle.biblatex_dates.specs.Side.{four_at, year_at, minutes_at, seconds_after, offset_at, signed_offset_at, clock_at, time_at, mark_at, side_at};
 
 use crate::datetime::{Datetime, Time, TimeOffset, dated};
 use crate::error::TypeErrorKind;
@@ -107,7 +107,7 @@ fn read_minutes(reader: &mut Reader) -> Result<(u8, u8), Unreadable>
 
 /// After a colon seconds, else 0.
 fn read_seconds(reader: &mut Reader) -> Result<u8, Unreadable>
-    ensures { Reads (λ n. n) result (left reader.new) (seconds_behind (taken 58 (left reader.old))) }
+    ensures { Reads (λ n. n) result (left reader.new) (seconds_after (taken 58 (left reader.old))) }
 {
     if reader.take(':') {
         return read_two(reader);

@@ -3,7 +3,7 @@
 ghost use Rattle.std.specs.Prelude.{◌≡◌, Some};
 ghost use Rattle.std.specs.Fmt.{DisplaysOnOk};
 ghost use Rattle.laws.specs.Text.{text as text_of};
-ghost use Rattle.biblatex_dates.specs.Written.{behind, sign, signed_offset_text, offset_text, clock_text, time_text, day_text, month_text, datetime_text, sides_text, end_text, mark_text, date_text};
+ghost use Rattle.biblatex_dates.specs.Written.{following, sign, signed_offset_text, offset_text, clock_text, time_text, day_text, month_text, datetime_text, sides_text, end_text, mark_text, date_text};
 ghost use Rattle.biblatex_dates.specs.declared.date.DateValue.TheVariants.{Between};
 
 use crate::date::{Date, DateValue};
@@ -90,8 +90,8 @@ fn write_mark<W: fmt::Write>(
 }
 
 /// Writes a character, and after it a number in two digits or more.
-fn write_behind<W: fmt::Write>(mark: char, number: u8, f: &mut fmt::Formatter<W>) -> fmt::Result
-    ensures { DisplaysOnOk W.write_str_gives f.old result (Some (text_of (behind mark number))) f.new }
+fn write_after<W: fmt::Write>(mark: char, number: u8, f: &mut fmt::Formatter<W>) -> fmt::Result
+    ensures { DisplaysOnOk W.write_str_gives f.old result (Some (text_of (following mark number))) f.new }
 {
     f.write_char(mark)?;
     write_padded(u32::from(number), 2, f)
@@ -135,9 +135,9 @@ fn write_day<W: fmt::Write>(
 fn write_clock<W: fmt::Write>(time: Time, f: &mut fmt::Formatter<W>) -> fmt::Result
     ensures { DisplaysOnOk W.write_str_gives f.old result (Some (text_of (clock_text time))) f.new }
 {
-    write_behind('T', time.hour, f)?;
-    write_behind(':', time.minute, f)?;
-    write_behind(':', time.second, f)?;
+    write_after('T', time.hour, f)?;
+    write_after(':', time.minute, f)?;
+    write_after(':', time.second, f)?;
     write_offset(time.offset, f)
 }
 
@@ -167,8 +167,8 @@ fn write_signed_offset<W: fmt::Write>(
 ) -> fmt::Result
     ensures { DisplaysOnOk W.write_str_gives f.old result (Some (text_of (signed_offset_text positive hours minutes))) f.new }
 {
-    write_behind(sign(positive), hours, f)?;
-    write_behind(':', minutes, f)
+    write_after(sign(positive), hours, f)?;
+    write_after(':', minutes, f)
 }
 
 /// The sign of an offset.

@@ -1,3 +1,3 @@
-pub mod Commas
-pub mod Plain
-pub mod Stored
+pub mod NamesCommas
+pub mod EntriesPlain
+pub mod TypedStored

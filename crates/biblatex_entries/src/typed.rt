@@ -46,7 +46,7 @@ impl Entry {
     }
 
     /// Gives the field of that name, in lower ASCII case, what is written of the value.
-    #[tactic(auto, using(crate::proofs::Stored::value_put))]
+    #[tactic(auto, using(crate::proofs::TypedStored::value_put))]
     pub fn set_as<T: FieldType>(&mut self, name: &str, value: &T) -> Result<(), AllocError>
         ensures ok { OnOk result (source self.new ≡ record { key = string_bytes self.old.key; entry_type = type_name self.old.entry_type; fields = with_field self.old.fields (lowered (chars name.now)) (T.writes (T.view value.now)) }) }
         // The field of that name has what is written of the value.

@@ -56,7 +56,7 @@ pub fn lists_of_texts_are_read_back()
 
 /// Every list of people without prefix and suffix whose names and given names are capitalised words of ASCII letters is read
 /// back.
-#[tactic(auto, using(crate::proofs::Holding::people_hold))]
+#[tactic(auto, using(crate::proofs::ClassesHolding::people_hold))]
 pub fn lists_of_people_are_read_back()
     ensures { (ns : List Named) → ArePlain ns → ⟦<Vec<Person> as FieldType>⟧.InClass ns }
 {}

@@ -4,7 +4,7 @@ ghost use Rattle.std.specs.Prelude.{◌≡◌, ℕ, List, Ok, map};
 ghost use Rattle.std.proofs.Common.{ap};
 ghost use Rattle.std.specs.declared.ops.Range.{Range as Pages};
 ghost use Rattle.biblatex_values.specs.Pages.{reads_range, reads_ranges, writes_range, writes_ranges, ArePages, AreSomePages};
-ghost use Rattle.biblatex_values.proofs.RangesAgain.{range_again, ranges_again};
+ghost use Rattle.biblatex_values.proofs.PagesAgain.{range_again, ranges_again};
 ghost use Rattle.laws.specs.Text.{characters};
 ghost use Rattle.biblatex_lists.specs.Laws.{IsReadBack};
 ghost use Rattle.biblatex_lists.specs.Writing.{written_texts};

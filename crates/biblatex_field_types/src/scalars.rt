@@ -8,10 +8,10 @@ ghost use Rattle.biblatex_values.specs.Texts.{reads_text, writes_text, IsText};
 ghost use Rattle.biblatex_values.specs.Gender.{reads_gender, writes_gender};
 ghost use Rattle.biblatex_values.specs.EditorType.{EditorName, editor_name, reads_editor, writes_editor, IsEditorName};
 ghost use Rattle.biblatex_values.specs.declared.gender.Gender.{Gender as GenderValue};
-ghost use Rattle.biblatex_values.proofs.IntegersAgain.{integer_again};
+ghost use Rattle.biblatex_values.proofs.IntegerAgain.{integer_again};
 ghost use Rattle.biblatex_values.proofs.TextsBack.{text_back};
-ghost use Rattle.biblatex_values.proofs.Genders.{gender_again};
-ghost use Rattle.biblatex_values.proofs.Editors.{editor_again};
+ghost use Rattle.biblatex_values.proofs.GenderBack.{gender_again};
+ghost use Rattle.biblatex_values.proofs.EditorTypeBack.{editor_again};
 
 use crate::error::FieldTypeError;
 use crate::field_type::{FieldType, placed};

@@ -38,13 +38,13 @@ abbrev pub AreInOrder : List Named → Type 0
 AreInOrder fs = IsStrictlySortedBy (slice_cmp nat_cmp) (keys_of fs)
 
 -- written fields after those that were read: each is read, and the last of equal names stays
-abbrev pub fields_behind : Glossary → List Named → List Field → Result (List Named) Refusal
-fields_behind g done [] = Ok done
-fields_behind g done (f ∷ fs) = value_of g f >>= λ value. fields_behind g (with_field done (lowered f.name.v) value) fs
+abbrev pub fields_after : Glossary → List Named → List Field → Result (List Named) Refusal
+fields_after g done [] = Ok done
+fields_after g done (f ∷ fs) = value_of g f >>= λ value. fields_after g (with_field done (lowered f.name.v) value) fs
 
 -- the fields of an entry, or the first fault in the order of its written fields and their pieces
 abbrev pub fields_of : Glossary → List Field → Result (List Named) Refusal
-fields_of g fs = fields_behind g [] fs
+fields_of g fs = fields_after g [] fs
 
 -- the fields of a map, as names and styled texts
 abbrev pub named_in : String Global × Vec (Spanned Chunk) Global → Named

@@ -9,7 +9,7 @@ use Rattle.biblatex_content.specs.Styled.{Member, letters}
 use Rattle.biblatex_content.specs.Verbatim.{verbatim_text, is_verbatim_name}
 use Rattle.biblatex_content.specs.Ordinary.{ordinary}
 use Rattle.biblatex_content.specs.Tidy.{tidied}
-use Rattle.biblatex_content.specs.Places.{all_at, without_places, behind_at, tidied_at, places_of}
+use Rattle.biblatex_content.specs.Places.{all_at, without_places, after_at, tidied_at, places_of}
 use Rattle.biblatex_fields.specs.Abbreviations.{Refusal, malformed, Glossary, Sense, spelled, defined, sense}
 
 -- What is read after what was read before.
@@ -24,7 +24,7 @@ placed start end (Err f) = Err (malformed start end)
 -- a text, in a verbatim field or an ordinary one
 abbrev pub text_read : Bool → ℕ → ℕ → List ℕ → Reading
 text_read true start end cs done = Ok (done ++ all_at start end (letters Verbatim (verbatim_text cs)))
-text_read false start end cs done = placed start end (behind_at start end done (ordinary cs))
+text_read false start end cs done = placed start end (after_at start end done (ordinary cs))
 
 -- pieces in order, up to the first fault
 abbrev pub in_order : {X : Type 0} → (X → Reading) → List X → Reading

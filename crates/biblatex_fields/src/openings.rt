@@ -160,7 +160,7 @@ impl<'r, 's> Glossary<'r, 's> {
     }
 
     /// What is read of the definition at the place.
-    #[tactic(auto, using(crate::proofs::StandIns::stand_read))]
+    #[tactic(auto, using(crate::proofs::OpeningsStandIns::stand_read))]
     pub fn pieces<'a>(
         &self,
         is_verbatim: bool,
@@ -230,7 +230,7 @@ impl<'r, 's> Glossary<'r, 's> {
     }
 
     /// What is read in place of the pieces of the definition at the place.
-    #[tactic(auto, using(crate::proofs::StandIns::opens_part, crate::proofs::StandIns::opens_whole, crate::proofs::StandIns::opens_same))]
+    #[tactic(auto, using(crate::proofs::OpeningsStandIns::opens_part, crate::proofs::OpeningsStandIns::opens_whole, crate::proofs::OpeningsStandIns::opens_same))]
     fn opening(
         &self,
         alloc: Global,
@@ -256,7 +256,7 @@ impl<'r, 's> Glossary<'r, 's> {
 
     /// What is read in place of the pieces of each definition in fields of that kind. Where each definition stands in the order
     /// after those that its pieces name, nothing is read that gives nothing.
-    #[tactic(auto, using(crate::proofs::StandIns::openings_whole, crate::proofs::StandIns::openings_set))]
+    #[tactic(auto, using(crate::proofs::OpeningsStandIns::openings_whole, crate::proofs::OpeningsStandIns::openings_set))]
     pub fn openings(
         &self,
         alloc: Global,

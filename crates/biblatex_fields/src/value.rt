@@ -87,7 +87,7 @@ impl<'r, 's> Abbreviations<'r, 's> {
     /// # Errors
     ///
     /// The first fault in the order of pieces. A name is found to be circular before its pieces are read.
-    #[tactic(auto, using(crate::proofs::Values::value_given, crate::proofs::Values::places_given, crate::proofs::Values::value_refused, crate::proofs::Values::places_refused))]
+    #[tactic(auto, using(crate::proofs::ValueWhole::value_given, crate::proofs::ValueWhole::places_given, crate::proofs::ValueWhole::value_refused, crate::proofs::ValueWhole::places_refused))]
     pub fn parse_field(
         &self,
         alloc: Global,

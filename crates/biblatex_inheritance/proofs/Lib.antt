@@ -1,6 +1,6 @@
-pub mod HandingOn
-pub mod Dating
-pub mod Inheriting
-pub mod Resolving
-pub mod Ordered
-pub mod Solving
+pub mod TableHanding
+pub mod ResolvedDates
+pub mod ResolvedReferences
+pub mod SolutionSteps
+pub mod SolutionOrder
+pub mod SolutionAlong

@@ -15,14 +15,16 @@ use Rattle.biblatex_dates.specs.Shape.{shape_of, date_of}
 use Rattle.biblatex_dates.specs.Written.{date_text}
 use Rattle.biblatex_dates.specs.declared.date.Date.{Date}
 use Rattle.biblatex_dates.specs.declared.error.TypeErrorKind.{TypeErrorKind}
+use Rattle.biblatex_inheritance.specs.declared.error.DateFault.{DateFault}
 use Rattle.biblatex_inheritance.specs.Table.{inherits, source_name}
 
 -- the value under each name, if there is one
 abbrev pub Table : Type 0
 Table = List ℕ → Option (List Member)
 
--- what a reference has to offer
+-- what a reference has to offer: the entry of a number, by its role and its fields
 pub record Offer : Type 0 where
+  pub number : ℕ
   pub role : Role
   pub fields : Table
 
@@ -32,12 +34,12 @@ first None other = other
 first (Some v) other = Some v
 
 -- what one reference offers under a name, and what the first reference does that offers it
-abbrev pub offered : Role → Offer → Table
-offered to r name = if inherits to name then r.fields (source_name to r.role name) else None
+abbrev pub offered : Role → Role → Table → Table
+offered to from fields name = if inherits to name then fields (source_name to from name) else None
 
 abbrev pub first_offer : Role → List Offer → Table
 first_offer to [] name = None
-first_offer to (r ∷ rs) name = first (offered to r name) (first_offer to rs name)
+first_offer to (r ∷ rs) name = first (offered to r.role r.fields name) (first_offer to rs name)
 
 -- an entry's own fields, without xdata
 abbrev pub without_xdata : Table → Table
@@ -74,9 +76,9 @@ abbrev pub readable : Result (Option Date) TypeErrorKind → Option Date
 readable (Ok d) = d
 readable (Err e) = None
 
-abbrev pub fault : Result (Option Date) TypeErrorKind → Option TypeErrorKind
-fault (Ok d) = None
-fault (Err e) = Some e
+abbrev pub fault : ℕ → Result (Option Date) TypeErrorKind → Option DateFault
+fault reference (Ok d) = None
+fault reference (Err e) = Some (record { reference = reference; kind = e })
 
 abbrev pub later : Option Date → Option Date → Option Date
 later a None = a
@@ -86,13 +88,13 @@ abbrev pub last_date : Option Date → List Offer → Option Date
 last_date so_far [] = so_far
 last_date so_far (r ∷ rs) = last_date (later so_far (readable (date_in r.fields))) rs
 
-abbrev pub earlier : Option TypeErrorKind → Option TypeErrorKind → Option TypeErrorKind
+abbrev pub earlier : Option DateFault → Option DateFault → Option DateFault
 earlier None b = b
-earlier (Some e) b = Some e
+earlier (Some f) b = Some f
 
-abbrev pub first_fault : List Offer → Option TypeErrorKind
+abbrev pub first_fault : List Offer → Option DateFault
 first_fault [] = None
-first_fault (r ∷ rs) = earlier (fault (date_in r.fields)) (first_fault rs)
+first_fault (r ∷ rs) = earlier (fault r.number (date_in r.fields)) (first_fault rs)
 
 -- all but sets and xdata entries need a date
 abbrev pub needs_date : Role → Bool
@@ -122,13 +124,13 @@ abbrev pub resolved : Source → List Offer → Table
 resolved e rs = dated (date_for (role_of e.entry_type) rs) (undated e rs)
 
 -- the fault of an entry that needs a date: that of its first reference whose date cannot be read
-abbrev pub date_fault : Source → List Offer → Option TypeErrorKind
+abbrev pub date_fault : Source → List Offer → Option DateFault
 date_fault e rs = if needs_date (role_of e.entry_type) then first_fault rs else None
 
 -- What references have to offer, as `see` sees the fields of each entry. A number that is no entry's offers nothing.
-abbrev pub offer_seen : Option Source → Table → List Offer
-offer_seen None fields = []
-offer_seen (Some e) fields = record { role = role_of e.entry_type; fields = fields } ∷ []
+abbrev pub offer_seen : ℕ → Option Source → Table → List Offer
+offer_seen n None fields = []
+offer_seen n (Some e) fields = record { number = n; role = role_of e.entry_type; fields = fields } ∷ []
 
 abbrev pub offers : List Source → (ℕ → Table) → List ℕ → List Offer
-offers es see rs = flat_map (λ r. offer_seen (slice_get es r) (see r)) rs
+offers es see rs = flat_map (λ r. offer_seen r (slice_get es r) (see r)) rs

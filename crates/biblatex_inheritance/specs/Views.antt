@@ -18,9 +18,9 @@ use Rattle.biblatex_inheritance.specs.declared.dated.Dated.{Dated}
 abbrev pub table : List Named → Table
 table fs name = value_named name fs
 
--- what an entry has to offer
-abbrev pub offer : Entry → Offer
-offer e = record { role = role_of (type_name e.entry_type); fields = table e.fields }
+-- what the entry of a number has to offer
+abbrev pub offer : ℕ → Entry → Offer
+offer n e = record { number = n; role = role_of (type_name e.entry_type); fields = table e.fields }
 
 -- borrowed texts
 abbrev pub texts : List (Bor (List ℕ)) → List (List ℕ)
@@ -35,16 +35,16 @@ abbrev pub borrowed_fields : List (Bor (String Global) × Bor (Vec (Spanned Chun
 borrowed_fields es = map (λ e. (string_bytes e.0.now, styled e.1.now.items)) es
 
 -- what references have to offer, as the entries stand
-abbrev pub offer_in : Option Entry → List Offer
-offer_in None = []
-offer_in (Some e) = offer e ∷ []
+abbrev pub offer_in : ℕ → Option Entry → List Offer
+offer_in n None = []
+offer_in n (Some e) = offer n e ∷ []
 
-abbrev pub offer_borrowed : Option (Bor Entry) → List Offer
-offer_borrowed None = []
-offer_borrowed (Some e) = offer e.now ∷ []
+abbrev pub offer_borrowed : ℕ → Option (Bor Entry) → List Offer
+offer_borrowed n None = []
+offer_borrowed n (Some e) = offer n e.now ∷ []
 
 abbrev pub offers_in : List Entry → List ℕ → List Offer
-offers_in es rs = flat_map (λ r. offer_in (slice_get es r)) rs
+offers_in es rs = flat_map (λ r. offer_in r (slice_get es r)) rs
 
 -- what was read of references so far
 abbrev pub IsDated : Dated → Option Date → List Offer → Type 0

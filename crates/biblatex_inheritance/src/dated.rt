@@ -7,6 +7,7 @@ ghost use Rattle.biblatex_dates.specs.Shape.{shape_of, date_of};
 ghost use Rattle.biblatex_inheritance.specs.Resolved.{characters_at, some_date, date_in, readable, fault, later, earlier, last_date, first_fault};
 ghost use Rattle.biblatex_inheritance.specs.Views.{table, offer_in, offer_borrowed, offers_in, IsDated};
 
+use crate::error::DateFault;
 use biblatex_dates::{Date, TypeErrorKind};
 use biblatex_entries::{Entry, field_text};
 use biblatex_fields::Fields;
@@ -17,7 +18,7 @@ use texts::split_first;
 #[derive(Clone, Copy)]
 pub(crate) struct Dated {
     pub date: Option<Date>,
-    pub fault: Option<TypeErrorKind>,
+    pub fault: Option<DateFault>,
 }
 
 /// The dates of the references, the first to the last.
@@ -33,24 +34,29 @@ pub(crate) fn dates_of(
         fault: None,
     };
     for &reference in references {
-        read = and_date(alloc, read, entry_at(entries, reference))?;
+        read = and_date(alloc, read, reference, entry_at(entries, reference))?;
     }
     Ok(read)
 }
 
 /// The entry of that number, if there is one.
 pub(crate) fn entry_at(entries: &[Entry], number: usize) -> Option<&Entry>
-    ensures { offer_borrowed result ≡ offer_in (slice_get entries.now number) }
+    ensures { offer_borrowed number result ≡ offer_in number (slice_get entries.now number) }
 {
     entries.get(number)
 }
 
-/// The same with the date of one reference more, where there is such an entry.
-fn and_date(alloc: Global, read: Dated, entry: Option<&Entry>) -> Result<Dated, AllocError>
-    ensures { IfOk result (λ d. (d.date ≡ last_date read.date (offer_borrowed entry.entry)) × (d.fault ≡ earlier read.fault (first_fault (offer_borrowed entry.entry)))) }
+/// The same with the date of one reference more, by its number, where there is such an entry.
+fn and_date(
+    alloc: Global,
+    read: Dated,
+    reference: usize,
+    entry: Option<&Entry>,
+) -> Result<Dated, AllocError>
+    ensures { IfOk result (λ d. (d.date ≡ last_date read.date (offer_borrowed reference entry.entry)) × (d.fault ≡ earlier read.fault (first_fault (offer_borrowed reference entry.entry)))) }
 {
     match entry {
-        Some(entry) => Ok(read.and(date_in(alloc, &entry.fields)?)),
+        Some(entry) => Ok(read.and(reference, date_in(alloc, &entry.fields)?)),
         None => Ok(read),
     }
 }
@@ -88,17 +94,17 @@ fn text_at(alloc: Global, fields: &Fields, name: &str) -> Result<String, AllocEr
 
 impl Dated {
     /// The same with the date of one reference more.
-    fn and(self, more: Result<Option<Date>, TypeErrorKind>) -> Dated
+    fn and(self, reference: usize, more: Result<Option<Date>, TypeErrorKind>) -> Dated
         ensures date { result.date ≡ later self.date (readable more) }
-        ensures fault { result.fault ≡ earlier self.fault (fault more) }
+        ensures fault { result.fault ≡ earlier self.fault (fault reference more) }
     {
         match more {
             Ok(date) => Dated {
                 date: date.or(self.date),
                 ..self
             },
-            Err(fault) => Dated {
-                fault: self.fault.or(Some(fault)),
+            Err(kind) => Dated {
+                fault: self.fault.or(Some(DateFault { reference, kind })),
                 ..self
             },
         }

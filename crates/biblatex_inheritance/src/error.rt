@@ -7,6 +7,15 @@ use biblatex_dates::TypeErrorKind;
 use std::alloc::{AllocError, AllocFailed};
 use thiserror::Error;
 
+/// A date that cannot be read.
+#[derive(Clone, Copy, Debug, PartialEq, Eq)]
+pub struct DateFault {
+    /// The number of the entry that has it, to which others refer.
+    pub reference: usize,
+    /// What is wrong with it.
+    pub kind: TypeErrorKind,
+}
+
 /// Why entries are not resolved.
 #[derive(Clone, Copy, Debug, PartialEq, Eq, Error)]
 pub enum ResolveError {
@@ -16,10 +25,9 @@ pub enum ResolveError {
     /// The entry of this number is the first that reaches itself by its references.
     #[error("circular reference")]
     ReferenceCycle(usize),
-    /// The entry of this number is the first that needs a date and has a reference whose date cannot be read; with the fault
-    /// of its first such reference.
+    /// The first entry that needs a date and has a reference whose date cannot be read has this as its first such reference.
     #[error("unreadable date")]
-    UnreadableDate(usize, TypeErrorKind),
+    UnreadableDate(DateFault),
 }
 
 impl From<AllocError> for ResolveError {

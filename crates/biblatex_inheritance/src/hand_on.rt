@@ -8,7 +8,7 @@ ghost use Rattle.biblatex_entries.specs.Roles.{role_of};
 ghost use Rattle.biblatex_entries.specs.TypeNames.{type_name};
 ghost use Rattle.biblatex_inheritance.specs.Table.{is_among, never, of_all, source_name};
 ghost use Rattle.biblatex_inheritance.specs.Resolved.{offered};
-ghost use Rattle.biblatex_inheritance.specs.Views.{HandsOn, texts, offer};
+ghost use Rattle.biblatex_inheritance.specs.Views.{HandsOn, texts, table};
 
 use crate::table::{OF_ALL, OF_ARTICLES, OF_PARTS, is_never, source_name};
 use biblatex_content::{Chunks, copied};
@@ -23,7 +23,7 @@ pub(crate) fn hand_on(
     fields: &mut Fields,
     from: &Entry,
 ) -> Result<(), AllocError>
-    ensures { OnOk result (HandsOn fields.old fields.new (offered to (offer from.now))) }
+    ensures { OnOk result (HandsOn fields.old fields.new (offered to (role_of (type_name from.now.entry_type)) (table from.now.fields))) }
 {
     match to {
         Role::XData => hand_on_all(alloc, fields, &from.fields),

@@ -1,6 +1,6 @@
 //! What an entry is once its references are resolved.
 
-ghost use Rattle.std.specs.Prelude.{◌≡◌, IfOk, OnOk, List, ℕ, None, Some, if◌then◌else◌, ◌||◌, codes};
+ghost use Rattle.std.specs.Prelude.{◌≡◌, IfOk, OnOk, List, ℕ, None, Some, slice_get, if◌then◌else◌, ◌||◌, codes};
 ghost use Rattle.std.specs.Str.{bytes_eq};
 ghost use Rattle.biblatex_content.specs.declared.chunk.Kind.TheVariants.{Normal};
 ghost use Rattle.biblatex_content.specs.Styled.{letters};
@@ -10,12 +10,13 @@ ghost use Rattle.biblatex_dates.specs.Date.{date_without_time};
 ghost use Rattle.biblatex_dates.specs.Written.{date_text};
 ghost use Rattle.biblatex_fields.specs.Fields.{value_named};
 ghost use Rattle.biblatex_inheritance.specs.Resolved.{first, first_offer, with_date, dated, date_for, needs_date, first_fault, without_xdata};
-ghost use Rattle.biblatex_inheritance.specs.Views.{table, HandsOn, IsTable, offer_borrowed, offers_in};
+ghost use Rattle.biblatex_inheritance.specs.Views.{table, HandsOn, IsTable, offer_in, offers_in};
 
 use crate::dated::{Dated, dates_of, entry_at};
+use crate::error::DateFault;
 use crate::hand_on::hand_on;
 use biblatex_content::{Chunk, Chunks, Spanned};
-use biblatex_dates::{Date, TypeErrorKind};
+use biblatex_dates::Date;
 use biblatex_entries::{Entry, Role};
 use biblatex_fields::Fields;
 use std::alloc::{AllocError, Global};
@@ -28,7 +29,7 @@ pub(crate) fn inherit(
     fields: &mut Fields,
     references: &[usize],
     entries: &[Entry],
-) -> Result<Option<TypeErrorKind>, AllocError>
+) -> Result<Option<DateFault>, AllocError>
     ensures fields { OnOk result (IsTable fields.new (dated (date_for role (offers_in entries.now references.now)) (λ name. first (without_xdata (table fields.old) name) (first_offer role (offers_in entries.now references.now) name)))) }
     ensures fault { IfOk result (λ f. f ≡ (if needs_date role then first_fault (offers_in entries.now references.now) else None)) }
 {
@@ -62,7 +63,7 @@ fn hand_on_all_of(
     ensures { OnOk result (HandsOn fields.old fields.new (first_offer role (offers_in entries.now references.now))) }
 {
     for &reference in references {
-        hand_on_where(alloc, role, fields, entry_at(entries, reference))?;
+        hand_on_where(alloc, role, fields, reference, entries)?;
     }
     Ok(())
 }
@@ -72,11 +73,12 @@ fn hand_on_where(
     alloc: Global,
     role: Role,
     fields: &mut Fields,
-    from: Option<&Entry>,
+    reference: usize,
+    entries: &[Entry],
 ) -> Result<(), AllocError>
-    ensures { OnOk result (HandsOn fields.old fields.new (first_offer role (offer_borrowed from.entry))) }
+    ensures { OnOk result (HandsOn fields.old fields.new (first_offer role (offer_in reference (slice_get entries.now reference)))) }
 {
-    match from {
+    match entry_at(entries, reference) {
         Some(from) => hand_on(alloc, role, fields, from),
         None => Ok(()),
     }

@@ -8,5 +8,5 @@ mod inherit;
 mod solution;
 mod table;
 
-pub use error::ResolveError;
+pub use error::{DateFault, ResolveError};
 pub use solution::{Resolution, resolve};

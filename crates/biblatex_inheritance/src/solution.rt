@@ -7,9 +7,8 @@ ghost use Rattle.biblatex_entries.specs.Entries.{sources};
 ghost use Rattle.biblatex_inheritance.specs.Views.{offers_in};
 ghost use Rattle.biblatex_inheritance.specs.Solution.{Solves, seen, fault_at, HaveSameHeads, AreOrdered, AreResolved, IsFirstFault, IsOnly, IsRefusedAs, IsResolvedAt, NoneIsCircular};
 
-use crate::error::ResolveError;
+use crate::error::{DateFault, ResolveError};
 use crate::inherit::inherit;
-use biblatex_dates::TypeErrorKind;
 use biblatex_entries::Entry;
 use biblatex_fields::Fields;
 use reference_graph::reference_order;
@@ -28,7 +27,7 @@ pub struct Resolution {
 /// The fault of each entry, and how many entries were made.
 #[derive(Drop)]
 struct Faults {
-    faults: Vec<Option<TypeErrorKind>>,
+    faults: Vec<Option<DateFault>>,
     count: usize,
 }
 
@@ -36,8 +35,8 @@ struct Faults {
 /// number that is no entry's is passed over.
 ///
 /// # Errors
-/// `ReferenceCycle` with the first entry that reaches itself, else `UnreadableDate` with the first entry that needs a date and
-/// has a reference whose date cannot be read; `Memory` where a request for memory was refused.
+/// `ReferenceCycle` with the first entry that reaches itself, else `UnreadableDate` with the first reference whose date cannot be
+/// read of the first entry that needs a date and has one; `Memory` where a request for memory was refused.
 pub fn resolve(
     alloc: Global,
     entries: Vec<Entry>,
@@ -68,18 +67,18 @@ pub fn resolve(
     let mut entries = entries;
     let Faults { faults, count } = resolve_all(alloc, &mut entries, references, order.order())?;
     match first_fault(&faults) {
-        Some((number, kind)) => Err(ResolveError::UnreadableDate(number, kind)),
+        Some(fault) => Err(ResolveError::UnreadableDate(fault)),
         None => Ok(Resolution { entries, count }),
     }
 }
 
-/// The first fault, and its place.
-fn first_fault(faults: &[Option<TypeErrorKind>]) -> Option<(usize, TypeErrorKind)>
-    ensures { MatchOption result ((i : ℕ) → i < length faults.now → slice_get faults.now i ≡ Some None) (λ p. IsFirstFault faults.now p) }
+/// The fault of the first entry that has one.
+fn first_fault(faults: &[Option<DateFault>]) -> Option<DateFault>
+    ensures { MatchOption result ((i : ℕ) → i < length faults.now → slice_get faults.now i ≡ Some None) (λ f. IsFirstFault faults.now f) }
 {
-    for (number, fault) in faults.iter().enumerate() {
-        if let Some(kind) = fault {
-            return Some((number, *kind));
+    for &fault in faults {
+        if fault.is_some() {
+            return fault;
         }
     }
     None
@@ -108,7 +107,7 @@ fn resolve_all(
 }
 
 /// No fault at so many places.
-fn no_faults(alloc: Global, count: usize) -> Result<Vec<Option<TypeErrorKind>>, AllocError>
+fn no_faults(alloc: Global, count: usize) -> Result<Vec<Option<DateFault>>, AllocError>
     ensures { IfOk result (λ v. length v.items ≡ count) }
 {
     let mut faults = Vec::new(alloc);
@@ -123,7 +122,7 @@ pub(crate) fn resolve_one(
     entries: &mut Vec<Entry>,
     number: usize,
     references: &[usize],
-) -> Result<Option<TypeErrorKind>, AllocError>
+) -> Result<Option<DateFault>, AllocError>
     requires there { number < length entries.old.items }
     requires other { Contains references.now number → ⊥ }
     ensures { IfOk result (λ fault. IsResolvedAt entries.old.items entries.new.items number (offers_in entries.old.items references.now) fault) }

@@ -1,6 +1,6 @@
-pub mod Tested
-pub mod Chars
-pub mod Cutting
-pub mod Trimming
-pub mod Joining
+pub mod PartsTested
+pub mod StyledCharsTexts
+pub mod PartsCut
+pub mod PartsTrimmed
+pub mod WritingJoined
 pub mod ReadBack

@@ -7,11 +7,11 @@ use Rattle.biblatex_lists.specs.StyledChars.{is_gap, spells, in_style, of_style,
 use Rattle.biblatex_lists.specs.Parts.{begins_and, trimmed, without_first_gaps, before_others, without_last_gaps, parts}
 use Rattle.biblatex_lists.specs.TextList.{texts_of}
 use Rattle.laws.specs.Text.{is_filled}
-use Rattle.biblatex_lists.specs.Writing.{kind, and_word, behind_and, space, begins_two_gaps, is_loose, holds, padded, is_plain, written_text, written_texts}
+use Rattle.biblatex_lists.specs.Writing.{kind, and_word, after_and, space, begins_two_gaps, is_loose, holds, padded, is_plain, written_text, written_texts}
 use Rattle.biblatex_lists.specs.Laws.{IsReadBack, ReadsBack}
-use Rattle.biblatex_lists.proofs.Tested.{or_first, or_second, both_false, and_first, and_second, and_true, not_true}
-use Rattle.biblatex_lists.proofs.Chars.{chars_of_letters, chars_of_both, plain_of_style}
-use Rattle.biblatex_lists.proofs.Joining.{IsPart, AreParts, behind_first, parts_joined}
+use Rattle.biblatex_lists.proofs.PartsTested.{or_first, or_second, both_false, and_first, and_second, and_true, not_true}
+use Rattle.biblatex_lists.proofs.StyledCharsTexts.{chars_of_letters, chars_of_both, plain_of_style}
+use Rattle.biblatex_lists.proofs.WritingJoined.{IsPart, AreParts, past_first, parts_joined}
 
 -- a weaker test holds nowhere either
 pub nowhere_and : (ss : List StyledChar) → holds is_loose ss ≡ false → holds begins_and ss ≡ false
@@ -96,21 +96,21 @@ texts_are_parts [] = tt
 texts_are_parts (t ∷ ts) = (text_is_part t (is_plain t) refl, texts_are_parts ts)
 
 -- the characters of texts after a first one
-chars_behind : (ts : List (List ℕ)) → styled_chars (flat_map behind_and (map written_text ts)) ≡ behind_first (map styled_text ts)
-chars_behind [] = refl
-chars_behind (t ∷ ts) =
-    let here : styled_chars (behind_and (written_text t)) ≡ of_style true and_word ++ styled_text t =
+chars_after : (ts : List (List ℕ)) → styled_chars (flat_map after_and (map written_text ts)) ≡ past_first (map styled_text ts)
+chars_after [] = refl
+chars_after (t ∷ ts) =
+    let here : styled_chars (after_and (written_text t)) ≡ of_style true and_word ++ styled_text t =
     chars_of_both (letters (kind true) and_word) (written_text t) ∙ ap (λ (ss : List StyledChar). of_style true and_word ++ ss) (chars_of_letters (is_plain t) t) in
-    chars_of_both (behind_and (written_text t)) (flat_map behind_and (map written_text ts))
-    ∙ (ap (λ (ss : List StyledChar). ss ++ styled_chars (flat_map behind_and (map written_text ts))) here
-    ∙ (ap (λ (ss : List StyledChar). (of_style true and_word ++ styled_text t) ++ ss) (chars_behind ts)
-    ∙ append_assoc (of_style true and_word) (styled_text t) (behind_first (map styled_text ts))))
+    chars_of_both (after_and (written_text t)) (flat_map after_and (map written_text ts))
+    ∙ (ap (λ (ss : List StyledChar). ss ++ styled_chars (flat_map after_and (map written_text ts))) here
+    ∙ (ap (λ (ss : List StyledChar). (of_style true and_word ++ styled_text t) ++ ss) (chars_after ts)
+    ∙ append_assoc (of_style true and_word) (styled_text t) (past_first (map styled_text ts))))
 
-chars_joined : (t : List ℕ) (ts : List (List ℕ)) → styled_chars (written_texts (t ∷ ts)) ≡ styled_text t ++ behind_first (map styled_text ts)
+chars_joined : (t : List ℕ) (ts : List (List ℕ)) → styled_chars (written_texts (t ∷ ts)) ≡ styled_text t ++ past_first (map styled_text ts)
 chars_joined t ts =
-    chars_of_both (written_text t) (flat_map behind_and (map written_text ts))
-    ∙ (ap (λ (ss : List StyledChar). ss ++ styled_chars (flat_map behind_and (map written_text ts))) (chars_of_letters (is_plain t) t)
-    ∙ ap (λ (ss : List StyledChar). styled_text t ++ ss) (chars_behind ts))
+    chars_of_both (written_text t) (flat_map after_and (map written_text ts))
+    ∙ (ap (λ (ss : List StyledChar). ss ++ styled_chars (flat_map after_and (map written_text ts))) (chars_of_letters (is_plain t) t)
+    ∙ ap (λ (ss : List StyledChar). styled_text t ++ ss) (chars_after ts))
 
 -- texts that are not empty, as parts
 filled_text : (b : Bool) (t : List ℕ) (ps : List (List StyledChar)) (ts : List (List ℕ)) → is_filled t ≡ true → texts_of ps ≡ ts → texts_of (of_style b t ∷ ps) ≡ t ∷ ts

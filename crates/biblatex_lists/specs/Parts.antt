@@ -20,14 +20,14 @@ before_first ss (p ∷ ps) = (ss ++ p) ∷ ps
 
 -- the text cut at each word `and` between white space, once so many characters have been passed over; the white space
 -- after one word may stand before the next
-abbrev pub cut_behind : ℕ → List StyledChar → List (List StyledChar)
-cut_behind n [] = [] ∷ []
-cut_behind (suc n) (s ∷ ss) = cut_behind n ss
-cut_behind zero (s ∷ ss) = if begins_and (s ∷ ss) then [] ∷ cut_behind 3 ss else before_first (s ∷ []) (cut_behind 0 ss)
+abbrev pub cut_after : ℕ → List StyledChar → List (List StyledChar)
+cut_after n [] = [] ∷ []
+cut_after (suc n) (s ∷ ss) = cut_after n ss
+cut_after zero (s ∷ ss) = if begins_and (s ∷ ss) then [] ∷ cut_after 3 ss else before_first (s ∷ []) (cut_after 0 ss)
 
 -- the text cut at each word `and`
 abbrev pub cut : List StyledChar → List (List StyledChar)
-cut ss = cut_behind 0 ss
+cut ss = cut_after 0 ss
 
 -- without the white space at the front
 abbrev pub without_first_gaps : List StyledChar → List StyledChar

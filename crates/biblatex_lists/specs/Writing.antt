@@ -20,13 +20,13 @@ abbrev pub and_word : List ℕ
 and_word = 32 ∷ 97 ∷ 110 ∷ 100 ∷ 32 ∷ []
 
 -- a part after ` and `
-abbrev pub behind_and : List Member → List Member
-behind_and p = letters Normal and_word ++ p
+abbrev pub after_and : List Member → List Member
+after_and p = letters Normal and_word ++ p
 
 -- the parts with ` and ` between them
 abbrev pub joined : List (List Member) → List Member
 joined [] = []
-joined (p ∷ ps) = p ++ flat_map behind_and ps
+joined (p ∷ ps) = p ++ flat_map after_and ps
 
 -- a Normal space
 abbrev pub space : StyledChar

@@ -11,8 +11,8 @@ pub(crate) fn begins_and(text: &[StyledChar]) -> bool
     ensures { result ≡ begins_and text.now }
 {
     match text {
-        [before, a, n, d, behind, ..] => {
-            before.is_gap() && a.spells('a') && n.spells('n') && d.spells('d') && behind.is_gap()
+        [before, a, n, d, following, ..] => {
+            before.is_gap() && a.spells('a') && n.spells('n') && d.spells('d') && following.is_gap()
         }
         _ => false,
     }
@@ -69,9 +69,9 @@ pub fn parts<'v>(alloc: Global, text: &'v [StyledChar]) -> Result<Vec<&'v [Style
 {
     let mut parts = Vec::new(alloc);
     let mut rest = text;
-    while let Some((part, behind)) = split_at_and(rest) {
+    while let Some((part, following)) = split_at_and(rest) {
         parts.push(trimmed(part))?;
-        rest = behind;
+        rest = following;
     }
     parts.push(trimmed(rest))?;
     Ok(parts)

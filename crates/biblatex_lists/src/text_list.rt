@@ -5,7 +5,7 @@ ghost use Rattle.biblatex_content.specs.Views.{styled};
 ghost use Rattle.laws.specs.Text.{characters};
 ghost use Rattle.biblatex_lists.specs.Parts.{borrowed};
 ghost use Rattle.biblatex_lists.specs.TextList.{texts_in, texts_of};
-ghost use Rattle.biblatex_lists.specs.Writing.{behind_and, so_far, written_text, written_texts};
+ghost use Rattle.biblatex_lists.specs.Writing.{after_and, so_far, written_text, written_texts};
 
 use crate::parting::parts;
 use crate::styled_char::{StyledChar, plain_text, styled_chars};
@@ -49,7 +49,7 @@ pub fn read_texts(alloc: Global, value: &[Spanned<Chunk>]) -> Result<Vec<String>
 
 /// Appends each text, after ` and `.
 fn push_others(writing: &mut Writing, texts: &[String]) -> Result<(), AllocError>
-    ensures { OnOk result (so_far writing.new ≡ so_far writing.old ++ flat_map behind_and (map written_text (map characters texts.now))) }
+    ensures { OnOk result (so_far writing.new ≡ so_far writing.old ++ flat_map after_and (map written_text (map characters texts.now))) }
 {
     for text in texts {
         writing.push_and()?;

@@ -1,6 +1,6 @@
-pub mod Cut
-pub mod Lists
-pub mod Windows
-pub mod Fields
-pub mod Fronts
+pub mod WordsCut
+pub mod ViewsLists
+pub mod WordsWindows
+pub mod WritingFields
+pub mod WritingFronts
 pub mod ReadBack

@@ -8,19 +8,19 @@ use Rattle.biblatex_lists.specs.declared.styled_char.StyledChar.{StyledChar}
 use Rattle.biblatex_lists.specs.StyledChars.{of_style, styled_chars, plain}
 use Rattle.biblatex_lists.specs.Parts.{trimmed, parts}
 use Rattle.laws.specs.Text.{is_filled}
-use Rattle.biblatex_lists.specs.Writing.{kind, and_word, behind_and, space, is_loose, holds}
-use Rattle.biblatex_lists.proofs.Tested.{and_first, and_second}
-use Rattle.biblatex_lists.proofs.Chars.{chars_of_letters, chars_of_both, plain_of_style}
-use Rattle.biblatex_lists.proofs.Joining.{AreParts, behind_first, parts_joined}
+use Rattle.biblatex_lists.specs.Writing.{kind, and_word, after_and, space, is_loose, holds}
+use Rattle.biblatex_lists.proofs.PartsTested.{and_first, and_second}
+use Rattle.biblatex_lists.proofs.StyledCharsTexts.{chars_of_letters, chars_of_both, plain_of_style}
+use Rattle.biblatex_lists.proofs.WritingJoined.{AreParts, past_first, parts_joined}
 use Rattle.biblatex_lists.proofs.ReadBack.{nowhere_and, nowhere_two_gaps, trimmed_already}
 use Rattle.biblatex_people.specs.declared.words.Mark.TheVariants.{Comma, Equals}
 use Rattle.biblatex_people.specs.Words.{is_mark, split_once, cut_at, words, joined_words}
 use Rattle.biblatex_people.specs.Reading.{Named, is_named, with_commas, by_parts, person_of, person_in, is_someone, is_letter, is_others, ends_in_others, without_others, people_of}
-use Rattle.biblatex_people.specs.Writing.{is_steady, is_name, written_part, written_name, before_name, behind_name, given_behind, written_person, written_people}
+use Rattle.biblatex_people.specs.Writing.{is_steady, is_name, written_part, written_name, before_name, after_name, given_after, written_person, written_people}
 use Rattle.biblatex_people.specs.Laws.{is_prefix, is_read_back, AreReadBack, PeopleReadBack, is_capitalised, is_plain_person, PlainPeopleAreReadBack}
-use Rattle.biblatex_people.proofs.Windows.{comma, comma_before}
-use Rattle.biblatex_people.proofs.Fields.{IsField, nowhere_loose, field_before_comma, field_has_no_comma, cut_before, cut_nowhere, no_pair, joined_field, part_field}
-use Rattle.biblatex_people.proofs.Fronts.{IsFront, name_chars, part_chars, front_without, front_with}
+use Rattle.biblatex_people.proofs.WordsWindows.{comma, comma_before}
+use Rattle.biblatex_people.proofs.WritingFields.{IsField, nowhere_loose, field_before_comma, field_has_no_comma, cut_before, cut_nowhere, no_pair, joined_field, part_field}
+use Rattle.biblatex_people.proofs.WritingFronts.{IsFront, name_chars, part_chars, front_without, front_with}
 
 -- what stands after the last comma, and after the first one
 abbrev given_rest : List StyledChar → List StyledChar
@@ -72,7 +72,7 @@ abbrev name_of : List ℕ → List ℕ → List ℕ → List ℕ → Named
 name_of prefix name suffix given = record { name = name; given_name = given; prefix = prefix; suffix = suffix }
 
 of_words : (x : List StyledChar) (prefix name suffix given : List ℕ) (ws gs : List (List StyledChar)) → IsFront x prefix name → joined_words ws ≡ suffix → joined_words gs ≡ given → with_commas (words x) ws gs ≡ name_of prefix name suffix given
-of_words x prefix name suffix given ws gs fx es eg = four fx.before fx.behind es eg
+of_words x prefix name suffix given ws gs fx es eg = four fx.before fx.following es eg
   where
     four : {a b c d : List ℕ} → a ≡ prefix → b ≡ name → c ≡ suffix → d ≡ given → name_of a b c d ≡ name_of prefix name suffix given
     four pa pb pc pd = rw (pa, pb, pc, pd) refl
@@ -140,15 +140,15 @@ abbrev chars_of : Named → List StyledChar
 chars_of n = person_chars (front_chars n.prefix n.name) (part_chars n.suffix) (part_chars n.given_name)
 
 -- what is written of the given name and the suffix
-given_chars : (g : List ℕ) → styled_chars (given_behind g) ≡ comma ∷ given_rest (part_chars g)
+given_chars : (g : List ℕ) → styled_chars (given_after g) ≡ comma ∷ given_rest (part_chars g)
 given_chars [] = refl
 given_chars (c ∷ g) = ap (λ (ss : List StyledChar). comma ∷ space ∷ ss) (chars_of_letters (is_steady (c ∷ g)) (c ∷ g))
 
-tail_chars : (s g : List ℕ) → styled_chars (behind_name s ++ given_behind g) ≡ comma ∷ tail_rest (part_chars s) (part_chars g)
+tail_chars : (s g : List ℕ) → styled_chars (after_name s ++ given_after g) ≡ comma ∷ tail_rest (part_chars s) (part_chars g)
 tail_chars [] g = given_chars g
 tail_chars (c ∷ s) g =
-    chars_of_both (behind_name (c ∷ s)) (given_behind g)
-    ∙ (ap (λ (ss : List StyledChar). (comma ∷ space ∷ ss) ++ styled_chars (given_behind g)) (chars_of_letters (is_steady (c ∷ s)) (c ∷ s))
+    chars_of_both (after_name (c ∷ s)) (given_after g)
+    ∙ (ap (λ (ss : List StyledChar). (comma ∷ space ∷ ss) ++ styled_chars (given_after g)) (chars_of_letters (is_steady (c ∷ s)) (c ∷ s))
     ∙ ap (λ (ss : List StyledChar). comma ∷ space ∷ (part_chars (c ∷ s) ++ ss)) (given_chars g))
 
 name_written : (name : List ℕ) (ms : List Member) → styled_chars (written_name name ++ ms) ≡ name_chars name ++ styled_chars ms
@@ -165,7 +165,7 @@ front_written (c ∷ p) name ms =
 
 person_written : (n : Named) → styled_chars (written_person n) ≡ chars_of n
 person_written n =
-    front_written n.prefix n.name (behind_name n.suffix ++ given_behind n.given_name)
+    front_written n.prefix n.name (after_name n.suffix ++ given_after n.given_name)
     ∙ ap (λ (ss : List StyledChar). front_chars n.prefix n.name ++ ss) (tail_chars n.suffix n.given_name)
 
 -- what is known of one that is read back
@@ -231,21 +231,21 @@ people_of_chars ns e =
     without : (ps : List (List StyledChar)) → ends_in_others ps ≡ false → map person_in (without_others ps) ≡ map person_in ps
     without ps k = rw k refl
 
-chars_behind : (ns : List Named) → AreReadBack ns → styled_chars (flat_map behind_and (map written_person ns)) ≡ behind_first (map chars_of ns)
-chars_behind [] e = refl
-chars_behind (n ∷ ns) e =
-    let here : styled_chars (behind_and (written_person n)) ≡ of_style true and_word ++ chars_of n =
+chars_after : (ns : List Named) → AreReadBack ns → styled_chars (flat_map after_and (map written_person ns)) ≡ past_first (map chars_of ns)
+chars_after [] e = refl
+chars_after (n ∷ ns) e =
+    let here : styled_chars (after_and (written_person n)) ≡ of_style true and_word ++ chars_of n =
     chars_of_both (letters (kind true) and_word) (written_person n) ∙ ap (λ (ss : List StyledChar). of_style true and_word ++ ss) (person_written n) in
-    chars_of_both (behind_and (written_person n)) (flat_map behind_and (map written_person ns))
-    ∙ (ap (λ (ss : List StyledChar). ss ++ styled_chars (flat_map behind_and (map written_person ns))) here
-    ∙ (ap (λ (ss : List StyledChar). (of_style true and_word ++ chars_of n) ++ ss) (chars_behind ns (others_of n ns e))
-    ∙ append_assoc (of_style true and_word) (chars_of n) (behind_first (map chars_of ns))))
+    chars_of_both (after_and (written_person n)) (flat_map after_and (map written_person ns))
+    ∙ (ap (λ (ss : List StyledChar). ss ++ styled_chars (flat_map after_and (map written_person ns))) here
+    ∙ (ap (λ (ss : List StyledChar). (of_style true and_word ++ chars_of n) ++ ss) (chars_after ns (others_of n ns e))
+    ∙ append_assoc (of_style true and_word) (chars_of n) (past_first (map chars_of ns))))
 
-chars_joined : (n : Named) (ns : List Named) → AreReadBack (n ∷ ns) → styled_chars (written_people (n ∷ ns)) ≡ chars_of n ++ behind_first (map chars_of ns)
+chars_joined : (n : Named) (ns : List Named) → AreReadBack (n ∷ ns) → styled_chars (written_people (n ∷ ns)) ≡ chars_of n ++ past_first (map chars_of ns)
 chars_joined n ns e =
-    chars_of_both (written_person n) (flat_map behind_and (map written_person ns))
-    ∙ (ap (λ (ss : List StyledChar). ss ++ styled_chars (flat_map behind_and (map written_person ns))) (person_written n)
-    ∙ ap (λ (ss : List StyledChar). chars_of n ++ ss) (chars_behind ns (others_of n ns e)))
+    chars_of_both (written_person n) (flat_map after_and (map written_person ns))
+    ∙ (ap (λ (ss : List StyledChar). ss ++ styled_chars (flat_map after_and (map written_person ns))) (person_written n)
+    ∙ ap (λ (ss : List StyledChar). chars_of n ++ ss) (chars_after ns (others_of n ns e)))
 
 pub people_are_back : PeopleReadBack
 people_are_back [] e = refl

@@ -36,13 +36,13 @@ abbrev pub words : List StyledChar → List (List StyledChar)
 words ss = filter is_filled (cut_at Gap ss)
 
 -- a word after a space
-abbrev pub behind_space : List StyledChar → List ℕ
-behind_space w = 32 ∷ plain w
+abbrev pub past_space : List StyledChar → List ℕ
+past_space w = 32 ∷ plain w
 
 -- words with one space between them
 abbrev pub joined_words : List (List StyledChar) → List ℕ
 joined_words [] = []
-joined_words (w ∷ ws) = plain w ++ flat_map behind_space ws
+joined_words (w ∷ ws) = plain w ++ flat_map past_space ws
 
 -- a small word begins with a Normal letter of lower case
 abbrev pub is_small : List StyledChar → Bool

@@ -41,18 +41,18 @@ before_name [] = []
 before_name (c ∷ cs) = written_part (c ∷ cs) ++ letters Normal (32 ∷ [])
 
 -- the suffix stands after a comma and a space
-abbrev pub behind_name : List ℕ → List Member
-behind_name [] = []
-behind_name (c ∷ cs) = letters Normal (44 ∷ 32 ∷ []) ++ written_part (c ∷ cs)
+abbrev pub after_name : List ℕ → List Member
+after_name [] = []
+after_name (c ∷ cs) = letters Normal (44 ∷ 32 ∷ []) ++ written_part (c ∷ cs)
 
 -- the given name stands after a comma, and after a space where there is one
-abbrev pub given_behind : List ℕ → List Member
-given_behind [] = letters Normal (44 ∷ [])
-given_behind (c ∷ cs) = letters Normal (44 ∷ 32 ∷ []) ++ written_part (c ∷ cs)
+abbrev pub given_after : List ℕ → List Member
+given_after [] = letters Normal (44 ∷ [])
+given_after (c ∷ cs) = letters Normal (44 ∷ 32 ∷ []) ++ written_part (c ∷ cs)
 
 -- a person
 abbrev pub written_person : Named → List Member
-written_person n = before_name n.prefix ++ (written_name n.name ++ (behind_name n.suffix ++ given_behind n.given_name))
+written_person n = before_name n.prefix ++ (written_name n.name ++ (after_name n.suffix ++ given_after n.given_name))
 
 -- a list of people
 abbrev pub written_people : List Named → List Member

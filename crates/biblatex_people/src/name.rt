@@ -14,7 +14,7 @@ use std::alloc::{AllocError, Global};
 use texts::empty_text;
 
 /// A name without commas and without small words before its last word.
-#[tactic(auto, using(crate::proofs::Lists::borrowed_take, crate::proofs::Lists::borrowed_drop, crate::proofs::Lists::borrowed_length))]
+#[tactic(auto, using(crate::proofs::ViewsLists::borrowed_take, crate::proofs::ViewsLists::borrowed_drop, crate::proofs::ViewsLists::borrowed_length))]
 fn by_last_word(alloc: Global, words: &[&[StyledChar]]) -> Result<Person, AllocError>
     ensures { IfOk result (λ p. named p ≡ by_last_word (borrowed words.now)) }
 {
@@ -28,7 +28,7 @@ fn by_last_word(alloc: Global, words: &[&[StyledChar]]) -> Result<Person, AllocE
 }
 
 /// A name without commas, whose small words end the front.
-#[tactic(auto, using(crate::proofs::Lists::borrowed_take, crate::proofs::Lists::borrowed_drop, crate::proofs::Lists::borrowed_length))]
+#[tactic(auto, using(crate::proofs::ViewsLists::borrowed_take, crate::proofs::ViewsLists::borrowed_drop, crate::proofs::ViewsLists::borrowed_length))]
 fn by_small_words(
     alloc: Global,
     front: &[&[StyledChar]],
@@ -46,7 +46,7 @@ fn by_small_words(
 }
 
 /// A name without commas.
-#[tactic(auto, using(crate::proofs::Lists::borrowed_take, crate::proofs::Lists::borrowed_drop, crate::proofs::Lists::borrowed_length))]
+#[tactic(auto, using(crate::proofs::ViewsLists::borrowed_take, crate::proofs::ViewsLists::borrowed_drop, crate::proofs::ViewsLists::borrowed_length))]
 fn without_commas(alloc: Global, words: &[&[StyledChar]]) -> Result<Person, AllocError>
     ensures { IfOk result (λ p. named p ≡ without_commas (borrowed words.now)) }
 {
@@ -59,7 +59,7 @@ fn without_commas(alloc: Global, words: &[&[StyledChar]]) -> Result<Person, Allo
 }
 
 /// A name with commas: the words of its first part, of the suffix, and of what is given.
-#[tactic(auto, using(crate::proofs::Lists::borrowed_take, crate::proofs::Lists::borrowed_drop, crate::proofs::Lists::borrowed_length))]
+#[tactic(auto, using(crate::proofs::ViewsLists::borrowed_take, crate::proofs::ViewsLists::borrowed_drop, crate::proofs::ViewsLists::borrowed_length))]
 fn with_commas(
     alloc: Global,
     words: &[&[StyledChar]],
@@ -104,7 +104,7 @@ fn with_suffix(
 }
 
 /// A person, from the parts between commas.
-#[tactic(auto, using(crate::proofs::Lists::by_three_parts))]
+#[tactic(auto, using(crate::proofs::ViewsLists::by_three_parts))]
 fn by_parts(alloc: Global, parts: &[&[StyledChar]]) -> Result<Person, AllocError>
     ensures { IfOk result (λ p. named p ≡ by_parts (borrowed parts.now)) }
 {

@@ -6,7 +6,7 @@ ghost use Rattle.std.specs.Str.{chars};
 ghost use Rattle.laws.specs.Text.{characters, is_filled};
 ghost use Rattle.biblatex_lists.specs.Parts.{borrowed};
 ghost use Rattle.biblatex_lists.specs.StyledChars.{of_style, plain};
-ghost use Rattle.biblatex_people.specs.Words.{behind_space, cut_at, is_mark, is_small, joined_words, lead_count, small_at, split_once, words};
+ghost use Rattle.biblatex_people.specs.Words.{past_space, cut_at, is_mark, is_small, joined_words, lead_count, small_at, split_once, words};
 
 use biblatex_lists::StyledChar;
 use std::alloc::{AllocError, Global};
@@ -49,7 +49,7 @@ fn push_plain(text: &mut String, word: &[StyledChar]) -> Result<(), AllocError>
 
 /// Appends words, each after a space.
 fn push_others(text: &mut String, words: &[&[StyledChar]]) -> Result<(), AllocError>
-    ensures { OnOk result (characters text.new ≡ characters text.old ++ flat_map behind_space (borrowed words.now)) }
+    ensures { OnOk result (characters text.new ≡ characters text.old ++ flat_map past_space (borrowed words.now)) }
 {
     for word in words {
         push_character(text, ' ')?;
@@ -104,9 +104,9 @@ pub(crate) fn cut_at<'v>(
 {
     let mut parts = Vec::new(alloc);
     let mut rest = text;
-    while let Some((part, behind)) = split_once(rest, mark) {
+    while let Some((part, following)) = split_once(rest, mark) {
         parts.push(part)?;
-        rest = behind;
+        rest = following;
     }
     parts.push(rest)?;
     Ok(parts)
@@ -133,9 +133,9 @@ fn push_words_of<'v>(
     ensures { OnOk result (borrowed list.new.items ≡ borrowed list.old.items ++ words text.now) }
 {
     let mut rest = text;
-    while let Some((word, behind)) = split_once(rest, Mark::Gap) {
+    while let Some((word, following)) = split_once(rest, Mark::Gap) {
         push_filled(list, word)?;
-        rest = behind;
+        rest = following;
     }
     push_filled(list, rest)
 }

@@ -8,10 +8,10 @@ ghost use Rattle.biblatex_content.specs.Views.{styled};
 ghost use Rattle.biblatex_content.specs.declared.chunk.Kind.TheVariants.{Normal};
 ghost use Rattle.biblatex_lists.specs.Parts.{borrowed};
 ghost use Rattle.biblatex_lists.specs.StyledChars.{of_style};
-ghost use Rattle.biblatex_lists.specs.Writing.{behind_and, holds, so_far};
+ghost use Rattle.biblatex_lists.specs.Writing.{after_and, holds, so_far};
 ghost use Rattle.biblatex_people.specs.Views.{named};
 ghost use Rattle.biblatex_people.specs.Words.{is_small, words};
-ghost use Rattle.biblatex_people.specs.Writing.{before_name, behind_name, given_behind, is_name, is_odd, is_steady, is_unsteady, written_name, written_part, written_people, written_person};
+ghost use Rattle.biblatex_people.specs.Writing.{before_name, after_name, given_after, is_name, is_odd, is_steady, is_unsteady, written_name, written_part, written_people, written_person};
 
 use crate::person::Person;
 use crate::words::{Mark, is_small, words_of};
@@ -115,7 +115,7 @@ fn push_comma(writing: &mut Writing) -> Result<(), AllocError>
 }
 
 /// Appends a part of a name, after a comma and a space.
-fn push_behind_comma(alloc: Global, writing: &mut Writing, text: &str) -> Result<(), AllocError>
+fn push_after_comma(alloc: Global, writing: &mut Writing, text: &str) -> Result<(), AllocError>
     ensures { OnOk result (so_far writing.new ≡ so_far writing.old ++ (letters Normal (44 ∷ 32 ∷ []) ++ written_part (chars text.now))) }
 {
     push_comma(writing)?;
@@ -136,22 +136,22 @@ fn push_prefix(alloc: Global, writing: &mut Writing, text: &str) -> Result<(), A
 
 /// Appends the suffix, after a comma.
 fn push_suffix(alloc: Global, writing: &mut Writing, text: &str) -> Result<(), AllocError>
-    ensures { OnOk result (so_far writing.new ≡ so_far writing.old ++ behind_name (chars text.now)) }
+    ensures { OnOk result (so_far writing.new ≡ so_far writing.old ++ after_name (chars text.now)) }
 {
     if !has_text(text) {
         return Ok(());
     }
-    push_behind_comma(alloc, writing, text)
+    push_after_comma(alloc, writing, text)
 }
 
 /// Appends the given name, after a comma, which stands there in any case.
 fn push_given(alloc: Global, writing: &mut Writing, text: &str) -> Result<(), AllocError>
-    ensures { OnOk result (so_far writing.new ≡ so_far writing.old ++ given_behind (chars text.now)) }
+    ensures { OnOk result (so_far writing.new ≡ so_far writing.old ++ given_after (chars text.now)) }
 {
     if !has_text(text) {
         return push_comma(writing);
     }
-    push_behind_comma(alloc, writing, text)
+    push_after_comma(alloc, writing, text)
 }
 
 /// Appends a person.
@@ -166,7 +166,7 @@ fn push_person(alloc: Global, writing: &mut Writing, person: &Person) -> Result<
 
 /// Appends each person, after ` and `.
 fn push_others(alloc: Global, writing: &mut Writing, people: &[Person]) -> Result<(), AllocError>
-    ensures { OnOk result (so_far writing.new ≡ so_far writing.old ++ flat_map behind_and (map written_person (map named people.now))) }
+    ensures { OnOk result (so_far writing.new ≡ so_far writing.old ++ flat_map after_and (map written_person (map named people.now))) }
 {
     for person in people {
         writing.push_and()?;

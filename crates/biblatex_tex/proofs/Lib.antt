@@ -1,3 +1,3 @@
-pub mod Lexing
-pub mod Pairing
-pub mod Marks
+pub mod TokenLexing
+pub mod TokenPairing
+pub mod AccentMarks

@@ -1,8 +1,9 @@
-pub mod Cut
-pub mod Places
-pub mod Shorter
-pub mod Repeats
-pub mod Slices
-pub mod Values
-pub mod Gathering
-pub mod Placing
+pub mod RunCut
+pub mod ReadingPlaces
+pub mod ReadingShorter
+pub mod FieldsRepeats
+pub mod SpanSlices
+pub mod ValuePieces
+pub mod RawGathered
+pub mod ItemsPlaced
+pub mod Names

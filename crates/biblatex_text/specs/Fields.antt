@@ -13,8 +13,8 @@ use Rattle.biblatex_text.specs.Value.{value_at}
 unfoldable pub field_at : ℕ → List ℕ → Result (Field × List ℕ) Refusal
 field_at n cs = do
   name ← identifier_at n cs
-  behind ← token_at 61 tokens.Equals (after_blanks name.1)
-  value ← value_at n (after_blanks behind)
+  following ← token_at 61 tokens.Equals (after_blanks name.1)
+  value ← value_at n (after_blanks following)
   Ok (record { name = name.0; value = value.0 }, value.1)
 
 -- what closes an item

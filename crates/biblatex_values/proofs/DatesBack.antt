@@ -7,10 +7,10 @@ use Rattle.biblatex_content.specs.declared.chunk.Kind.TheVariants.{Normal}
 use Rattle.biblatex_dates.specs.Shape.{shape_of, date_of}
 use Rattle.biblatex_dates.specs.Written.{date_text}
 use Rattle.biblatex_dates.specs.declared.date.Date.{Date}
-use Rattle.biblatex_dates.proofs.DatesAgain.{date_again}
-use Rattle.biblatex_dates.proofs.Existing.{date_exists}
+use Rattle.biblatex_dates.proofs.WrittenAgain.{date_again}
+use Rattle.biblatex_dates.proofs.ShapeExists.{date_exists}
 use Rattle.biblatex_values.specs.Dates.{reads_date, writes_date, IsDate}
-use Rattle.biblatex_values.proofs.Plain.{plain-letters}
+use Rattle.biblatex_values.proofs.TextsPlain.{plain-letters}
 
 pub date_back : (d : Date) → IsDate d → reads_date (writes_date d) ≡ Ok d
 date_back d exists = ap (λ (cs : List ℕ). date_of (shape_of cs)) (plain-letters Normal (date_text d)) ∙ date_again d exists

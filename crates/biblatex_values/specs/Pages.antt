@@ -29,8 +29,8 @@ dashes_from [] = None
 dashes_from (c ∷ cs) = if passes Dash c then Some (after (passes Space) (after (passes Dash) (c ∷ cs))) else None
 
 -- what stands after dashes with spaces round them, if there are any
-abbrev pub dashes_behind : List ℕ → Option (List ℕ)
-dashes_behind cs = dashes_from (after (passes Space) cs)
+abbrev pub dashes_after : List ℕ → Option (List ℕ)
+dashes_after cs = dashes_from (after (passes Space) cs)
 
 -- after a comma or an ampersand, and the spaces after it
 abbrev pub comma_from : List ℕ → Option (List ℕ)
@@ -38,20 +38,20 @@ comma_from [] = None
 comma_from (c ∷ cs) = if c == 44 || c == 38 then Some (after (passes Space) cs) else None
 
 -- what stands after a comma or an ampersand with spaces round it, if there is one
-abbrev pub comma_behind : List ℕ → Option (List ℕ)
-comma_behind cs = comma_from (after (passes Space) cs)
+abbrev pub comma_after : List ℕ → Option (List ℕ)
+comma_after cs = comma_from (after (passes Space) cs)
 
 -- where there are dashes, the pages from the first one to the one after them; else the first one alone
 abbrev pub last_from : ℕ → List ℕ → Option (List ℕ) → Result (Range ℕ × List ℕ) Unreadable
 last_from first cs None = Ok (from_to first first, cs)
 last_from first cs (Some rest) = page_at rest >>= λ last. Ok (from_to first last.0, last.1)
 
-abbrev pub last_behind : ℕ → List ℕ → Result (Range ℕ × List ℕ) Unreadable
-last_behind first cs = last_from first cs (dashes_behind cs)
+abbrev pub last_following : ℕ → List ℕ → Result (Range ℕ × List ℕ) Unreadable
+last_following first cs = last_from first cs (dashes_after cs)
 
 -- a page, or two with dashes between
 unfoldable pub range_at : List ℕ → Result (Range ℕ × List ℕ) Unreadable
-range_at cs = page_at cs >>= λ first. last_behind first.0 first.1
+range_at cs = page_at cs >>= λ first. last_following first.0 first.1
 
 -- after a comma or an ampersand a range is wanted
 abbrev pub range_from : List ℕ → Option (List ℕ) → Result (Option (Range ℕ) × List ℕ) Unreadable
@@ -60,7 +60,7 @@ range_from cs (Some rest) = range_at rest >>= λ r. Ok (Some r.0, r.1)
 
 -- a comma or an ampersand and a range, or nothing
 unfoldable pub next_range_at : List ℕ → Result (Option (Range ℕ) × List ℕ) Unreadable
-next_range_at cs = range_from cs (comma_behind cs)
+next_range_at cs = range_from cs (comma_after cs)
 
 -- a range, and further ones
 unfoldable pub ranges_at : List ℕ → Result (List (Range ℕ) × List ℕ) Unreadable

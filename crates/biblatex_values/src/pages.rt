@@ -8,7 +8,7 @@ ghost use Rattle.laws.specs.Results.{Gives, GivesRestOrRefuses, Reads};
 ghost use Rattle.texts.specs.Views.{left};
 ghost use Rattle.laws.specs.Text.{characters};
 ghost use Rattle.biblatex_values.specs.Views.{refusal_of};
-ghost use Rattle.biblatex_values.specs.Pages.{page_at, range_at, last_behind, dashes_behind, comma_behind, next_range_at, range_of, ranges_at, ranges_of, range_text, ranges_text, more_text};
+ghost use Rattle.biblatex_values.specs.Pages.{page_at, range_at, last_following, dashes_after, comma_after, next_range_at, range_of, ranges_at, ranges_of, range_text, ranges_text, more_text};
 
 use crate::error::ListError;
 use biblatex_dates::TypeErrorKind;
@@ -27,7 +27,7 @@ fn read_page(reader: &mut Reader) -> Result<u32, Unreadable>
 
 /// What stands after dashes with spaces round them, if there are any.
 fn split_dashes(text: &str) -> Option<&str>
-    ensures { MatchOption result (dashes_behind (chars text.now) ≡ None) (λ rest. dashes_behind (chars text.now) ≡ Some (chars rest.now)) }
+    ensures { MatchOption result (dashes_after (chars text.now) ≡ None) (λ rest. dashes_after (chars text.now) ≡ Some (chars rest.now)) }
 {
     let (_, rest) = split_run(text, Class::Space);
     let (c, _) = split_first(rest)?;
@@ -40,7 +40,7 @@ fn split_dashes(text: &str) -> Option<&str>
 
 /// What stands after a comma or an ampersand with spaces round it, if there is one.
 fn split_comma(text: &str) -> Option<&str>
-    ensures { MatchOption result (comma_behind (chars text.now) ≡ None) (λ rest. comma_behind (chars text.now) ≡ Some (chars rest.now)) }
+    ensures { MatchOption result (comma_after (chars text.now) ≡ None) (λ rest. comma_after (chars text.now) ≡ Some (chars rest.now)) }
 {
     let (_, rest) = split_run(text, Class::Space);
     match split_first(rest)? {
@@ -51,7 +51,7 @@ fn split_comma(text: &str) -> Option<&str>
 
 /// The pages from the first one to the one after dashes; where there are no dashes, the first one alone.
 fn read_last(reader: &mut Reader, first: u32) -> Result<Range<u32>, Unreadable>
-    ensures { Reads (λ r. r) result (left reader.new) (last_behind first (left reader.old)) }
+    ensures { Reads (λ r. r) result (left reader.new) (last_following first (left reader.old)) }
 {
     match split_dashes(reader.rest) {
         None => Ok(first..first),

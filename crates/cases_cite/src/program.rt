@@ -1,11 +1,11 @@
 //! Runs of the programs over files in memory.
 
 use crate::bytes::put_taken;
-use crate::files::Files;
+use crate::files::{are_refused, read_files};
 use crate::limits::read_taker;
 use crate::taker::Taker;
 use cases::{Refusal, Value, Writer, only, put_number, text, texts};
-use cite::Tap;
+use cite::{FileRead, Tap};
 use std::alloc::Global;
 
 /// The members of a case.
@@ -27,7 +27,7 @@ pub(crate) fn answer_program(
     out: &mut Writer,
 ) -> Result<(), Refusal> {
     only(alloc, case, &MEMBERS)?;
-    let files = Files::read(alloc, case)?;
+    let files = read_files(alloc, case)?;
     answer_run(alloc, case, &files, out)
 }
 
@@ -35,7 +35,7 @@ pub(crate) fn answer_program(
 fn answer_run(
     alloc: Global,
     case: &Value<'_>,
-    files: &Files<'_>,
+    files: &[FileRead<'_>],
     out: &mut Writer,
 ) -> Result<(), Refusal> {
     let mut first = read_taker(alloc, case, "out_sink")?;
@@ -48,7 +48,7 @@ fn answer_run(
 fn run(
     alloc: Global,
     case: &Value<'_>,
-    files: &Files<'_>,
+    files: &[FileRead<'_>],
     first: &mut Taker,
     second: &mut Taker,
 ) -> Result<u8, Refusal> {
@@ -69,14 +69,14 @@ fn says_no_memory(said: &[u8]) -> bool {
 
 /// Writes the status, and what was taken.
 fn put_run(
-    files: &Files<'_>,
+    files: &[FileRead<'_>],
     status: u8,
     first: &Taker,
     second: &Taker,
     out: &mut Writer,
 ) -> Result<(), Refusal> {
     let lacks_memory = first.lacks_memory || second.lacks_memory;
-    if lacks_memory || (says_no_memory(&second.taken) && !files.is_refused()) {
+    if lacks_memory || (says_no_memory(&second.taken) && !are_refused(files)) {
         return Err(Refusal::Memory);
     }
     put_number(out, "status", i64::from(status))?;

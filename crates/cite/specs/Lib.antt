@@ -4,8 +4,10 @@ pub mod Marker
 pub mod Order
 pub mod Output
 pub mod Verdict
+pub mod Refusals
 pub mod Views
 pub mod Orders
 pub mod Answers
 pub mod Formats
 pub mod Program
+pub mod OneLine

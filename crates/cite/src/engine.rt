@@ -44,15 +44,25 @@ fn write_output(alloc: Global, works: &Works, document: &Document<'_>) -> Result
     Ok(output)
 }
 
-/// The output for a bib text and a document, or the first refusal.
+/// The output of `cite` as a text: the document with its markers replaced, and the bibliography of the cited entries after it.
+///
+/// `bib` is a BibLaTeX file, `document` a text with markers `[@name]`; both are UTF-8. A name is the key of an entry or an alias in its
+/// `ids`. The style is plain numbers, the format plain text, and no section may be given.
+///
+/// # Errors
+/// The first refusal in this order: `NotYet`; `BibText`; `Fields`; `Document`; `Name`; `Overflow`. `Memory` may stand in place of any
+/// answer.
 #[tactic(auto, unfolding(crate::specs::Verdict::verdict))]
-fn decide(
+pub fn cite_to_string(
     alloc: Global,
     bib: &[u8],
     document: &[u8],
+    _style: &Style,
+    _locale: &Locale,
     sections: &[&str],
     format: BufWriteFormat,
 ) -> Result<String, CiteError>
+    // The text is exactly the output; an error is the first refusal, with its fault.
     ensures { Answers (λ s. string_bytes s) result (IsVerdict bib.now document.now (length sections.now) format) }
 {
     if format.is_html() || !sections.is_empty() {
@@ -63,21 +73,18 @@ fn decide(
     write_output(alloc, &works, &document)
 }
 
-/// Replaces each marker of the document by its citation and writes the bibliography of the cited entries after it.
-///
-/// `bib` is a BibLaTeX file, `document` a text with markers `[@name]`; both are UTF-8. A name is the key of an entry or an alias in its
-/// `ids`. The style is plain numbers, the format plain text, and no section may be given.
+/// Replaces each marker of the document by its citation and writes the bibliography of the cited entries after it: writes what
+/// `cite_to_string` returns, once all of it is known.
 ///
 /// # Errors
-/// The first refusal in this order: `NotYet`; `BibText`; `Fields`; `Document`; `Name`; `Overflow`. `Memory` may stand in place of any
-/// answer. After these nothing was written. `Write` where a call of the sink's `write` failed or took nothing: the sink then
+/// Those of `cite_to_string`, after which nothing was written. `Write` where a call of the sink's `write` failed or took nothing: the sink then
 /// holds a beginning of the output.
 pub fn cite<W: Sink>(
     alloc: Global,
     bib: &[u8],
     document: &[u8],
-    _style: &Style,
-    _locale: &Locale,
+    style: &Style,
+    locale: &Locale,
     sections: &[&str],
     format: BufWriteFormat,
     sink: &mut W,
@@ -97,7 +104,7 @@ pub fn cite<W: Sink>(
     // The fault of a failed write is what that call did.
     ensures fault { IfErr result (λ e. IsLastFault e (W.last_fault sink.new)) }
 {
-    let output = decide(alloc, bib, document, sections, format)?;
+    let output = cite_to_string(alloc, bib, document, style, locale, sections, format)?;
     match write_all(sink, output.as_bytes()) {
         Ok(()) => Ok(()),
         Err(fault) => Err(CiteError::Write(fault)),

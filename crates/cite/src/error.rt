@@ -1,64 +1,102 @@
 //! Why a call of `cite` refused.
 
-ghost use Rattle.std.specs.Prelude.{◌≡◌};
+ghost use Rattle.std.specs.Prelude.{◌≡◌, Some};
+ghost use Rattle.cite.specs.Refusals.{bib_text, document_text, error_text};
 ghost use Rattle.cite.specs.declared.error.CiteError.TheVariants.{Memory};
 
 use biblatex::ParseError;
 use interop::FieldFault;
 use sinks::SinkFault;
 use std::alloc::{AllocError, AllocFailed};
-use thiserror::Error;
+use std::error::Error;
+use std::fmt;
 
 /// Why the bib text was refused.
-#[derive(Debug, Drop, Error)]
+#[derive(Debug, Drop)]
 pub enum BibTextError {
     /// The bytes are not UTF-8.
-    #[error("not UTF-8")]
     Utf8,
     /// The text is no bibliography.
-    #[error("{0}")]
     Parse(ParseError),
 }
 
+/// Why the bib text was refused, in a line.
+impl fmt::Display for BibTextError {
+    ghost output = { λ error. Some (bib_text error) };
+
+    fn fmt<W: fmt::Write>(&self, f: &mut fmt::Formatter<W>) -> fmt::Result {
+        match self {
+            BibTextError::Utf8 => f.write_str("not UTF-8"),
+            BibTextError::Parse(error) => write!(f, "{error}"),
+        }
+    }
+}
+
+impl Error for BibTextError {}
+
 /// Why the document was refused.
-#[derive(Clone, Copy, Debug, PartialEq, Eq, Error)]
+#[derive(Clone, Copy, Debug, PartialEq, Eq)]
 pub enum DocumentTextError {
     /// The bytes are not UTF-8.
-    #[error("not UTF-8")]
     Utf8,
     /// At this byte, from zero, stands the first opening that no marker follows.
-    #[error("marker at byte {offset}")]
     Marker { offset: usize },
 }
 
+/// Why the document was refused, in a line.
+impl fmt::Display for DocumentTextError {
+    ghost output = { λ error. Some (document_text error) };
+
+    fn fmt<W: fmt::Write>(&self, f: &mut fmt::Formatter<W>) -> fmt::Result {
+        match self {
+            DocumentTextError::Utf8 => f.write_str("not UTF-8"),
+            DocumentTextError::Marker { offset } => write!(f, "marker at byte {offset}"),
+        }
+    }
+}
+
+impl Error for DocumentTextError {}
+
 /// Why a call of `cite` refused. After any of these but `Write` nothing was written.
-#[derive(Debug, Drop, Error)]
+#[derive(Debug, Drop)]
 pub enum CiteError {
     /// The bib text was refused.
-    #[error("bib: {0}")]
     BibText(BibTextError),
     /// All fields that cannot be read, in the order of the file.
-    #[error("fields that cannot be read")]
     Fields(Vec<FieldFault>),
     /// The document was refused.
-    #[error("document: {0}")]
     Document(DocumentTextError),
     /// The first name in the document that means no entry, or one of type `xdata`, which only lends its fields.
-    #[error("unknown name {0}")]
     Name(String),
     /// A request for memory was refused.
-    #[error("out of memory")]
     Memory,
     /// More than 2147483647 entries are cited.
-    #[error("number too large")]
     Overflow,
     /// The sink did not take all of the output; it holds a beginning of it.
-    #[error("write failed")]
     Write(SinkFault),
     /// A section was given, or the format is HTML.
-    #[error("not supported yet")]
     NotYet,
 }
+
+/// Why the call refused, in a line.
+impl fmt::Display for CiteError {
+    ghost output = { λ error. Some (error_text error) };
+
+    fn fmt<W: fmt::Write>(&self, f: &mut fmt::Formatter<W>) -> fmt::Result {
+        match self {
+            CiteError::BibText(error) => write!(f, "bib: {error}"),
+            CiteError::Fields(_) => f.write_str("fields that cannot be read"),
+            CiteError::Document(error) => write!(f, "document: {error}"),
+            CiteError::Name(name) => write!(f, "unknown name {name}"),
+            CiteError::Memory => f.write_str("out of memory"),
+            CiteError::Overflow => f.write_str("number too large"),
+            CiteError::Write(_) => f.write_str("write failed"),
+            CiteError::NotYet => f.write_str("not supported yet"),
+        }
+    }
+}
+
+impl Error for CiteError {}
 
 impl From<AllocError> for CiteError {
     ghost from_gives = { λ _ e. e ≡ Memory };

@@ -1,5 +1,5 @@
 //! A citation filter: replaces the markers of a document by citations of a BibLaTeX file, and writes the bibliography
-//! after it. `cite` is the library's call, `run` is the program over any files and writers.
+//! after it. `cite` writes to a sink, `cite_to_string` returns the text, and `run` is the program over files that were read.
 #![tactic(auto)]
 
 mod bytes;
@@ -9,6 +9,7 @@ mod engine;
 mod error;
 mod format;
 mod numbers;
+mod one_line;
 mod order;
 mod output;
 mod page;
@@ -16,10 +17,11 @@ mod program;
 mod style;
 mod works;
 
-pub use engine::cite;
+pub use engine::{cite, cite_to_string};
 pub use error::{BibTextError, CiteError, DocumentTextError};
 pub use format::BufWriteFormat;
 pub use interop::{DateField, FieldFault};
-pub use program::run;
-pub use sinks::{ReadFault, ReadPath, Sink, SinkFault, Tap};
+pub use one_line::refusals_are_said_in_lines;
+pub use program::{paths, run};
+pub use sinks::{FileRead, ReadFault, Sink, SinkFault, Tap};
 pub use style::{Locale, Style, english, num};

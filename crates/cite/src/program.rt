@@ -1,19 +1,19 @@
-//! The program over any files and writers: words in, output and fault lines out.
+//! The program over files that were read and any writers: words in, output and fault lines out.
 
-ghost use Rattle.std.specs.Prelude.{◌≡◌, ◌≤◌, ◌++◌, ◌∷◌, [], List, Option, None, ℕ, length, IfOk, IfErr, IfSome, OnOk, OnErr, is_some, map, string_bytes, ◌⊎◌};
-ghost use Rattle.std.specs.Str.{bytes_eq};
+ghost use Rattle.std.specs.Prelude.{◌≡◌, ◌≤◌, ◌++◌, Some, Ok, length, IfOk, IfErr, OnOk, OnErr, is_some, map, string_bytes, ◌⊎◌};
 ghost use Rattle.std.specs.Io.KnownBytes.{Appends};
 ghost use lib.Chars.{codes};
-ghost use Rattle.cite.specs.Answers.{IsRefusalUnlessWrite};
+ghost use Rattle.sinks.specs.Files.{read_at};
+ghost use Rattle.sinks.specs.Programs.{IsUntouched, Says, no_memory};
 ghost use Rattle.interop.specs.Views.{fault};
-ghost use Rattle.cite.specs.Program.{Serves, ServesFiles, IsUntouched, CannotRead, IsFileFault, IsFault, IsReason, Explains, IsSaid, IsTold, AreLines, Says, one, line, lines, fault_said, said_of, fault_of, format_of};
+ghost use Rattle.cite.specs.Program.{is_style, asked, Serves, ServesFiles, CannotRead, IsFileFault, IsFault, IsReason, line, fault_said, fault_lines, fault_text, said_of, fault_of, format_of};
 
 use crate::engine::cite;
 use crate::error::CiteError;
 use crate::format::BufWriteFormat;
 use crate::style::{Style, english, num};
 use interop::FieldFault;
-use sinks::{ReadFault, ReadPath, Sink, write_all};
+use sinks::{FileRead, ReadFault, Sink, bytes_at};
 use std::alloc::{AllocError, Global};
 use std::fmt;
 
@@ -35,7 +35,7 @@ enum RunFault<'w> {
 
 /// What the program's line says.
 impl fmt::Display for RunFault<'_> {
-    ghost output = { λ f. said_of f };
+    ghost output = { λ f. Some (fault_text f) };
 
     fn fmt<W: fmt::Write>(&self, f: &mut fmt::Formatter<W>) -> fmt::Result {
         match self {
@@ -51,25 +51,35 @@ impl fmt::Display for RunFault<'_> {
     }
 }
 
+/// The paths of the files that the words ask for: BIB and DOC, where style and format are known.
+pub fn paths<'s, 'w>(words: &'s [&'w str]) -> &'s [&'w str]
+    ensures { result.now ≡ asked words.now }
+{
+    match words {
+        [style, format, _bib, _document, ..]
+            if style_named(style).is_some() && format_named(format).is_some() => { &words[2..4] }
+        _ => &[],
+    }
+}
+
 /// Runs the program: `STYLE FORMAT BIB DOC [SECTION ..]`, where STYLE is `num` and FORMAT is `plain` or `html`. The output
 /// goes to `out`, and the status is 0; or a line that begins `cite: ` and says why not goes to `err`, and the status is 1.
-/// Words, style and format are looked at first, then both files are read, and then `cite` is called. A fault of `err` is
-/// passed over.
-pub fn run<F: ReadPath, O: Sink, E: Sink>(
+/// `files` are what was read of the paths that `paths` names; one that is missing cannot be read. Words, style and format are
+/// looked at first, then the bib text's file, the document's, and then `cite` is called. A fault of `err` is passed over.
+pub fn run<O: Sink, E: Sink>(
     alloc: Global,
     words: &[&str],
-    files: &F,
+    files: &[FileRead<'_>],
     out: &mut O,
     err: &mut E,
 ) -> u8
     ensures status { result ≤ 1 }
-    // After the status 0 `out` has taken exactly the output of the files, as far as their bytes are known.
-    ensures served { result ≡ 0 → Serves (F.holds files.now) words.now (λ output. Appends (O.contents out.old) (O.contents out.new) output) }
+    // After the status 0 `out` has taken exactly the output of the files.
+    ensures served { result ≡ 0 → Serves (read_at files.now) words.now (λ output. Appends (O.contents out.old) (O.contents out.new) output) }
     // After the status 1 `out` is as it was; or a write of the output failed, and a beginning of it stands.
-    ensures untouched { result ≡ 1 → IsUntouched (Serves (F.holds files.now) words.now) out.old out.new (O.contents out.old) (O.contents out.new) (O.failures out.old) (O.failures out.new) }
-    // Then `err` has taken one line that begins `cite: ` and says the first fault, or that memory ran out or the write failed; or
-    // it failed itself.
-    ensures said { result ≡ 1 → Says (IsReason (IsFault (F.holds files.now) words.now) (Serves (F.holds files.now) words.now) (O.failures out.old) (O.failures out.new)) (E.contents err.old) (E.contents err.new) (E.failures err.old) (E.failures err.new) }
+    ensures untouched { result ≡ 1 → IsUntouched (Serves (read_at files.now) words.now) out.old out.new (O.contents out.old) (O.contents out.new) (O.failures out.old) (O.failures out.new) }
+    // Then `err` has taken the lines that say the first fault, or that memory ran out or the write failed; or it failed itself.
+    ensures said { result ≡ 1 → Says (IsReason (IsFault (read_at files.now) words.now) (Serves (read_at files.now) words.now) (O.failures out.old) (O.failures out.new)) (E.contents err.old) (E.contents err.new) (E.failures err.old) (E.failures err.new) }
     // After the status 0 `err` is as it was.
     ensures silent { result ≡ 0 → err.new ≡ err.old }
 {
@@ -84,17 +94,17 @@ pub fn run<F: ReadPath, O: Sink, E: Sink>(
 
 /// Writes the lines that say why not. A fault of `err` is passed over.
 fn say<E: Sink>(alloc: Global, fault: &RunFault<'_>, err: &mut E)
-    ensures { Says (λ said. IsSaid fault.now said ⊎ (said ≡ one (codes "out of memory"))) (E.contents err.old) (E.contents err.new) (E.failures err.old) (E.failures err.new) }
+    ensures { Says (λ said. (said ≡ said_of fault.now) ⊎ (said ≡ no_memory (codes "cite"))) (E.contents err.old) (E.contents err.new) (E.failures err.old) (E.failures err.new) }
 {
-    let _ = match lines_of(alloc, fault) {
-        Ok(text) => write_all(err, text.as_bytes()),
-        Err(_) => write_all(err, NO_MEMORY.as_bytes()),
-    };
+    match lines_of(alloc, fault) {
+        Ok(text) => sinks::say(text.as_bytes(), err),
+        Err(_) => sinks::say(NO_MEMORY.as_bytes(), err),
+    }
 }
 
 /// The lines that say why not: one for each field that cannot be read, of other faults one.
 fn lines_of(alloc: Global, fault: &RunFault<'_>) -> Result<String, AllocError>
-    ensures { IfOk result (λ s. AreLines (λ said. IsSaid fault.now said) (string_bytes s)) }
+    ensures { IfOk result (λ s. string_bytes s ≡ said_of fault.now) }
 {
     match fault {
         RunFault::Fields(found) => field_lines(alloc, found),
@@ -104,7 +114,7 @@ fn lines_of(alloc: Global, fault: &RunFault<'_>) -> Result<String, AllocError>
 
 /// A line for each field that cannot be read.
 fn field_lines(alloc: Global, found: &[FieldFault]) -> Result<String, AllocError>
-    ensures { IfOk result (λ s. string_bytes s ≡ lines (map fault_said (map fault found.now))) }
+    ensures { IfOk result (λ s. string_bytes s ≡ fault_lines (map fault found.now)) }
 {
     let mut written = String::new(alloc);
     for field in found {
@@ -134,26 +144,22 @@ fn push_said(written: &mut String, found: &FieldFault) -> Result<(), AllocError>
 
 /// The line that says why not.
 fn line_of(alloc: Global, fault: &RunFault<'_>) -> Result<String, AllocError>
-    ensures { IfOk result (λ s. AreLines (IsTold (said_of fault.now)) (string_bytes s)) }
+    ensures { IfOk result (λ s. string_bytes s ≡ line (fault_text fault.now)) }
 {
     let text = fault.to_string(alloc)?;
-    let mut line = String::new(alloc);
-    line.push_str("cite: ")?;
-    line.push_str(text.as_str())?;
-    line.push('\n')?;
-    Ok(line)
+    sinks::line_of(alloc, "cite", text.as_str(), "")
 }
 
 /// Writes the output, or says why not.
-fn serve<'w, F: ReadPath, O: Sink>(
+fn serve<'w, O: Sink>(
     alloc: Global,
     words: &[&'w str],
-    files: &F,
+    files: &[FileRead<'_>],
     out: &mut O,
 ) -> Result<(), RunFault<'w>>
-    ensures served { OnOk result (Serves (F.holds files.now) words.now (λ output. Appends (O.contents out.old) (O.contents out.new) output)) }
-    ensures untouched { OnErr result (IsUntouched (Serves (F.holds files.now) words.now) out.old out.new (O.contents out.old) (O.contents out.new) (O.failures out.old) (O.failures out.new)) }
-    ensures fault { IfErr result (λ f. Explains f (IsReason (IsFault (F.holds files.now) words.now) (Serves (F.holds files.now) words.now) (O.failures out.old) (O.failures out.new))) }
+    ensures served { OnOk result (Serves (read_at files.now) words.now (λ output. Appends (O.contents out.old) (O.contents out.new) output)) }
+    ensures untouched { OnErr result (IsUntouched (Serves (read_at files.now) words.now) out.old out.new (O.contents out.old) (O.contents out.new) (O.failures out.old) (O.failures out.new)) }
+    ensures fault { IfErr result (λ f. IsReason (IsFault (read_at files.now) words.now) (Serves (read_at files.now) words.now) (O.failures out.old) (O.failures out.new) (said_of f)) }
 {
     let [style, format, bib, document, sections @ ..] = words else {
         return Err(RunFault::Usage);
@@ -167,27 +173,27 @@ fn serve<'w, F: ReadPath, O: Sink>(
     cite_files(alloc, &known, format, files, bib, document, sections, out)
 }
 
-/// Reads both files, and writes the output of their bytes.
-fn cite_files<'w, F: ReadPath, O: Sink>(
+/// Writes the output of both files.
+fn cite_files<'w, O: Sink>(
     alloc: Global,
     style: &Style,
     format: BufWriteFormat,
-    files: &F,
+    files: &[FileRead<'_>],
     bib: &'w str,
     document: &'w str,
     sections: &[&str],
     out: &mut O,
 ) -> Result<(), RunFault<'w>>
-    ensures served { OnOk result (ServesFiles (F.holds files.now) bib.now document.now (length sections.now) format (λ output. Appends (O.contents out.old) (O.contents out.new) output)) }
-    ensures untouched { OnErr result (IsUntouched (ServesFiles (F.holds files.now) bib.now document.now (length sections.now) format) out.old out.new (O.contents out.old) (O.contents out.new) (O.failures out.old) (O.failures out.new)) }
-    ensures fault { IfErr result (λ f. Explains f (IsReason (IsFileFault (F.holds files.now) bib.now document.now (length sections.now) format) (ServesFiles (F.holds files.now) bib.now document.now (length sections.now) format) (O.failures out.old) (O.failures out.new))) }
+    ensures served { OnOk result (ServesFiles (read_at files.now) bib.now document.now (length sections.now) format (λ output. Appends (O.contents out.old) (O.contents out.new) output)) }
+    ensures untouched { OnErr result (IsUntouched (ServesFiles (read_at files.now) bib.now document.now (length sections.now) format) out.old out.new (O.contents out.old) (O.contents out.new) (O.failures out.old) (O.failures out.new)) }
+    ensures fault { IfErr result (λ f. IsReason (IsFileFault (read_at files.now) bib.now document.now (length sections.now) format) (ServesFiles (read_at files.now) bib.now document.now (length sections.now) format) (O.failures out.old) (O.failures out.new) (said_of f)) }
 {
-    let bib = read(alloc, files, bib)?;
-    let document = read(alloc, files, document)?;
+    let bib = read(files, bib)?;
+    let document = read(files, document)?;
     match cite(
         alloc,
-        &bib,
-        &document,
+        bib,
+        document,
         style,
         &english(),
         sections,
@@ -213,7 +219,7 @@ fn fault_of<'w>(error: CiteError) -> RunFault<'w>
 
 /// The style of that name.
 fn style_named(name: &str) -> Option<Style>
-    ensures { is_some result ≡ bytes_eq name.now (codes "num") }
+    ensures { is_some result ≡ is_style name.now }
 {
     if name == "num" { Some(num()) } else { None }
 }
@@ -229,12 +235,12 @@ fn format_named(name: &str) -> Option<BufWriteFormat>
     }
 }
 
-/// The bytes at the path.
-fn read<'w, F: ReadPath>(alloc: Global, files: &F, path: &'w str) -> Result<Vec<u8>, RunFault<'w>>
-    ensures bytes { IfOk result (λ bytes. IfSome (F.holds files.now path.now) (λ known. bytes.items ≡ known)) }
-    ensures fault { IfErr result (λ f. Explains f (λ said. CannotRead (F.holds files.now) path.now said ⊎ (said ≡ one (codes "out of memory")))) }
+/// The bytes that were read at the path.
+fn read<'f, 'w>(files: &'f [FileRead<'_>], path: &'w str) -> Result<&'f [u8], RunFault<'w>>
+    ensures bytes { IfOk result (λ bytes. read_at files.now path.now ≡ Ok bytes.now) }
+    ensures fault { IfErr result (λ f. CannotRead (read_at files.now path.now) path.now (said_of f) ⊎ (said_of f ≡ no_memory (codes "cite"))) }
 {
-    match files.read(alloc, path) {
+    match bytes_at(files, path) {
         Ok(bytes) => Ok(bytes),
         Err(ReadFault::Memory) => Err(RunFault::Memory),
         Err(ReadFault::Unreadable) => Err(RunFault::Path(path)),

@@ -1,3 +1,3 @@
-pub mod Padded
+pub mod WrittenPadded
 pub mod WrittenAgain
-pub mod Days
+pub mod CalendarDays

@@ -15,8 +15,8 @@ use Rattle.texts.specs.Reading.{digits_at, taken}
 use Rattle.date_parts.specs.Parts.{part_at, signed}
 use Rattle.date_parts.specs.Written.{padded, year_text, counted_text}
 use Rattle.texts.specs.declared.character.Class.TheVariants.{Digit}
-use Rattle.texts.proofs.Digits.{own, digits_at-ok}
-use Rattle.texts.proofs.Starts.{Starts, starts, decimal_digits}
+use Rattle.texts.proofs.ReadingDigits.{own, digits_at-ok}
+use Rattle.texts.proofs.ReadingStarts.{Starts, starts, decimal_digits}
 
 -- zeros in front change no number
 pub zeros_value : (k : ℕ) (ds : List ℕ) → digits_value 10 (replicate k 48 ++ ds) ≡ digits_value 10 ds

@@ -5,13 +5,13 @@ use Rattle.texts.specs.Reading.{digits_at, taken}
 use Rattle.texts.specs.declared.reader.Unreadable.{Unreadable}
 
 -- after a hyphen one or two digits are wanted
-abbrev pub part_behind : Bool × List ℕ → Result (Option ℕ × List ℕ) Unreadable
-part_behind (false, rest) = Ok (None, rest)
-part_behind (true, rest) = digits_at 1 2 rest >>= λ d. Ok (Some d.0, d.1)
+abbrev pub part_after : Bool × List ℕ → Result (Option ℕ × List ℕ) Unreadable
+part_after (false, rest) = Ok (None, rest)
+part_after (true, rest) = digits_at 1 2 rest >>= λ d. Ok (Some d.0, d.1)
 
 -- a month or a day: a hyphen and one or two digits, or nothing
 unfoldable pub part_at : List ℕ → Result (Option ℕ × List ℕ) Unreadable
-part_at cs = part_behind (taken 45 cs)
+part_at cs = part_after (taken 45 cs)
 
 -- a year, negative after a hyphen
 abbrev pub signed : Bool → ℕ → ℤ

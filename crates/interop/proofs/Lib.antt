@@ -1,7 +1,10 @@
-pub mod Faulty
-pub mod Entries
-pub mod FieldByField
-pub mod Lists
-pub mod Titled
-pub mod Shelves
-pub mod Dated
+pub mod ShelfFaults
+pub mod ViewsEntries
+pub mod FieldsSet
+pub mod ShelfLists
+pub mod KindsTitled
+pub mod ShelfWorks
+pub mod BridgeDates
+pub mod FaultNames
+pub mod SameFilesAlike
+pub mod SameFilesExamples

@@ -7,7 +7,7 @@ use Rattle.literature_values.specs.TypedViews.{ValueOrText}
 use Rattle.literature_numbers.specs.Numerics.{Numeral}
 use Rattle.literature_entries.specs.Names.{with_number}
 use Rattle.interop_values.specs.Values.{Values, first_or}
-use Rattle.interop_values.specs.Readings.{title_of, format_under, people_under, number_under, total_under, pages_under, bytes_under, publisher_of, own_date, date_under, date_if_read, address_of}
+use Rattle.interop_values.specs.Readings.{title_of, format_under, people_under, number_under, pages_under, bytes_under, publisher_of, own_date, date_under, date_if_read, address_of}
 
 -- numbers with one more under the name of a scheme, if there is one
 abbrev pub also : List ℕ → Option (List ℕ) → Option Serials → Option Serials
@@ -23,7 +23,7 @@ own_fields v t = record (nothing_but t) {
   date = date_if_read (own_date v);
   chapter = number_under (codes "chapter") v;
   page_range = pages_under (codes "pages") v;
-  page_total = total_under (codes "pagetotal") v;
+  page_total = number_under (codes "pagetotal") v;
   url = address_of (date_if_read (date_under (codes "urldate") v)) v;
   serial_number = also (codes "doi") (bytes_under (codes "doi") v) None;
   note = format_under (codes "note") v;
@@ -50,7 +50,7 @@ container_fields v fs = record fs {
   editor = people_under (codes "editor") v;
   publisher = publisher_of v;
   volume = number_under (codes "volume") v;
-  volume_total = total_under (codes "volumes") v;
+  volume_total = number_under (codes "volumes") v;
   issue = issue_of (is_periodical fs.entry_type) v;
   edition = number_under (codes "edition") v;
   serial_number = also (codes "serial") (series_number (is_periodical fs.entry_type) v) (also (codes "issn") (bytes_under (codes "issn") v) (also (codes "isbn") (bytes_under (codes "isbn") v) fs.serial_number));

@@ -4,3 +4,4 @@ pub mod Bridge
 pub mod DateFields
 pub mod Shelf
 pub mod Views
+pub mod SameFiles

@@ -29,13 +29,13 @@ abbrev pub all_works : List Source → List Whole
 all_works es = map (λ e. work_of e.key (written_type e.entry_type) (values e.fields)) (works_in es)
 
 -- works after those that are there; of equal keys the last stands at the first's place
-abbrev pub put_behind : List Whole → List Whole → List Whole
-put_behind ws [] = ws
-put_behind ws (w ∷ more) = put_behind (put key_of ws w) more
+abbrev pub put_after : List Whole → List Whole → List Whole
+put_after ws [] = ws
+put_after ws (w ∷ more) = put_after (put key_of ws w) more
 
 -- the library of a file, or all faults of its works
 abbrev pub library_of : List Source → Result (List Whole) (List Fault)
-library_of es = unless_faulty (all_faults es) (put_behind [] (all_works es))
+library_of es = unless_faulty (all_faults es) (put_after [] (all_works es))
 
 -- A work is put on the shelf, or faults go after the others.
 abbrev pub PutsBy : Result Whole (List Fault) → List Whole → List Fault → List Whole → List Fault → Type 0

@@ -13,7 +13,7 @@ ghost use Rattle.literature_values.specs.declared.entry_type.EntryType.TheVarian
 ghost use Rattle.literature_entries.specs.Wholes.{Holding, wholes, whole};
 ghost use Rattle.interop.specs.Fields.{container_fields};
 ghost use Rattle.interop.specs.Bridge.{bridged, unless_faulty, work_of, container_of, further, titled_under};
-ghost use Rattle.interop.specs.Shelf.{is_xdata, all_faults, all_works, put_behind, library_of, IsPut, AreAlike};
+ghost use Rattle.interop.specs.Shelf.{is_xdata, all_faults, all_works, put_after, library_of, IsPut, AreAlike};
 ghost use Rattle.interop.specs.Views.{container, dates_of, shelf, fault, row, IsBare, refusal_of};
 ghost use Rattle.laws.specs.Results.{Gives};
 
@@ -159,7 +159,7 @@ fn put_all(
     faults: &mut Vec<FieldFault>,
     entries: &[SourceEntry],
 ) -> Result<(), AllocError>
-    ensures { OnOk result (unless_faulty (map fault faults.new.items) (shelf library.new) ≡ unless_faulty (map fault faults.old.items ++ all_faults (sources entries.now)) (put_behind (shelf library.old) (all_works (sources entries.now)))) }
+    ensures { OnOk result (unless_faulty (map fault faults.new.items) (shelf library.new) ≡ unless_faulty (map fault faults.old.items ++ all_faults (sources entries.now)) (put_after (shelf library.old) (all_works (sources entries.now)))) }
 {
     for read in entries {
         put_work(alloc, library, faults, read)?;
@@ -175,7 +175,7 @@ fn put_work(
     read: &SourceEntry,
 ) -> Result<(), AllocError>
     // The entries after it make of the library and the faults what it makes of them with those after it.
-    ensures { OnOk result ((rest : List Source) → unless_faulty (map fault faults.new.items ++ all_faults rest) (put_behind (shelf library.new) (all_works rest)) ≡ unless_faulty (map fault faults.old.items ++ all_faults (source read.now ∷ rest)) (put_behind (shelf library.old) (all_works (source read.now ∷ rest)))) }
+    ensures { OnOk result ((rest : List Source) → unless_faulty (map fault faults.new.items ++ all_faults rest) (put_after (shelf library.new) (all_works rest)) ≡ unless_faulty (map fault faults.old.items ++ all_faults (source read.now ∷ rest)) (put_after (shelf library.old) (all_works (source read.now ∷ rest)))) }
 {
     if is_xdata(&read.entry_type) {
         return Ok(());

@@ -18,7 +18,6 @@ use crate::setting::{
 use biblatex_fields::Fields;
 use interop_values::{
     address, format_under, number_under, pages_under, people_under, publisher, text_under, title,
-    total_under,
 };
 use literature_entries::Entry;
 use literature_numbers::Numeric;
@@ -45,7 +44,7 @@ pub(crate) fn own_entry(
     set_date(&mut entry, dates.own);
     set_chapter(&mut entry, number_under(alloc, fields, "chapter")?);
     set_page_range(&mut entry, pages_under(alloc, fields, "pages")?);
-    set_page_total(&mut entry, total_under(alloc, fields, "pagetotal")?);
+    set_page_total(&mut entry, number_under(alloc, fields, "pagetotal")?);
     set_url(&mut entry, address(alloc, fields, dates.visited)?);
     set_number(&mut entry, "doi", text_under(alloc, fields, "doi")?)?;
     set_note(&mut entry, format_under(alloc, fields, "note")?);
@@ -66,7 +65,7 @@ pub(crate) fn set_container_fields(
     set_editor(entry, people_under(alloc, fields, "editor")?);
     set_publisher(entry, publisher(alloc, fields)?);
     set_volume(entry, number_under(alloc, fields, "volume")?);
-    set_volume_total(entry, total_under(alloc, fields, "volumes")?);
+    set_volume_total(entry, number_under(alloc, fields, "volumes")?);
     set_edition(entry, number_under(alloc, fields, "edition")?);
     set_number(entry, "isbn", text_under(alloc, fields, "isbn")?)?;
     set_number(entry, "issn", text_under(alloc, fields, "issn")?)?;

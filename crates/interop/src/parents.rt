@@ -94,7 +94,7 @@ fn push_work(
 }
 
 /// Appends the conference, where its title or its date is there.
-#[tactic(auto, using(crate::proofs::Titled::no_conference))]
+#[tactic(auto, using(crate::proofs::KindsTitled::no_conference))]
 fn push_conference(
     alloc: Global,
     parents: &mut Vec<Entry>,

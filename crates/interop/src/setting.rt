@@ -73,8 +73,8 @@ pub(crate) fn set_volume(entry: &mut Entry, volume: Option<MaybeTyped<Numeric>>)
     }
 }
 
-pub(crate) fn set_volume_total(entry: &mut Entry, volume_total: Option<Numeric>)
-    ensures { Sets entry.old (record (fields entry.old) { volume_total = first_or (option_map numeral volume_total) (fields entry.old).volume_total }) entry.new }
+pub(crate) fn set_volume_total(entry: &mut Entry, volume_total: Option<MaybeTyped<Numeric>>)
+    ensures { Sets entry.old (record (fields entry.old) { volume_total = first_or (option_map (value_or_text numeral) volume_total) (fields entry.old).volume_total }) entry.new }
 {
     if let Some(volume_total) = volume_total {
         entry.set_volume_total(volume_total);
@@ -113,8 +113,8 @@ pub(crate) fn set_page_range(entry: &mut Entry, page_range: Option<MaybeTyped<Pa
     }
 }
 
-pub(crate) fn set_page_total(entry: &mut Entry, page_total: Option<Numeric>)
-    ensures { Sets entry.old (record (fields entry.old) { page_total = first_or (option_map numeral page_total) (fields entry.old).page_total }) entry.new }
+pub(crate) fn set_page_total(entry: &mut Entry, page_total: Option<MaybeTyped<Numeric>>)
+    ensures { Sets entry.old (record (fields entry.old) { page_total = first_or (option_map (value_or_text numeral) page_total) (fields entry.old).page_total }) entry.new }
 {
     if let Some(page_total) = page_total {
         entry.set_page_total(page_total);

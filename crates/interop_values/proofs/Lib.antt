@@ -1,3 +1,4 @@
-pub mod Parting
-pub mod Growing
-pub mod Members
+pub mod PiecesParting
+pub mod PiecesGrowing
+pub mod ValuesMembers
+pub mod WrittenValues

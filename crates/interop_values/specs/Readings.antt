@@ -78,15 +78,6 @@ number_of ms = or_text (plain ms) (numeral_of (plain ms))
 abbrev pub number_under : List ℕ → Values → Option (ValueOrText Numeral)
 number_under name v = option_map number_of (v name)
 
--- what was read, if it was
-abbrev pub if_read : {V E : Type 0} → Result V E → Option V
-if_read (Ok v) = Some v
-if_read (Err e) = None
-
--- the numbers under a name, where the text spells some
-abbrev pub total_under : List ℕ → Values → Option Numeral
-total_under name v = if_read (numeral_of (text_under name v))
-
 -- the page ranges that a content spells, or its text
 abbrev pub pages_in : List Member → ValueOrText (List Part)
 pages_in ms = or_text (plain ms) (pages_of (plain ms))

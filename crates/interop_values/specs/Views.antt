@@ -1,5 +1,5 @@
 -- What the code holds, as plain data.
-use Rattle.std.specs.Prelude.{◌≡◌, ℕ, Bool, true, false, List, [], ◌∷◌, ◌++◌, map}
+use Rattle.std.specs.Prelude.{◌≡◌, Bool, true, false, List, ◌++◌, map}
 use Rattle.biblatex_content.specs.declared.chunk.Kind.{Kind}
 use Rattle.biblatex_content.specs.declared.chunk.Kind.TheVariants as kinds
 use Rattle.biblatex_content.specs.Styled.{Member, letters}

@@ -10,6 +10,6 @@ mod values;
 pub use dates::{date_under, library_date, own_date};
 pub use readings::{
     address, format, format_if, format_under, number_under, pages_under, people_under, publisher,
-    text_under, title, total_under,
+    text_under, title,
 };
 pub use values::{text, value};

@@ -18,7 +18,7 @@ ghost use Rattle.literature_values.specs.TypedViews.{value_or_text};
 ghost use Rattle.interop_values.specs.Values.{values, first_or};
 ghost use Rattle.interop_values.specs.Pieces.{pieces_of};
 ghost use Rattle.interop_values.specs.Views.{Grows};
-ghost use Rattle.interop_values.specs.Readings.{format_of, with_subtitle, title_of, format_under, part, person_of, people_of, people_under, number_under, total_under, pages_under, bytes_of, bytes_under, publishing_of, publisher_of, url_or, address_of};
+ghost use Rattle.interop_values.specs.Readings.{format_of, with_subtitle, title_of, format_under, part, person_of, people_of, people_under, number_under, pages_under, bytes_of, bytes_under, publishing_of, publisher_of, url_or, address_of};
 
 use crate::pieces::Pieces;
 use crate::values::{text, value};
@@ -27,8 +27,8 @@ use biblatex_fields::Fields;
 use biblatex_people::{Person as SourcePerson, read_people};
 use biblatex_values::plain_text;
 use literature_values::{
-    ChunkedString, Date, FormatString, MaybeTyped, Numeric, NumericError, PageRanges, Person,
-    Publisher, QualifiedUrl,
+    ChunkedString, Date, FormatString, MaybeTyped, Numeric, PageRanges, Person, Publisher,
+    QualifiedUrl,
 };
 use std::alloc::{AllocError, Global};
 use texts::has_text;
@@ -200,22 +200,6 @@ pub fn number_under(
             Ok(Some(MaybeTyped::<Numeric>::read(alloc, text.as_str())?))
         }
         None => Ok(None),
-    }
-}
-
-/// The numbers under a name, where the text spells some.
-pub fn total_under(
-    alloc: Global,
-    fields: &Fields,
-    name: &str,
-) -> Result<Option<Numeric>, AllocError>
-    ensures { IfOk result (λ n. option_map numeral n ≡ total_under name.now (values fields.now)) }
-{
-    let text = text(alloc, fields, name)?;
-    match Numeric::read(alloc, text.as_str()) {
-        Ok(numeric) => Ok(Some(numeric)),
-        Err(NumericError::Malformed) => Ok(None),
-        Err(NumericError::Memory) => Err(AllocError),
     }
 }
 

@@ -66,7 +66,7 @@ fn filled(value: Option<&Chunks>) -> Option<&[Spanned<Chunk>]>
 }
 
 /// Whether chunks spell anything.
-#[tactic(auto, using(crate::proofs::Members::some_before, crate::proofs::Members::none_before))]
+#[tactic(auto, using(crate::proofs::ValuesMembers::some_before, crate::proofs::ValuesMembers::none_before))]
 fn has_members(value: &[Spanned<Chunk>]) -> bool
     ensures { result ≡ is_filled (styled value.now) }
 {

@@ -4,3 +4,4 @@ pub mod Runs
 pub mod Steps
 pub mod Cut
 pub mod Text
+pub mod Throughout

@@ -67,7 +67,7 @@ impl Library {
     ///
     /// # Errors
     /// Out of memory; the library is as it was, and the entry is dropped.
-    #[tactic(auto, using(crate::proofs::Stored::entry_put, crate::proofs::Stored::put_in_step, crate::proofs::Stored::unique_keys))]
+    #[tactic(auto, using(crate::proofs::KeysStored::entry_put, crate::proofs::KeysStored::put_in_step, crate::proofs::KeysStored::unique_keys))]
     pub fn push(&mut self, entry: Entry) -> Result<(), AllocError>
         ensures ok { OnOk result (entries self.new ≡ put views.key (entries self.old) entry) }
         ensures err { OnErr result (entries self.new ≡ entries self.old) }
@@ -79,7 +79,7 @@ impl Library {
     }
 
     /// Takes the entry of that key out. Those after it move up.
-    #[tactic(auto, using(crate::proofs::Stored::removed_in_step, crate::proofs::Stored::unique_keys))]
+    #[tactic(auto, using(crate::proofs::KeysStored::removed_in_step, crate::proofs::KeysStored::unique_keys))]
     pub fn remove(&mut self, key: &str) -> Option<Entry>
         ensures removed { result ≡ with_key views.key key.now (entries self.old) }
         ensures entries { entries self.new ≡ without_key views.key key.now (entries self.old) }

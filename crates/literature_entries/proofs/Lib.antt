@@ -1,3 +1,3 @@
-pub mod Pairs
-pub mod Walks
-pub mod Equality
+pub mod NamesSerials
+pub mod AncestorsWalks
+pub mod WholesEquality

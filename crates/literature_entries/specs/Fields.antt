@@ -23,12 +23,12 @@ pub record Fields : Type 0 where
   pub date : Option Date
   pub publisher : Option Publishing
   pub volume : Option (ValueOrText Numeral)
-  pub volume_total : Option Numeral
+  pub volume_total : Option (ValueOrText Numeral)
   pub issue : Option (ValueOrText Numeral)
   pub chapter : Option (ValueOrText Numeral)
   pub edition : Option (ValueOrText Numeral)
   pub page_range : Option (ValueOrText (List Part))
-  pub page_total : Option Numeral
+  pub page_total : Option (ValueOrText Numeral)
   pub url : Option Address
   pub serial_number : Option Serials
   pub note : Option Format

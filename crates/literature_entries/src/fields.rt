@@ -117,15 +117,15 @@ impl Entry {
     }
 
     /// The number of volumes.
-    pub fn volume_total(&self) -> Option<&Numeric>
-        ensures { seen_in numeral result ≡ (fields self.now).volume_total }
+    pub fn volume_total(&self) -> Option<&MaybeTyped<Numeric>>
+        ensures { seen_in (value_or_text numeral) result ≡ (fields self.now).volume_total }
     {
         self.details.volume_total.as_ref()
     }
 
     /// Sets the number of volumes.
-    pub fn set_volume_total(&mut self, volume_total: Numeric)
-        ensures { Sets self.old (record (fields self.old) { volume_total = Some (numeral volume_total) }) self.new }
+    pub fn set_volume_total(&mut self, volume_total: MaybeTyped<Numeric>)
+        ensures { Sets self.old (record (fields self.old) { volume_total = Some (value_or_text numeral volume_total) }) self.new }
     {
         self.details.volume_total = Some(volume_total);
     }
@@ -187,15 +187,15 @@ impl Entry {
     }
 
     /// The number of pages.
-    pub fn page_total(&self) -> Option<&Numeric>
-        ensures { seen_in numeral result ≡ (fields self.now).page_total }
+    pub fn page_total(&self) -> Option<&MaybeTyped<Numeric>>
+        ensures { seen_in (value_or_text numeral) result ≡ (fields self.now).page_total }
     {
         self.details.page_total.as_ref()
     }
 
     /// Sets the number of pages.
-    pub fn set_page_total(&mut self, page_total: Numeric)
-        ensures { Sets self.old (record (fields self.old) { page_total = Some (numeral page_total) }) self.new }
+    pub fn set_page_total(&mut self, page_total: MaybeTyped<Numeric>)
+        ensures { Sets self.old (record (fields self.old) { page_total = Some (value_or_text numeral page_total) }) self.new }
     {
         self.details.page_total = Some(page_total);
     }

@@ -122,7 +122,7 @@ impl Entry {
 }
 
 /// The number under the name of a scheme.
-#[tactic(auto, using(crate::proofs::Pairs::number_found))]
+#[tactic(auto, using(crate::proofs::NamesSerials::number_found))]
 fn number_under<'n>(numbers: &'n Option<SerialNumber>, scheme: &str) -> Option<&'n str>
     ensures { seen_in (λ s. s) result ≡ number_under scheme.now (option_map serials numbers.now) }
 {
@@ -136,7 +136,7 @@ fn number_under<'n>(numbers: &'n Option<SerialNumber>, scheme: &str) -> Option<&
 }
 
 /// Puts a number under the name of a scheme.
-#[tactic(auto, using(crate::proofs::Pairs::number_put))]
+#[tactic(auto, using(crate::proofs::NamesSerials::number_put))]
 fn put_number(
     numbers: &mut Option<SerialNumber>,
     scheme: &str,

@@ -1,8 +1,8 @@
-pub mod Shorter
-pub mod NumberSteps
-pub mod Separators
+pub mod NumbersShorter
+pub mod NumbersSteps
+pub mod NumbersSeparators
 pub mod NumbersAgain
-pub mod NumeralAgain
-pub mod PageSteps
+pub mod NumericsAgain
+pub mod PagesSteps
 pub mod PagesAgain
 pub mod Equality

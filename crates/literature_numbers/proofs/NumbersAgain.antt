@@ -14,9 +14,9 @@ use Rattle.texts.specs.declared.character.Class.TheVariants.{Letter, Digit}
 use Rattle.literature_numbers.specs.declared.separator.NumericDelimiter.{NumericDelimiter}
 use Rattle.literature_numbers.specs.declared.separator.NumericDelimiter.TheVariants.{Comma, Ampersand, Hyphen}
 use Rattle.texts.specs.declared.reader.Unreadable.{Unreadable}
-use Rattle.literature_numbers.proofs.Shorter.{numbers_shorten}
-use Rattle.texts.proofs.Starts.{Starts, decimal_starts, number_again}
-use Rattle.literature_numbers.proofs.Separators.{delimiter_again, letters_bar, no_separator}
+use Rattle.literature_numbers.proofs.NumbersShorter.{numbers_shorten}
+use Rattle.texts.proofs.ReadingStarts.{Starts, decimal_starts, number_again}
+use Rattle.literature_numbers.proofs.NumbersSeparators.{delimiter_again, letters_bar, no_separator}
 
 -- no digit begins a separator
 delimiter_bars : (d : NumericDelimiter) (cs : List ℕ) → Bars (passes Digit) (delimiter_text d ++ cs)
@@ -68,16 +68,16 @@ one_text : (n : ℤ × Option NumericDelimiter) (ns : Numbers) (rest : List ℕ)
 one_text n ns rest =
     append_assoc (linked_text n) (flat_map linked_text ns) rest ∙ append_assoc (signed_decimal n.0) (separator_text n.1) (flat_map linked_text ns ++ rest)
 
-numbers_behind : (ns : Numbers) (o : Option NumericDelimiter) (n : ℤ) (rest : List ℕ) → AreLinked ((n, o) ∷ ns) → AllPassTest (passes Letter) rest → Again n o ns rest
-numbers_behind [] None n rest are letters = record { others = []; read = each-none next_number_at rest rest (no_next rest letters); links = refl }
-numbers_behind [] (Some d) n rest are letters =
+numbers_after : (ns : Numbers) (o : Option NumericDelimiter) (n : ℤ) (rest : List ℕ) → AreLinked ((n, o) ∷ ns) → AllPassTest (passes Letter) rest → Again n o ns rest
+numbers_after [] None n rest are letters = record { others = []; read = each-none next_number_at rest rest (no_next rest letters); links = refl }
+numbers_after [] (Some d) n rest are letters =
     let other = are.1 in
     absurd cc
-numbers_behind (m ∷ ns) None n rest are letters =
+numbers_after (m ∷ ns) None n rest are letters =
     let none = are.1 in
     absurd cc
-numbers_behind (m ∷ ns) (Some d) n rest are letters =
-    let more = numbers_behind ns m.1 m.0 rest are.2 letters in
+numbers_after (m ∷ ns) (Some d) n rest are letters =
+    let more = numbers_after ns m.1 m.0 rest are.2 letters in
     let left : List ℕ = separator_text m.1 ++ (flat_map linked_text ns ++ rest) in
     let step : next_number_at (delimiter_text d ++ (flat_map linked_text (m ∷ ns) ++ rest)) ≡ Ok (Some (d, m.0), left)
     = ap (λ (t : List ℕ). next_number_at (delimiter_text d ++ t)) (one_text m ns rest) ∙ next_again d m.0 left (first_count m ns are.2) (after_number m.1 ns m.0 rest are.2 letters) in
@@ -93,7 +93,7 @@ pub numbers_again : (n : ℤ × Option NumericDelimiter) (ns : Numbers) (rest : 
     → numbers_at (flat_map linked_text (n ∷ ns) ++ rest) ≡ Ok (n ∷ ns, rest)
 unfolding numbers_at
 numbers_again n ns rest are letters =
-    let more = numbers_behind ns n.1 n.0 rest are letters in
+    let more = numbers_after ns n.1 n.0 rest are letters in
     let left : List ℕ = separator_text n.1 ++ (flat_map linked_text ns ++ rest) in
     let first : number_at (flat_map linked_text (n ∷ ns) ++ rest) ≡ Ok (n.0, left)
     = ap number_at (one_text n ns rest) ∙ count_again n.0 left (first_count n ns are) (after_number n.1 ns n.0 rest are letters) in

@@ -57,13 +57,13 @@ affix [] = None
 affix (c ∷ cs) = Some (c ∷ cs)
 
 -- after a separator a number is wanted
-abbrev pub number_behind : Option NumericDelimiter × List ℕ → Result (Option (NumericDelimiter × ℤ) × List ℕ) Unreadable
-number_behind (None, rest) = Ok (None, rest)
-number_behind (Some d, rest) = number_at rest >>= λ n. Ok (Some (d, n.0), n.1)
+abbrev pub number_after : Option NumericDelimiter × List ℕ → Result (Option (NumericDelimiter × ℤ) × List ℕ) Unreadable
+number_after (None, rest) = Ok (None, rest)
+number_after (Some d, rest) = number_at rest >>= λ n. Ok (Some (d, n.0), n.1)
 
 -- a separator and a number, or nothing
 unfoldable pub next_number_at : List ℕ → Result (Option (NumericDelimiter × ℤ) × List ℕ) Unreadable
-next_number_at cs = number_behind (separator_at cs)
+next_number_at cs = number_after (separator_at cs)
 
 -- a number, and further ones after separators
 unfoldable pub numbers_at : List ℕ → Result (Numbers × List ℕ) Unreadable

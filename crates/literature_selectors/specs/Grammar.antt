@@ -19,9 +19,9 @@ Bars sign (Name n ∷ ts) = Unit {0}
 Bars sign (Sign c ∷ ts) = (c == sign) ≡ false
 
 -- each after the sign, and no further sign after the last
-abbrev pub AreBehind : {X : Type 0} → ℕ → Spells X → Spells (List X)
-AreBehind sign Is ts [] rest = (ts ≡ rest) × Bars sign rest
-AreBehind sign Is ts (x ∷ xs) rest = (a : List Token) × (b : List Token) × (ts ≡ Sign sign ∷ a) × Is a x b × AreBehind sign Is b xs rest
+abbrev pub AreAfter : {X : Type 0} → ℕ → Spells X → Spells (List X)
+AreAfter sign Is ts [] rest = (ts ≡ rest) × Bars sign rest
+AreAfter sign Is ts (x ∷ xs) rest = (a : List Token) × (b : List Token) × (ts ≡ Sign sign ∷ a) × Is a x b × AreAfter sign Is b xs rest
 
 -- a name
 abbrev pub IsName : Spells (List ℕ)
@@ -30,15 +30,15 @@ IsName ts n rest = ts ≡ Name n ∷ rest
 -- after the bracket that begins a list: names parted by commas, and the bracket that ends it
 abbrev pub AreNames : Spells (List (List ℕ))
 AreNames ts [] rest = ⊥
-AreNames ts (n ∷ ns) rest = (a : List Token) × (b : List Token) × IsName ts n a × AreBehind 44 IsName a ns b × (b ≡ Sign 93 ∷ rest)
+AreNames ts (n ∷ ns) rest = (a : List Token) × (b : List Token) × IsName ts n a × AreAfter 44 IsName a ns b × (b ≡ Sign 93 ∷ rest)
 
 -- the names of all lists that stand here
 abbrev pub AreLists : Spells (List (List ℕ))
-AreLists ts names rest = (lists : List (List (List ℕ))) × AreBehind 91 AreNames ts lists rest × (names ≡ flat_map (λ ns. ns) lists)
+AreLists ts names rest = (lists : List (List (List ℕ))) × AreAfter 91 AreNames ts lists rest × (names ≡ flat_map (λ ns. ns) lists)
 
 -- one or more parted by the sign, joined to one
 abbrev pub AreParted : ℕ → (Tree → List Tree → Tree) → Spells Tree → Spells Tree
-AreParted sign join Is ts y rest = (x : Tree) × (xs : List Tree) × (a : List Token) × Is ts x a × AreBehind sign Is a xs rest × (y ≡ join x xs)
+AreParted sign join Is ts y rest = (x : Tree) × (xs : List Tree) × (a : List Token) × Is ts x a × AreAfter sign Is a xs rest × (y ≡ join x xs)
 
 -- what may be spelled one level further in
 pub record Within : Type 1 where

@@ -30,13 +30,13 @@ abbrev pub has_each : List (List ℕ) → Entry → Bool
 has_each names e = list_all (λ n. has (text n) (fields e) (are_some (parents e))) names
 
 -- one that was taken, before which another one stands that was not
-abbrev pub behind : {X : Type 0} → X → X × List X → X × List X
-behind x p = (p.0, x ∷ p.1)
+abbrev pub following : {X : Type 0} → X → X × List X → X × List X
+following x p = (p.0, x ∷ p.1)
 
 -- the first that passes the test, and the others in their order; or none passes it
 abbrev pub take_first : {X : Type 0} → (X → Bool) → List X → Option (X × List X)
 take_first test [] = None
-take_first test (x ∷ xs) = if test x then Some (x, xs) else option_map (behind x) (take_first test xs)
+take_first test (x ∷ xs) = if test x then Some (x, xs) else option_map (following x) (take_first test xs)
 
 -- whether one was taken and the others pass
 abbrev pub and_others : {X : Type 0} → (List X → Bool) → Option (X × List X) → Bool

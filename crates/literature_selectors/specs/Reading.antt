@@ -40,8 +40,8 @@ each_below zero sign read ts = Ok ([], ts)
 each_below (suc n) sign read ts = one_more read (each_below n sign read) (taken sign ts)
 
 -- As often as the sign stands: what is read after it. Each sign is a token, so there are no more of them than tokens.
-unfoldable pub each_behind : {X : Type 0} → ℕ → Reading X → Reading (List X)
-each_behind sign read ts = each_below (suc (length ts)) sign read ts
+unfoldable pub each_after : {X : Type 0} → ℕ → Reading X → Reading (List X)
+each_after sign read ts = each_below (suc (length ts)) sign read ts
 
 -- a name of a list
 abbrev pub name_at : Reading (List ℕ)
@@ -57,14 +57,14 @@ list_end (false, ts) = Err MissingComma
 unfoldable pub names_at : Reading (List (List ℕ))
 names_at ts = do
   first ← name_at ts
-  others ← each_behind 44 name_at first.1
+  others ← each_after 44 name_at first.1
   rest ← list_end (taken 93 others.1)
   Ok (first.0 ∷ others.0, rest)
 
 -- the names of the lists that stand here, each after its bracket
 unfoldable pub lists_at : Reading (List (List ℕ))
 lists_at ts = do
-  lists ← each_behind 91 names_at ts
+  lists ← each_after 91 names_at ts
   Ok (flat_map (λ names. names) lists.0, lists.1)
 
 -- a tree with the lists after it
@@ -77,7 +77,7 @@ listed_at x ts = do
 unfoldable pub parted : ℕ → (Tree → List Tree → Tree) → Reading Tree → Reading Tree
 parted sign join read ts = do
   first ← read ts
-  others ← each_behind sign read first.1
+  others ← each_after sign read first.1
   Ok (join first.0 others.0, others.1)
 
 -- trees parted by bars

@@ -150,7 +150,7 @@ fn bind_ancestry<'s, 'e>(
 
 /// The first of the selectors that holds at the entry.
 #[cycle(binding)]
-#[tactic(auto, using(crate::proofs::Weights::heft_at))]
+#[tactic(auto, using(crate::proofs::TreesWeights::heft_at))]
 fn bind_first_side<'s, 'e>(
     selectors: &'s [Node],
     entry: &'e Entry,
@@ -168,7 +168,7 @@ fn bind_first_side<'s, 'e>(
 
 /// The first of the selectors that the parents satisfy.
 #[cycle(binding)]
-#[tactic(auto, using(crate::proofs::Weights::heft_at))]
+#[tactic(auto, using(crate::proofs::TreesWeights::heft_at))]
 fn bind_first_side_above<'s, 'e>(
     selectors: &'s [Node],
     parents: &'e [Entry],
@@ -186,7 +186,7 @@ fn bind_first_side_above<'s, 'e>(
 
 /// Each of the selectors in turn, at the first parent that is left and at which it holds.
 #[cycle(binding)]
-#[tactic(auto, using(crate::proofs::Weights::heft_at))]
+#[tactic(auto, using(crate::proofs::TreesWeights::heft_at))]
 fn bind_each<'s, 'e>(
     members: &'s [Node],
     parents: &'e [Entry],

@@ -39,7 +39,7 @@ impl Node {
 
     /// Whether an entry's parents satisfy it.
     #[cycle(holding)]
-    #[tactic(auto, using(crate::proofs::Members::above_multi, crate::proofs::Members::above_too_few))]
+    #[tactic(auto, using(crate::proofs::HoldingMembers::above_multi, crate::proofs::HoldingMembers::above_too_few))]
     pub(crate) fn holds_above(&self, parents: &[Entry]) -> bool
         ensures { result ≡ (meaning (tree self.now)).above parents.now }
     {
@@ -105,7 +105,7 @@ pub(crate) fn has_each(entry: &Entry, names: &[String]) -> bool
 
 /// Whether one of the selectors holds at the entry.
 #[cycle(holding)]
-#[tactic(auto, using(crate::proofs::Weights::heft_at))]
+#[tactic(auto, using(crate::proofs::TreesWeights::heft_at))]
 fn one_holds(selectors: &[Node], entry: &Entry) -> bool
     ensures { result ≡ list_any (λ x. (meaning (tree x)).at entry.now) selectors.now }
 {
@@ -119,7 +119,7 @@ fn one_holds(selectors: &[Node], entry: &Entry) -> bool
 
 /// Whether the parents satisfy one of the selectors.
 #[cycle(holding)]
-#[tactic(auto, using(crate::proofs::Weights::heft_at))]
+#[tactic(auto, using(crate::proofs::TreesWeights::heft_at))]
 fn one_holds_above(selectors: &[Node], parents: &[Entry]) -> bool
     ensures { result ≡ list_any (λ x. (meaning (tree x)).above parents.now) selectors.now }
 {

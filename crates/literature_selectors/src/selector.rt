@@ -57,7 +57,7 @@ impl Selector {
     ///
     /// # Errors
     /// Want of memory.
-    #[tactic(auto, using(crate::proofs::Names::last_is_found))]
+    #[tactic(auto, using(crate::proofs::BindingsNames::last_is_found))]
     pub fn apply<'e>(
         &self,
         alloc: Global,

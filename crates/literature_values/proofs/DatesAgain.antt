@@ -10,7 +10,7 @@ use Rattle.texts.specs.Reading.{taken, mark_at}
 use Rattle.date_parts.specs.Parts.{part_at, signed}
 use Rattle.date_parts.specs.Written.{padded, year_text, counted_text}
 use Rattle.date_parts.proofs.WrittenAgain.{digits_again, part_again, year_sign, signed_again}
-use Rattle.date_parts.proofs.Days.{few_days, no_season, of_twelve, day_within}
+use Rattle.date_parts.proofs.CalendarDays.{few_days, no_season, of_twelve, day_within}
 use Rattle.literature_values.specs.Dates.{time_at, year_at, side_of, month_of, date_of}
 use Rattle.literature_values.specs.DateText.{day_text, month_text, mark_text, date_text, HasMonth, Exists}
 use Rattle.texts.specs.declared.character.Class.TheVariants.{Digit}

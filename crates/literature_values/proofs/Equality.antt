@@ -24,7 +24,7 @@ use Rattle.url.specs.Parts.{serialize}
 use Rattle.url.specs.contracts.Url.{the_row}
 use Rattle.url.specs.contracts.traits.UrlPartialEq.TheImpl as url
 use Rattle.literature_values.specs.contracts.date.DatePartialEq.TheImpl as date
-use Rattle.literature_values.proofs.DateEquality.{Shows-Date}
+use Rattle.literature_values.proofs.DatesEquality.{Shows-Date}
 use Rattle.literature_values.specs.TypedViews.{ValueOrText, Value, Text, value_or_text}
 use Rattle.literature_values.specs.declared.maybe_typed.MaybeTyped.TheVariants as typed
 use Rattle.literature_values.specs.OtherViews.{address, numbers_by_scheme}
@@ -70,9 +70,9 @@ texts = Shows-options string_eq characters Shows-strings
 pub Shows-Person : Shows one_person.ghosts.eq person
 Shows-Person p q =
     let affixes = Decides-and (option_eq string_eq p.prefix q.prefix) (option_eq string_eq p.suffix q.suffix) (texts p.prefix q.prefix) (texts p.suffix q.suffix) in
-    let behind = Decides-and (option_eq string_eq p.given_name q.given_name) (option_eq string_eq p.prefix q.prefix && option_eq string_eq p.suffix q.suffix) (texts p.given_name q.given_name) affixes in
+    let following = Decides-and (option_eq string_eq p.given_name q.given_name) (option_eq string_eq p.prefix q.prefix && option_eq string_eq p.suffix q.suffix) (texts p.given_name q.given_name) affixes in
     Decides-moved (one_person.ghosts.eq p q)
-    (Decides-and (string_eq p.name q.name) (option_eq string_eq p.given_name q.given_name && (option_eq string_eq p.prefix q.prefix && option_eq string_eq p.suffix q.suffix)) (Shows-strings p.name q.name) behind)
+    (Decides-and (string_eq p.name q.name) (option_eq string_eq p.given_name q.given_name && (option_eq string_eq p.prefix q.prefix && option_eq string_eq p.suffix q.suffix)) (Shows-strings p.name q.name) following)
     (λ e i. record { name = e.0 i; given_name = e.1.0 i; prefix = e.1.1.0 i; suffix = e.1.1.1 i })
     (λ e. (ap (λ v. v.name) e, (ap (λ v. v.given_name) e, (ap (λ v. v.prefix) e, ap (λ v. v.suffix) e))))
 

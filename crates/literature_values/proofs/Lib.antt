@@ -1,5 +1,5 @@
-pub mod DateEquality
+pub mod DatesEquality
 pub mod DatesAgain
 pub mod Equality
-pub mod InitialSteps
-pub mod TypeEquality
+pub mod InitialsSteps
+pub mod EntryTypesEquality

@@ -20,9 +20,9 @@ minutes_at cs = do
   Ok minute.1
 
 -- after a colon two digits are wanted
-abbrev pub seconds_behind : Bool × List ℕ → Result (List ℕ) Unreadable
-seconds_behind (false, rest) = Ok rest
-seconds_behind (true, rest) = digits_at 2 2 rest >>= λ d. Ok d.1
+abbrev pub seconds_after : Bool × List ℕ → Result (List ℕ) Unreadable
+seconds_after (false, rest) = Ok rest
+seconds_after (true, rest) = digits_at 2 2 rest >>= λ d. Ok d.1
 
 -- `Z`, or a sign, hours and minutes, or nothing
 abbrev pub offset_at : List ℕ → Result (List ℕ) Unreadable
@@ -33,18 +33,18 @@ offset_at (c ∷ cs) = if c == 90 then Ok cs else (if c == 43 || c == 45 then mi
 unfoldable pub clock_at : List ℕ → Result (List ℕ) Unreadable
 clock_at cs = do
   minutes ← minutes_at cs
-  seconds ← seconds_behind (taken 58 minutes)
+  seconds ← seconds_after (taken 58 minutes)
   offset_at seconds
 
 -- after a `T` a time is wanted
-abbrev pub clock_behind : Bool × List ℕ → Result (List ℕ) Unreadable
-clock_behind (false, rest) = Ok rest
-clock_behind (true, rest) = clock_at rest
+abbrev pub clock_after : Bool × List ℕ → Result (List ℕ) Unreadable
+clock_after (false, rest) = Ok rest
+clock_after (true, rest) = clock_at rest
 
 -- after a day, `T` and a time, or nothing
 abbrev pub time_at : Option ℕ → List ℕ → Result (List ℕ) Unreadable
 time_at None cs = Ok cs
-time_at (Some d) cs = clock_behind (taken 84 cs)
+time_at (Some d) cs = clock_after (taken 84 cs)
 
 -- four digits
 abbrev pub year_at : Bool → List ℕ → Result (ℤ × List ℕ) Unreadable

@@ -16,13 +16,13 @@ pub record Run : Type 0 where
   pub name : List ℕ
 
 -- a run that is not empty, and what follows it
-abbrev pub run_behind : Bool → List ℕ → List ℕ → Option Run × List ℕ
-run_behind hyphen [] rest = (None, rest)
-run_behind hyphen (c ∷ cs) rest = (Some (record { is_hyphenated = hyphen; name = c ∷ cs }), rest)
+abbrev pub run_after : Bool → List ℕ → List ℕ → Option Run × List ℕ
+run_after hyphen [] rest = (None, rest)
+run_after hyphen (c ∷ cs) rest = (Some (record { is_hyphenated = hyphen; name = c ∷ cs }), rest)
 
 -- what follows white space and hyphens, of which the first that is no white space decides
 abbrev pub run_from : Bool × List ℕ → Option Run × List ℕ
-run_from (hyphen, cs) = run_behind hyphen (front_of (passes Name) (after (passes Apart) cs)) (after (passes Name) (after (passes Apart) cs))
+run_from (hyphen, cs) = run_after hyphen (front_of (passes Name) (after (passes Apart) cs)) (after (passes Name) (after (passes Apart) cs))
 
 -- the next run, or nothing at the end; there is no fault
 unfoldable pub next_run_at : List ℕ → Result (Option Run × List ℕ) ⊥

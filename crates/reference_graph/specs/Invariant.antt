@@ -1,7 +1,7 @@
 -- What holds of the search between its steps.
 use Rattle.std.specs.Prelude.{◌≡◌, ℕ, ◌+◌, ◌<◌, ◌≤◌, ◌⊎◌, List, Bool, true, false, length, All, Contains, count_by, slice_index, ◌==◌}
 use Rattle.reference_graph.specs.References.{references_of, Walk, IsCircular}
-use Rattle.reference_graph.specs.Order.{is_marked, StandsBehind}
+use Rattle.reference_graph.specs.Order.{is_marked, StandsAfter}
 use Rattle.reference_graph.specs.Search.{State, place_of, unread_of, last, weight, entered}
 use Rattle.reference_graph.specs.declared.search.Place.{Place}
 use Rattle.reference_graph.specs.declared.search.Place.TheVariants.{New, At, Done}
@@ -65,7 +65,7 @@ pub record IsInvariant (references : List (List ℕ)) (s : State) : Type 0 where
   pub listed : (v : ℕ) → place_of s v ≡ Done → v < length references → Contains s.order v
   pub once : (v : ℕ) → v < length references → count_by (λ k. k == v) s.order + count_by (λ k. k == v) s.path ≡ tally (place_of s v)
   pub below : All (λ v. v < length references) s.order
-  pub ordered : (k : ℕ) → k < length s.order → StandsBehind references s.order k
+  pub ordered : (k : ℕ) → k < length s.order → StandsAfter references s.order k
 
 -- What a step leaves: what holds between steps, no number forgotten, and less to do.
 pub record IsStep (references : List (List ℕ)) (old new : State) : Type 0 where

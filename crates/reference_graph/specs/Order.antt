@@ -16,12 +16,12 @@ abbrev pub MarksCircular : List (List ℕ) → List Bool → Type 0
 MarksCircular references marks = (i : ℕ) → IsTrue (is_marked marks i) ↔ IsCircular references i
 
 -- unless it is circular, the number at place k stands after all that it refers to and that there is
-abbrev pub StandsBehind : List (List ℕ) → List ℕ → ℕ → Type 0
-StandsBehind references order k =
+abbrev pub StandsAfter : List (List ℕ) → List ℕ → ℕ → Type 0
+StandsAfter references order k =
     (IsCircular references (slice_index order k) → ⊥) → (r : ℕ) → Contains (references_of references (slice_index order k)) r → r < length references → Contains (take k order) r
 
 -- each number once, no other, and each that is not circular after all that it refers to
 pub record IsOrder (references : List (List ℕ)) (order : List ℕ) : Type 0 where
   pub once : (i : ℕ) → i < length references → count_by (λ k. k == i) order ≡ 1
   pub below : All (λ i. i < length references) order
-  pub behind : (k : ℕ) → k < length order → StandsBehind references order k
+  pub following : (k : ℕ) → k < length order → StandsAfter references order k

@@ -1,2 +1,3 @@
 pub mod Sinks
-pub mod Paths
+pub mod Files
+pub mod Programs

@@ -64,6 +64,18 @@ impl<W: Write> Tap<W> {
             last_fault: None,
         }
     }
+
+    /// The writer.
+    pub fn into_inner(self) -> W
+        ensures { result ≡ self.writer }
+    {
+        let Tap {
+            writer,
+            failures: _,
+            last_fault: _,
+        } = self;
+        writer
+    }
 }
 
 impl<W: Write> Sink for Tap<W> {

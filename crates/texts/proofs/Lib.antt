@@ -1,6 +1,6 @@
-pub mod Appending
-pub mod Bounds
-pub mod Digits
-pub mod Shorter
-pub mod Starts
-pub mod Writing
+pub mod GrowingAppended
+pub mod ReadingBounds
+pub mod ReadingDigits
+pub mod ReadingShorter
+pub mod ReadingStarts
+pub mod GrowingWritten

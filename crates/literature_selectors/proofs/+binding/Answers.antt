@@ -3,8 +3,8 @@ use Rattle.literature_selectors.specs.Holding.{meaning}
 use Rattle.literature_selectors.specs.Bindings.{binds}
 use Rattle.literature_selectors.specs.Found.{borrowed}
 use Rattle.literature_selectors.specs.Views.{tree}
-use Rattle.literature_selectors.proofs.Adding.{search_finds, search_goes_on, search_ends, choice_adds, choice_adds_above, members_add, name_adds, name_withdrawn, ancestry_withdrawn}
-use Rattle.literature_selectors.proofs.Turns.{tries_find, tries_add, tries_go_on, borrowed_at, within, turns_withdrawn, turns_taken}
+use Rattle.literature_selectors.proofs.BindingsAdded.{search_finds, search_goes_on, search_ends, choice_adds, choice_adds_above, members_add, name_adds, name_withdrawn, ancestry_withdrawn}
+use Rattle.literature_selectors.proofs.HoldingTurns.{tries_find, tries_add, tries_go_on, borrowed_at, within, turns_withdrawn, turns_taken}
 use Rattle.literature_selectors.proofs.+binding.Goals as goal
 
 pub node::Node::bind-returns-in-Binding : goal.node::Node::bind-returns-in-Binding

@@ -3,9 +3,9 @@ use Rattle.literature_selectors.specs.Holding.{meaning}
 use Rattle.literature_selectors.specs.Bindings.{binds}
 use Rattle.literature_selectors.specs.Views.{tree}
 use Rattle.literature_selectors.specs.Found.{borrowed}
-use Rattle.literature_selectors.proofs.Adding.{IsSearched}
-use Rattle.literature_selectors.proofs.Turns.{IsTried, IsInTurn}
-use Rattle.literature_selectors.proofs.Weights.{heft, hefts}
+use Rattle.literature_selectors.proofs.BindingsAdded.{IsSearched}
+use Rattle.literature_selectors.proofs.HoldingTurns.{IsTried, IsInTurn}
+use Rattle.literature_selectors.proofs.TreesWeights.{heft, hefts}
 use Rattle.literature_selectors.proofs.+binding.Given as goal
 
 abbrev pub decreases-node::Node::bind : goal.decreases-node::Node::bind

@@ -2,8 +2,8 @@ use Rattle.std.proofs.Common.{◌∙◌, sym, ap, Some, None, arith}
 use Rattle.literature_selectors.specs.Holding.{meaning}
 use Rattle.literature_selectors.specs.Left.{taken_places}
 use Rattle.literature_selectors.specs.Views.{tree}
-use Rattle.literature_selectors.proofs.Members.{choice_at, choice_above}
-use Rattle.literature_selectors.proofs.Places.{told_at, told_at_end}
+use Rattle.literature_selectors.proofs.HoldingMembers.{choice_at, choice_above}
+use Rattle.literature_selectors.proofs.LeftPlaces.{told_at, told_at_end}
 use Rattle.literature_selectors.proofs.+holding.Goals as goal
 
 pub node::Node::holds-returns-in-Alternatives : goal.node::Node::holds-returns-in-Alternatives

@@ -3,8 +3,8 @@ use Rattle.std.specs.List.{list_any}
 use Rattle.literature_selectors.specs.Holding.{meaning}
 use Rattle.literature_selectors.specs.Left.{taken_places}
 use Rattle.literature_selectors.specs.Views.{tree}
-use Rattle.literature_selectors.proofs.Weights.{heft, hefts}
-use Rattle.literature_selectors.proofs.Places.{Tells, StandsFrom}
+use Rattle.literature_selectors.proofs.TreesWeights.{heft, hefts}
+use Rattle.literature_selectors.proofs.LeftPlaces.{Tells, StandsFrom}
 use Rattle.literature_selectors.proofs.+holding.Given as goal
 
 abbrev pub invariant-holding::one_holds-loop-selector : goal.invariant-holding::one_holds-loop-selector

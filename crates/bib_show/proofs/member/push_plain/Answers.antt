@@ -1,5 +1,5 @@
 use Rattle.std.proofs.Common.{string_bytes, rules}
-use Rattle.bib_show.proofs.Plain.{put_plain}
+use Rattle.bib_show.proofs.ShownPlain.{put_plain}
 use Rattle.bib_show.proofs.member.push_plain.Goals as goal
 
 pub returns-clause-shown : goal.returns-clause-shown

@@ -1,7 +1,7 @@
 use Rattle.std.proofs.Common.{sym, ◌∙◌}
 use Rattle.std.specs.Prelude.{string_bytes}
 use Rattle.std.specs.Str.{chars}
-use Rattle.bib_show.proofs.Members.{put_text}
+use Rattle.bib_show.proofs.ShownMembers.{put_text}
 use Rattle.bib_show.proofs.member.push_text.Goals as goal
 
 pub returns : goal.returns

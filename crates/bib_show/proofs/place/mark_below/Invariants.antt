@@ -1,6 +1,13 @@
-use Rattle.std.proofs.Common.{◌≡◌, flat_map, take}
+use Rattle.std.proofs.Common.{◌≡◌, ◌++◌, map, length}
+use denote.Text.{Utf8}
+use denote.Shadow.{shadow}
+use Rattle.std.specs.Prelude.{string_bytes}
+use Rattle.std.specs.Str.{chars}
 use Rattle.bib_show.specs.Place.{blank}
 use Rattle.bib_show.proofs.place.mark_below.Given as goal
 
-abbrev pub invariant-loop-byte : goal.invariant-loop-byte
-invariant-loop-byte l = l.mark.items ≡ flat_map blank (take l.byte-index l.bytes)
+abbrev pub invariant-loop-c : goal.invariant-loop-c
+invariant-loop-c l = (string_bytes l.mark ++ map blank (chars l.rest) ≡ map blank (chars l.shown)) × shadow (Utf8 l.rest)
+
+abbrev pub decreases-loop-c : goal.decreases-loop-c
+decreases-loop-c l = length (chars l.rest)

@@ -8,7 +8,7 @@ use Rattle.biblatex.specs.Reading.{Refusal}
 use Rattle.biblatex.specs.Resolved.{TextMeans}
 use Rattle.biblatex.specs.ParseError.{ParseError}
 use Rattle.bib_show.specs.Program.{said_of}
-use Rattle.bib_show.proofs.Faults.{refused_text}
+use Rattle.bib_show.proofs.ProgramFaults.{refused_text}
 use Rattle.bib_show.proofs.program.text_output.Goals as goal
 
 pub returns-in_ok-show-in-Ok-clause-shown : goal.returns-in_ok-show-in-Ok-clause-shown

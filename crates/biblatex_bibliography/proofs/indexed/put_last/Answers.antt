@@ -3,7 +3,7 @@ use Rattle.std.proofs.lemmas.List.{map_push, length-map}
 use Rattle.biblatex_entries.specs.Entries.{source, sources}
 use Rattle.biblatex_bibliography.specs.Bibliographies.{IsWithin}
 use Rattle.biblatex_bibliography.specs.Places.{bound, meaning_in, names_in}
-use Rattle.biblatex_bibliography.proofs.Within.{bound_within, length_last}
+use Rattle.biblatex_bibliography.proofs.PlacesWithin.{bound_within, length_last}
 use Rattle.biblatex_bibliography.proofs.indexed.put_last.Goals as goal
 
 pub returns-clause-ok : goal.returns-clause-ok

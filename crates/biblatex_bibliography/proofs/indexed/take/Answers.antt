@@ -3,7 +3,7 @@ use Rattle.std.specs.Prelude.{option_map}
 use Rattle.std.proofs.lemmas.List.{length-map}
 use Rattle.std.proofs.lemmas.Option.{slice_get-map, slice_get_read}
 use Rattle.biblatex_entries.specs.Entries.{source, sources}
-use Rattle.biblatex_bibliography.proofs.Within.{out_within, sources-remove}
+use Rattle.biblatex_bibliography.proofs.PlacesWithin.{out_within, sources-remove}
 use Rattle.biblatex_bibliography.proofs.indexed.take.Goals as goal
 
 pub remove-requires : goal.remove-requires

@@ -1,6 +1,6 @@
 use Rattle.std.proofs.Common.{string_bytes, [], ◌∷◌, List, ℕ, String, Global, map, sym, subst, arith}
-use Rattle.biblatex_bibliography.proofs.Binding.{bound_one}
-use Rattle.biblatex_bibliography.proofs.Within.{bound_within}
+use Rattle.biblatex_bibliography.proofs.PlacesBinding.{bound_one}
+use Rattle.biblatex_bibliography.proofs.PlacesWithin.{bound_within}
 use Rattle.biblatex_bibliography.specs.Places.{meaning_in, named_place, AreWithin}
 use Rattle.biblatex_bibliography.proofs.places.bind.Goals as goal
 

@@ -1,6 +1,6 @@
 use Rattle.std.proofs.Common.{◌≡◌, map, length, suc, string_bytes, sym, ap, ◌∙◌, arith}
 use Rattle.biblatex_bibliography.specs.Places.{Meaning, bound, meaning_in, names_in}
-use Rattle.biblatex_bibliography.proofs.Binding.{done, reordered, bound_one, bound_last, bound_none}
+use Rattle.biblatex_bibliography.proofs.PlacesBinding.{done, reordered, bound_one, bound_last, bound_none}
 use Rattle.biblatex_bibliography.proofs.places.bind_all.Goals as goal
 
 pub loop-name-init : goal.loop-name-init

@@ -1,6 +1,6 @@
 use Rattle.std.proofs.Common.{◌≡◌, sym, ◌∙◌, rules}
 use Rattle.std.specs.HashMap.{get_by_text}
-use Rattle.biblatex_bibliography.proofs.Binding.{by_bytes}
+use Rattle.biblatex_bibliography.proofs.PlacesBinding.{by_bytes}
 use Rattle.biblatex_bibliography.proofs.places.place_in.Goals as goal
 
 pub returns : goal.returns

@@ -1,6 +1,6 @@
 use Rattle.std.proofs.Common.{sym}
 use Rattle.biblatex_bibliography.specs.Places.{meaning_in, names_in}
-use Rattle.biblatex_bibliography.proofs.Binding.{meant_more}
+use Rattle.biblatex_bibliography.proofs.PlacesBinding.{meant_more}
 use Rattle.biblatex_bibliography.proofs.places.places_meant.Goals as goal
 
 pub loop-name-preserved : goal.loop-name-preserved

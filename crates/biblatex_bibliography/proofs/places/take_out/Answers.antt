@@ -5,7 +5,7 @@ use Rattle.std.specs.String.{string_eq, string_eq_equiv}
 use Rattle.std.proofs.lemmas.Map.Entries.{lookup-filter-values}
 use Rattle.std.proofs.lemmas.Map.Made.{filter_same_pairs, map_same_pairs, lookup-map_values}
 use Rattle.biblatex_bibliography.specs.Places.{moved_up}
-use Rattle.biblatex_bibliography.proofs.Binding.{changed, moved}
+use Rattle.biblatex_bibliography.proofs.PlacesBinding.{changed, moved}
 use Rattle.biblatex_bibliography.proofs.places.take_out.Goals as goal
 
 pub returns : goal.returns

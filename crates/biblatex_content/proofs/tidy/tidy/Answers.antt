@@ -8,7 +8,7 @@ use Rattle.biblatex_content.specs.Places.{placed, tidied_at, places_of, places_w
 use Rattle.biblatex_content.proofs.TidyPlaces.{nothing_comes}
 use Rattle.biblatex_content.specs.Tidy.{tidied, to_come}
 use Rattle.biblatex_content.specs.Views.{joined, styled}
-use Rattle.biblatex_content.proofs.Members.{tidied_behind-nil}
+use Rattle.biblatex_content.proofs.StyledMembers.{tidied_after-nil}
 use Rattle.biblatex_content.proofs.tidy.tidy.Goals as goal
 
 pub loop-chunk-init : goal.loop-chunk-init
@@ -34,7 +34,7 @@ loop-chunk-preserved c =
 pub returns-clause-joined : goal.returns-clause-joined
 returns-clause-joined c =
     let none : into_iter_items c.loop-chunk.chunk-iterator ≡ [] = nil_from_length _ (sym c.loop-chunk.invariant.long ∙ c.in-None.ensures.steps.0) in
-    sym (append-nil (joined c.loop-chunk.tidying.contents)) ∙ (ap (λ (x : List Member). joined c.loop-chunk.tidying.contents ++ x) (sym (tidied_behind-nil c.loop-chunk.tidying.gap))
+    sym (append-nil (joined c.loop-chunk.tidying.contents)) ∙ (ap (λ (x : List Member). joined c.loop-chunk.tidying.contents ++ x) (sym (tidied_after-nil c.loop-chunk.tidying.gap))
     ∙ (ap (λ (x : List (Spanned Chunk)). to_come c.loop-chunk.tidying (styled x)) (sym none) ∙ c.loop-chunk.invariant.same))
 
 pub returns-clause-places : goal.returns-clause-places

@@ -3,7 +3,7 @@ use Rattle.std.specs.Str.{IsAscii}
 use Rattle.std.proofs.lemmas.Str.{chars-IsAscii}
 use Rattle.biblatex_tex.specs.Token.{begins_command}
 use Rattle.biblatex_content.specs.Writing.{written_character}
-use Rattle.biblatex_content.proofs.Written.{guard_stands}
+use Rattle.biblatex_content.proofs.WritingPieces.{guard_stands}
 use Rattle.biblatex_content.proofs.writing.open_group.Goals as goal
 
 pub returns-then-is_command : goal.returns-then-is_command

@@ -5,7 +5,7 @@ use Rattle.biblatex_content.specs.declared.chunk.Chunk.{Chunk}
 use Rattle.biblatex_content.specs.Views.{styled}
 use Rattle.laws.specs.Text.{characters}
 use Rattle.biblatex_content.specs.Writing.{written_verbatim}
-use Rattle.biblatex_content.proofs.Written.{verbatim_more}
+use Rattle.biblatex_content.proofs.WritingPieces.{verbatim_more}
 use Rattle.biblatex_content.proofs.writing.push_verbatim.Goals as goal
 
 pub loop-chunk-preserved : goal.loop-chunk-preserved

@@ -1,6 +1,6 @@
 use Rattle.std.specs.Str.{chars}
 use Rattle.std.proofs.lemmas.Str.{chars-IsAscii}
-use Rattle.biblatex_dates.proofs.Months.{same_test}
+use Rattle.biblatex_dates.proofs.PartsMonths.{same_test}
 use Rattle.biblatex_dates.proofs.parts.is_same.Goals as goal
 
 pub returns : goal.returns

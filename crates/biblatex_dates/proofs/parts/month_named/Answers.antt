@@ -1,7 +1,7 @@
 use Rattle.std.proofs.Common.{◌≤◌, sym, ◌∙◌, arith, rules}
 use Rattle.std.specs.Str.{chars}
 use Rattle.biblatex_dates.specs.Parts.{is_month}
-use Rattle.biblatex_dates.proofs.Months.{first_later}
+use Rattle.biblatex_dates.proofs.PartsMonths.{first_later}
 use Rattle.biblatex_dates.proofs.parts.month_named.Goals as goal
 
 pub loop-month-preserved : goal.loop-month-preserved

@@ -5,9 +5,9 @@ use Rattle.laws.proofs.Results.{ok_is}
 use Rattle.texts.specs.Character.{passes}
 use Rattle.texts.specs.declared.character.Class.TheVariants.{Digit}
 use Rattle.texts.specs.Views.{left}
-use Rattle.texts.proofs.Digits.{run_bytes, digits_parsed}
-use Rattle.texts.proofs.Bounds.{run_below}
-use Rattle.biblatex_dates.proofs.Bounds.{is_four, is_other}
+use Rattle.texts.proofs.ReadingDigits.{run_bytes, digits_parsed}
+use Rattle.texts.proofs.ReadingBounds.{run_below}
+use Rattle.biblatex_dates.proofs.SideBounds.{is_four, is_other}
 use Rattle.biblatex_dates.proofs.side.read_four.Goals as goal
 
 pub returns-then-is_empty-clause-reads : goal.returns-then-is_empty-clause-reads

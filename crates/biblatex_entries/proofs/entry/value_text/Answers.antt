@@ -1,5 +1,5 @@
 use Rattle.std.proofs.lemmas.Result.{IfOk-weaker}
-use Rattle.biblatex_entries.proofs.Plain.{text_of_chunks}
+use Rattle.biblatex_entries.proofs.EntriesPlain.{text_of_chunks}
 use Rattle.biblatex_entries.proofs.entry.value_text.Goals as goal
 
 pub returns : goal.returns

@@ -1,6 +1,6 @@
 use Rattle.std.proofs.Common.{arith}
 use Rattle.std.proofs.lemmas.Str.Pattern.{split_once_first}
-use Rattle.biblatex_entries.proofs.Commas.{commas}
+use Rattle.biblatex_entries.proofs.NamesCommas.{commas}
 use Rattle.biblatex_entries.proofs.names.split_comma.Goals as goal
 
 pub returns-clause-parts : goal.returns-clause-parts

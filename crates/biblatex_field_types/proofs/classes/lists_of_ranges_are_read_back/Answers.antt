@@ -1,5 +1,5 @@
 use Rattle.std.proofs.Common.{◌∷◌}
-use Rattle.biblatex_field_types.proofs.Holding.{ranges_hold}
+use Rattle.biblatex_field_types.proofs.ClassesHolding.{ranges_hold}
 use Rattle.biblatex_field_types.proofs.classes.lists_of_ranges_are_read_back.Goals as goal
 
 pub returns : goal.returns

@@ -4,7 +4,7 @@ use Rattle.std.proofs.lemmas.Map.Text.{hash_map_updates_text}
 use Rattle.biblatex_text.specs.Views.{field}
 use Rattle.biblatex_text.specs.declared.raw.Pair.{Pair}
 use Rattle.biblatex_fields.specs.Abbreviations.{place_of}
-use Rattle.biblatex_fields.proofs.Indexes.{index_put}
+use Rattle.biblatex_fields.proofs.AbbreviationsIndexes.{index_put}
 use Rattle.biblatex_fields.proofs.glossary.places_of.Goals as goal
 
 pub loop-place-preserved : goal.loop-place-preserved

@@ -1,4 +1,4 @@
-use Rattle.biblatex_fields.proofs.Flags.{copied_none, copied_more}
+use Rattle.biblatex_fields.proofs.AbbreviationsFlags.{copied_none, copied_more}
 use Rattle.biblatex_fields.proofs.references.circular_in.Goals as goal
 
 pub loop-place-init : goal.loop-place-init

@@ -2,7 +2,7 @@ use Rattle.std.proofs.Common.{◌≡◌, map, ap, ◌∙◌}
 use Rattle.biblatex_text.specs.Views.{field}
 use Rattle.reference_graph.specs.References.{lists}
 use Rattle.biblatex_fields.specs.Abbreviations.{references}
-use Rattle.biblatex_fields.proofs.Flags.{arranged}
+use Rattle.biblatex_fields.proofs.AbbreviationsFlags.{arranged}
 use Rattle.biblatex_fields.proofs.references.order_of.Goals as goal
 
 pub returns : goal.returns

@@ -1,4 +1,4 @@
-use Rattle.biblatex_inheritance.proofs.Dating.{dates_more, faults_more}
+use Rattle.biblatex_inheritance.proofs.ResolvedDates.{dates_more, faults_more}
 use Rattle.biblatex_inheritance.proofs.dated.dates_of.Goals as goal
 
 pub loop-reference-preserved : goal.loop-reference-preserved

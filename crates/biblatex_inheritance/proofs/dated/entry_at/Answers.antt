@@ -1,4 +1,4 @@
-use Rattle.biblatex_inheritance.proofs.Dating.{borrowed_is}
+use Rattle.biblatex_inheritance.proofs.ResolvedDates.{borrowed_is}
 use Rattle.biblatex_inheritance.proofs.dated.entry_at.Goals as goal
 
 pub returns : goal.returns

@@ -1,6 +1,6 @@
 use Rattle.std.proofs.lemmas.Result.{IfOk-weaker}
 use Rattle.biblatex_fields.specs.Fields.{value_named}
-use Rattle.biblatex_inheritance.proofs.Dating.{text_is}
+use Rattle.biblatex_inheritance.proofs.ResolvedDates.{text_is}
 use Rattle.biblatex_inheritance.proofs.dated.text_at.Goals as goal
 
 pub returns : goal.returns

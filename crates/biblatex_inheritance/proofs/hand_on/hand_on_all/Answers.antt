@@ -5,7 +5,7 @@ use Rattle.biblatex_content.specs.Views.{styled}
 use Rattle.biblatex_fields.specs.Fields.{Named, value_named}
 use Rattle.biblatex_inheritance.specs.Table.{is_among, never}
 use Rattle.biblatex_inheritance.specs.Views.{HandsOn, borrowed_fields}
-use Rattle.biblatex_inheritance.proofs.HandingOn.{field_more, field_never, borrowed_last, borrowed_more}
+use Rattle.biblatex_inheritance.proofs.TableHanding.{field_more, field_never, borrowed_last, borrowed_more}
 use Rattle.biblatex_inheritance.proofs.hand_on.hand_on_all.Goals as goal
 
 pub loop-name-preserved-in-Continue-1 : goal.loop-name-preserved-in-Continue-1

@@ -4,7 +4,7 @@ use Rattle.biblatex_entries.specs.Roles.{role_of}
 use Rattle.biblatex_entries.specs.TypeNames.{type_name}
 use Rattle.biblatex_inheritance.specs.Table.{source_name, of_all}
 use Rattle.biblatex_inheritance.specs.Views.{texts}
-use Rattle.biblatex_inheritance.proofs.HandingOn.{names_of_both}
+use Rattle.biblatex_inheritance.proofs.TableHanding.{names_of_both}
 use Rattle.biblatex_inheritance.proofs.hand_on.hand_on_both.Goals as goal
 
 pub returns : goal.returns

@@ -2,7 +2,7 @@ use Rattle.biblatex_fields.specs.Fields.{value_named}
 use Rattle.biblatex_entries.specs.Roles.{role_of}
 use Rattle.biblatex_entries.specs.TypeNames.{type_name}
 use Rattle.biblatex_inheritance.specs.Table.{source_name}
-use Rattle.biblatex_inheritance.proofs.HandingOn.{names_more}
+use Rattle.biblatex_inheritance.proofs.TableHanding.{names_more}
 use Rattle.biblatex_inheritance.proofs.hand_on.hand_on_named.Goals as goal
 
 pub loop-name-preserved : goal.loop-name-preserved

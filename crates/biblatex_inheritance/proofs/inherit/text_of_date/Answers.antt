@@ -1,6 +1,6 @@
 use Rattle.std.proofs.lemmas.Result.{IfOk-weaker}
 use Rattle.biblatex_dates.specs.Written.{date_text}
-use Rattle.biblatex_inheritance.proofs.Inheriting.{spelled_out}
+use Rattle.biblatex_inheritance.proofs.ResolvedReferences.{spelled_out}
 use Rattle.biblatex_inheritance.proofs.inherit.text_of_date.Goals as goal
 
 pub returns : goal.returns

@@ -1,8 +1,8 @@
-use Rattle.std.proofs.Common.{Option, Some, None, ap, ◌∙◌}
+use Rattle.std.proofs.Common.{None, sym, ◌∙◌}
 use Rattle.std.proofs.lemmas.Option.{slice_get-get_or}
-use Rattle.biblatex_dates.specs.declared.error.TypeErrorKind.{TypeErrorKind}
+use Rattle.biblatex_inheritance.proofs.SolutionSteps.{found_first}
 use Rattle.biblatex_inheritance.proofs.solution.first_fault.Goals as goal
 
-pub returns-in-Some : goal.returns-in-Some
-returns-in-Some c =
-    (slice_get-get_or c.args.faults.now c.loop-number.number None c.loop-number-test.true ∙ ap (λ (f : Option TypeErrorKind). Some f) c.in-Some.is, c.loop-number.invariant)
+pub returns-then-is_some : goal.returns-then-is_some
+returns-then-is_some c =
+    found_first c.args.faults.now c.loop-fault.fault-index _ (sym c.is_some.ensures ∙ c.if-is_some.true) (slice_get-get_or c.args.faults.now c.loop-fault.fault-index None c.loop-fault-test.true) c.loop-fault.invariant

@@ -1,17 +1,17 @@
 use Rattle.std.proofs.Common.{◌≡◌, ℕ, List, Option, Vec, Global, length, ap, sym, ◌∙◌, arith}
 use Rattle.std.proofs.lemmas.List.{length-map}
 use Rattle.reference_graph.specs.References.{lists}
-use Rattle.reference_graph.proofs.Uses.{none_circular}
+use Rattle.reference_graph.proofs.OrderUses.{none_circular}
 use Rattle.biblatex_entries.specs.Entries.{source, sources}
 use Rattle.biblatex_entries.specs.declared.entry.Entry.{Entry}
-use Rattle.biblatex_dates.specs.declared.error.TypeErrorKind.{TypeErrorKind}
+use Rattle.biblatex_inheritance.specs.declared.error.DateFault.{DateFault}
 use Rattle.reference_graph.specs.Order.{IsOrder}
 use Rattle.biblatex_inheritance.specs.Solution.{seen, IsOnly, AreResolved, NoneIsCircular}
-use Rattle.biblatex_inheritance.proofs.Ordered.{order_long}
-use Rattle.biblatex_inheritance.proofs.Solving.{circular_below, not_marked, agree, fault_there}
+use Rattle.biblatex_inheritance.proofs.SolutionOrder.{order_long}
+use Rattle.biblatex_inheritance.proofs.SolutionAlong.{circular_below, not_marked, agree, fault_there}
 use Rattle.biblatex_inheritance.proofs.solution.resolve.Goals as goal
 
-agreed : (old new : List Entry) (refs : List (Vec ℕ Global)) (order : List ℕ) {faults : List (Option TypeErrorKind)} → IsOrder (lists refs) order → length refs ≡ length old → NoneIsCircular (lists refs) → AreResolved old new (lists refs) faults
+agreed : (old new : List Entry) (refs : List (Vec ℕ Global)) (order : List ℕ) {faults : List (Option DateFault)} → IsOrder (lists refs) order → length refs ≡ length old → NoneIsCircular (lists refs) → AreResolved old new (lists refs) faults
     → IsOnly (sources old) (lists refs) (seen new)
 agreed old new refs order o same none resolved other solves i low =
     let long = length-map refs (λ (v : Vec ℕ Global). v.items) in
@@ -33,7 +33,7 @@ resolve_all-requires-clause-none c = none_circular (lists c.args.references.now)
 pub returns-in-Some-first_fault-clause-refused : goal.returns-in-Some-first_fault-clause-refused
 returns-in-Some-first_fault-clause-refused c = (
   none_circular (lists c.args.references.now) c.in_ok-order.order.circular c.in_ok-order.ensures.circular c.in_default.ensures,
-  fault_there c.args.entries.items c.resolve_all.new.entries.items (lists c.args.references.now) c.in_ok-faults.field-0.faults.items c.deref.result.now c.in-Some-first_fault.number c.in-Some-first_fault.kind c.deref.ensures.value c.in_ok-faults.ensures.resolved
+  fault_there c.args.entries.items c.resolve_all.new.entries.items (lists c.args.references.now) c.in_ok-faults.field-0.faults.items c.deref.result.now c.in-Some-first_fault.fault c.deref.ensures.value c.in_ok-faults.ensures.resolved
       (λ other solves i low. agreed c.args.entries.items _ c.args.references.now c.in_ok-order.order.order c.in_ok-order.ensures.order c.requires
       (none_circular (lists c.args.references.now) c.in_ok-order.order.circular c.in_ok-order.ensures.circular c.in_default.ensures) c.in_ok-faults.ensures.resolved other solves i low) c.in-Some-first_fault.ensures,
 )

@@ -1,8 +1,8 @@
 use Rattle.std.proofs.Common.{ℕ, List, Vec, Global, get_or, Contains, ap, ◌+◌, sym, subst, ◌∙◌, arith}
 use Rattle.std.proofs.lemmas.List.{take_all, length-map}
 use Rattle.reference_graph.specs.References.{lists}
-use Rattle.biblatex_inheritance.proofs.Ordered.{below_order, not_itself}
-use Rattle.biblatex_inheritance.proofs.Solving.{IsResolvedUpTo, references_there, resolved_more_there, all_resolved}
+use Rattle.biblatex_inheritance.proofs.SolutionOrder.{below_order, not_itself}
+use Rattle.biblatex_inheritance.proofs.SolutionAlong.{IsResolvedUpTo, references_there, resolved_more_there, all_resolved}
 use Rattle.biblatex_inheritance.proofs.solution.resolve_all.Goals as goal
 
 pub resolve_one-requires-clause-other : goal.resolve_one-requires-clause-other

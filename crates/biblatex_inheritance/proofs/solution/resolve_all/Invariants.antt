@@ -1,6 +1,6 @@
 use Rattle.std.proofs.Common.{◌≡◌, take}
 use Rattle.reference_graph.specs.References.{lists}
-use Rattle.biblatex_inheritance.proofs.Solving.{IsResolvedUpTo}
+use Rattle.biblatex_inheritance.proofs.SolutionAlong.{IsResolvedUpTo}
 use Rattle.biblatex_inheritance.proofs.solution.resolve_all.Given as goal
 
 abbrev pub invariant-loop-number : goal.invariant-loop-number

@@ -1,7 +1,7 @@
 use Rattle.std.proofs.Common.{subst}
 use Rattle.biblatex_fields.specs.Fields.{AreInOrder}
-use Rattle.biblatex_fields.proofs.Sorted.{in_order}
-use Rattle.biblatex_inheritance.proofs.Resolving.{put_back}
+use Rattle.biblatex_fields.proofs.FieldsSorted.{in_order}
+use Rattle.biblatex_inheritance.proofs.SolutionSteps.{put_back}
 use Rattle.biblatex_inheritance.proofs.solution.resolve_one.Goals as goal
 
 pub returns : goal.returns

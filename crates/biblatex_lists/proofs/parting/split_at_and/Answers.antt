@@ -2,7 +2,7 @@ use Rattle.std.proofs.Common.{◌≡◌, ℕ, true, false, ◌+◌, ◌∷◌, L
 use Rattle.std.proofs.lemmas.List.{drop-drop}
 use Rattle.biblatex_lists.specs.declared.styled_char.StyledChar.{StyledChar}
 use Rattle.biblatex_lists.specs.Parts.{begins_and, before_first, cut}
-use Rattle.biblatex_lists.proofs.Cutting.{before_none, one_more_uncut, cut_first, slice_to_end}
+use Rattle.biblatex_lists.proofs.PartsCut.{before_none, one_more_uncut, cut_first, slice_to_end}
 use Rattle.biblatex_lists.proofs.parting.split_at_and.Goals as goal
 
 pub loop-i-init : goal.loop-i-init

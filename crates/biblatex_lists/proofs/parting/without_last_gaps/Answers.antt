@@ -1,6 +1,6 @@
 use Rattle.std.proofs.Common.{false, sym, ◌∙◌}
 use Rattle.biblatex_lists.specs.StyledChars.{in_style}
-use Rattle.biblatex_lists.proofs.Trimming.{last_gap_below, last_no_gap_below}
+use Rattle.biblatex_lists.proofs.PartsTrimmed.{last_gap_below, last_no_gap_below}
 use Rattle.biblatex_lists.proofs.parting.without_last_gaps.Goals as goal
 
 pub returns-then-not-is_gap : goal.returns-then-not-is_gap

@@ -1,5 +1,5 @@
 use Rattle.std.proofs.Common.{true, false}
-use Rattle.biblatex_lists.proofs.Chars.{chars_of_letters}
+use Rattle.biblatex_lists.proofs.StyledCharsTexts.{chars_of_letters}
 use Rattle.biblatex_lists.proofs.styled_char.push_chunk.Goals as goal
 
 pub returns-in-Normal : goal.returns-in-Normal

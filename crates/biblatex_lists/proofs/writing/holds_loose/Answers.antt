@@ -1,7 +1,7 @@
 use Rattle.std.proofs.Common.{◌≡◌, ℕ, false, drop, sym, ap, ◌∙◌, add-one}
 use Rattle.biblatex_lists.specs.Writing.{holds, is_loose}
-use Rattle.biblatex_lists.proofs.Cutting.{slice_to_end}
-use Rattle.biblatex_lists.proofs.Tested.{holds_later}
+use Rattle.biblatex_lists.proofs.PartsCut.{slice_to_end}
+use Rattle.biblatex_lists.proofs.PartsTested.{holds_later}
 use Rattle.biblatex_lists.proofs.writing.holds_loose.Goals as goal
 
 pub loop-i-preserved : goal.loop-i-preserved

@@ -1,5 +1,5 @@
 use Rattle.std.proofs.Common.{sym, ◌∙◌}
-use Rattle.biblatex_people.proofs.Lists.{found_small, found_large}
+use Rattle.biblatex_people.proofs.ViewsLists.{found_small, found_large}
 use Rattle.biblatex_people.proofs.words.lead_count.Goals as goal
 
 pub returns-then-is_small-clause-value : goal.returns-then-is_small-clause-value

@@ -1,6 +1,6 @@
 use Rattle.std.proofs.Common.{sym}
 use Rattle.biblatex_people.specs.Words.{split_once}
-use Rattle.biblatex_people.proofs.Cut.{fronts_none, cut_front_none}
+use Rattle.biblatex_people.proofs.WordsCut.{fronts_none, cut_front_none}
 use Rattle.biblatex_people.proofs.words.split_once.Goals as goal
 
 pub loop-i-init : goal.loop-i-init

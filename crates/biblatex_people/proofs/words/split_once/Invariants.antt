@@ -1,7 +1,7 @@
 use Rattle.std.proofs.Common.{◌≡◌, take, drop}
 use Rattle.biblatex_lists.specs.Parts.{before_first}
 use Rattle.biblatex_people.specs.Words.{split_once, cut_at}
-use Rattle.biblatex_people.proofs.Cut.{with_fronts}
+use Rattle.biblatex_people.proofs.WordsCut.{with_fronts}
 use Rattle.biblatex_people.proofs.words.split_once.Given as goal
 
 abbrev pub invariant-loop-i : goal.invariant-loop-i

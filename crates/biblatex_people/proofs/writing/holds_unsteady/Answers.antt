@@ -1,7 +1,7 @@
 use Rattle.std.proofs.Common.{◌≡◌, ℕ, false, drop, sym, ap, ◌∙◌, add-one}
 use Rattle.biblatex_lists.specs.Writing.{holds}
-use Rattle.biblatex_lists.proofs.Cutting.{slice_to_end}
-use Rattle.biblatex_lists.proofs.Tested.{holds_later}
+use Rattle.biblatex_lists.proofs.PartsCut.{slice_to_end}
+use Rattle.biblatex_lists.proofs.PartsTested.{holds_later}
 use Rattle.biblatex_people.specs.Writing.{is_unsteady}
 use Rattle.biblatex_people.proofs.writing.holds_unsteady.Goals as goal
 

@@ -1,6 +1,6 @@
 use Rattle.std.proofs.Common.{ℕ, List, reverse, sym, ap, ◌∙◌}
 use Rattle.biblatex_tex.specs.Accent.{marked}
-use Rattle.biblatex_tex.proofs.Marks.{marked-last}
+use Rattle.biblatex_tex.proofs.AccentMarks.{marked-last}
 use Rattle.biblatex_tex.proofs.accent.put_marks.Goals as goal
 
 pub loop-mark-preserved : goal.loop-mark-preserved

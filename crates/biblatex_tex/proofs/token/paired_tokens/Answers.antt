@@ -6,7 +6,7 @@ use Rattle.biblatex_tex.specs.declared.token.Token as code
 use Rattle.std.proofs.lemmas.Result.{err_from_is_err_and}
 use Rattle.std.proofs.lemmas.List.{nil_from_length}
 use Rattle.biblatex_tex.specs.TokenViews.{tokens}
-use Rattle.biblatex_tex.proofs.Pairing.{GoesBack, goes_back-end, paired_of-fails, paired_of-ok}
+use Rattle.biblatex_tex.proofs.TokenPairing.{GoesBack, goes_back-end, paired_of-fails, paired_of-ok}
 use Rattle.biblatex_tex.proofs.token.paired_tokens.Goals as goal
 
 pub returns-in_err-tokens : goal.returns-in_err-tokens

@@ -1,6 +1,6 @@
 use Rattle.std.proofs.Common.{length, reverse}
 use Rattle.biblatex_tex.specs.TokenViews.{tokens}
-use Rattle.biblatex_tex.proofs.Pairing.{GoesBack}
+use Rattle.biblatex_tex.proofs.TokenPairing.{GoesBack}
 use Rattle.biblatex_tex.proofs.token.paired_tokens.Given as goal
 
 abbrev pub invariant-loop-token : goal.invariant-loop-token

@@ -3,8 +3,8 @@ use Rattle.std.proofs.lemmas.Result.{err_from_is_err_and}
 use Rattle.biblatex_tex.specs.TokenViews.{left, token, tokens}
 use Rattle.std.proofs.lemmas.List.{map-append}
 use Rattle.biblatex_tex.specs.declared.error.Malformed.{Malformed}
-use Rattle.biblatex_tex.proofs.Pairing.{only_malformed}
-use Rattle.biblatex_tex.proofs.Lexing.{tokens_shorten, gathered-some, gathered-end, gathered-err}
+use Rattle.biblatex_tex.proofs.TokenPairing.{only_malformed}
+use Rattle.biblatex_tex.proofs.TokenLexing.{tokens_shorten, gathered-some, gathered-end, gathered-err}
 use Rattle.biblatex_tex.proofs.token.written_tokens.Goals as goal
 
 pub returns-in_err-token : goal.returns-in_err-token

@@ -2,7 +2,7 @@ use Rattle.std.proofs.Common.{◌≡◌, length}
 use Rattle.std.specs.Str.{chars}
 use Rattle.biblatex_tex.specs.Token.{tokens_of}
 use Rattle.biblatex_tex.specs.TokenViews.{left, tokens}
-use Rattle.biblatex_tex.proofs.Lexing.{gathered}
+use Rattle.biblatex_tex.proofs.TokenLexing.{gathered}
 use Rattle.biblatex_tex.proofs.token.written_tokens.Given as goal
 
 abbrev pub invariant-loop-tokens : goal.invariant-loop-tokens

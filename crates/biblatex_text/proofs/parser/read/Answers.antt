@@ -4,7 +4,7 @@ use Rattle.biblatex_text.specs.Reading.{place}
 use Rattle.biblatex_text.specs.Items.{raw_at}
 use Rattle.biblatex_text.specs.Views.{left, size, raw}
 use Rattle.biblatex_text.specs.declared.cursor.Reader.{Reader}
-use Rattle.biblatex_text.proofs.Placing.{whole_ok, whole_err}
+use Rattle.biblatex_text.proofs.ItemsPlaced.{whole_ok, whole_err}
 use Rattle.biblatex_text.proofs.parser.read.Goals as goal
 
 -- a reader that stands before the whole source

@@ -3,7 +3,7 @@ use Rattle.std.specs.Str.Iter.{char_indices_rest, char_indices_offset}
 use Rattle.std.proofs.lemmas.Str.{length-encode, len_utf8_bounds}
 use Rattle.std.proofs.lemmas.List.{length-append}
 use Rattle.biblatex_text.specs.Run.{next, depth_of}
-use Rattle.biblatex_text.proofs.Cut.{CutsRun, runs_none, runs_more, stops_before, stops_at_end}
+use Rattle.biblatex_text.proofs.RunCut.{CutsRun, runs_none, runs_more, stops_before, stops_at_end}
 use Rattle.biblatex_text.proofs.run.split_run.Goals as goal
 
 pub loop-i-init : goal.loop-i-init

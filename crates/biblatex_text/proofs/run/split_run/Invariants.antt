@@ -1,5 +1,5 @@
 use Rattle.std.specs.Str.Iter.{char_indices_rest, char_indices_offset}
-use Rattle.biblatex_text.proofs.Cut.{Runs}
+use Rattle.biblatex_text.proofs.RunCut.{Runs}
 use Rattle.biblatex_text.proofs.run.split_run.Given as goal
 
 abbrev pub invariant-loop-i : goal.invariant-loop-i

@@ -1,6 +1,6 @@
 use Rattle.std.proofs.Common.{rules, w64, FitsSigned}
 use Rattle.std.proofs.lemmas.Int.{to_z-of_z}
-use Rattle.biblatex_values.proofs.Integers.{shown}
+use Rattle.biblatex_values.proofs.IntegerPrinted.{shown}
 use Rattle.biblatex_values.proofs.integer.integer_text.Goals as goal
 
 pub returns : goal.returns

@@ -1,6 +1,6 @@
 use Rattle.std.proofs.Common.{rules, sym, ◌∙◌, w64, FitsSigned, Ok, arith}
 use Rattle.std.proofs.lemmas.Int.{to_z-of_z}
-use Rattle.biblatex_values.proofs.Integers.{integer_parsed, integer_refused, no_plus}
+use Rattle.biblatex_values.proofs.IntegerPrinted.{integer_parsed, integer_refused, no_plus}
 use Rattle.biblatex_values.proofs.integer.read_integer.Goals as goal
 
 pub returns-in-Ok : goal.returns-in-Ok

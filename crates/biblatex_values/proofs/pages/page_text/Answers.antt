@@ -1,5 +1,5 @@
 use Rattle.std.proofs.Common.{arith}
-use Rattle.biblatex_values.proofs.Texts.{shown_page}
+use Rattle.biblatex_values.proofs.TextsJoined.{shown_page}
 use Rattle.biblatex_values.proofs.pages.page_text.Goals as goal
 
 pub returns : goal.returns

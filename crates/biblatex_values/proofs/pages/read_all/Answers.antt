@@ -2,7 +2,7 @@ use Rattle.std.proofs.Common.{sym, ap, ◌∙◌, ◌++◌, ◌∷◌, [], List,
 use Rattle.std.proofs.lemmas.Result.{err_from_is_err_and}
 use Rattle.std.specs.declared.ops.Range.{Range}
 use Rattle.texts.specs.Views.{left}
-use Rattle.biblatex_values.proofs.Ranges.{ranges_onto, ranges_onto-first, ranges_at-err, ranges_onto-some, ranges_onto-end, ranges_onto-err, ranges_shorten}
+use Rattle.biblatex_values.proofs.PagesRanges.{ranges_onto, ranges_onto-first, ranges_at-err, ranges_onto-some, ranges_onto-end, ranges_onto-err, ranges_shorten}
 use Rattle.biblatex_values.proofs.pages.read_all.Goals as goal
 
 pub returns-in_err-first : goal.returns-in_err-first

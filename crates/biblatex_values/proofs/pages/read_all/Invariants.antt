@@ -1,7 +1,7 @@
 use Rattle.std.proofs.Common.{◌≡◌, length}
 use Rattle.texts.specs.Views.{left}
 use Rattle.biblatex_values.specs.Pages.{ranges_at}
-use Rattle.biblatex_values.proofs.Ranges.{ranges_onto}
+use Rattle.biblatex_values.proofs.PagesRanges.{ranges_onto}
 use Rattle.biblatex_values.proofs.pages.read_all.Given as goal
 
 abbrev pub invariant-loop-ranges : goal.invariant-loop-ranges

@@ -4,7 +4,7 @@ use Rattle.biblatex_content.specs.Views.{plain_text, styled}
 use Rattle.biblatex_text.specs.declared.spanned.Spanned.{Spanned}
 use Rattle.biblatex_content.specs.declared.chunk.Chunk.{Chunk}
 use Rattle.biblatex_content.specs.Styled.{plain}
-use Rattle.biblatex_values.proofs.Plain.{plain-styled, text_of_chunks}
+use Rattle.biblatex_values.proofs.TextsPlain.{plain-styled, text_of_chunks}
 use Rattle.biblatex_values.proofs.text.plain_text.Goals as goal
 
 as_characters : {E : Type 0} (r : Result (String Global) E) (cs : List (Spanned Chunk)) → IfOk r (λ s. characters s ≡ plain_text cs) → IfOk r (λ s. characters s ≡ plain (styled cs))

@@ -4,7 +4,7 @@ use Rattle.std.proofs.lemmas.Str.{chars-append, IsUtf8-take}
 use Rattle.laws.specs.Text.{text}
 use Rattle.laws.proofs.Text.{text-append, text_of_chars}
 use Rattle.cite.specs.Page as specs
-use Rattle.cite.proofs.Ends.{stripped, stays}
+use Rattle.cite.proofs.PageEnds.{stripped, stays}
 use Rattle.cite.proofs.closing.without_end.Goals as goal
 
 pub returns-in-Some-clause-value : goal.returns-in-Some-clause-value

@@ -6,7 +6,7 @@ use Rattle.std.specs.Str.{chars, IsUtf8}
 use Rattle.std.specs.Str.Pattern.{FindsText}
 use Rattle.cite.specs.Marker.{cut_at_opening}
 use Rattle.laws.specs.Text.{spelled}
-use Rattle.cite.proofs.Opening.{lacks, finds}
+use Rattle.cite.proofs.MarkerCut.{lacks, finds}
 use Rattle.cite.proofs.document.split_opening.Goals as goal
 
 -- what splitting at the bytes of an opening says of the characters

@@ -7,8 +7,8 @@ use Rattle.cite.specs.Views.{citation, citations, works_in}
 use Rattle.laws.specs.Text.{spelled}
 use Rattle.cite.specs.Orders.{cited_works}
 use Rattle.std.proofs.lemmas.List.{drop_all}
-use Rattle.cite.proofs.Elements.{no_citation, citations-from}
-use Rattle.cite.proofs.Numbered.{Counted, begins, goes_on, fails, ends}
+use Rattle.cite.proofs.MarkerElements.{no_citation, citations-from}
+use Rattle.cite.proofs.OrdersNumbered.{Counted, begins, goes_on, fails, ends}
 use Rattle.cite.proofs.numbers.numbered_document.Goals as goal
 
 pub loop-citation-init : goal.loop-citation-init

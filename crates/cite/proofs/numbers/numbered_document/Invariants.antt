@@ -3,7 +3,7 @@ use Rattle.std.specs.Prelude.{string_bytes}
 use Rattle.cite.specs.Views.{citations, works_in}
 use Rattle.laws.specs.Text.{spelled}
 use Rattle.cite.specs.Orders.{cited_works}
-use Rattle.cite.proofs.Numbered.{Counted}
+use Rattle.cite.proofs.OrdersNumbered.{Counted}
 use Rattle.cite.proofs.numbers.numbered_document.Given as goal
 
 abbrev pub invariant-loop-citation : goal.invariant-loop-citation

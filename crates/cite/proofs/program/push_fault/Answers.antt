@@ -3,7 +3,7 @@ use Rattle.std.specs.Prelude.{OnOk, string_bytes, codes}
 use Rattle.std.proofs.lemmas.Result.{on_ok_weaker}
 use Rattle.interop.specs.Views.{fault}
 use Rattle.cite.specs.Program.{fault_said}
-use Rattle.cite.proofs.Lines.{put_three}
+use Rattle.cite.proofs.ProgramLines.{put_three}
 use Rattle.cite.proofs.program.push_fault.Goals as goal
 
 pub returns : goal.returns

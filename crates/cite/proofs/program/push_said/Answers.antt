@@ -2,7 +2,7 @@ use Rattle.std.proofs.Common.{◌≡◌, ℕ, List, ◌++◌, rules, ap, ◌∙�
 use Rattle.std.specs.Prelude.{OnOk, string_bytes, codes}
 use Rattle.std.proofs.lemmas.Result.{on_ok_weaker}
 use Rattle.interop.specs.DateFields.{field_name}
-use Rattle.cite.proofs.Lines.{put_four}
+use Rattle.cite.proofs.ProgramLines.{put_four}
 use Rattle.cite.proofs.program.push_said.Goals as goal
 
 pub returns : goal.returns

@@ -9,7 +9,7 @@ use Rattle.literature.specs.Keys.{with_key}
 use Rattle.literature.specs.Entries.{entries}
 use Rattle.interop.specs.Views.{shelf}
 use Rattle.interop.specs.Shelf.{key_of}
-use Rattle.cite.proofs.Keys.{found_is}
+use Rattle.cite.proofs.WorksKeys.{found_is}
 use Rattle.cite.proofs.works.work_of.Goals as goal
 
 seen_in : (o : Option (Bor Entry)) → option_map (λ (e : Bor Entry). whole e.now) o ≡ option_map whole (option_copied o)

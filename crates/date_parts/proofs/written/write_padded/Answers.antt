@@ -3,7 +3,7 @@ use Rattle.std.specs.Fmt.{decimal}
 use Rattle.std.proofs.Output.{has_written_of_eq}
 use Rattle.std.proofs.Padding.{styled_decimal_is, padded_integral_zeros}
 use Rattle.date_parts.specs.Written.{padded}
-use Rattle.date_parts.proofs.Padded.{text-padded}
+use Rattle.date_parts.proofs.WrittenPadded.{text-padded}
 use Rattle.date_parts.proofs.written.write_padded.Goals as goal
 
 pub returns : goal.returns

@@ -6,7 +6,7 @@ use Rattle.literature_entries.specs.declared.entry.Entry.{Entry}
 use Rattle.interop_values.specs.Values.{values}
 use Rattle.interop.specs.Fields.{container_fields}
 use Rattle.interop.specs.Bridge.{further, titled_under}
-use Rattle.interop.proofs.Entries.{holds}
+use Rattle.interop.proofs.ViewsEntries.{holds}
 use Rattle.interop.proofs.bridge.by_itself.Goals as goal
 
 pub returns : goal.returns

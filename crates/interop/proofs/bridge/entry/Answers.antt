@@ -10,7 +10,7 @@ use Rattle.interop.specs.declared.dates.Dates.{Dates}
 use Rattle.interop.specs.declared.error.BridgeError.{BridgeError}
 use Rattle.interop.specs.Views.{dates_of, refusal_of}
 use Rattle.laws.specs.Results.{Gives}
-use Rattle.interop.proofs.Dated.{accepted, refused}
+use Rattle.interop.proofs.BridgeDates.{accepted, refused}
 use Rattle.interop.proofs.bridge.entry.Goals as goal
 
 pub returns-in_err-dates : goal.returns-in_err-dates

@@ -6,7 +6,7 @@ use Rattle.literature_entries.specs.declared.entry.Entry.{Entry}
 use Rattle.interop.specs.Bridge.{Fault}
 use Rattle.interop.specs.Shelf.{PutsBy}
 use Rattle.interop.specs.Views.{fault, shelf}
-use Rattle.interop.proofs.Shelves.{put_whole}
+use Rattle.interop.proofs.ShelfWorks.{put_whole}
 use Rattle.interop.proofs.bridge.put.Goals as goal
 
 pub returns-in-Ok : goal.returns-in-Ok

@@ -1,9 +1,9 @@
 use Rattle.std.proofs.Common.{◌≡◌, ◌++◌, drop, map}
 use Rattle.biblatex_entries.specs.Entries.{sources}
 use Rattle.interop.specs.Bridge.{unless_faulty}
-use Rattle.interop.specs.Shelf.{all_faults, all_works, put_behind}
+use Rattle.interop.specs.Shelf.{all_faults, all_works, put_after}
 use Rattle.interop.specs.Views.{fault, shelf}
 use Rattle.interop.proofs.bridge.put_all.Given as goal
 
 abbrev pub invariant-loop-read : goal.invariant-loop-read
-invariant-loop-read l = unless_faulty (map fault l.faults.items ++ all_faults (sources (drop l.read-index l.entries))) (put_behind (shelf l.library) (all_works (sources (drop l.read-index l.entries)))) ≡ unless_faulty (map fault l.fn.faults.items ++ all_faults (sources l.entries)) (put_behind (shelf l.fn.library) (all_works (sources l.entries)))
+invariant-loop-read l = unless_faulty (map fault l.faults.items ++ all_faults (sources (drop l.read-index l.entries))) (put_after (shelf l.library) (all_works (sources (drop l.read-index l.entries)))) ≡ unless_faulty (map fault l.fn.faults.items ++ all_faults (sources l.entries)) (put_after (shelf l.fn.library) (all_works (sources l.entries)))

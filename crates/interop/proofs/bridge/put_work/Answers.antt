@@ -4,7 +4,7 @@ use Rattle.biblatex_entries.specs.Entries.{source}
 use Rattle.biblatex_entries.specs.TypeNames.{written_type}
 use Rattle.interop.specs.Shelf.{is_xdata}
 use Rattle.interop.specs.Views.{fault, shelf}
-use Rattle.interop.proofs.Shelves.{work_step}
+use Rattle.interop.proofs.ShelfWorks.{work_step}
 use Rattle.interop.proofs.bridge.put_work.Goals as goal
 
 pub returns : goal.returns

@@ -6,7 +6,7 @@ use Rattle.literature_entries.specs.Wholes.{Whole, whole}
 use Rattle.literature_entries.specs.declared.entry.Entry.{Entry}
 use Rattle.interop_values.specs.Values.{values}
 use Rattle.interop.specs.Bridge.{further, titled}
-use Rattle.interop.proofs.Titled.{seen_title}
+use Rattle.interop.proofs.KindsTitled.{seen_title}
 use Rattle.interop.proofs.bridge.series_and_further.Goals as goal
 
 pub returns : goal.returns

@@ -4,7 +4,7 @@ use Rattle.literature_entries.specs.Wholes.{whole}
 use Rattle.literature_entries.specs.declared.entry.Entry.{Entry}
 use Rattle.interop_values.specs.Values.{values}
 use Rattle.interop.specs.Bridge.{further}
-use Rattle.interop.proofs.Entries.{holds}
+use Rattle.interop.proofs.ViewsEntries.{holds}
 use Rattle.interop.proofs.bridge.within.Goals as goal
 
 pub returns : goal.returns

@@ -6,8 +6,8 @@ use Rattle.interop_values.specs.Readings.{ReadDate, own_date, date_under}
 use Rattle.interop.specs.Bridge.{fault_in}
 use Rattle.interop.specs.declared.error.FieldFault.{FieldFault}
 use Rattle.interop.specs.Views.{fault, dates_of}
-use Rattle.interop.proofs.Faulty.{some}
-use Rattle.interop.proofs.Lists.{four_behind}
+use Rattle.interop.proofs.ShelfFaults.{some}
+use Rattle.interop.proofs.ShelfLists.{four_after}
 use Rattle.interop.proofs.dates.read_dates.Goals as goal
 
 pub returns : goal.returns
@@ -21,7 +21,7 @@ returns c =
     let is_some : f4 ≢ [] = λ e.
     let none : vec_len c.date_or_fault-4.new.faults ≡ 0 = c.date_or_fault-4.new.faults.ok.0 ∙ ap length e in
     absurd (grind (arith, common_steps)) in
-    some f4 _ (dates_of v) (four_behind []
+    some f4 _ (dates_of v) (four_after []
     (fault_in key (codes "date") (own_date v))
     (fault_in key (codes "eventdate") (date_under (codes "eventdate") v))
     (fault_in key (codes "origdate") (date_under (codes "origdate") v))

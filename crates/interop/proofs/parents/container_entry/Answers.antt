@@ -11,9 +11,9 @@ use Rattle.interop_values.specs.Values.{values}
 use Rattle.interop.specs.Fields.{container_fields}
 use Rattle.interop_values.specs.Readings.{format_of, people_under}
 use Rattle.interop.specs.Bridge.{titled, titled_under}
-use Rattle.interop.proofs.Entries.{holds, before_none}
-use Rattle.interop.proofs.FieldByField.{put_title, put_author}
-use Rattle.interop.proofs.Titled.{seen_title}
+use Rattle.interop.proofs.ViewsEntries.{holds, before_none}
+use Rattle.interop.proofs.FieldsSet.{put_title, put_author}
+use Rattle.interop.proofs.KindsTitled.{seen_title}
 use Rattle.interop.proofs.parents.container_entry.Goals as goal
 
 pub returns : goal.returns

@@ -8,9 +8,9 @@ use Rattle.literature_entries.specs.declared.entry.Entry.{Entry}
 use Rattle.literature_values.specs.TextViews.{format}
 use Rattle.interop_values.specs.Readings.{format_of}
 use Rattle.interop.specs.Bridge.{parent}
-use Rattle.interop.proofs.Entries.{holds, last, before_none}
-use Rattle.interop.proofs.FieldByField.{put_title, put_date}
-use Rattle.interop.proofs.Titled.{some_conference}
+use Rattle.interop.proofs.ViewsEntries.{holds, last, before_none}
+use Rattle.interop.proofs.FieldsSet.{put_title, put_date}
+use Rattle.interop.proofs.KindsTitled.{some_conference}
 use Rattle.interop.proofs.parents.push_conference.Goals as goal
 
 pub returns : goal.returns

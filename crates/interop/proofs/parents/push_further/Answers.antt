@@ -9,8 +9,8 @@ use Rattle.interop_values.specs.Values.{values}
 use Rattle.interop_values.specs.Readings.{date_under, date_if_read}
 use Rattle.interop.specs.Bridge.{titled, titled_under, conference_of, original_of}
 use Rattle.interop.specs.declared.dates.Dates.{Dates}
-use Rattle.interop.proofs.Lists.{four_behind}
-use Rattle.interop.proofs.Titled.{seen_title}
+use Rattle.interop.proofs.ShelfLists.{four_after}
+use Rattle.interop.proofs.KindsTitled.{seen_title}
 use Rattle.interop.proofs.parents.push_further.Goals as goal
 
 pub returns : goal.returns
@@ -23,7 +23,7 @@ returns c =
     let four = map whole c.push_original.new.parents.items in
     let event = date_if_read (date_under (codes "eventdate") v) in
     on_ok_weaker c.push_original.result
-    (λ e. four_behind before
+    (λ e. four_after before
     (titled_under works.Book (codes "maintitle") v)
     (option_to_list (option_map (λ v. titled works.Anthology (styled v.now)) c.args.series))
     (conference_of (v (codes "eventtitle")) event)

@@ -6,8 +6,8 @@ use Rattle.literature_entries.specs.declared.entry.Entry.{Entry}
 use Rattle.literature_values.specs.TextViews.{format}
 use Rattle.interop_values.specs.Readings.{format_of}
 use Rattle.interop.specs.Bridge.{titled}
-use Rattle.interop.proofs.Entries.{holds, last}
-use Rattle.interop.proofs.FieldByField.{put_title}
+use Rattle.interop.proofs.ViewsEntries.{holds, last}
+use Rattle.interop.proofs.FieldsSet.{put_title}
 use Rattle.interop.proofs.parents.push_work.Goals as goal
 
 pub returns : goal.returns

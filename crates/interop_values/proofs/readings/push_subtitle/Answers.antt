@@ -9,7 +9,7 @@ use Rattle.biblatex_content.specs.declared.chunk.Kind.TheVariants.{Normal}
 use Rattle.biblatex_content.specs.Styled.{Member, letters}
 use Rattle.biblatex_content.specs.Views.{styled}
 use Rattle.interop_values.specs.Views.{with_pieces}
-use Rattle.interop_values.proofs.Growing.{colon}
+use Rattle.interop_values.proofs.PiecesGrowing.{colon}
 use Rattle.interop_values.proofs.readings.push_subtitle.Goals as goal
 
 pub returns : goal.returns

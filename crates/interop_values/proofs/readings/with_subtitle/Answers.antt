@@ -5,7 +5,7 @@ use Rattle.biblatex_content.specs.Styled.{Member}
 use Rattle.biblatex_content.specs.Views.{styled}
 use Rattle.interop_values.specs.Pieces.{pieces_of}
 use Rattle.interop_values.specs.Readings.{with_subtitle}
-use Rattle.interop_values.proofs.Growing.{behind_title}
+use Rattle.interop_values.proofs.PiecesGrowing.{after_title}
 use Rattle.interop_values.proofs.readings.with_subtitle.Goals as goal
 
 pub returns : goal.returns
@@ -17,5 +17,5 @@ returns c =
     e ∙ (c.in_ok-push_subtitle.ensures []
     ∙ (c.in_ok-push_chunks.ensures (with_subtitle [] subtitle ++ [])
     ∙ (c.new-pieces.ensures (title ++ (with_subtitle [] subtitle ++ []))
-    ∙ ap (λ (ms : List Member). pieces_of ms) (behind_title title subtitle)))))
+    ∙ ap (λ (ms : List Member). pieces_of ms) (after_title title subtitle)))))
     c.finish.ensures

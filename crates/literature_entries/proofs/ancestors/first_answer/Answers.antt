@@ -1,5 +1,5 @@
 use Rattle.std.proofs.Common.{Some, rules, of_calls}
-use Rattle.literature_entries.proofs.Walks.{asks_answered, asks_on, asks_next}
+use Rattle.literature_entries.proofs.AncestorsWalks.{asks_answered, asks_on, asks_next}
 use Rattle.literature_entries.proofs.ancestors.first_answer.Goals as goal
 
 pub returns-in-Some-clause-asked : goal.returns-in-Some-clause-asked

@@ -2,8 +2,8 @@ use Rattle.std.proofs.Common.{rules, sym, ◌∙◌, w32, FitsSigned, Ok}
 use Rattle.std.proofs.lemmas.Int.{to_z-of_z}
 use Rattle.std.proofs.lemmas.Result.{err_from_is_err_and}
 use Rattle.texts.specs.Views.{left}
-use Rattle.literature_numbers.proofs.NumberSteps.{numbers_onto, numbers_onto-first, numbers_at-err, numbers_onto-some, numbers_onto-end, numbers_onto-err}
-use Rattle.literature_numbers.proofs.Shorter.{numbers_shorten}
+use Rattle.literature_numbers.proofs.NumbersSteps.{numbers_onto, numbers_onto-first, numbers_at-err, numbers_onto-some, numbers_onto-end, numbers_onto-err}
+use Rattle.literature_numbers.proofs.NumbersShorter.{numbers_shorten}
 use Rattle.literature_numbers.proofs.numeric.read_numbers.Goals as goal
 
 pub returns-in_err-number : goal.returns-in_err-number

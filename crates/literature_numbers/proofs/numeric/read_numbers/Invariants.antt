@@ -1,7 +1,7 @@
 use Rattle.std.proofs.Common.{◌≡◌, length}
 use Rattle.literature_numbers.specs.Numerics.{numbers_at}
 use Rattle.texts.specs.Views.{left}
-use Rattle.literature_numbers.proofs.NumberSteps.{numbers_onto}
+use Rattle.literature_numbers.proofs.NumbersSteps.{numbers_onto}
 use Rattle.literature_numbers.proofs.numeric.read_numbers.Given as goal
 
 abbrev pub invariant-loop-numbers : goal.invariant-loop-numbers

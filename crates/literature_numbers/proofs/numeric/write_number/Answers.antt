@@ -1,6 +1,6 @@
 use Rattle.std.proofs.Common.{rules, sym}
 use Rattle.std.proofs.Output.{has_written_of_eq}
-use Rattle.texts.proofs.Writing.{text-number}
+use Rattle.texts.proofs.GrowingWritten.{text-number}
 use Rattle.literature_numbers.proofs.numeric.write_number.Goals as goal
 
 pub returns : goal.returns

@@ -1,7 +1,7 @@
 use Rattle.std.proofs.Common.{refl, rules, ◌<◌, length, true}
 use Rattle.std.proofs.Output.{has_written_of_eq, has_written_append}
 use Rattle.literature_numbers.specs.NumericText.{linked_text}
-use Rattle.texts.proofs.Writing.{text-more}
+use Rattle.texts.proofs.GrowingWritten.{text-more}
 use Rattle.literature_numbers.proofs.numeric.write_numbers.Goals as goal
 
 pub loop-linked-preserved : goal.loop-linked-preserved

@@ -1,7 +1,7 @@
 use Rattle.std.proofs.Common.{◌≡◌, map, drop, None}
 use Rattle.literature_numbers.specs.Pages.{pages_from}
 use Rattle.literature_numbers.specs.PageViews.{part}
-use Rattle.literature_numbers.proofs.PageSteps.{pages_onto}
+use Rattle.literature_numbers.proofs.PagesSteps.{pages_onto}
 use Rattle.literature_numbers.proofs.page_ranges.group.Given as goal
 
 abbrev pub invariant-loop-linked : goal.invariant-loop-linked

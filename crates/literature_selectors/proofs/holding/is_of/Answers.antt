@@ -1,7 +1,7 @@
 use Rattle.std.proofs.Common.{ap, ◌∙◌}
 use Rattle.std.specs.Str.{bytes_eq}
 use Rattle.literature_values.specs.EntryTypes.{type_name}
-use Rattle.literature_values.proofs.TypeEquality.{told_by_names}
+use Rattle.literature_values.proofs.EntryTypesEquality.{told_by_names}
 use Rattle.literature_selectors.proofs.holding.is_of.Goals as goal
 
 pub returns : goal.returns

@@ -1,4 +1,4 @@
-use Rattle.literature_selectors.proofs.Places.{still_among}
+use Rattle.literature_selectors.proofs.LeftPlaces.{still_among}
 use Rattle.literature_selectors.proofs.holding.is_taken.Goals as goal
 
 pub loop-next-preserved : goal.loop-next-preserved

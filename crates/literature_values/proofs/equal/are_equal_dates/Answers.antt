@@ -1,5 +1,5 @@
 use Rattle.std.proofs.Common.{sym, ◌∙◌}
-use Rattle.literature_values.proofs.DateEquality.{Shows-Date}
+use Rattle.literature_values.proofs.DatesEquality.{Shows-Date}
 use Rattle.literature_values.proofs.equal.are_equal_dates.Goals as goal
 
 pub returns : goal.returns

@@ -1,5 +1,5 @@
 use Rattle.std.proofs.Common.{sym, ◌∙◌}
-use Rattle.literature_values.proofs.TypeEquality.{Shows-EntryType}
+use Rattle.literature_values.proofs.EntryTypesEquality.{Shows-EntryType}
 use Rattle.literature_values.proofs.equal.are_equal_types.Goals as goal
 
 pub returns : goal.returns

@@ -3,7 +3,7 @@ use Rattle.std.specs.Str.{chars}
 use Rattle.literature_values.specs.Initials.{next_run_at}
 use Rattle.literature_values.specs.PersonViews.{run, initials_style}
 use Rattle.texts.specs.Views.{left}
-use Rattle.literature_values.proofs.InitialSteps.{runs_shorten, initials_none, begins, goes_on, ends, writes_nothing}
+use Rattle.literature_values.proofs.InitialsSteps.{runs_shorten, initials_none, begins, goes_on, ends, writes_nothing}
 use Rattle.literature_values.proofs.person.write_initials.Goals as goal
 
 pub returns-in_default : goal.returns-in_default

@@ -1,7 +1,7 @@
 use Rattle.std.proofs.Common.{length}
 use Rattle.texts.specs.Views.{left}
 use Rattle.literature_values.specs.PersonViews.{initials_style}
-use Rattle.literature_values.proofs.InitialSteps.{WritesSoFar}
+use Rattle.literature_values.proofs.InitialsSteps.{WritesSoFar}
 use Rattle.std.specs.Str.{chars}
 use Rattle.literature_values.proofs.person.write_initials.Given as goal
 

@@ -1,8 +1,8 @@
 use Rattle.std.proofs.Common.{arith}
 use Rattle.reference_graph.specs.References.{lists}
 use Rattle.reference_graph.specs.Search.{seen}
-use Rattle.reference_graph.proofs.Ending.{ends_marked, ends_ordered}
-use Rattle.reference_graph.proofs.Vectors.{lists_long}
+use Rattle.reference_graph.proofs.SearchEnding.{ends_marked, ends_ordered}
+use Rattle.reference_graph.proofs.SearchVectors.{lists_long}
 use Rattle.reference_graph.proofs.order.reference_order.Goals as goal
 
 pub returns-clause-circular : goal.returns-clause-circular

@@ -1,6 +1,6 @@
 use Rattle.std.proofs.Common.{◌≡◌, ℕ, ◌-◌, List, take, ap, ◌∙◌, arith, inl, inr}
 use Rattle.reference_graph.specs.Search.{front, last}
-use Rattle.reference_graph.proofs.Lists.{front_has, front_or_last, front_rises, last_top}
+use Rattle.reference_graph.proofs.SearchLists.{front_has, front_or_last, front_rises, last_top}
 use Rattle.reference_graph.proofs.search.cut_to.Goals as goal
 
 pub loop-start-preserved : goal.loop-start-preserved

@@ -2,7 +2,7 @@ use Rattle.std.proofs.Common.{length, arith, ◌∙◌, sym, subst, ◌<◌, ℕ
 use Rattle.std.proofs.lemmas.List.{get_or_default}
 use Rattle.reference_graph.specs.References.{lists}
 use Rattle.reference_graph.specs.Search.{seen}
-use Rattle.reference_graph.proofs.Vectors.{list_of, ring_told}
+use Rattle.reference_graph.proofs.SearchVectors.{list_of, ring_told}
 use Rattle.reference_graph.proofs.search.is_ring.Goals as goal
 
 pub returns : goal.returns

@@ -3,7 +3,7 @@ use Rattle.std.specs.Prelude.{◌&&◌, MatchBool, nat_lt}
 use Rattle.std.proofs.Math.Nat.{le_refl}
 use Rattle.std.proofs.lemmas.Bool.{ne_eqb}
 use Rattle.std.proofs.lemmas.Slice.{between_to_end}
-use Rattle.sinks.proofs.Writing.{starts, goes_on}
+use Rattle.sinks.proofs.SinksWriting.{starts, goes_on}
 use Rattle.sinks.proofs.sink.write_all.Goals as goal
 
 pub loop-rest-init : goal.loop-rest-init

@@ -1,5 +1,5 @@
 use Rattle.std.proofs.Common.{length}
-use Rattle.sinks.proofs.Writing.{Writing}
+use Rattle.sinks.proofs.SinksWriting.{Writing}
 use Rattle.sinks.proofs.sink.write_all.Given as goal
 
 abbrev pub invariant-loop-rest : goal.invariant-loop-rest

@@ -1,7 +1,7 @@
 use Rattle.std.specs.Prelude.{string_bytes}
 use Rattle.std.specs.Char.{IsScalar}
 use Rattle.std.proofs.lemmas.Str.{IsUtf8-string_bytes}
-use Rattle.texts.proofs.Appending.{chars-put_one}
+use Rattle.texts.proofs.GrowingAppended.{chars-put_one}
 use Rattle.texts.proofs.growing.push_character.Goals as goal
 
 pub returns : goal.returns

@@ -1,6 +1,6 @@
 use Rattle.std.specs.Prelude.{string_bytes}
 use Rattle.std.proofs.lemmas.Str.{IsUtf8-string_bytes}
-use Rattle.texts.proofs.Appending.{chars-put}
+use Rattle.texts.proofs.GrowingAppended.{chars-put}
 use Rattle.texts.proofs.growing.push_text.Goals as goal
 
 pub returns : goal.returns

@@ -1,6 +1,6 @@
 use Rattle.std.proofs.Common.{length}
 use Rattle.biblatex_entries.specs.Entries.{sources}
-use Rattle.biblatex_bibliography.proofs.Within.{known}
+use Rattle.biblatex_bibliography.proofs.PlacesWithin.{known}
 use Rattle.biblatex_bibliography.proofs.bibliography.Bibliography.alias.Goals as goal
 
 pub invariant_of-self : goal.invariant_of-self

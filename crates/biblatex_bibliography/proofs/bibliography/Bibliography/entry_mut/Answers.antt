@@ -7,7 +7,7 @@ use Rattle.std.proofs.lemmas.Option.{slice_get-map}
 use Rattle.biblatex_entries.specs.Entries.{source}
 use Rattle.biblatex_bibliography.specs.Bibliographies.{Indexed}
 use Rattle.biblatex_bibliography.specs.Places.{meaning_in, names_in, AreWithin}
-use Rattle.biblatex_bibliography.proofs.Borrowed.{written_at, item}
+use Rattle.biblatex_bibliography.proofs.LendingBorrowed.{written_at, item}
 use Rattle.biblatex_bibliography.proofs.bibliography.Bibliography.entry_mut.Goals as goal
 
 pub invariant_of-self-lent : goal.invariant_of-self-lent

@@ -7,7 +7,7 @@ use Rattle.biblatex_bibliography.specs.Bibliographies.{references, seen}
 use Rattle.biblatex_bibliography.specs.Reading.{nothing_loaded}
 use Rattle.biblatex_bibliography.specs.Resolved.{number_of, unresolved_at}
 use Rattle.biblatex_bibliography.specs.Errors.{loaded_in, refusal_of}
-use Rattle.biblatex_bibliography.proofs.Loading.{loaded_more, number_within, meaning, meaning_refused}
+use Rattle.biblatex_bibliography.proofs.ReadingLoaded.{loaded_more, number_within, meaning, meaning_refused}
 use Rattle.biblatex_bibliography.proofs.bibliography.Bibliography.from_raw_counted.Goals as goal
 
 pub returns-in-Ok-clause-count : goal.returns-in-Ok-clause-count

@@ -7,7 +7,7 @@ use borrow.Follows.Closed.{read_of}
 use Rattle.biblatex_entries.specs.Entries.{source, sources}
 use Rattle.biblatex_bibliography.specs.Bibliographies.{Indexed, seen, entry_named}
 use Rattle.biblatex_bibliography.specs.Places.{meaning_in, names_in, AreWithin}
-use Rattle.biblatex_bibliography.proofs.Borrowed.{written, item}
+use Rattle.biblatex_bibliography.proofs.LendingBorrowed.{written, item}
 use Rattle.biblatex_bibliography.proofs.bibliography.Bibliography.get_mut.Goals as goal
 
 pub invariant_of-self-lent : goal.invariant_of-self-lent

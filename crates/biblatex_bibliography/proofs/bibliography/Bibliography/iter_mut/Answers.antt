@@ -4,7 +4,7 @@ use Rattle.std.proofs.lemmas.List.{length-map}
 use Rattle.biblatex_entries.specs.Entries.{source, sources}
 use Rattle.biblatex_bibliography.specs.Bibliographies.{Indexed}
 use Rattle.biblatex_bibliography.specs.Places.{meaning_in, names_in, AreWithin}
-use Rattle.biblatex_bibliography.proofs.Borrowed.{rewritten}
+use Rattle.biblatex_bibliography.proofs.LendingBorrowed.{rewritten}
 use Rattle.biblatex_bibliography.proofs.bibliography.Bibliography.iter_mut.Goals as goal
 
 pub invariant_of-self-lent : goal.invariant_of-self-lent

@@ -1,8 +1,8 @@
 use Rattle.std.proofs.Common.{ℕ, List, sym, ap, subst, ◌∙◌}
 use Rattle.biblatex_entries.specs.Entries.{source}
 use Rattle.biblatex_bibliography.specs.Bibliographies.{Indexed, seen, indexed, IsAsRead, put_last}
-use Rattle.biblatex_bibliography.proofs.Within.{then_ok}
-use Rattle.biblatex_bibliography.proofs.Names.{pushed-read}
+use Rattle.biblatex_bibliography.proofs.PlacesWithin.{then_ok}
+use Rattle.biblatex_bibliography.proofs.PlacesNames.{pushed-read}
 use Rattle.biblatex_bibliography.proofs.bibliography.Bibliography.push.Goals as goal
 
 pub returns-clause-read : goal.returns-clause-read

@@ -5,7 +5,7 @@ use Rattle.biblatex_entries.specs.Entries.{sources}
 use Rattle.biblatex_bibliography.specs.Places.{meaning_in, names_in, AreWithin}
 use Rattle.biblatex_bibliography.specs.Bibliographies.{Indexed, Listed, seen, indexed, references}
 use Rattle.biblatex_bibliography.specs.Resolved.{IsResolved}
-use Rattle.biblatex_bibliography.proofs.Resolving.{references_long, resolved_is, refused_is, same_length}
+use Rattle.biblatex_bibliography.proofs.ResolvedEntries.{references_long, resolved_is, refused_is, same_length}
 use Rattle.biblatex_bibliography.proofs.bibliography.Bibliography.resolved.Goals as goal
 
 pub resolve-requires : goal.resolve-requires

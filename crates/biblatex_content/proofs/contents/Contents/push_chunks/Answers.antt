@@ -7,7 +7,7 @@ use Rattle.biblatex_content.specs.declared.chunk.Chunk.{Chunk}
 use Rattle.biblatex_content.specs.Styled.{Member}
 use Rattle.biblatex_content.specs.Places.{all_at, placed_so_far}
 use Rattle.biblatex_content.specs.Views.{so_far, styled, members}
-use Rattle.biblatex_content.proofs.Placed.{at_append}
+use Rattle.biblatex_content.proofs.PlacesForgotten.{at_append}
 use Rattle.biblatex_content.proofs.contents.Contents.push_chunks.Goals as goal
 
 pub loop-chunk-init : goal.loop-chunk-init

@@ -4,7 +4,7 @@ use Rattle.biblatex_content.specs.declared.chunk.Kind.{Kind}
 use Rattle.biblatex_content.specs.Styled.{Member, Letter}
 use Rattle.biblatex_content.specs.Places.{places, places_with}
 use Rattle.laws.specs.Text.{characters}
-use Rattle.biblatex_content.proofs.Reaches.{pushed}
+use Rattle.biblatex_content.proofs.PlacesReached.{pushed}
 use Rattle.biblatex_content.proofs.joining.Joining.push_at.Goals as goal
 
 pub returns-clause-places : goal.returns-clause-places

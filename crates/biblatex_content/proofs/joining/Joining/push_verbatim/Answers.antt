@@ -9,7 +9,7 @@ use Rattle.biblatex_content.specs.declared.chunk.Kind.TheVariants.{Verbatim}
 use Rattle.biblatex_content.specs.Styled.{letters}
 use Rattle.biblatex_content.specs.Verbatim.{verbatim_from, verbatim_piece, verbatim_text, is_verbatim_escape}
 use Rattle.biblatex_content.specs.Views.{joined}
-use Rattle.biblatex_content.proofs.Members.{letters_more}
+use Rattle.biblatex_content.proofs.StyledMembers.{letters_more}
 use Rattle.biblatex_content.proofs.joining.Joining.push_verbatim.Goals as goal
 use Rattle.biblatex_content.proofs.joining.Joining.push_verbatim.Goals.{then-is_escaped+in_ok-push, else-is_escaped}
 

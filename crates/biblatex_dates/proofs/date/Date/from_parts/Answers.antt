@@ -1,7 +1,7 @@
 use Rattle.std.proofs.Common.{Option, sym, subst}
 use Rattle.std.specs.Prelude.{IfSome}
 use Rattle.biblatex_dates.specs.declared.date.Date.{Date}
-use Rattle.biblatex_dates.proofs.Existing.{IsDate}
+use Rattle.biblatex_dates.proofs.ShapeExists.{IsDate}
 use Rattle.biblatex_dates.proofs.PartsExist.{parts_exist}
 use Rattle.biblatex_dates.proofs.date.Date.from_parts.Goals as goal
 

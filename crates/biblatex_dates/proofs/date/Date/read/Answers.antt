@@ -3,8 +3,8 @@ use Rattle.std.specs.Prelude.{IfOk}
 use Rattle.biblatex_dates.specs.Shape.{shape_of, date_of}
 use Rattle.biblatex_dates.specs.declared.date.Date.{Date}
 use Rattle.biblatex_dates.specs.declared.error.TypeErrorKind.{TypeErrorKind}
-use Rattle.biblatex_dates.proofs.DatesAgain.{date_again}
-use Rattle.biblatex_dates.proofs.Existing.{IsDate, date_exists}
+use Rattle.biblatex_dates.proofs.WrittenAgain.{date_again}
+use Rattle.biblatex_dates.proofs.ShapeExists.{IsDate, date_exists}
 use Rattle.biblatex_dates.proofs.date.Date.read.Goals as goal
 
 pub returns-clause-exists : goal.returns-clause-exists

@@ -2,8 +2,8 @@ use Rattle.std.proofs.Common.{ℕ, map, sym, subst}
 use Rattle.std.proofs.lemmas.List.{length-map}
 use Rattle.biblatex_text.specs.Views.{field}
 use Rattle.biblatex_fields.specs.Abbreviations.{Copied}
-use Rattle.biblatex_fields.proofs.Flags.{copied_all}
-use Rattle.biblatex_fields.proofs.Stack.{by_the_rule}
+use Rattle.biblatex_fields.proofs.AbbreviationsFlags.{copied_all}
+use Rattle.biblatex_fields.proofs.ValueStack.{by_the_rule}
 use Rattle.biblatex_fields.proofs.abbreviations.Abbreviations.new.Goals as goal
 
 pub returns-clause-rule : goal.returns-clause-rule

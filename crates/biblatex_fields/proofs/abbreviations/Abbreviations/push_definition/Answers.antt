@@ -5,11 +5,11 @@ use Rattle.biblatex_fields.specs.Abbreviations.{Refusal, pieces_at}
 use Rattle.biblatex_fields.specs.Openings.{Resolved, piece_seen, resolved_read, resolved_sense}
 use Rattle.biblatex_fields.specs.Value.{text_read, in_order, read}
 use Rattle.biblatex_fields.specs.Views.{sense_seen}
-use Rattle.biblatex_fields.proofs.Stack.{stack_read, nothing_left, next_refused, next_spelled, next_opened, one_frame}
-use Rattle.biblatex_fields.proofs.Effort.{left, less_frames, less_pieces, opened_pieces}
+use Rattle.biblatex_fields.proofs.ValueStack.{stack_read, nothing_left, next_refused, next_spelled, next_opened, one_frame}
+use Rattle.biblatex_fields.proofs.OpeningsEffort.{left, less_frames, less_pieces, opened_pieces}
 use Rattle.std.proofs.lemmas.Result.{err_from_is_err_and}
-use Rattle.biblatex_fields.proofs.Refused.{refused}
-use Rattle.biblatex_fields.proofs.Frames.{Frame, frame, frame_last, frame_split, frame_empty}
+use Rattle.biblatex_fields.proofs.ValueRefused.{refused}
+use Rattle.biblatex_fields.proofs.ViewsFrames.{Frame, frame, frame_last, frame_split, frame_empty}
 use Rattle.biblatex_fields.proofs.abbreviations.Abbreviations.push_definition.Goals as goal
 
 pub loop-frame-smaller-in_default-split_first : goal.loop-frame-smaller-in_default-split_first

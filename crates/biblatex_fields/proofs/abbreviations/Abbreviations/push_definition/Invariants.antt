@@ -3,9 +3,9 @@ use Rattle.biblatex_content.specs.Places.{placed_so_far}
 use Rattle.biblatex_fields.specs.Abbreviations.{pieces_at}
 use Rattle.biblatex_fields.specs.Openings.{resolved_read}
 use Rattle.biblatex_fields.specs.Value.{in_order, read}
-use Rattle.biblatex_fields.proofs.Frames.{frame}
-use Rattle.biblatex_fields.proofs.Stack.{stack_read}
-use Rattle.biblatex_fields.proofs.Effort.{left}
+use Rattle.biblatex_fields.proofs.ViewsFrames.{frame}
+use Rattle.biblatex_fields.proofs.ValueStack.{stack_read}
+use Rattle.biblatex_fields.proofs.OpeningsEffort.{left}
 use Rattle.biblatex_fields.proofs.abbreviations.Abbreviations.push_definition.Given as goal
 
 abbrev pub invariant-loop-frame : goal.invariant-loop-frame

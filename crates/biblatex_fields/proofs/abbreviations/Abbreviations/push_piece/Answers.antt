@@ -9,8 +9,8 @@ use Rattle.biblatex_fields.specs.Abbreviations.{Refusal, spelled, defined, piece
 use Rattle.biblatex_fields.specs.Value.{read}
 use Rattle.biblatex_fields.specs.Views.{sense_seen, refusal_of}
 use Rattle.laws.specs.Results.{Gives}
-use Rattle.biblatex_fields.proofs.Refused.{refused}
-use Rattle.biblatex_fields.proofs.Stack.{read_sensed, read_refused}
+use Rattle.biblatex_fields.proofs.ValueRefused.{refused}
+use Rattle.biblatex_fields.proofs.ValueStack.{read_sensed, read_refused}
 use Rattle.biblatex_fields.proofs.abbreviations.Abbreviations.push_piece.Goals as goal
 
 pub returns-in_err-text : goal.returns-in_err-text

@@ -1,5 +1,5 @@
 use Rattle.std.proofs.Common.{◌∙◌}
-use Rattle.biblatex_fields.proofs.Entries.{borrowed, value_there}
+use Rattle.biblatex_fields.proofs.FieldsEntries.{borrowed, value_there}
 use Rattle.biblatex_fields.proofs.fields.Fields.get.Goals as goal
 
 pub returns : goal.returns

@@ -1,8 +1,8 @@
 use Rattle.std.proofs.Common.{List, ap, ◌∙◌, string_bytes}
 use Rattle.biblatex_fields.specs.Fields.{Named, named_of, value_named, with_field}
 use Rattle.biblatex_content.specs.Views.{styled}
-use Rattle.biblatex_fields.proofs.LookUps.{put_found}
-use Rattle.biblatex_fields.proofs.Entries.{put_there, ordered_there}
+use Rattle.biblatex_fields.proofs.FieldsLookUps.{put_found}
+use Rattle.biblatex_fields.proofs.FieldsEntries.{put_there, ordered_there}
 use Rattle.biblatex_fields.proofs.fields.Fields.insert.Goals as goal
 
 pub returns-clause-ok : goal.returns-clause-ok

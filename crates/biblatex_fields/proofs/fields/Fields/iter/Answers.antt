@@ -1,6 +1,6 @@
 use Rattle.std.proofs.Common.{subst}
 use Rattle.biblatex_fields.specs.Fields.{AreInOrder}
-use Rattle.biblatex_fields.proofs.Entries.{ordered_there}
+use Rattle.biblatex_fields.proofs.FieldsEntries.{ordered_there}
 use Rattle.biblatex_fields.proofs.fields.Fields.iter.Goals as goal
 
 pub returns-clause-ordered : goal.returns-clause-ordered

@@ -1,4 +1,4 @@
-use Rattle.biblatex_fields.proofs.Entries.{ordered_there}
+use Rattle.biblatex_fields.proofs.FieldsEntries.{ordered_there}
 use Rattle.biblatex_fields.proofs.fields.Fields.new.Goals as goal
 
 pub invariant_of-result : goal.invariant_of-result

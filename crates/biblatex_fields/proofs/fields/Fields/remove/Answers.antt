@@ -1,7 +1,7 @@
 use Rattle.std.proofs.Common.{ap, subst, ◌∙◌, option_map}
 use Rattle.biblatex_fields.specs.Fields.{named_of, value_named, without_field, AreInOrder}
-use Rattle.biblatex_fields.proofs.Entries.{value_there, removed_there, ordered_there, text_of}
-use Rattle.biblatex_fields.proofs.LookUps.{removed_found}
+use Rattle.biblatex_fields.proofs.FieldsEntries.{value_there, removed_there, ordered_there, text_of}
+use Rattle.biblatex_fields.proofs.FieldsLookUps.{removed_found}
 use Rattle.biblatex_fields.proofs.fields.Fields.remove.Goals as goal
 
 pub returns-clause-value : goal.returns-clause-value

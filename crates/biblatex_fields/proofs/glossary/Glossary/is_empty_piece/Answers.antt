@@ -4,7 +4,7 @@ use Rattle.std.proofs.lemmas.List.{nil_from_length}
 use Rattle.biblatex_text.specs.Views.{piece}
 use Rattle.biblatex_fields.specs.declared.openings.ResolvedPiece.{ResolvedPiece}
 use Rattle.biblatex_fields.specs.Openings.{StandIn, piece_seen, unresolved_at}
-use Rattle.biblatex_fields.proofs.StandIns.{stand_on, stand_opened}
+use Rattle.biblatex_fields.proofs.OpeningsStandIns.{stand_on, stand_opened}
 use Rattle.biblatex_fields.proofs.glossary.Glossary.is_empty_piece.Goals as goal
 
 pub returns-in-Some-default : goal.returns-in-Some-default

@@ -2,7 +2,7 @@ use Rattle.std.proofs.Common.{ℕ, List, map, sym, subst}
 use Rattle.biblatex_fields.specs.declared.openings.Opening.TheVariants.{SameAs}
 use Rattle.biblatex_fields.specs.declared.openings.ResolvedPiece.{ResolvedPiece}
 use Rattle.biblatex_fields.specs.Openings.{Resolved, StandIn, Opens, OpensAlone, piece_seen}
-use Rattle.biblatex_fields.proofs.StandIns.{opens_part, opens_same, opens_whole}
+use Rattle.biblatex_fields.proofs.OpeningsStandIns.{opens_part, opens_same, opens_whole}
 use Rattle.biblatex_fields.proofs.glossary.Glossary.opening.Goals as goal
 
 pub returns-in-Some : goal.returns-in-Some

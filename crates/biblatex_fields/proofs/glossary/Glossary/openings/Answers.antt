@@ -4,7 +4,7 @@ use Rattle.biblatex_text.specs.Views.{field}
 use Rattle.biblatex_fields.specs.declared.openings.Opening.{Opening}
 use Rattle.biblatex_fields.specs.Abbreviations.{Glossary}
 use Rattle.biblatex_fields.specs.Openings.{AreOpenings}
-use Rattle.biblatex_fields.proofs.StandIns.{openings_set, openings_whole}
+use Rattle.biblatex_fields.proofs.OpeningsStandIns.{openings_set, openings_whole}
 use Rattle.biblatex_fields.proofs.glossary.Glossary.openings.Goals as goal
 
 pub loop-place-init : goal.loop-place-init

@@ -1,6 +1,6 @@
 use Rattle.std.proofs.Common.{List, ap, sym, subst, ◌∙◌}
 use Rattle.biblatex_fields.specs.Openings.{Resolved, StandIn, pieces_of_opening, unresolved_at}
-use Rattle.biblatex_fields.proofs.StandIns.{stand_read}
+use Rattle.biblatex_fields.proofs.OpeningsStandIns.{stand_read}
 use Rattle.biblatex_fields.proofs.glossary.Glossary.pieces.Goals as goal
 
 pub returns : goal.returns

@@ -6,8 +6,8 @@ use Rattle.biblatex_text.specs.declared.spanned.Spanned.{Spanned}
 use Rattle.biblatex_text.specs.declared.raw.RawChunk.{RawChunk}
 use Rattle.biblatex_fields.specs.Abbreviations.{Glossary, sense}
 use Rattle.biblatex_fields.specs.Openings.{Resolved, StandIn, piece_seen, sense_by, unresolved}
-use Rattle.biblatex_fields.proofs.StandIns.{stand_behind, stand_resolved}
-use Rattle.biblatex_fields.proofs.Taken.{one_more}
+use Rattle.biblatex_fields.proofs.OpeningsStandIns.{stand_after, stand_resolved}
+use Rattle.biblatex_fields.proofs.AbbreviationsTaken.{one_more}
 use Rattle.biblatex_fields.proofs.glossary.Glossary.resolve.Goals as goal
 
 one_resolved : (g : Glossary) (v : Bool) (rs : List Resolved) (raws : List (Spanned RawChunk)) (i : ℕ) (d raw : Spanned RawChunk) (place : Option ℕ) → i < length raws
@@ -18,7 +18,7 @@ one_resolved g v rs raws i d raw place within before value span known =
     let longer : map unresolved (map piece (take (i + 1) raws)) ≡ map unresolved (map piece (take i raws)) ++ unresolved (piece (get_or raws i d)) ∷ [] =
     ap (map unresolved) (one_more piece raws i d within) ∙ map_push unresolved (map piece (take i raws)) (piece (get_or raws i d)) in
     subst (λ (x : List Resolved). StandIn g v (rs ++ record { raw = piece raw; place = place } ∷ []) x) (sym longer)
-    (stand_behind g v rs (map unresolved (map piece (take i raws))) (record { raw = piece raw; place = place } ∷ []) (unresolved (piece (get_or raws i d)) ∷ []) before
+    (stand_after g v rs (map unresolved (map piece (take i raws))) (record { raw = piece raw; place = place } ∷ []) (unresolved (piece (get_or raws i d)) ∷ []) before
     (subst (λ (p : At Piece). StandIn g v (record { raw = p; place = place } ∷ []) (unresolved (piece (get_or raws i d)) ∷ [])) (sym same) (stand_resolved g v (piece (get_or raws i d)) place known)))
 
 pub loop-raw-preserved : goal.loop-raw-preserved

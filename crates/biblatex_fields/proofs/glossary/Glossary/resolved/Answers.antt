@@ -6,8 +6,8 @@ use Rattle.biblatex_text.specs.declared.spanned.Spanned.{Spanned}
 use Rattle.biblatex_text.specs.declared.raw.RawChunk.{RawChunk}
 use Rattle.biblatex_fields.specs.Abbreviations.{Glossary, AreFlags}
 use Rattle.biblatex_fields.specs.Openings.{StandIn, piece_seen, resolved_at, unresolved, unresolved_at}
-use Rattle.biblatex_fields.proofs.StandIns.{stand_same, resolved_more}
-use Rattle.biblatex_fields.proofs.Taken.{one_longer, one_more}
+use Rattle.biblatex_fields.proofs.OpeningsStandIns.{stand_same, resolved_more}
+use Rattle.biblatex_fields.proofs.AbbreviationsTaken.{one_longer, one_more}
 use Rattle.biblatex_fields.proofs.glossary.Glossary.resolved.Goals as goal
 
 pub loop-definition-init : goal.loop-definition-init

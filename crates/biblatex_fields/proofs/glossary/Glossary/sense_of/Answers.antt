@@ -1,7 +1,7 @@
 use Rattle.std.proofs.Common.{◌≡◌, ◌<◌, Some, length, map, sym, subst, ◌∙◌}
 use Rattle.biblatex_text.specs.Views.{field}
 use Rattle.biblatex_fields.specs.Abbreviations.{Glossary, place_of}
-use Rattle.biblatex_fields.proofs.Graph.{place_within}
+use Rattle.biblatex_fields.proofs.AbbreviationsGraph.{place_within}
 use Rattle.biblatex_fields.proofs.glossary.Glossary.sense_of.Goals as goal
 
 pub defined-requires : goal.defined-requires

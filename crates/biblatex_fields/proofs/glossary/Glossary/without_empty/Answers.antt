@@ -6,8 +6,8 @@ use Rattle.biblatex_text.specs.declared.raw.RawChunk.{RawChunk}
 use Rattle.biblatex_fields.specs.declared.openings.ResolvedPiece.{ResolvedPiece}
 use Rattle.biblatex_fields.specs.Abbreviations.{Glossary}
 use Rattle.biblatex_fields.specs.Openings.{Resolved, StandIn, piece_seen}
-use Rattle.biblatex_fields.proofs.StandIns.{stand_same, stand_behind, stand_without}
-use Rattle.biblatex_fields.proofs.Taken.{one_more}
+use Rattle.biblatex_fields.proofs.OpeningsStandIns.{stand_same, stand_after, stand_without}
+use Rattle.biblatex_fields.proofs.AbbreviationsTaken.{one_more}
 use Rattle.biblatex_fields.proofs.glossary.Glossary.without_empty.Goals as goal
 
 left_out : (g : Glossary) (v : Bool) (rs : List Resolved) (ps : List ResolvedPiece) (i : ℕ) (d : ResolvedPiece) → i < length ps → StandIn g v rs (map piece_seen (take i ps))
@@ -22,7 +22,7 @@ kept_on g v rs ps i d raw within before value span =
     let last = piece_seen (get_or ps i d) in
     let same : record { raw = piece raw; place = (get_or ps i d).place } ≡ last = rw (value, span) refl in
     subst (λ (x : List Resolved). StandIn g v (rs ++ record { raw = piece raw; place = (get_or ps i d).place } ∷ []) x) (sym (one_more piece_seen ps i d within))
-    (subst (λ (r : Resolved). StandIn g v (rs ++ r ∷ []) (map piece_seen (take i ps) ++ last ∷ [])) (sym same) (stand_behind g v rs (map piece_seen (take i ps)) (last ∷ []) (last ∷ []) before (stand_same g v (last ∷ []))))
+    (subst (λ (r : Resolved). StandIn g v (rs ++ r ∷ []) (map piece_seen (take i ps) ++ last ∷ [])) (sym same) (stand_after g v rs (map piece_seen (take i ps)) (last ∷ []) (last ∷ []) before (stand_same g v (last ∷ []))))
 
 pub loop-piece-preserved-then-branch : goal.loop-piece-preserved-then-branch
 loop-piece-preserved-then-branch c =

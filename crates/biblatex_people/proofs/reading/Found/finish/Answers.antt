@@ -1,6 +1,6 @@
 use Rattle.std.proofs.Common.{◌≡◌, ℕ, ◌-◌, length, map, take, sym, ap, ◌∙◌}
 use Rattle.biblatex_people.specs.Views.{named}
-use Rattle.biblatex_people.proofs.Lists.{without_last}
+use Rattle.biblatex_people.proofs.ViewsLists.{without_last}
 use Rattle.biblatex_people.proofs.reading.Found.finish.Goals as goal
 
 pub returns-then-self : goal.returns-then-self

@@ -1,7 +1,7 @@
 use Rattle.std.proofs.Common.{◌≡◌, true, map, sym, ap, ◌∙◌}
 use Rattle.biblatex_people.specs.Reading.{is_someone, is_named}
 use Rattle.biblatex_people.specs.Views.{named}
-use Rattle.biblatex_people.proofs.Lists.{people_more, ends_in_last}
+use Rattle.biblatex_people.proofs.ViewsLists.{people_more, ends_in_last}
 use Rattle.biblatex_people.proofs.reading.Found.take_part.Goals as goal
 
 pub returns : goal.returns

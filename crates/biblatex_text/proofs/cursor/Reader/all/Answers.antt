@@ -6,8 +6,8 @@ use Rattle.biblatex_text.specs.Raw.{Raw, with_item}
 use Rattle.biblatex_text.specs.Items.{next_item_at}
 use Rattle.biblatex_text.specs.Span.{IsPlacedItemOf}
 use Rattle.biblatex_text.specs.Views.{left, size, item, raw, Stops}
-use Rattle.biblatex_text.proofs.Shorter.{items_shorten}
-use Rattle.biblatex_text.proofs.Gathering.{onto, onto-some, onto-none, onto-stops}
+use Rattle.biblatex_text.proofs.ReadingShorter.{items_shorten}
+use Rattle.biblatex_text.proofs.RawGathered.{onto, onto-some, onto-none, onto-stops}
 use Rattle.biblatex_text.proofs.cursor.Reader.all.Goals as goal
 
 pub returns-in_err-item-clause-reads : goal.returns-in_err-item-clause-reads

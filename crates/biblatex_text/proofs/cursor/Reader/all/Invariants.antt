@@ -3,7 +3,7 @@ use Rattle.laws.specs.Steps.{each}
 use Rattle.biblatex_text.specs.Items.{next_item_at, raw_at}
 use Rattle.biblatex_text.specs.Span.{IsRawOf}
 use Rattle.biblatex_text.specs.Views.{left, size, raw}
-use Rattle.biblatex_text.proofs.Gathering.{onto}
+use Rattle.biblatex_text.proofs.RawGathered.{onto}
 use Rattle.biblatex_text.proofs.cursor.Reader.all.Given as goal
 
 abbrev pub invariant-loop-found : goal.invariant-loop-found

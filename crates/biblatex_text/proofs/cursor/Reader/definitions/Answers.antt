@@ -1,7 +1,7 @@
 use Rattle.std.proofs.Common.{sym, subst, ◌∙◌}
 use Rattle.std.specs.Prelude.{All, IfOk}
 use Rattle.biblatex_text.specs.Span.{IsPairOf}
-use Rattle.biblatex_text.proofs.Slices.{All-one}
+use Rattle.biblatex_text.proofs.SpanSlices.{All-one}
 use Rattle.biblatex_text.proofs.cursor.Reader.definitions.Goals as goal
 
 pub returns-in_ok-push-in-Some-clause-slice : goal.returns-in_ok-push-in-Some-clause-slice

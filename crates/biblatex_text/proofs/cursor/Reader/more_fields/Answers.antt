@@ -6,8 +6,8 @@ use Rattle.std.proofs.lemmas.Result.{err_from_is_err_and}
 use Rattle.biblatex_text.specs.Fields.{next_field_at}
 use Rattle.biblatex_text.specs.Span.{IsPairOf}
 use Rattle.biblatex_text.specs.Views.{left, size, field, fields, Stops}
-use Rattle.biblatex_text.proofs.Shorter.{fields_shorten}
-use Rattle.biblatex_text.proofs.Repeats.{front-some, front-none, front-stops}
+use Rattle.biblatex_text.proofs.ReadingShorter.{fields_shorten}
+use Rattle.biblatex_text.proofs.FieldsRepeats.{front-some, front-none, front-stops}
 use Rattle.biblatex_text.proofs.cursor.Reader.more_fields.Goals as goal
 
 pub returns-in_err-pair-clause-reads : goal.returns-in_err-pair-clause-reads

@@ -1,4 +1,4 @@
-use Rattle.biblatex_text.proofs.Places.{Stands, stands_after, slice_taken}
+use Rattle.biblatex_text.proofs.ReadingPlaces.{Stands, stands_after, slice_taken}
 use Rattle.biblatex_text.proofs.cursor.Reader.run.Goals as goal
 
 pub invariant_of-self : goal.invariant_of-self

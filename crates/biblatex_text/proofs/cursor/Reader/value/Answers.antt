@@ -7,8 +7,8 @@ use Rattle.biblatex_text.specs.Reading.{place}
 use Rattle.biblatex_text.specs.Value.{next_piece_at}
 use Rattle.biblatex_text.specs.Span.{IsPieceOf}
 use Rattle.biblatex_text.specs.Views.{left, size, piece, pieces}
-use Rattle.biblatex_text.proofs.Shorter.{pieces_shorten}
-use Rattle.biblatex_text.proofs.Values.{value_onto-some, value_onto-none, value_onto-err}
+use Rattle.biblatex_text.proofs.ReadingShorter.{pieces_shorten}
+use Rattle.biblatex_text.proofs.ValuePieces.{value_onto-some, value_onto-none, value_onto-err}
 use Rattle.biblatex_text.proofs.cursor.Reader.value.Goals as goal
 
 pub returns-in_err-piece-clause-reads : goal.returns-in_err-piece-clause-reads

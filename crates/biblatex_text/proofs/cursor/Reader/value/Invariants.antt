@@ -3,7 +3,7 @@ use Rattle.std.specs.Prelude.{All}
 use Rattle.biblatex_text.specs.Value.{value_at}
 use Rattle.biblatex_text.specs.Span.{IsPieceOf}
 use Rattle.biblatex_text.specs.Views.{left, size, pieces}
-use Rattle.biblatex_text.proofs.Values.{value_onto}
+use Rattle.biblatex_text.proofs.ValuePieces.{value_onto}
 use Rattle.biblatex_text.proofs.cursor.Reader.value.Given as goal
 
 abbrev pub invariant-loop-pieces : goal.invariant-loop-pieces

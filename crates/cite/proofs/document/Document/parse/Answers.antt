@@ -5,8 +5,8 @@ use Rattle.laws.proofs.Text.{text_of_chars}
 use Rattle.cite.specs.Verdict.{marker_stage, no_marker}
 use Rattle.cite.specs.Views.{left, citation, citations}
 use Rattle.laws.specs.Text.{spelled}
-use Rattle.cite.proofs.Citing.{citations_shorten}
-use Rattle.cite.proofs.Documents.{begins, goes_on, ends, fails, room}
+use Rattle.cite.proofs.MarkerParts.{citations_shorten}
+use Rattle.cite.proofs.MarkerLoop.{begins, goes_on, ends, fails, room}
 use Rattle.cite.proofs.document.Document.parse.Goals as goal
 
 pub loop-citation-init : goal.loop-citation-init

@@ -1,7 +1,7 @@
 use Rattle.std.proofs.Common.{length}
 use Rattle.std.specs.Str.{chars}
 use Rattle.cite.specs.Views.{left, citations}
-use Rattle.cite.proofs.Documents.{Citing}
+use Rattle.cite.proofs.MarkerLoop.{Citing}
 use Rattle.cite.proofs.document.Document.parse.Given as goal
 
 abbrev pub invariant-loop-citation : goal.invariant-loop-citation

@@ -8,8 +8,8 @@ use Rattle.literature_entries.specs.declared.entry.Entry.{Entry}
 use Rattle.interop.specs.Shelf.{key_of}
 use Rattle.cite.specs.Order.{is_same}
 use Rattle.cite.specs.Orders.{cited_works}
-use Rattle.cite.proofs.Numbering.{any-map, position-map, found-by_key, position-by_key, position-with}
-use Rattle.cite.proofs.Keys.{key_is, keys_are}
+use Rattle.cite.proofs.OrderNumbers.{any-map, position-map, found-by_key, position-by_key, position-with}
+use Rattle.cite.proofs.WorksKeys.{key_is, keys_are}
 use Rattle.cite.proofs.order.Order.number.Goals as goal
 use Rattle.cite.proofs.order.Order.number.Goals.{then-is_new, else-is_new}
 

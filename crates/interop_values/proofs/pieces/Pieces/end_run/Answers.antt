@@ -3,7 +3,7 @@ use Rattle.laws.specs.Text.{characters, is_filled}
 use Rattle.literature_values.specs.declared.text.StringChunk.{StringChunk}
 use Rattle.literature_values.specs.TextViews.{chunk}
 use Rattle.interop_values.specs.Views.{kind_of}
-use Rattle.interop_values.proofs.Growing.{ended}
+use Rattle.interop_values.proofs.PiecesGrowing.{ended}
 use Rattle.interop_values.proofs.pieces.Pieces.end_run.Goals as goal
 
 pub returns-clause-done : goal.returns-clause-done

@@ -6,7 +6,7 @@ use Rattle.literature_values.specs.declared.text.StringChunk.{StringChunk}
 use Rattle.literature_values.specs.TextViews.{chunk}
 use Rattle.interop_values.specs.Pieces.{pieces_of}
 use Rattle.interop_values.specs.Views.{kind_of, chunks_in}
-use Rattle.interop_values.proofs.Growing.{formula}
+use Rattle.interop_values.proofs.PiecesGrowing.{formula}
 use Rattle.interop_values.proofs.pieces.Pieces.push_math.Goals as goal
 
 pub returns : goal.returns

@@ -5,7 +5,7 @@ use Rattle.biblatex_content.specs.Styled.{letters}
 use Rattle.laws.specs.Text.{characters, is_filled}
 use Rattle.interop_values.specs.Pieces.{pieces_of}
 use Rattle.interop_values.specs.Views.{kind_of, chunks_in, with_pieces}
-use Rattle.interop_values.proofs.Growing.{put_last}
+use Rattle.interop_values.proofs.PiecesGrowing.{put_last}
 use Rattle.interop_values.proofs.pieces.Pieces.push_text.Goals as goal
 
 pub returns : goal.returns

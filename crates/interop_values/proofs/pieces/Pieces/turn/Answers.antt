@@ -4,7 +4,7 @@ use Rattle.laws.specs.Text.{characters}
 use Rattle.literature_values.specs.TextViews.{Chunk}
 use Rattle.interop_values.specs.Pieces.{pieces_of}
 use Rattle.interop_values.specs.Views.{kind_of, chunks_in}
-use Rattle.interop_values.proofs.Growing.{turned}
+use Rattle.interop_values.proofs.PiecesGrowing.{turned}
 use Rattle.interop_values.proofs.pieces.Pieces.turn.Goals as goal
 
 pub returns-clause-pieces : goal.returns-clause-pieces

@@ -1,5 +1,5 @@
 use Rattle.std.proofs.Common.{◌∙◌}
-use Rattle.literature.proofs.Stored.{entry_found}
+use Rattle.literature.proofs.KeysStored.{entry_found}
 use Rattle.literature.proofs.library.Library.get.Goals as goal
 
 pub returns : goal.returns

@@ -1,6 +1,6 @@
 use Rattle.std.proofs.Common.{◌∙◌, ap}
 use Rattle.std.specs.Map.{values_of}
-use Rattle.literature.proofs.Stored.{entry_found, entry_removed}
+use Rattle.literature.proofs.KeysStored.{entry_found, entry_removed}
 use Rattle.literature.proofs.library.Library.remove.Goals as goal
 
 pub returns-clause-removed : goal.returns-clause-removed

@@ -1,6 +1,6 @@
 use Rattle.std.proofs.Common.{rules}
 use Rattle.literature_entries.specs.Views.{fields}
-use Rattle.literature_entries.proofs.Walks.{found_ok}
+use Rattle.literature_entries.proofs.AncestorsWalks.{found_ok}
 use Rattle.literature_entries.proofs.entry.Entry.date_any.Goals as goal
 
 pub returns : goal.returns

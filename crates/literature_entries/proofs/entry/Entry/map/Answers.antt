@@ -1,4 +1,4 @@
-use Rattle.literature_entries.proofs.Walks.{asks_answered, asked_on}
+use Rattle.literature_entries.proofs.AncestorsWalks.{asks_answered, asked_on}
 use Rattle.literature_entries.proofs.entry.Entry.map.Goals as goal
 
 pub returns-in-Some : goal.returns-in-Some

@@ -1,7 +1,7 @@
 use Rattle.std.proofs.Common.{rules}
 use Rattle.literature_entries.specs.Views.{fields}
 use Rattle.literature_values.specs.OtherViews.{address}
-use Rattle.literature_entries.proofs.Walks.{found_ok}
+use Rattle.literature_entries.proofs.AncestorsWalks.{found_ok}
 use Rattle.literature_entries.proofs.entry.Entry.url_any.Goals as goal
 
 pub returns : goal.returns

@@ -1,5 +1,5 @@
 use Rattle.std.specs.Str.{chars}
-use Rattle.literature_numbers.proofs.NumeralAgain.{read_back}
+use Rattle.literature_numbers.proofs.NumericsAgain.{read_back}
 use Rattle.literature_numbers.proofs.numeric.Numeric.read.Goals as goal
 
 pub returns-clause-back : goal.returns-clause-back

@@ -11,9 +11,9 @@ pub returns-clause-writes : goal.returns-clause-writes
 returns-clause-writes g c = λ plain ok.
     let n = c.args.self.now in
     let before : List ℕ = affix_text (option_map characters n.prefix) in
-    let behind : List ℕ = affix_text (option_map characters n.suffix) in
+    let following : List ℕ = affix_text (option_map characters n.suffix) in
     let a = c.in_ok-write_affix.ensures plain (refl {a = true}) in
     let v = c.in_ok-fmt.ensures.writes a.plain (refl {a = true}) in
     has_written_of_eq _ _ _ _ _
-    (sym (text-append before (value_text (value n.value) ++ behind) ∙ ap (λ (t : List ℕ). text before ++ t) (text-append (value_text (value n.value)) behind)))
+    (sym (text-append before (value_text (value n.value) ++ following) ∙ ap (λ (t : List ℕ). text before ++ t) (text-append (value_text (value n.value)) following)))
     (has_written_append _ _ _ _ _ _ a (has_written_append _ _ _ _ _ _ v (c.write_affix-2.ensures v.plain ok)))

@@ -3,7 +3,7 @@ use Rattle.std.proofs.Output.{has_written_of_eq, has_written_append}
 use Rattle.laws.specs.Text.{text}
 use Rattle.literature_numbers.specs.Pages.{part_text, pages_text}
 use Rattle.literature_numbers.specs.PageViews.{part}
-use Rattle.texts.proofs.Writing.{text-more_seen}
+use Rattle.texts.proofs.GrowingWritten.{text-more_seen}
 use Rattle.literature_numbers.proofs.page_ranges.PageRangesDisplay.fmt.Goals as goal
 
 pub loop-part-preserved : goal.loop-part-preserved

@@ -1,6 +1,6 @@
 use Rattle.std.proofs.Common.{◌∙◌, ap}
 use Rattle.std.specs.Option.{option_copied}
-use Rattle.literature_selectors.proofs.Names.{found_pair}
+use Rattle.literature_selectors.proofs.BindingsNames.{found_pair}
 use Rattle.literature_selectors.proofs.bindings.Bindings.get.Goals as goal
 
 pub returns : goal.returns

@@ -1,5 +1,5 @@
 use Rattle.std.proofs.Common.{ap, ◌∙◌, map, string_bytes}
-use Rattle.literature_selectors.proofs.Names.{names_in_order}
+use Rattle.literature_selectors.proofs.BindingsNames.{names_in_order}
 use Rattle.literature_selectors.proofs.bindings.Bindings.keys.Goals as goal
 
 pub returns : goal.returns

@@ -2,7 +2,7 @@ use Rattle.std.proofs.Common.{◌≡◌, ◌+◌, ◌∙◌, ap, map, drop}
 use Rattle.literature_selectors.specs.Bindings.{set, settle}
 use Rattle.literature_selectors.specs.Found.{named, all_named}
 use Rattle.literature_selectors.specs.Pairs.{pair}
-use Rattle.literature_selectors.proofs.Names.{pair_set, settles_next}
+use Rattle.literature_selectors.proofs.BindingsNames.{pair_set, settles_next}
 use Rattle.literature_selectors.proofs.bindings.Bindings.settled.Goals as goal
 
 pub loop-named-preserved : goal.loop-named-preserved

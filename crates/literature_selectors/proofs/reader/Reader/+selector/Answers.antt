@@ -6,8 +6,8 @@ use Rattle.literature_selectors.specs.Trees.{one_or_alternatives, one_or_multi}
 use Rattle.literature_selectors.specs.Reading.{unary_in, level}
 use Rattle.literature_selectors.specs.Views.{left, tree, fault}
 use Rattle.laws.specs.Results.{EndsWith, GivesRest}
-use Rattle.literature_selectors.proofs.Repeats.{taken_less, AtMost, front_goes_on, front_stops, front_fails, parted_ends, parted_fails_later}
-use Rattle.literature_selectors.proofs.Levels.{unary_leaves, level_leaves, no_level_unary, no_level_ancestry, unary_below, ancestry_below}
+use Rattle.literature_selectors.proofs.ReadingRepeats.{taken_less, AtMost, front_goes_on, front_stops, front_fails, parted_ends, parted_fails_later}
+use Rattle.literature_selectors.proofs.ReadingLevels.{unary_leaves, level_leaves, no_level_unary, no_level_ancestry, unary_below, ancestry_below}
 use Rattle.literature_selectors.proofs.reader.Reader.+selector.Goals as goal
 
 pub alternatives-returns-in_err-ancestry : goal.alternatives-returns-in_err-ancestry

@@ -6,8 +6,8 @@ use Rattle.literature_selectors.specs.Reading.{names_at}
 use Rattle.literature_selectors.specs.Views.{left, fault}
 use Rattle.laws.specs.Results.{EndsWith}
 use Rattle.laws.specs.Text.{characters}
-use Rattle.literature_selectors.proofs.Repeats.{taken_less, AtMost}
-use Rattle.literature_selectors.proofs.Levels.{names_leaves, lists_go_on, lists_end, lists_fail}
+use Rattle.literature_selectors.proofs.ReadingRepeats.{taken_less, AtMost}
+use Rattle.literature_selectors.proofs.ReadingLevels.{names_leaves, lists_go_on, lists_end, lists_fail}
 use Rattle.literature_selectors.proofs.reader.Reader.lists.Goals as goal
 
 pub returns-in_err-list : goal.returns-in_err-list

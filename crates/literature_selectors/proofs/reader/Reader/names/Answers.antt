@@ -4,7 +4,7 @@ use Rattle.std.proofs.lemmas.Result.{err_from_is_err_and}
 use Rattle.literature_selectors.specs.Views.{left, fault}
 use Rattle.laws.specs.Results.{EndsWith}
 use Rattle.laws.specs.Text.{characters}
-use Rattle.literature_selectors.proofs.Repeats.{names_go_on, names_fail_later, names_end, names_stay_open}
+use Rattle.literature_selectors.proofs.ReadingRepeats.{names_go_on, names_fail_later, names_end, names_stay_open}
 use Rattle.literature_selectors.proofs.reader.Reader.names.Goals as goal
 
 pub returns-in_err-name-2 : goal.returns-in_err-name-2

@@ -2,7 +2,7 @@ use Rattle.std.proofs.Common.{◌≡◌, map, length}
 use Rattle.literature_selectors.specs.Reading.{names_at}
 use Rattle.literature_selectors.specs.Views.{left}
 use Rattle.laws.specs.Text.{characters}
-use Rattle.literature_selectors.proofs.Repeats.{names_onto}
+use Rattle.literature_selectors.proofs.ReadingRepeats.{names_onto}
 use Rattle.literature_selectors.proofs.reader.Reader.names.Given as goal
 
 abbrev pub invariant-loop-alloc : goal.invariant-loop-alloc

@@ -1,5 +1,5 @@
 use Rattle.std.specs.Str.{chars}
-use Rattle.literature_selectors.proofs.Outcome.{found_is, only_this}
+use Rattle.literature_selectors.proofs.GrammarOutcome.{found_is, only_this}
 use Rattle.literature_selectors.proofs.selector.Selector.parse.Goals as goal
 
 pub returns-clause-found : goal.returns-clause-found

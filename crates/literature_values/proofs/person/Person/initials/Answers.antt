@@ -1,7 +1,7 @@
 use Rattle.std.proofs.Common.{ap, ◌∙◌}
 use Rattle.literature_values.specs.Initials.{style, initials_of}
 use Rattle.literature_values.specs.PersonViews.{borrowed, owned}
-use Rattle.literature_values.proofs.InitialSteps.{writes_nothing, initials_of_nothing}
+use Rattle.literature_values.proofs.InitialsSteps.{writes_nothing, initials_of_nothing}
 use Rattle.literature_values.proofs.person.Person.initials.Goals as goal
 
 pub returns-in_default : goal.returns-in_default

@@ -2,10 +2,10 @@ use Rattle.std.proofs.Common.{◌≡◌, ℕ, ◌-◌, ◌<◌, List, length, ge
 use Rattle.reference_graph.specs.References.{lists}
 use Rattle.reference_graph.specs.Search.{State, seen, front, last, left, finished}
 use Rattle.reference_graph.specs.Invariant.{IsStep}
-use Rattle.reference_graph.proofs.Following.{is_last}
-use Rattle.reference_graph.proofs.Places.{path_below}
-use Rattle.reference_graph.proofs.Stepping.{leave_step, finish_step}
-use Rattle.reference_graph.proofs.Vectors.{lists_long, if_ok_then}
+use Rattle.reference_graph.proofs.SearchFollowing.{is_last}
+use Rattle.reference_graph.proofs.SearchPlaces.{path_below}
+use Rattle.reference_graph.proofs.SearchStepping.{leave_step, finish_step}
+use Rattle.reference_graph.proofs.SearchVectors.{lists_long, if_ok_then}
 use Rattle.reference_graph.proofs.search.Search.leave.Goals as goal
 
 pub is_ring-circular-requires-clause-start : goal.is_ring-circular-requires-clause-start

@@ -1,4 +1,4 @@
-use Rattle.reference_graph.proofs.Vectors.{begun_is}
+use Rattle.reference_graph.proofs.SearchVectors.{begun_is}
 use Rattle.reference_graph.proofs.search.Search.new.Goals as goal
 
 pub returns : goal.returns

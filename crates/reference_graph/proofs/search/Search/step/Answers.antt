@@ -1,11 +1,11 @@
 use Rattle.std.proofs.Common.{ℕ, List, length, ap, ◌∙◌, arith}
 use Rattle.reference_graph.specs.References.{lists}
 use Rattle.reference_graph.specs.Search.{seen, place_of, unread_of}
-use Rattle.reference_graph.proofs.Lists.{read_index}
-use Rattle.reference_graph.proofs.Following.{is_last, unread_stays}
-use Rattle.reference_graph.proofs.Places.{path_below}
-use Rattle.reference_graph.proofs.Stepping.{read_step}
-use Rattle.reference_graph.proofs.Vectors.{lists_long}
+use Rattle.reference_graph.proofs.SearchLists.{read_index}
+use Rattle.reference_graph.proofs.SearchFollowing.{is_last, unread_stays}
+use Rattle.reference_graph.proofs.SearchPlaces.{path_below}
+use Rattle.reference_graph.proofs.SearchStepping.{read_step}
+use Rattle.reference_graph.proofs.SearchVectors.{lists_long}
 use Rattle.reference_graph.proofs.search.Search.step.Goals as goal
 
 pub index-number-requires : goal.index-number-requires

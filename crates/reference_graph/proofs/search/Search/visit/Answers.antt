@@ -2,9 +2,9 @@ use Rattle.std.proofs.Common.{◌≡◌, ℕ, List, length, sym, ap, subst, ◌�
 use Rattle.reference_graph.specs.References.{lists}
 use Rattle.reference_graph.specs.declared.search.Place.TheVariants.{New}
 use Rattle.reference_graph.specs.Search.{State, seen, place_of}
-use Rattle.reference_graph.proofs.Entering.{entered_first, IsEntered}
-use Rattle.reference_graph.proofs.Ending.{path_empty}
-use Rattle.reference_graph.proofs.Weighing.{new_told}
+use Rattle.reference_graph.proofs.SearchEntering.{entered_first, IsEntered}
+use Rattle.reference_graph.proofs.SearchEnding.{path_empty}
+use Rattle.reference_graph.proofs.SearchWeighing.{new_told}
 use Rattle.reference_graph.proofs.search.Search.visit.Goals as goal
 
 pub loop-place-init : goal.loop-place-init

@@ -1,8 +1,8 @@
 use Rattle.std.proofs.Common.{rules, sym, ◌∙◌, Ok}
 use Rattle.laws.proofs.Results.{ok_is}
 use Rattle.texts.specs.Views.{left}
-use Rattle.texts.proofs.Digits.{run_bytes, digits_parsed, digits_at-ok, digits_at-err}
-use Rattle.texts.proofs.Bounds.{digits_below}
+use Rattle.texts.proofs.ReadingDigits.{run_bytes, digits_parsed, digits_at-ok, digits_at-err}
+use Rattle.texts.proofs.ReadingBounds.{digits_below}
 use Rattle.texts.proofs.reader.Reader.digits.Goals as goal
 
 pub returns-then-not-is_within-clause-reads : goal.returns-then-not-is_within-clause-reads

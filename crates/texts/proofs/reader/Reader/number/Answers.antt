@@ -1,6 +1,6 @@
 use Rattle.std.proofs.Common.{rules, sym, ◌∙◌, w32, FitsSigned, Ok}
 use Rattle.std.proofs.lemmas.Int.{to_z-of_z}
-use Rattle.texts.proofs.Digits.{number_parsed, number_refused}
+use Rattle.texts.proofs.ReadingDigits.{number_parsed, number_refused}
 use Rattle.texts.proofs.reader.Reader.number.Goals as goal
 
 pub returns-in-Ok : goal.returns-in-Ok

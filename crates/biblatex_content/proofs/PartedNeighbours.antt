@@ -1,0 +1,51 @@
+-- A chunk after others.
+use Rattle.std.proofs.Common.{◌≡◌, Bool, true, false, ◌&&◌, List, [], ◌∷◌, ◌++◌, Option, Some, None, refl, sym}
+use Rattle.biblatex_content.specs.declared.chunk.Kind.{Kind}
+use Rattle.biblatex_content.specs.declared.chunk.Kind.TheVariants.{Normal, Verbatim}
+use Rattle.biblatex_content.specs.declared.chunk.Chunk.{Chunk}
+use Rattle.biblatex_text.specs.declared.spanned.Spanned.{Spanned}
+use Rattle.biblatex_content.specs.Parted.{is_full, kind_of, is_apart, are_parted, last_kind, IsLastOrNone}
+
+pub last_kind_after : (cs : List (Spanned Chunk)) (c : Spanned Chunk) → last_kind (cs ++ c ∷ []) ≡ kind_of c.v
+last_kind_after [] c = refl
+last_kind_after (d ∷ []) c = refl
+last_kind_after (d ∷ e ∷ cs) c = last_kind_after (e ∷ cs) c
+
+both : (a b : Bool) → a ≡ true → b ≡ true → a && b ≡ true
+both a b p q = rw (p, q) refl
+
+first_of_two : (a b : Bool) → a && b ≡ true → a ≡ true
+first_of_two true b e = refl
+first_of_two false b e = absurd cc
+
+second_of_two : (a b : Bool) → a && b ≡ true → b ≡ true
+second_of_two true b e = e
+second_of_two false b e = absurd cc
+
+apart_from_none : (kind : Option Kind) → is_apart kind None ≡ true
+apart_from_none None = refl
+apart_from_none (Some Normal) = refl
+apart_from_none (Some Verbatim) = refl
+
+pub parted_after : (cs : List (Spanned Chunk)) (c : Spanned Chunk) → are_parted cs ≡ true → is_full c.v ≡ true → is_apart (last_kind cs) (kind_of c.v) ≡ true → are_parted (cs ++ c ∷ []) ≡ true
+parted_after [] c parted full apart = rw (full, apart_from_none (kind_of c.v)) refl
+parted_after (d ∷ []) c parted full apart =
+    let alone = first_of_two (is_full d.v) (is_apart (kind_of d.v) None) (first_of_two _ true parted) in
+    rw (alone, apart, full, apart_from_none (kind_of c.v)) refl
+parted_after (d ∷ e ∷ cs) c parted full apart =
+    let here = is_full d.v && is_apart (kind_of d.v) (kind_of e.v) in
+    both here (are_parted ((e ∷ cs) ++ c ∷ [])) (first_of_two here (are_parted (e ∷ cs)) parted) (parted_after (e ∷ cs) c (second_of_two here (are_parted (e ∷ cs)) parted) full apart)
+
+pub last_or_none_fresh : (kind : Kind) (last : Option Kind) → last ≡ None → IsLastOrNone kind last
+last_or_none_fresh kind last e = rw e tt
+
+pub last_or_none_same : (kind : Kind) (last : Option Kind) → last ≡ Some kind → IsLastOrNone kind last
+last_or_none_same kind last e = rw e refl
+
+-- a text of the other kind may follow
+pub apart_from_last : (kind other : Kind) (last : Option Kind) → IsLastOrNone kind last → (kind ≡ other → ⊥) → is_apart last (Some other) ≡ true
+apart_from_last kind other None e differ = refl
+apart_from_last kind Normal (Some Normal) e differ = absurd (differ (sym e))
+apart_from_last kind Verbatim (Some Normal) e differ = refl
+apart_from_last kind Normal (Some Verbatim) e differ = refl
+apart_from_last kind Verbatim (Some Verbatim) e differ = absurd (differ (sym e))

@@ -1,0 +1,77 @@
+-- The place of text that was begun, and of what follows it.
+use Rattle.std.proofs.Common.{◌≡◌, ℕ, max, Bool, true, false, not, List, [], ◌∷◌, ◌++◌, Some, if◌then◌else◌, refl, sym, ap, ◌∙◌, append_assoc, arith}
+use Rattle.biblatex_text.specs.Raw.{At}
+use Rattle.biblatex_content.specs.declared.chunk.Kind.{Kind}
+use Rattle.biblatex_content.specs.declared.chunk.Kind.TheVariants.{Normal, Verbatim}
+use Rattle.biblatex_content.specs.Styled.{Member, Letter, letters}
+use Rattle.biblatex_content.specs.Parted.{is_apart}
+use Rattle.laws.specs.Text.{is_filled}
+use Rattle.biblatex_content.specs.Places.{all_at, kind_in, goes_on, before, places_of, begun_with}
+
+-- a character of the kind at the place
+abbrev letter : Kind → ℕ → ℕ → ℕ → At Member
+letter kind c start end = record { v = Letter kind c; start = start; end = end }
+
+-- three in one chunk
+merged : (goes : Bool) (kind : Kind) (s e c start end : ℕ) (ps : List (ℕ × ℕ))
+    → before true (letter kind 0 s e) (before goes (letter kind c start end) ps) ≡ before goes (letter kind 0 s (max e end)) ps
+merged false kind s e c start end ps = refl
+merged true kind s e c start end [] = refl
+merged true kind s e c start end (p ∷ ps) =
+    let h : max e (max end p.1) ≡ max (max e end) p.1 = omega arith in
+    ap (λ (x : ℕ). (s, x) ∷ ps) h
+
+alike : (kind : Kind) → not (is_apart (Some kind) (Some kind)) ≡ true
+alike Normal = refl
+alike Verbatim = refl
+
+goes_on_same : (kind : Kind) (c d : ℕ) (ms : List (At Member)) → goes_on (Letter kind c) ms ≡ goes_on (Letter kind d) ms
+goes_on_same kind c d [] = refl
+goes_on_same kind c d (m ∷ ms) = refl
+
+before_same : (kind : Kind) (c d start end : ℕ) (goes : Bool) (ps : List (ℕ × ℕ)) → before goes (letter kind c start end) ps ≡ before goes (letter kind d start end) ps
+before_same kind c d start end false ps = refl
+before_same kind c d start end true [] = refl
+before_same kind c d start end true (p ∷ ps) = refl
+
+letter_same : (kind : Kind) (c d start end : ℕ) (ms : List (At Member)) → places_of (letter kind c start end ∷ ms) ≡ places_of (letter kind d start end ∷ ms)
+letter_same kind c d start end ms =
+    ap (λ (goes : Bool). before goes (letter kind c start end) (places_of ms)) (goes_on_same kind c d ms) ∙ before_same kind c d start end (goes_on (Letter kind d) ms) (places_of ms)
+
+-- a character that goes on with what was begun
+more : (kind : Kind) (s e c start end : ℕ) (ms : List (At Member))
+    → places_of (letter kind 0 s (max e end) ∷ ms) ≡ places_of (letter kind 0 s e ∷ letter kind c start end ∷ ms)
+more kind s e c start end ms = sym (rw (alike kind, goes_on_same kind c 0 ms) (merged (goes_on (Letter kind 0) ms) kind s e c start end (places_of ms)))
+
+-- a character put after what was begun, if anything was
+pub pushed : (run : List ℕ) (kind : Kind) (s e c start end : ℕ) (ms : List (At Member))
+    → begun_with (is_filled (run ++ c ∷ [])) (letter kind 0 (if is_filled run then s else start) (if is_filled run then max e end else end)) ms
+    ≡ begun_with (is_filled run) (letter kind 0 s e) (letter kind c start end ∷ ms)
+pushed [] kind s e c start end ms = letter_same kind 0 c start end ms
+pushed (x ∷ run) kind s e c start end ms = more kind s e c start end ms
+
+-- what was begun ends before a member of another kind
+pub ended : (is_begun : Bool) (run m : At Member) (ms : List (At Member)) → is_apart (kind_in run.v) (kind_in m.v) ≡ true
+    → begun_with is_begun run [] ++ places_of (m ∷ ms) ≡ begun_with is_begun run (m ∷ ms)
+ended false run m ms apart = refl
+ended true run m ms apart = rw apart refl
+
+-- the same after chunks that are finished
+pub ended_after : (ps : List (ℕ × ℕ)) (is_begun : Bool) (run m : At Member) (ms : List (At Member)) → is_apart (kind_in run.v) (kind_in m.v) ≡ true
+    → (ps ++ begun_with is_begun run []) ++ places_of (m ∷ ms) ≡ ps ++ begun_with is_begun run (m ∷ ms)
+ended_after ps is_begun run m ms apart = append_assoc ps (begun_with is_begun run []) (places_of (m ∷ ms)) ∙ ap (λ (x : List (ℕ × ℕ)). ps ++ x) (ended is_begun run m ms apart)
+
+-- characters of different kinds are apart
+pub apart_kinds : (kind other : Kind) → (kind ≡ other → ⊥) → is_apart (Some kind) (Some other) ≡ true
+apart_kinds Normal Normal differ = absurd (differ refl)
+apart_kinds Normal Verbatim differ = refl
+apart_kinds Verbatim Normal differ = refl
+apart_kinds Verbatim Verbatim differ = absurd (differ refl)
+
+-- characters of one kind at one place are one chunk there
+pub one_place : (kind : Kind) (start end c : ℕ) (cs : List ℕ)
+    → places_of (all_at start end (letters kind (c ∷ cs))) ≡ (start, end) ∷ []
+one_place kind start end c [] = refl
+one_place kind start end c (d ∷ cs) =
+    let h : max end end ≡ end = omega arith in
+    rw (alike kind, one_place kind start end d cs, h) refl

@@ -1,0 +1,102 @@
+-- The names for which fields are refused stand in the text as names of abbreviations.
+use Rattle.std.proofs.Common.{ℕ, zero, suc, Bool, true, false, cond, All, List, [], ◌∷◌, length, get_or, Option, Some, None, Result, Ok, Err}
+use Rattle.std.specs.Prelude.{IfErr, MatchResult}
+use Rattle.std.proofs.lemmas.List.Elements.{All-nil, All-head, All-tail}
+use Rattle.laws.specs.Runs.{AllPassTest}
+use Rattle.laws.specs.Text.{lowered}
+use Rattle.laws.proofs.Throughout.{bind_match}
+use Rattle.biblatex_text.specs.Character.{is_id_continue}
+use Rattle.biblatex_text.specs.Raw.{At, Piece, normal, abbreviation, Field}
+use Rattle.biblatex_text.proofs.Names.{HasName, IsNamed, HasNames}
+use Rattle.biblatex_content.specs.Styled.{Member}
+use Rattle.biblatex_content.specs.Verbatim.{is_verbatim_name}
+use Rattle.biblatex_content.specs.Ordinary.{ordinary}
+use Rattle.biblatex_content.specs.Places.{after_at}
+use Rattle.biblatex_fields.specs.Month.{month}
+use Rattle.biblatex_fields.specs.Abbreviations.{Refusal, unknown, circular, malformed, Glossary, place_of, pieces_at, Sense, spelled, defined, month_or_unknown, sense_of, sense_in, sense}
+use Rattle.biblatex_fields.specs.Fields.{Named, with_field, fields_after, fields_of}
+use Rattle.biblatex_fields.specs.Value.{Reading, placed, text_read, in_order, by_sense, reading, deep, read, members_of, content_of, value_of}
+
+-- a name for which a field is refused has characters of identifiers
+abbrev pub RefusesName : Refusal → Type 0
+RefusesName (unknown name) = AllPassTest is_id_continue name.v
+RefusesName (circular name) = AllPassTest is_id_continue name.v
+RefusesName (malformed start end) = Unit {0}
+
+-- a step refuses nothing else
+abbrev pub RefusesNames : {A : Type 0} → Result A Refusal → Type 0
+RefusesNames r = IfErr r RefusesName
+
+-- what a piece stands for has names
+abbrev SenseNamed : Sense → Type 0
+SenseNamed (spelled cs) = Unit {0}
+SenseNamed (defined ps) = All IsNamed ps
+
+abbrev Whatever : {A : Type 0} → A → Type 0
+Whatever x = Unit {0}
+
+pieces_at-named : (ds : List Field) (place : ℕ) → All HasNames ds → All IsNamed (pieces_at ds place)
+pieces_at-named [] place all = All-nil IsNamed
+pieces_at-named (d ∷ ds) zero all = All-head HasNames d ds all
+pieces_at-named (d ∷ ds) (suc place) all = pieces_at-named ds place (All-tail HasNames d ds all)
+
+month-named : (name : At (List ℕ)) (o : Option (List ℕ)) → AllPassTest is_id_continue name.v → MatchResult (month_or_unknown name o) SenseNamed RefusesName
+month-named name None is = is
+month-named name (Some text) is = tt
+
+sense_of-named : (g : Glossary) (name : At (List ℕ)) (o : Option ℕ) → All HasNames g.definitions → AllPassTest is_id_continue name.v → MatchResult (sense_of g name o) SenseNamed RefusesName
+sense_of-named g name None all is = month-named name (month (lowered name.v)) is
+sense_of-named g name (Some place) all is = by_flag (get_or g.flags place false)
+  where
+    by_flag : (b : Bool) → MatchResult (cond b (Err (circular name)) (Ok (defined (pieces_at g.definitions place)))) SenseNamed RefusesName
+    by_flag true = is
+    by_flag false = pieces_at-named g.definitions place all
+
+sense_in-named : (g : Glossary) (start end : ℕ) (p : Piece) → All HasNames g.definitions → HasName p → MatchResult (sense_in g start end p) SenseNamed RefusesName
+sense_in-named g start end (normal cs) all is = tt
+sense_in-named g start end (abbreviation name) all is = sense_of-named g (record { v = name; start = start; end = end }) (place_of (lowered name) g.definitions) all is
+
+placed-named : {F : Type 0} (start end : ℕ) (r : Result (List (At Member)) F) → RefusesNames (placed start end r)
+placed-named start end (Ok ms) = tt
+placed-named start end (Err f) = tt
+
+text_read-named : (is_verbatim : Bool) (start end : ℕ) (cs : List ℕ) (done : List (At Member)) → RefusesNames (text_read is_verbatim start end cs done)
+text_read-named true start end cs done = tt
+text_read-named false start end cs done = placed-named start end (after_at start end done (ordinary cs))
+
+abbrev ReadsNamed : (At Piece → Reading) → Type 0
+ReadsNamed inner = (p : At Piece) (done : List (At Member)) → IsNamed p → RefusesNames (inner p done)
+
+in_order-named : (inner : At Piece → Reading) → ReadsNamed inner → (ps : List (At Piece)) (done : List (At Member)) → All IsNamed ps → RefusesNames (in_order inner ps done)
+in_order-named inner named [] done all = tt
+in_order-named inner named (p ∷ ps) done all =
+    bind_match Whatever Whatever RefusesName (inner p done) (λ ms. in_order inner ps ms) (named p done (All-head IsNamed p ps all)) (λ ms _. in_order-named inner named ps ms (All-tail IsNamed p ps all))
+
+by_sense-named : (inner : At Piece → Reading) → ReadsNamed inner → (is_verbatim : Bool) (start end : ℕ) (s : Sense) (done : List (At Member)) → SenseNamed s → RefusesNames (by_sense inner is_verbatim start end s done)
+by_sense-named inner named is_verbatim start end (spelled cs) done is = text_read-named is_verbatim start end cs done
+by_sense-named inner named is_verbatim start end (defined ps) done is = in_order-named inner named ps done is
+
+deep-named : (g : Glossary) (is_verbatim : Bool) → All HasNames g.definitions → (n : ℕ) → ReadsNamed (deep (reading g is_verbatim) (λ ms. Ok ms) n)
+deep-named g is_verbatim all zero p done is = tt
+deep-named g is_verbatim all (suc n) p done is =
+    bind_match SenseNamed Whatever RefusesName (sense g p) (λ s. by_sense (λ q. deep (reading g is_verbatim) (λ ms. Ok ms) n q) is_verbatim p.start p.end s done) (sense_in-named g p.start p.end p.v all is)
+    (λ s named. by_sense-named (λ q. deep (reading g is_verbatim) (λ ms. Ok ms) n q) (λ q ms. deep-named g is_verbatim all n q ms) is_verbatim p.start p.end s done named)
+
+read-named : (g : Glossary) (is_verbatim : Bool) → All HasNames g.definitions → ReadsNamed (read g is_verbatim)
+unfolding read
+read-named g is_verbatim all p done is = deep-named g is_verbatim all (suc (length g.definitions)) p done is
+
+value_of-named : (g : Glossary) (f : Field) → All HasNames g.definitions → HasNames f → RefusesNames (value_of g f)
+unfolding content_of
+value_of-named g f all named =
+    bind_match Whatever Whatever RefusesName (members_of g f.name.v f.value.v) _ (in_order-named (read g (is_verbatim_name (lowered f.name.v))) (read-named g (is_verbatim_name (lowered f.name.v)) all) f.value.v [] named) (λ ms _. tt)
+
+fields_after-named : (g : Glossary) (done : List Named) (fs : List Field) → All HasNames g.definitions → All HasNames fs → RefusesNames (fields_after g done fs)
+fields_after-named g done [] all named = tt
+fields_after-named g done (f ∷ fs) all named =
+    bind_match Whatever Whatever RefusesName (value_of g f) (λ value. fields_after g (with_field done (lowered f.name.v) value) fs) (value_of-named g f all (All-head HasNames f fs named))
+    (λ value _. fields_after-named g (with_field done (lowered f.name.v) value) fs all (All-tail HasNames f fs named))
+
+-- the fields of an entry
+pub fields_of-named : (g : Glossary) (fs : List Field) → All HasNames g.definitions → All HasNames fs → RefusesNames (fields_of g fs)
+fields_of-named g fs all named = fields_after-named g [] fs all named

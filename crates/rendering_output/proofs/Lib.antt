@@ -1,0 +1,3 @@
+pub mod WritingCalls
+pub mod WritingDeclared
+pub mod WritingTags

@@ -1,0 +1,6 @@
+//! How what is printed is written, in plain text and in HTML: texts that look so, links, formulas, and where elements begin and end.
+#![tactic(auto)]
+
+mod writing;
+
+pub use writing::BufWriteFormat;

@@ -1,0 +1,9 @@
+pub mod OpeningDeeper
+pub mod OpeningPlaces
+pub mod LevelsFit
+pub mod OpeningCalls
+pub mod TablesHeights
+pub mod OpeningAnswers
+pub mod ViewsSteps
+pub mod TablesBinding
+pub mod TablesParts

@@ -1,0 +1,29 @@
+-- A table from names to places in which one more name means a place.
+use Rattle.std.proofs.Common.{◌≡◌, ℕ, Bool, true, false, cond, List, Option, Some, None, string_bytes, refl, sym, ap, ◌∙◌}
+use Rattle.std.specs.Global.{Global}
+use Rattle.std.specs.Prelude.{String}
+use Rattle.std.specs.Option.{is_some, option_or}
+use Rattle.std.specs.Str.{bytes_eq}
+use Rattle.std.specs.String.{string_eq}
+use Rattle.std.specs.HashMap.{HashMap, get_by_text, Updates}
+use Rattle.std.proofs.lemmas.Slice.Eq.{bytes_eq-Decides}
+use Rattle.std.proofs.lemmas.Map.Text.{hash_map_updates_text}
+
+-- or else nothing
+or_nothing : (o : Option ℕ) → o ≡ option_or o None
+or_nothing None = refl
+or_nothing (Some n) = refl
+
+nothing : (o : Option ℕ) → is_some o ≡ false → o ≡ None
+nothing None e = refl
+nothing (Some n) e = cc
+
+-- a name that meant nothing means a place
+pub bound : {S : Type 0} (old new : HashMap (String Global) ℕ S) (key : String Global) (name : List ℕ) (place : ℕ) → string_bytes key ≡ name → is_some (get_by_text old name) ≡ false → Updates string_eq old new key (Some place)
+    → (q : List ℕ) → get_by_text new q ≡ option_or (get_by_text old q) (cond (bytes_eq name q) (Some place) None)
+bound old new key name place is none told q =
+    hash_map_updates_text (string_bytes key) old new (Some place) told q ∙ (ap (λ (k : List ℕ). cond (bytes_eq k q) (Some place) (get_by_text old q)) is ∙ by_test (bytes_eq name q) refl)
+  where
+    by_test : (b : Bool) → bytes_eq name q ≡ b → cond b (Some place) (get_by_text old q) ≡ option_or (get_by_text old q) (cond b (Some place) None)
+    by_test true e = ap (λ (o : Option ℕ). option_or o (Some place)) (sym (ap (get_by_text old) (sym ((bytes_eq-Decides name q).0 e)) ∙ nothing (get_by_text old name) none))
+    by_test false e = or_nothing (get_by_text old q)

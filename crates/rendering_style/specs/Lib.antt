@@ -1,0 +1,9 @@
+pub mod Options
+pub mod Nodes
+pub mod Styles
+pub mod Opening
+pub mod Levels
+pub mod Views
+pub mod Tables
+pub mod Errors
+pub mod StyleViews

@@ -1,0 +1,62 @@
+-- Styles.
+use Rattle.std.specs.Prelude.{ℕ, Bool, List, Option, ℤ}
+use Rattle.rendering_taxonomy.specs.Formats.{Changes}
+use Rattle.rendering_locale.specs.Locales.{Locale}
+use Rattle.rendering_style.specs.Options.{NameOptions}
+use Rattle.rendering_style.specs.Nodes.{Node}
+use Rattle.rendering_taxonomy.specs.declared.style.StyleClass.{StyleClass}
+use Rattle.rendering_taxonomy.specs.declared.style.StyleCategory.{StyleCategory}
+use Rattle.rendering_taxonomy.specs.declared.style.Collapse.{Collapse}
+use Rattle.rendering_taxonomy.specs.declared.style.DisambiguationRule.{DisambiguationRule}
+use Rattle.rendering_taxonomy.specs.declared.style.SubsequentAuthorSubstituteRule.{SubsequentAuthorSubstituteRule}
+use Rattle.rendering_taxonomy.specs.declared.style.SecondFieldAlign.{SecondFieldAlign}
+
+-- Nodes with how they look and what stands round them. What stands round them may be left open, which is not to be empty; the
+-- delimiter stands between cites.
+pub record Layout : Type 0 where
+  pub nodes : List Node
+  pub formatting : Changes
+  pub prefix : Option (List ℕ)
+  pub suffix : Option (List ℕ)
+  pub delimiter : Option (List ℕ)
+
+-- nodes under a name
+pub record Macro : Type 0 where
+  pub name : List ℕ
+  pub nodes : List Node
+
+-- how cites are printed, told apart, gathered and collapsed
+pub record Citation : Type 0 where
+  pub layout : Layout
+  pub name_options : NameOptions
+  pub add_names : Bool
+  pub add_givenname : Bool
+  pub givenname_rule : DisambiguationRule
+  pub add_year_suffix : Bool
+  pub collapse : Option Collapse
+  pub cite_group_delimiter : Option (List ℕ)
+  pub after_collapse_delimiter : Option (List ℕ)
+  pub year_suffix_delimiter : Option (List ℕ)
+  pub near_note_distance : ℕ
+
+-- how the items of a bibliography are printed
+pub record Bibliography : Type 0 where
+  pub layout : Layout
+  pub name_options : NameOptions
+  pub hanging_indent : Bool
+  pub second_field_align : Option SecondFieldAlign
+  pub line_spacing : ℤ
+  pub entry_spacing : ℤ
+  pub substitute : Option (List ℕ)
+  pub substitute_rule : SubsequentAuthorSubstituteRule
+
+-- a style, or the parts that one is to be made of
+pub record Style : Type 0 where
+  pub class : StyleClass
+  pub categories : List StyleCategory
+  pub default_locale : Option (List ℕ)
+  pub name_options : NameOptions
+  pub locales : List Locale
+  pub macros : List Macro
+  pub citation : Citation
+  pub bibliography : Option Bibliography

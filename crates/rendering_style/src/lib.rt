@@ -1,0 +1,21 @@
+//! Styles: the nodes that say what is printed, and the parts that they stand in.
+#![tactic(auto)]
+
+mod calls;
+mod error;
+mod levels;
+mod node;
+mod opening;
+mod options;
+mod parts;
+mod style;
+
+pub use error::StyleError;
+pub use node::{
+    ChooseBranch, ChooseTest, Condition, Date, EtAl, Group, Label, LabelLook, Look, Name, Names,
+    Node, Number, Text, TextLook, TextTarget,
+};
+pub use opening::opening_deeper_changes_nothing;
+pub use options::NameOptions;
+pub use parts::{Bibliography, Citation, Layout, Macro, StyleParts};
+pub use style::Style;

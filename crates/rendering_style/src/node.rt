@@ -1,0 +1,177 @@
+//! The nodes of a style: what is printed, one after the other.
+
+use crate::options::NameOptions;
+use rendering_locale::DatePart;
+use rendering_taxonomy::{
+    ChooseMatch, DateForm, DateParts, DateVariable, Display, EtAlTerm, FormattingChanges, Kind,
+    LabelPluralize, Locator, LongShortForm, NameVariable, NumberForm, Term, TermForm, TestPosition,
+    Variable,
+};
+
+/// How a node looks, what stands before and after what it prints, and where it stands.
+#[derive(Debug, PartialEq, Eq, Drop)]
+pub struct Look {
+    pub formatting: FormattingChanges,
+    pub prefix: String,
+    pub suffix: String,
+    pub display: Option<Display>,
+}
+
+/// How a text node looks.
+#[derive(Debug, PartialEq, Eq, Drop)]
+pub struct TextLook {
+    pub look: Look,
+    /// Whether what it prints stands in quotes.
+    pub quotes: bool,
+    /// Whether its full stops are left out.
+    pub strip_periods: bool,
+}
+
+/// What a text node prints.
+#[derive(Debug, PartialEq, Eq, Drop)]
+pub enum TextTarget {
+    /// The answer to a variable.
+    Variable(Variable, LongShortForm),
+    /// The nodes of the first macro of that name; nothing where there is none.
+    Macro(String),
+    /// A term in a form, for more than one or not.
+    Term(Term, TermForm, bool),
+    /// This text.
+    Value(String),
+}
+
+/// A text.
+#[derive(Debug, PartialEq, Eq, Drop)]
+pub struct Text {
+    pub target: TextTarget,
+    pub look: TextLook,
+}
+
+/// The answer to a number or page variable.
+#[derive(Debug, PartialEq, Eq, Drop)]
+pub struct Number {
+    pub variable: Variable,
+    pub form: NumberForm,
+    pub look: Look,
+}
+
+/// How a label looks.
+#[derive(Debug, PartialEq, Eq, Drop)]
+pub struct LabelLook {
+    pub form: TermForm,
+    /// When it stands in the plural.
+    pub plural: LabelPluralize,
+    /// Whether its full stops are left out.
+    pub strip_periods: bool,
+    pub look: Look,
+}
+
+/// The term of a variable.
+#[derive(Debug, PartialEq, Eq, Drop)]
+pub struct Label {
+    pub variable: Variable,
+    pub label: LabelLook,
+}
+
+/// The answer to a date variable.
+#[derive(Debug, PartialEq, Eq, Drop)]
+pub struct Date {
+    pub variable: DateVariable,
+    /// The form of the locale's dates in which it is printed.
+    pub form: Option<DateForm>,
+    /// How much of it is printed in that form.
+    pub parts: DateParts,
+    /// The parts that are printed in place of the locale's, where there are any.
+    pub own_parts: Vec<DatePart>,
+    /// The text between its parts.
+    pub delimiter: Option<String>,
+    pub look: Look,
+}
+
+/// What is said of single names.
+#[derive(Debug, PartialEq, Eq, Drop)]
+pub struct Name {
+    pub options: NameOptions,
+    pub formatting: FormattingChanges,
+    pub prefix: String,
+    pub suffix: String,
+}
+
+/// The term for the names left out.
+#[derive(Debug, PartialEq, Eq, Drop)]
+pub struct EtAl {
+    pub term: EtAlTerm,
+    pub formatting: FormattingChanges,
+}
+
+/// The people of variables.
+#[derive(Debug, PartialEq, Eq, Drop)]
+pub struct Names {
+    pub variables: Vec<NameVariable>,
+    pub name: Option<Name>,
+    pub et_al: Option<EtAl>,
+    pub label: Option<LabelLook>,
+    /// Whether the label stands before the names.
+    pub label_is_first: bool,
+    /// The text between the people of two variables.
+    pub delimiter: Option<String>,
+    pub look: Look,
+}
+
+/// A group of nodes.
+#[derive(Debug, PartialEq, Eq, Drop)]
+pub struct Group {
+    /// The text between what its children print.
+    pub delimiter: Option<String>,
+    pub look: Look,
+}
+
+/// What may be asked in a choose.
+#[derive(Clone, Copy, Debug, PartialEq, Eq)]
+pub enum ChooseTest {
+    /// Whether the entry is of a kind.
+    Type(Kind),
+    /// Whether the variable has an answer.
+    Variable(Variable),
+    /// Whether its answer is a number.
+    IsNumeric(Variable),
+    /// Whether its answer is an uncertain date.
+    IsUncertainDate(DateVariable),
+    /// Whether the locator has this label.
+    Locator(Locator),
+    /// Whether the cite stands there.
+    Position(TestPosition),
+    /// Whether the cite is like another's.
+    Disambiguate,
+}
+
+/// Tests, and how many of them have to hold.
+#[derive(Debug, PartialEq, Eq, Drop)]
+pub struct Condition {
+    pub required: ChooseMatch,
+    pub tests: Vec<ChooseTest>,
+}
+
+/// A node. Comparing, dropping and `Debug` recurse as deep as nodes are nested.
+#[cycle(node)]
+#[derive(Debug, PartialEq, Eq, Drop)]
+pub enum Node {
+    Text(Text),
+    Number(Number),
+    Label(Label),
+    Date(Date),
+    /// Names, and the nodes of which the first that prints anything stands in where there are no names.
+    Names(Names, Vec<Node>),
+    /// The first branch whose condition is met, or else the last nodes.
+    Choose(Vec<ChooseBranch>, Vec<Node>),
+    /// A group, and its children.
+    Group(Group, Vec<Node>),
+}
+
+/// Nodes that stand where a condition is met.
+#[cycle(node)]
+#[derive(Debug, PartialEq, Eq, Drop)]
+pub struct ChooseBranch {
+    pub condition: Condition,
+    pub children: Vec<Node>,
+}

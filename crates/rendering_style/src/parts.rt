@@ -1,0 +1,77 @@
+//! The parts of a style.
+
+use crate::node::Node;
+use crate::options::NameOptions;
+use rendering_locale::{Locale, LocaleCode};
+use rendering_taxonomy::{
+    Collapse, DisambiguationRule, FormattingChanges, SecondFieldAlign, StyleCategory, StyleClass,
+    SubsequentAuthorSubstituteRule,
+};
+use std::num::NonZeroI16;
+
+/// Nodes, how they look and what stands round them. What is left open is not what is empty.
+#[derive(Debug, PartialEq, Eq, Drop)]
+pub struct Layout {
+    pub nodes: Vec<Node>,
+    pub formatting: FormattingChanges,
+    pub prefix: Option<String>,
+    pub suffix: Option<String>,
+    /// The text between cites.
+    pub delimiter: Option<String>,
+}
+
+/// Nodes under a name. Of equal names the first counts.
+#[derive(Debug, PartialEq, Eq, Drop)]
+pub struct Macro {
+    pub name: String,
+    pub nodes: Vec<Node>,
+}
+
+/// How cites are printed, told apart, gathered and collapsed.
+#[derive(Debug, PartialEq, Eq, Drop)]
+pub struct Citation {
+    pub layout: Layout,
+    pub name_options: NameOptions,
+    /// Whether names, given names by the rule and suffixes of years tell like cites apart.
+    pub add_names: bool,
+    pub add_givenname: bool,
+    pub givenname_rule: DisambiguationRule,
+    pub add_year_suffix: bool,
+    pub collapse: Option<Collapse>,
+    /// The text between the cites of a group, after a collapsed group, and between suffixes of years.
+    pub cite_group_delimiter: Option<String>,
+    pub after_collapse_delimiter: Option<String>,
+    pub year_suffix_delimiter: Option<String>,
+    /// Up to how many notes back a note is near.
+    pub near_note_distance: u32,
+}
+
+/// How the items of a bibliography are printed.
+#[derive(Debug, PartialEq, Eq, Drop)]
+pub struct Bibliography {
+    pub layout: Layout,
+    pub name_options: NameOptions,
+    pub hanging_indent: bool,
+    pub second_field_align: Option<SecondFieldAlign>,
+    /// The space between lines, in lines.
+    pub line_spacing: NonZeroI16,
+    /// The space between items, in lines.
+    pub entry_spacing: i16,
+    /// What stands for names that are those of the item before, and by which rule.
+    pub subsequent_author_substitute: Option<String>,
+    pub subsequent_author_substitute_rule: SubsequentAuthorSubstituteRule,
+}
+
+/// What a style is made of.
+#[derive(Debug, PartialEq, Eq, Drop)]
+pub struct StyleParts {
+    pub class: StyleClass,
+    pub categories: Vec<StyleCategory>,
+    pub default_locale: Option<LocaleCode>,
+    pub name_options: NameOptions,
+    /// The style's own locales.
+    pub locales: Vec<Locale>,
+    pub macros: Vec<Macro>,
+    pub citation: Citation,
+    pub bibliography: Option<Bibliography>,
+}
