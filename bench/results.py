@@ -43,11 +43,21 @@ def read():
         return json.load(file)
 
 
+def said_by_git(*words):
+    """What git says of this repository."""
+    return subprocess.run(["git", *words], cwd=TOP, check=True, capture_output=True, text=True).stdout.strip()
+
+
+def commit():
+    """The commit of the crates that are measured, with a mark where they differ from it."""
+    is_changed = said_by_git("status", "--porcelain", "--", "crates", "crates.txt")
+    return said_by_git("rev-parse", "--short=7", "HEAD") + ("-dirty" if is_changed else "")
+
+
 def record(name, found):
     """Writes down what a script found, with the day and the commit, and writes the pages anew."""
-    commit = subprocess.run(["git", "describe", "--always", "--dirty", "--abbrev=7"], cwd=TOP, check=True, capture_output=True, text=True)
     everything = read()
-    everything[name] = {"date": datetime.date.today().isoformat(), "commit": commit.stdout.strip(), **found}
+    everything[name] = {"date": datetime.date.today().isoformat(), "commit": commit(), **found}
     with open(RESULTS, "w", encoding="utf-8") as file:
         json.dump(everything, file, indent=1, sort_keys=True)
         file.write("\n")

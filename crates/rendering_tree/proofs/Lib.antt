@@ -1,0 +1,9 @@
+pub mod TreesReading
+pub mod LawsNormal
+pub mod TreesFinding
+pub mod SameDecided
+pub mod ViewsLevels
+pub mod SimplifySteps
+pub mod ViewsEquality
+pub mod WritingTaken
+pub mod WritingNested
