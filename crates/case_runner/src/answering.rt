@@ -28,6 +28,7 @@ fn answer(alloc: Global, case: &Value<'_>, out: &mut Writer) -> Result<(), Refus
         || cases_values::answer(alloc, kind, case, out)?
         || cases_entries::answer(alloc, kind, case, out)?
         || cases_literature::answer(alloc, kind, case, out)?
+        || cases_rendering::answer(alloc, kind, case, out)?
         || cases_cite::answer(alloc, kind, case, out)?;
     if is_answered {
         return Ok(());

@@ -1,33 +1,75 @@
 //! Dates, as JSON. Months and days count from zero.
 
-use crate::case_value::CaseValue;
+use crate::case_value::{CaseValue, maybe_given, put_maybe};
 use cases::{
     Refusal, Value, Writer, is_set, maybe_byte, only, put_bool, put_maybe_byte, put_number,
     small_number,
 };
-use literature::Date;
+use literature::{Date, DateEnd};
 use std::alloc::{AllocError, Global};
 
-/// A date; what is left out of month and day is not there.
+/// A date; what is left out of month, day and end is not there.
 impl CaseValue for Date {
     fn given(alloc: Global, value: &Value<'_>) -> Result<Date, Refusal> {
-        only(alloc, value, &["year", "month", "day", "approximate"])?;
+        only(
+            alloc,
+            value,
+            &["year", "month", "day", "end", "approximate"],
+        )?;
         Ok(Date {
             year: small_number(value, "year")?,
             month: maybe_byte(value, "month")?,
             day: maybe_byte(value, "day")?,
+            end: maybe_given(alloc, value, "end")?,
             approximate: is_set(value, "approximate")?,
         })
     }
 
     fn put(&self, out: &mut Writer) -> Result<(), AllocError> {
         out.begin_object()?;
-        put_number(out, "year", i64::from(self.year))?;
-        put_maybe_byte(out, "month", self.month)?;
-        put_maybe_byte(out, "day", self.day)?;
+        put_side(self.year, self.month, self.day, out)?;
+        put_maybe(out, "end", self.end.as_ref())?;
         if self.approximate {
             put_bool(out, "approximate", true)?;
         }
         out.end_object()
     }
+}
+
+/// What a range ends with: a date, or `"open"`.
+impl CaseValue for DateEnd {
+    fn given(alloc: Global, value: &Value<'_>) -> Result<DateEnd, Refusal> {
+        if value.as_str() == Some("open") {
+            return Ok(DateEnd::Open);
+        }
+        only(alloc, value, &["year", "month", "day"])?;
+        Ok(DateEnd::On {
+            year: small_number(value, "year")?,
+            month: maybe_byte(value, "month")?,
+            day: maybe_byte(value, "day")?,
+        })
+    }
+
+    fn put(&self, out: &mut Writer) -> Result<(), AllocError> {
+        match self {
+            DateEnd::Open => out.string("open"),
+            DateEnd::On { year, month, day } => {
+                out.begin_object()?;
+                put_side(*year, *month, *day, out)?;
+                out.end_object()
+            }
+        }
+    }
+}
+
+/// Writes the members of a year, a month and a day.
+fn put_side(
+    year: i32,
+    month: Option<u8>,
+    day: Option<u8>,
+    out: &mut Writer,
+) -> Result<(), AllocError> {
+    put_number(out, "year", i64::from(year))?;
+    put_maybe_byte(out, "month", month)?;
+    put_maybe_byte(out, "day", day)
 }

@@ -1,6 +1,7 @@
 -- The contents of fields as values of a library.
-use Rattle.std.specs.Prelude.{ℕ, List, [], ◌∷◌, ◌++◌, map, ◌||◌, Option, Some, None, Result, Ok, Err, codes}
-use Rattle.std.specs.Option.{option_map}
+use Rattle.std.specs.Prelude.{ℕ, Bool, List, [], ◌∷◌, ◌++◌, map, ◌==◌, ◌&&◌, ◌||◌, if◌then◌else◌, Option, Some, None, Result, Ok, Err, codes}
+use Rattle.std.specs.Option.{option_map, option_eq}
+use Rattle.std.specs.Ordering.{int_eq}
 use Rattle.laws.specs.Text.{text}
 use Rattle.url.specs.Parser.{Parsed, parse_url}
 use Rattle.url.specs.Parts.{Parts, serialize}
@@ -18,6 +19,8 @@ use Rattle.biblatex_people.specs.Reading.{Named as SourceName, people_in}
 use Rattle.literature_numbers.specs.Numerics.{Numeral, numeral_of}
 use Rattle.literature_numbers.specs.Pages.{Part, pages_of}
 use Rattle.literature_values.specs.declared.date.Date.{Date}
+use Rattle.literature_values.specs.declared.date.DateEnd.{DateEnd}
+use Rattle.literature_values.specs.declared.date.DateEnd.TheVariants.{On, Open}
 use Rattle.literature_values.specs.PersonViews.{Named}
 use Rattle.literature_values.specs.TextViews.{Format, Publishing}
 use Rattle.literature_values.specs.OtherViews.{Address}
@@ -103,19 +106,35 @@ publishing_of name location = Some (record { name = option_map format_of name; l
 abbrev pub publisher_of : Values → Option Publishing
 publisher_of v = publishing_of (first_or (v (codes "publisher")) (first_or (v (codes "institution")) (v (codes "organization")))) (v (codes "location"))
 
--- the point of a date that a library keeps: the first of a range, the end of one without a beginning
+-- the point that a date of a library begins with: the first of a range, the end of one without a beginning
 abbrev pub point_of : DateValue → Datetime
 point_of (At d) = d
 point_of (After d) = d
 point_of (Before d) = d
 point_of (Between d e) = d
 
--- a date as a library keeps it: without its time, and approximate where it is uncertain or approximate, in whichever of its sides
+-- whether two points have one year, one month and one day
+abbrev pub is_same_day : Datetime → Datetime → Bool
+is_same_day d e = int_eq d.year e.year && (option_eq ◌==◌ d.month e.month && option_eq ◌==◌ d.day e.day)
+
+-- the last of two points, unless it has the year, the month and the day of the first
+abbrev pub end_between : Datetime → Datetime → Option DateEnd
+end_between d e = if is_same_day d e then None else Some (On e.year e.month e.day)
+
+-- what a date of a library ends with, where it is a range
+abbrev pub end_of : DateValue → Option DateEnd
+end_of (At d) = None
+end_of (After d) = Some Open
+end_of (Before d) = None
+end_of (Between d e) = end_between d e
+
+-- a date as a library has it: without its times, and approximate where it is uncertain or approximate, in whichever of its sides
 abbrev pub library_date : SourceDate → Date
 library_date d = record {
   year = (point_of d.value).year;
   month = (point_of d.value).month;
   day = (point_of d.value).day;
+  end = end_of d.value;
   approximate = d.uncertain || d.approximate;
 }
 
@@ -144,7 +163,7 @@ sure d = Ok d
 abbrev pub own_date : Values → ReadDate
 own_date v = first_or (date_under (codes "date") v) (option_map sure (date_by_parts v))
 
--- the date that a library keeps, where there is one
+-- the date that a library has, where there is one
 abbrev pub date_if_read : ReadDate → Option Date
 date_if_read None = None
 date_if_read (Some (Ok d)) = Some (library_date d)

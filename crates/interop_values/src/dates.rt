@@ -2,12 +2,12 @@
 
 ghost use Rattle.std.specs.Prelude.{◌≡◌, IfOk};
 ghost use Rattle.interop_values.specs.Values.{values};
-ghost use Rattle.interop_values.specs.Readings.{point_of, library_date, date_under, date_by_parts, own_date};
+ghost use Rattle.interop_values.specs.Readings.{point_of, is_same_day, end_between, end_of, library_date, date_under, date_by_parts, own_date};
 
 use crate::values::text;
 use biblatex_dates::{Date as SourceDate, DateValue, Datetime, TypeErrorKind};
 use biblatex_fields::Fields;
-use literature_values::Date;
+use literature_values::{Date, DateEnd};
 use std::alloc::{AllocError, Global};
 use texts::has_text;
 
@@ -52,8 +52,8 @@ fn date_by_parts(alloc: Global, fields: &Fields) -> Result<Option<SourceDate>, A
     Ok(SourceDate::from_parts(year.as_str(), Some(month.as_str()), Some(day.as_str())))
 }
 
-/// A date as a library keeps it: of a range its first side, of one without a beginning its end, without its time; approximate
-/// where it is uncertain or approximate.
+/// A date as a library has it, without its times: of a range both sides, of one without a beginning the end alone;
+/// approximate where one of its sides is uncertain or approximate.
 pub fn library_date(date: SourceDate) -> Date
     ensures { result ≡ library_date date }
 {
@@ -62,11 +62,12 @@ pub fn library_date(date: SourceDate) -> Date
         year: point.year,
         month: point.month,
         day: point.day,
+        end: end_of(date.value),
         approximate: date.uncertain || date.approximate,
     }
 }
 
-/// The point of a date that a library keeps.
+/// The point that a date of a library begins with.
 fn point_of(value: DateValue) -> Datetime
     ensures { result ≡ point_of value }
 {
@@ -74,4 +75,36 @@ fn point_of(value: DateValue) -> Datetime
         DateValue::At(point) | DateValue::After(point) | DateValue::Before(point) => point,
         DateValue::Between(first, _) => first,
     }
+}
+
+/// What a date of a library ends with, where it is a range.
+fn end_of(value: DateValue) -> Option<DateEnd>
+    ensures { result ≡ end_of value }
+{
+    match value {
+        DateValue::At(_) | DateValue::Before(_) => None,
+        DateValue::After(_) => Some(DateEnd::Open),
+        DateValue::Between(first, last) => end_between(first, last),
+    }
+}
+
+/// The last of two points, unless it has the year, the month and the day of the first.
+fn end_between(first: Datetime, last: Datetime) -> Option<DateEnd>
+    ensures { result ≡ end_between first last }
+{
+    if is_same_day(first, last) {
+        return None;
+    }
+    Some(DateEnd::On {
+        year: last.year,
+        month: last.month,
+        day: last.day,
+    })
+}
+
+/// Whether two points have one year, one month and one day.
+fn is_same_day(a: Datetime, b: Datetime) -> bool
+    ensures { result ≡ is_same_day a b }
+{
+    a.year == b.year && a.month == b.month && a.day == b.day
 }

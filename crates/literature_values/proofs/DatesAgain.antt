@@ -1,5 +1,5 @@
--- Dates that were written are read back.
-use Rattle.std.proofs.Common.{◌≡◌, ℕ, ◌+◌, ◌-◌, ◌≤◌, Bool, true, false, List, [], ◌∷◌, ◌++◌, Option, Some, None, Result, Ok, ℤ, refl, ap, ◌∙◌, arith, append_assoc, append-nil, lit<, lit≤}
+-- Sides that were written are read back.
+use Rattle.std.proofs.Common.{◌≡◌, ℕ, ◌+◌, ◌-◌, ◌≤◌, Bool, true, false, List, [], ◌∷◌, ◌++◌, Option, Some, None, Result, Ok, ℤ, refl, sym, ap, ◌∙◌, arith, append_assoc, append-nil, lit<, lit≤}
 use Rattle.std.specs.Prelude.{unsigned_abs}
 use Rattle.std.specs.Int.{is_negative}
 use Rattle.texts.specs.declared.reader.Unreadable.{Unreadable}
@@ -11,8 +11,8 @@ use Rattle.date_parts.specs.Parts.{part_at, signed}
 use Rattle.date_parts.specs.Written.{padded, year_text, counted_text}
 use Rattle.date_parts.proofs.WrittenAgain.{digits_again, part_again, year_sign, signed_again}
 use Rattle.date_parts.proofs.CalendarDays.{few_days, no_season, of_twelve, day_within}
-use Rattle.literature_values.specs.Dates.{time_at, year_at, side_of, month_of, date_of}
-use Rattle.literature_values.specs.DateText.{day_text, month_text, mark_text, date_text, HasMonth, Exists}
+use Rattle.literature_values.specs.Dates.{time_at, year_at, side_of, month_of}
+use Rattle.literature_values.specs.DateText.{day_text, month_text, side_text, mark_text, HasMonth, SideExists}
 use Rattle.texts.specs.declared.character.Class.TheVariants.{Digit}
 use Rattle.literature_values.specs.declared.date.Date.{Date}
 use Rattle.literature_values.specs.declared.date.Side.{Side}
@@ -49,12 +49,12 @@ hyphen_bars : (cs : List ℕ) → Bars (passes Digit) (45 ∷ cs)
 unfolding passes
 hyphen_bars cs = refl
 
--- the month and the day as written, which count from one
-abbrev counted : Option ℕ → Option ℕ
+-- the month or the day as written, which count from one
+abbrev pub counted : Option ℕ → Option ℕ
 counted None = None
 counted (Some n) = Some (n + 1)
 
-abbrev written : ℤ → Option ℕ → Option ℕ → Bool → Side
+abbrev pub written : ℤ → Option ℕ → Option ℕ → Bool → Side
 written y month day b = record { year = y; month = counted month; day = counted day; is_marked = b }
 
 month_again : (y : ℤ) (m : ℕ) (day : Option ℕ) (b : Bool) → HasMonth y (Some m) day → part_at (month_text (Some m) day ++ mark_text b) ≡ Ok (Some (m + 1), day_text day ++ mark_text b)
@@ -89,7 +89,11 @@ side_again y (Some m) (Some d) b small has =
 one_less : (n : ℕ) → n + 1 - 1 ≡ n
 one_less n = omega arith
 
-meant_again : (y : ℤ) (month day : Option ℕ) (b : Bool) → HasMonth y month day → month_of (written y month day b) (counted month) ≡ Ok (record { year = y; month = month; day = day; approximate = b })
+-- the date that a side means
+abbrev pub meant : ℤ → Option ℕ → Option ℕ → Bool → Date
+meant y month day b = record { year = y; month = month; day = day; end = None; approximate = b }
+
+pub meant_again : (y : ℤ) (month day : Option ℕ) (b : Bool) → HasMonth y month day → month_of (written y month day b) (counted month) ≡ Ok (meant y month day b)
 meant_again y None None b has = refl
 meant_again y None (Some d) b has = absurd has
 meant_again y (Some m) None b has =
@@ -105,6 +109,10 @@ meant_again y (Some m) (Some d) b has =
     let less_day = one_less d in
     rw (season, month, day, less, less_day) refl
 
-pub date_again : (d : Date) → Exists d → date_of (side_of (date_text d)) ≡ Ok d
-date_again d exists =
-    ap date_of (side_again d.year d.month d.day d.approximate exists.0 exists.1) ∙ meant_again d.year d.month d.day d.approximate exists.1
+-- a side that was written, with a mark after it or none, is read back
+pub marked_again : (y : ℤ) (month day : Option ℕ) (b : Bool) → SideExists y month day → side_of (side_text y month day ++ mark_text b) ≡ Ok (written y month day b)
+marked_again y month day b exists = ap side_of (append_assoc (year_text y) (month_text month day) (mark_text b)) ∙ side_again y month day b exists.0 exists.1
+
+-- a side that was written by itself is read back
+pub plain_again : (y : ℤ) (month day : Option ℕ) → SideExists y month day → side_of (side_text y month day) ≡ Ok (written y month day false)
+plain_again y month day exists = ap side_of (sym (append-nil (side_text y month day))) ∙ marked_again y month day false exists

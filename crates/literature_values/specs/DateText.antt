@@ -1,8 +1,10 @@
--- How dates are written, and which of them are read back.
-use Rattle.std.specs.Prelude.{ℕ, ◌+◌, ◌<◌, ◌≤◌, Bool, true, false, List, [], ◌∷◌, ◌++◌, Option, Some, None, ℤ, unsigned_abs}
+-- How dates and ranges are written, and which of them are read back.
+use Rattle.std.specs.Prelude.{ℕ, ◌+◌, ◌<◌, ◌≤◌, Bool, true, false, List, [], ◌∷◌, ◌++◌, Option, Some, None, ℤ, unsigned_abs, codes}
 use Rattle.jiff.specs.Words.{days_in_month}
 use Rattle.date_parts.specs.Written.{year_text, counted_text}
 use Rattle.literature_values.specs.declared.date.Date.{Date}
+use Rattle.literature_values.specs.declared.date.DateEnd.{DateEnd}
+use Rattle.literature_values.specs.declared.date.DateEnd.TheVariants.{On, Open}
 
 -- the day, where there is one
 abbrev pub day_text : Option ℕ → List ℕ
@@ -14,14 +16,24 @@ abbrev pub month_text : Option ℕ → Option ℕ → List ℕ
 month_text None day = []
 month_text (Some m) day = counted_text m ++ day_text day
 
+-- the year, the month and the day of a side
+abbrev pub side_text : ℤ → Option ℕ → Option ℕ → List ℕ
+side_text y month day = year_text y ++ month_text month day
+
 -- a tilde, where the date is approximate
 abbrev pub mark_text : Bool → List ℕ
 mark_text false = []
 mark_text true = 126 ∷ []
 
--- the year, the month and the day, and the mark
+-- What stands after the first side. The mark is after the last side that there is.
+abbrev pub end_text : Bool → Option DateEnd → List ℕ
+end_text approximate None = mark_text approximate
+end_text approximate (Some (On y month day)) = codes "/" ++ (side_text y month day ++ mark_text approximate)
+end_text approximate (Some Open) = mark_text approximate ++ codes "/.."
+
+-- the first side, and what stands after it
 abbrev pub date_text : Date → List ℕ
-date_text d = year_text d.year ++ (month_text d.month d.day ++ mark_text d.approximate)
+date_text d = side_text d.year d.month d.day ++ end_text d.approximate d.end
 
 -- the month has the day; months and days count from zero
 abbrev pub HasDay : ℤ → ℕ → Option ℕ → Type 0
@@ -34,6 +46,16 @@ HasMonth y None None = Unit {0}
 HasMonth y None (Some d) = ⊥
 HasMonth y (Some m) day = (m < 12) × HasDay y m day
 
--- a date of the calendar, of a year from -9999 to 9999
+-- a side of the calendar, of a year from -9999 to 9999
+abbrev pub SideExists : ℤ → Option ℕ → Option ℕ → Type 0
+SideExists y month day = (unsigned_abs y ≤ 9999) × HasMonth y month day
+
+-- the same of what a range ends with, if that is a side
+abbrev pub EndExists : Option DateEnd → Type 0
+EndExists None = Unit {0}
+EndExists (Some (On y month day)) = SideExists y month day
+EndExists (Some Open) = Unit {0}
+
+-- each side exists
 abbrev pub Exists : Date → Type 0
-Exists d = (unsigned_abs d.year ≤ 9999) × HasMonth d.year d.month d.day
+Exists d = SideExists d.year d.month d.day × EndExists d.end

@@ -1,4 +1,4 @@
--- Dates: the one that a text spells, which dates exist, and how they are written. Characters are numbers.
+-- Dates that are no ranges: the one that a text spells. Characters are numbers.
 use Rattle.std.specs.Prelude.{ℕ, ◌-◌, Bool, true, false, ◌==◌, ◌||◌, List, [], ◌∷◌, if◌then◌else◌, Option, Some, None, Result, Ok, Err, ℤ}
 use Rattle.std.specs.Int.{is_in_range}
 use Rattle.laws.specs.Results.{◌>>=◌}
@@ -62,11 +62,11 @@ side_of cs = do
 
 -- the year, without month and day
 abbrev pub year_alone : Side → Date
-year_alone s = record { year = s.year; month = None; day = None; approximate = s.is_marked }
+year_alone s = record { year = s.year; month = None; day = None; end = None; approximate = s.is_marked }
 
 -- the month, which counts from one as written and from zero in the value
 abbrev pub in_month : Side → ℕ → Option ℕ → Date
-in_month s m day = record { year = s.year; month = Some (m - 1); day = day; approximate = s.is_marked }
+in_month s m day = record { year = s.year; month = Some (m - 1); day = day; end = None; approximate = s.is_marked }
 
 -- a day, where the month has it
 abbrev pub day_of : Side → ℕ → Option ℕ → Result Date DateError

@@ -4,5 +4,6 @@ pub mod TextViews
 pub mod TypedViews
 pub mod OtherViews
 pub mod Dates
+pub mod DateRanges
 pub mod DateText
 pub mod EntryTypes

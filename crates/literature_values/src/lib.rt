@@ -12,7 +12,7 @@ mod qualified_url;
 mod serial_number;
 mod text;
 
-pub use date::{Date, DateError};
+pub use date::{Date, DateEnd, DateError};
 pub use entry_type::EntryType;
 pub use equal::{
     are_equal_addresses, are_equal_dates, are_equal_numbers, are_equal_people,

@@ -1,0 +1,106 @@
+//! How characters and nodes look.
+
+use crate::members::text_or_empty;
+use crate::words::maybe_word;
+use cases::{Refusal, Value, member, only};
+use rendering_style::Look;
+use rendering_taxonomy::{
+    Display, FontStyle, FontVariant, FontWeight, Formatting, FormattingChanges, TextDecoration,
+    VerticalAlign,
+};
+use std::alloc::Global;
+
+const STYLES: &[(&str, FontStyle)] = &[
+    ("normal", FontStyle::Normal),
+    ("italic", FontStyle::Italic),
+    ("oblique", FontStyle::Oblique),
+];
+
+const VARIANTS: &[(&str, FontVariant)] = &[
+    ("normal", FontVariant::Normal),
+    ("small-caps", FontVariant::SmallCaps),
+];
+
+const WEIGHTS: &[(&str, FontWeight)] = &[
+    ("normal", FontWeight::Normal),
+    ("bold", FontWeight::Bold),
+    ("light", FontWeight::Light),
+];
+
+const DECORATIONS: &[(&str, TextDecoration)] = &[
+    ("none", TextDecoration::None),
+    ("underline", TextDecoration::Underline),
+];
+
+const ALIGNS: &[(&str, VerticalAlign)] = &[
+    ("none", VerticalAlign::None),
+    ("sup", VerticalAlign::Sup),
+    ("sub", VerticalAlign::Sub),
+];
+
+/// Where an element stands.
+pub(crate) const DISPLAYS: &[(&str, Display)] = &[
+    ("block", Display::Block),
+    ("left-margin", Display::LeftMargin),
+    ("right-inline", Display::RightInline),
+    ("indent", Display::Indent),
+];
+
+/// The members of a formatting.
+const MEMBERS: [&str; 5] = [
+    "font_style",
+    "font_variant",
+    "font_weight",
+    "text_decoration",
+    "vertical_align",
+];
+
+/// What an object says of the look of characters.
+fn changes_in(alloc: Global, given: &Value<'_>) -> Result<FormattingChanges, Refusal> {
+    only(alloc, given, &MEMBERS)?;
+    Ok(FormattingChanges {
+        font_style: maybe_word(given, "font_style", STYLES)?,
+        font_variant: maybe_word(given, "font_variant", VARIANTS)?,
+        font_weight: maybe_word(given, "font_weight", WEIGHTS)?,
+        text_decoration: maybe_word(given, "text_decoration", DECORATIONS)?,
+        vertical_align: maybe_word(given, "vertical_align", ALIGNS)?,
+    })
+}
+
+/// What the member `formatting` says of the look of characters; what is left out stays open.
+pub(crate) fn changes(alloc: Global, object: &Value<'_>) -> Result<FormattingChanges, Refusal> {
+    match member(object, "formatting") {
+        Some(given) => changes_in(alloc, given),
+        None => Ok(FormattingChanges::default()),
+    }
+}
+
+/// How characters look of which this is said; what is left open is plain.
+fn settled(changes: FormattingChanges) -> Formatting {
+    Formatting {
+        font_style: changes.font_style.unwrap_or(FontStyle::Normal),
+        font_variant: changes.font_variant.unwrap_or(FontVariant::Normal),
+        font_weight: changes.font_weight.unwrap_or(FontWeight::Normal),
+        text_decoration: changes.text_decoration.unwrap_or(TextDecoration::None),
+        vertical_align: changes.vertical_align.unwrap_or(VerticalAlign::None),
+    }
+}
+
+/// How the member `formatting` says that characters look; what is left out is plain.
+pub(crate) fn formatting(alloc: Global, object: &Value<'_>) -> Result<Formatting, Refusal> {
+    Ok(settled(changes(alloc, object)?))
+}
+
+/// How a node looks.
+pub(crate) fn look(alloc: Global, node: &Value<'_>) -> Result<Look, Refusal> {
+    let formatting = changes(alloc, node)?;
+    let display = maybe_word(node, "display", DISPLAYS)?;
+    let prefix = text_or_empty(alloc, node, "prefix")?;
+    let suffix = text_or_empty(alloc, node, "suffix")?;
+    Ok(Look {
+        formatting,
+        prefix,
+        suffix,
+        display,
+    })
+}

@@ -1,0 +1,141 @@
+//! Numbers as texts.
+
+use crate::leaves::NUMBER_FORMS;
+use crate::locales::maybe_ordinals;
+use crate::words::word_or;
+use cases::{Refusal, Value, Writer, is_set, member, number, only, put_text, small_number, text};
+use cases_values::given;
+use literature::{MaybeTyped, Numeric};
+use rendering_locale::Ordinals;
+use rendering_numbers::{push_number, push_numeral_or_text, push_suffix_letters, push_year};
+use rendering_taxonomy::NumberForm;
+use std::alloc::{AllocError, Global};
+
+/// `write_year`: a year, by the terms for the eras.
+pub(crate) fn answer_year(
+    alloc: Global,
+    case: &Value<'_>,
+    out: &mut Writer,
+) -> Result<(), Refusal> {
+    only(alloc, case, &["case", "name", "year", "short", "ad", "bc"])?;
+    let year = small_number(case, "year")?;
+    let short = is_set(case, "short")?;
+    let written = written_year(alloc, year, short, text(case, "ad")?, text(case, "bc")?)?;
+    Ok(put_text(out, "text", written.as_str())?)
+}
+
+/// What is written of a year.
+fn written_year(
+    alloc: Global,
+    year: i32,
+    short: bool,
+    ad: &str,
+    bc: &str,
+) -> Result<String, AllocError> {
+    let mut written = String::new(alloc);
+    push_year(&mut written, year, short, ad, bc)?;
+    Ok(written)
+}
+
+/// `suffix_letters`: the letters of a place from zero.
+pub(crate) fn answer_letters(
+    alloc: Global,
+    case: &Value<'_>,
+    out: &mut Writer,
+) -> Result<(), Refusal> {
+    only(alloc, case, &["case", "name", "place"])?;
+    let Ok(place) = u16::try_from(number(case, "place")?) else {
+        return Err(Refusal::Wanted("place", "an integer from 0 of 16 bits"));
+    };
+    let written = written_letters(alloc, place)?;
+    Ok(put_text(out, "text", written.as_str())?)
+}
+
+/// The letters of a place.
+fn written_letters(alloc: Global, place: u16) -> Result<String, AllocError> {
+    let mut written = String::new(alloc);
+    push_suffix_letters(&mut written, place)?;
+    Ok(written)
+}
+
+/// What is written of the number of a case in the form.
+fn written_number(
+    alloc: Global,
+    case: &Value<'_>,
+    form: NumberForm,
+    ordinals: &Ordinals,
+) -> Result<String, Refusal> {
+    let mut written = String::new(alloc);
+    push_number(&mut written, ordinals, form, small_number(case, "number")?)?;
+    Ok(written)
+}
+
+/// What is written of the number with letters, or of the text in its place, of a case in the form.
+fn written_numeral(
+    alloc: Global,
+    case: &Value<'_>,
+    form: NumberForm,
+    ordinals: &Ordinals,
+) -> Result<String, Refusal> {
+    let numeral: MaybeTyped<Numeric> = given(alloc, case, "numeral")?;
+    Ok(written_of(alloc, &numeral, form, ordinals)?)
+}
+
+/// What is written of a number with letters, or of the text in its place, in the form.
+fn written_of(
+    alloc: Global,
+    numeral: &MaybeTyped<Numeric>,
+    form: NumberForm,
+    ordinals: &Ordinals,
+) -> Result<String, AllocError> {
+    let mut written = String::new(alloc);
+    push_numeral_or_text(&mut written, ordinals, form, numeral)?;
+    Ok(written)
+}
+
+/// The endings of ordinal numbers that a case gives; without any, numbers have no ending.
+fn ordinals_of(alloc: Global, case: &Value<'_>) -> Result<Ordinals, Refusal> {
+    match maybe_ordinals(alloc, case)? {
+        Some(ordinals) => Ok(ordinals),
+        None => Ok(Ordinals {
+            endings: Vec::new(alloc),
+            default: String::new(alloc),
+        }),
+    }
+}
+
+/// What is written of what a case gives, in the form.
+fn written(alloc: Global, case: &Value<'_>, ordinals: &Ordinals) -> Result<String, Refusal> {
+    let form = word_or(case, "form", NUMBER_FORMS, NumberForm::Numeric)?;
+    if member(case, "numeral").is_some() {
+        return written_numeral(alloc, case, form, ordinals);
+    }
+    written_number(alloc, case, form, ordinals)
+}
+
+/// Writes what is written by these endings.
+fn put_written(
+    alloc: Global,
+    case: &Value<'_>,
+    ordinals: &Ordinals,
+    out: &mut Writer,
+) -> Result<(), Refusal> {
+    let written = written(alloc, case, ordinals)?;
+    put_text(out, "text", written.as_str())?;
+    Ok(())
+}
+
+/// `write_number`: a number, or one with letters, or the text in its place, in a form.
+pub(crate) fn answer_number(
+    alloc: Global,
+    case: &Value<'_>,
+    out: &mut Writer,
+) -> Result<(), Refusal> {
+    only(
+        alloc,
+        case,
+        &["case", "name", "number", "numeral", "form", "ordinals"],
+    )?;
+    let ordinals = ordinals_of(alloc, case)?;
+    put_written(alloc, case, &ordinals, out)
+}
