@@ -15,7 +15,7 @@ impl Entry {
     /// none where there is no answer.
     ///
     /// # Errors
-    /// Want of memory.
+    /// Out of memory.
     pub fn map<'a, T, F: FnMut(&'a Entry) -> Option<T>>(
         &'a self,
         mut f: F,
@@ -32,7 +32,7 @@ impl Entry {
     /// The same of the entry's ancestors alone.
     ///
     /// # Errors
-    /// Want of memory.
+    /// Out of memory.
     pub fn map_parents<'a, T, F: FnMut(&'a Entry) -> Option<T>>(
         &'a self,
         mut f: F,
@@ -57,7 +57,7 @@ impl Entry {
     /// The date of the entry, or the first of its ancestors by depth and then by path.
     ///
     /// # Errors
-    /// Want of memory.
+    /// Out of memory.
     pub fn date_any(&self) -> Result<Option<&Date>, AllocError>
         ensures { IfOk result (λ d. seen_in (λ d. d) d ≡ first_of (λ e. (fields e).date) (self.now ∷ ancestors self.now)) }
     {
@@ -67,7 +67,7 @@ impl Entry {
     /// The address of the entry, or the first of its ancestors by depth and then by path.
     ///
     /// # Errors
-    /// Want of memory.
+    /// Out of memory.
     pub fn url_any(&self) -> Result<Option<&QualifiedUrl>, AllocError>
         ensures { IfOk result (λ u. seen_in address u ≡ first_of (λ e. (fields e).url) (self.now ∷ ancestors self.now)) }
     {

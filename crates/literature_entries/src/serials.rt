@@ -13,7 +13,7 @@ use std::collections::BTreeMap;
 /// Each getter returns the number, or none where it is not set. Each setter changes that number alone.
 ///
 /// # Errors
-/// Want of memory, where the entry is as it was.
+/// Out of memory, where the entry is as it was.
 impl Entry {
     /// The number under the name of a scheme, as `serial`.
     pub fn keyed_serial_number(&self, key: &str) -> Option<&str>

@@ -18,7 +18,7 @@ pub trait BoundSelect {
     /// The entry that the selector binds to the name where it holds here, else none.
     ///
     /// # Errors
-    /// Want of memory.
+    /// Out of memory.
     fn bound_select(
         &self,
         alloc: Global,

@@ -56,7 +56,7 @@ impl Selector {
     /// that are bound the last one of the text counts.
     ///
     /// # Errors
-    /// Want of memory.
+    /// Out of memory.
     #[tactic(auto, using(crate::proofs::BindingsNames::last_is_found))]
     pub fn apply<'e>(
         &self,
@@ -80,7 +80,7 @@ impl Selector {
     /// The entry that is bound to the name, where the selector holds at the entry.
     ///
     /// # Errors
-    /// Want of memory.
+    /// Out of memory.
     pub fn bound<'e>(
         &self,
         alloc: Global,

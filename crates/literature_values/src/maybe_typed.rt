@@ -34,7 +34,7 @@ impl MaybeTyped<Numeric> {
     /// Reads numbers as `Numeric::read` does, and keeps a text that spells none.
     ///
     /// # Errors
-    /// Want of memory alone.
+    /// Out of memory alone.
     pub fn read(alloc: Global, text: &str) -> Result<MaybeTyped<Numeric>, AllocError>
         ensures { IfOk result (λ m. KeepsNumeric m text.now (numeral_of (chars text.now))) }
     {
@@ -50,7 +50,7 @@ impl MaybeTyped<PageRanges> {
     /// Reads page ranges as `PageRanges::read` does, and keeps a text that spells none.
     ///
     /// # Errors
-    /// Want of memory alone.
+    /// Out of memory alone.
     pub fn read(alloc: Global, text: &str) -> Result<MaybeTyped<PageRanges>, AllocError>
         ensures { IfOk result (λ m. KeepsPages m text.now (pages_of (chars text.now))) }
     {

@@ -16,7 +16,7 @@ use texts::{push_character, push_text};
 /// first character is no letter.
 ///
 /// # Errors
-/// Want of memory alone.
+/// Out of memory alone.
 pub fn push_suffix_letters(out: &mut String, place: u16) -> Result<(), AllocError>
     ensures { OnOk result (characters out.new ≡ characters out.old ++ suffix_letters place) }
 {
@@ -41,7 +41,7 @@ fn letter(place: u16) -> char
 /// title; and the last two digits of the year.
 ///
 /// # Errors
-/// Want of memory alone.
+/// Out of memory alone.
 pub fn push_citation_label(
     out: &mut String,
     letters: usize,

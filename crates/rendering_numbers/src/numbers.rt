@@ -23,7 +23,7 @@ use texts::{push_character, push_text};
 /// Appends a number, or the text that stands in its place.
 ///
 /// # Errors
-/// Want of memory alone.
+/// Out of memory alone.
 pub fn push_numeral_or_text(
     out: &mut String,
     ordinals: &Ordinals,
@@ -41,7 +41,7 @@ pub fn push_numeral_or_text(
 /// Appends a numeral: the letters before, the value, the letters after.
 ///
 /// # Errors
-/// Want of memory alone.
+/// Out of memory alone.
 pub fn push_numeral(
     out: &mut String,
     ordinals: &Ordinals,
@@ -68,7 +68,7 @@ fn push_affix(out: &mut String, letters: &Option<String>) -> Result<(), AllocErr
 /// Appends one number, or each of a set in the form, with the separator after it.
 ///
 /// # Errors
-/// Want of memory alone.
+/// Out of memory alone.
 pub fn push_value(
     out: &mut String,
     ordinals: &Ordinals,
@@ -124,7 +124,7 @@ fn push_separator(out: &mut String, delimiter: Option<NumericDelimiter>) -> Resu
 /// Appends a number in a form.
 ///
 /// # Errors
-/// Want of memory alone.
+/// Out of memory alone.
 pub fn push_number(
     out: &mut String,
     ordinals: &Ordinals,
@@ -143,7 +143,7 @@ pub fn push_number(
 /// Appends a number in digits, with its ending.
 ///
 /// # Errors
-/// Want of memory alone.
+/// Out of memory alone.
 pub fn push_ordinal(out: &mut String, ordinals: &Ordinals, number: i32) -> Result<(), AllocError>
     ensures { OnOk result (characters out.new ≡ characters out.old ++ ordinal_text (ordinals_seen ordinals.now) number) }
 {
@@ -189,7 +189,7 @@ fn ending_of(ordinals: &Ordinals, number: u32) -> Option<&str>
 /// Appends a number from 1 to 3999 in Roman letters, another one in digits.
 ///
 /// # Errors
-/// Want of memory alone.
+/// Out of memory alone.
 pub fn push_roman(out: &mut String, number: i32) -> Result<(), AllocError>
     ensures { OnOk result (characters out.new ≡ characters out.old ++ roman_or_digits number) }
 {

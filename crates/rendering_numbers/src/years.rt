@@ -13,7 +13,7 @@ use texts::push_text;
 /// The years before 1 are counted back from there, so that the year 0 is the first of them.
 ///
 /// # Errors
-/// Want of memory alone.
+/// Out of memory alone.
 pub fn push_year(
     out: &mut String,
     year: i32,
