@@ -46,7 +46,7 @@ shown_from is_open (Math cs ∷ ms) = turning is_open false ++ (36 ∷ (shown_ch
 
 -- a line for a field: two spaces, its name, an equals sign, its value
 abbrev pub shown_field : Named → List ℕ
-shown_field f = codes "  " ++ (f.0 ++ (codes " = " ++ (shown_from false f.1 ++ 10 ∷ [])))
+shown_field f = codes "  " ++ (f.0 ++ (codes " = " ++ (shown_from false f.1.text ++ 10 ∷ [])))
 
 -- a line for an entry with its type and key, and one for each of its fields
 abbrev pub shown_entry : Source → List ℕ

@@ -1,7 +1,7 @@
 //! How entries are shown.
 
 ghost use Rattle.std.specs.Prelude.{◌≡◌, ◌++◌, IfOk, OnOk, string_bytes, flat_map};
-ghost use Rattle.biblatex.specs.Contents.{styled};
+ghost use Rattle.biblatex.specs.Value.{value_seen};
 ghost use Rattle.biblatex.specs.Fields.{AreInOrder};
 ghost use Rattle.biblatex.specs.Entries.{source};
 ghost use Rattle.bib_show.specs.Shown.{shown, shown_entry, shown_field, AreAllInOrder};
@@ -52,7 +52,7 @@ fn push_fields(out: &mut String, fields: &Fields) -> Result<(), AllocError>
 
 /// Shows one more field.
 fn push_field(out: &mut String, name: &str, value: &Chunks) -> Result<(), AllocError>
-    ensures { OnOk result (string_bytes out.new ≡ string_bytes out.old ++ shown_field (name.now, styled value.now.items)) }
+    ensures { OnOk result (string_bytes out.new ≡ string_bytes out.old ++ shown_field (name.now, value_seen value.now.items)) }
 {
     out.push_str("  ")?;
     out.push_str(name)?;

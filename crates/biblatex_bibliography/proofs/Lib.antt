@@ -4,6 +4,7 @@ pub mod PlacesNames
 pub mod LendingBorrowed
 pub mod ResolvedEntries
 pub mod ReadingLoaded
+pub mod ReadingJoined
 pub mod ResolvedUnique
 pub mod Lines
 pub mod OneLine

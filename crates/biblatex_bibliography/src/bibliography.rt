@@ -10,7 +10,7 @@ ghost use Rattle.biblatex_bibliography.specs.Keys.{keys_left};
 ghost use Rattle.biblatex_bibliography.specs.Resolved.{IsResolved};
 ghost use Rattle.biblatex_bibliography.specs.Lending.{LendsEntry, LendsEntries};
 ghost use Rattle.biblatex_entries.specs.declared.entry.Entry.{Entry};
-ghost use Rattle.biblatex_entries.specs.Entries.{source, sources};
+ghost use Rattle.biblatex_entries.specs.Entries.{source, sources, HaveJoinedFields};
 ghost use Rattle.biblatex_bibliography.specs.Bibliographies.{seen, IsAsRead, nothing, entry_named, pushed, inserted, removed, aliased, references};
 
 use crate::indexed::{key_alone, put_last, replace, take};
@@ -195,6 +195,7 @@ impl Bibliography {
     /// The entries with their references resolved, under the same names, and how many entries were made.
     pub(crate) fn resolved(self, alloc: Global) -> Result<(Bibliography, usize), ResolveError>
         ensures ok { IfOk result (λ r. IsResolved (seen self) (seen r.0)) }
+        ensures joined { IfOk result (λ r. HaveJoinedFields self.entries → HaveJoinedFields r.0.entries) }
         ensures count { IfOk result (λ r. r.1 ≡ length self.entries) }
         ensures err { IfErr result (IsRefusedAs self.entries (references (seen self))) }
     {

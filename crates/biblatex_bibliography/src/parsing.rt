@@ -4,6 +4,7 @@ ghost use Rattle.std.specs.Prelude.{◌≡◌, ◌<◌, map, IfOk, IfSome, Some,
 ghost use Rattle.std.specs.Str.{chars};
 ghost use Rattle.laws.specs.Text.{text as text_of};
 ghost use Rattle.biblatex_text.specs.Views.{part, raw as written};
+ghost use Rattle.biblatex_entries.specs.Entries.{HaveJoinedFields};
 ghost use Rattle.biblatex_bibliography.specs.Reading.{raw, refused_at, reference_cycle, unreadable_date};
 ghost use Rattle.biblatex_bibliography.specs.Resolved.{IsMeaningOf, TextMeans, unresolved_at, number_of};
 ghost use Rattle.laws.specs.Results.{Answers};
@@ -79,7 +80,8 @@ fn unreadable(key: &Spanned<&str>, kind: TypeErrorKind) -> ParseError
 }
 
 impl Bibliography {
-    /// Reads the entries of a text, in its order, and resolves their references.
+    /// Reads the entries of a text, in its order, and resolves their references. Neighbouring chunks of one kind are joined. A chunk stands
+    /// in the source where `Abbreviations::parse_field` says, also where its field is inherited; a date that is inherited is of no source.
     ///
     /// # Errors
     /// `Refused` with the first fault: the first one of the raw grammar from the left; else, entry by entry, that of its fields
@@ -87,7 +89,10 @@ impl Bibliography {
     /// first reference whose date cannot be read of the first entry that needs a date and has one. `Memory` where a request for
     /// memory was refused.
     pub fn parse(alloc: Global, source: &str) -> Result<Bibliography, ParseError>
-        ensures { Answers refusal_of seen result (TextMeans (chars source.now)) }
+        // What the text means: of each field the text, and where its chunks stand.
+        ensures meaning { Answers refusal_of seen result (TextMeans (chars source.now)) }
+        // In each field of each entry no text is empty, and no two neighbours are text of one kind.
+        ensures joined { IfOk result (λ b. HaveJoinedFields b.entries) }
     {
         match RawBibliography::parse(alloc, source) {
             Ok(raw) => Bibliography::from_raw(alloc, raw),
@@ -99,12 +104,13 @@ impl Bibliography {
         }
     }
 
-    /// Reads the entries of a raw text, and resolves their references.
+    /// Reads the entries of a raw text, and resolves their references. Chunks are joined and placed as by `parse`.
     ///
     /// # Errors
     /// As those of `parse`, but for faults of the raw grammar.
     pub fn from_raw(alloc: Global, raw: RawBibliography) -> Result<Bibliography, ParseError>
-        ensures { Answers refusal_of seen result (IsMeaningOf (written raw.entry)) }
+        ensures meaning { Answers refusal_of seen result (IsMeaningOf (written raw.entry)) }
+        ensures joined { IfOk result (λ b. HaveJoinedFields b.entries) }
     {
         Ok(Bibliography::from_raw_counted(alloc, raw)?.bibliography)
     }
@@ -115,6 +121,7 @@ impl Bibliography {
     /// Those of `from_raw`.
     pub fn from_raw_counted(alloc: Global, raw: RawBibliography) -> Result<Counted, ParseError>
         ensures meaning { Answers refusal_of (λ c. seen c.bibliography) result (IsMeaningOf (written raw.entry)) }
+        ensures joined { IfOk result (λ c. HaveJoinedFields c.bibliography.entries) }
         ensures count { IfOk result (λ c. c.count ≡ length raw.entry.entries.items) }
     {
         let RawBibliography {

@@ -4,8 +4,7 @@ ghost use Rattle.std.specs.Prelude.{◌≡◌, Some, IfOk, map, length, string_b
 ghost use Rattle.std.specs.Str.{chars};
 ghost use Rattle.laws.specs.Text.{text as text_of, lowered};
 ghost use Rattle.biblatex_text.specs.Views.{entry, fields, piece, raw_entry};
-ghost use Rattle.biblatex_content.specs.Views.{styled};
-ghost use Rattle.biblatex_fields.specs.Value.{content_of};
+ghost use Rattle.biblatex_fields.specs.Value.{value_seen, value_in};
 ghost use Rattle.biblatex_fields.specs.Fields.{fields_of};
 ghost use Rattle.biblatex_fields.specs.Views.{refusal};
 ghost use Rattle.biblatex_entries.specs.Entries.{source};
@@ -52,7 +51,7 @@ fn refused(alloc: Global, fault: FieldFault) -> Result<ParseError, AllocError>
 }
 
 /// The value of a field of that name, with abbreviations opened: what its pieces give, one after the other, tidied. A verbatim
-/// field reads all of them as verbatim.
+/// field reads all of them as verbatim. Chunks stand where `Abbreviations::parse_field` says.
 ///
 /// # Errors
 /// `Refused` with the first fault in the order of pieces; `Memory` where a request for memory was refused.
@@ -62,7 +61,7 @@ pub fn parse_field<'s>(
     field: &[Spanned<RawChunk<'s>>],
     abbreviations: &Abbreviations<'_, 's>,
 ) -> Result<Chunks, ParseError>
-    ensures { Gives refusal_of (λ v. styled v.items) result (or_refusal (content_of abbreviations.now (chars key.now) (map piece field.now))) }
+    ensures { Gives refusal_of (λ v. value_seen v.items) result (or_refusal (value_in abbreviations.now (chars key.now) (map piece field.now))) }
 {
     match abbreviations.parse_field(alloc, key, field) {
         Ok(value) => Ok(value),

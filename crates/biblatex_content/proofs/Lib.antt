@@ -2,6 +2,7 @@ pub mod StyledMembers
 pub mod OrdinaryShifted
 pub mod OrdinaryPieces
 pub mod PartedNeighbours
+pub mod PartedShapes
 pub mod OrdinaryPlain
 pub mod PlacesForgotten
 pub mod PlacesReached

@@ -1,6 +1,7 @@
 //! Copies of chunks.
 
 ghost use Rattle.std.specs.Prelude.{◌≡◌, IfOk};
+ghost use Rattle.biblatex_content.specs.Parted.{are_parted, is_full, kind_of};
 ghost use Rattle.biblatex_content.specs.Views.{members, spans, styled};
 
 use crate::chunk::{Chunk, Chunks};
@@ -11,6 +12,7 @@ use std::alloc::{AllocError, Global};
 pub fn copied(alloc: Global, chunks: &[Spanned<Chunk>]) -> Result<Chunks, AllocError>
     ensures styled { IfOk result (λ cs. styled cs.items ≡ styled chunks.now) }
     ensures places { IfOk result (λ cs. spans cs.items ≡ spans chunks.now) }
+    ensures parted { IfOk result (λ cs. are_parted cs.items ≡ are_parted chunks.now) }
 {
     let mut copies = Vec::with_capacity(alloc, chunks.len())?;
     for chunk in chunks {
@@ -22,7 +24,9 @@ pub fn copied(alloc: Global, chunks: &[Spanned<Chunk>]) -> Result<Chunks, AllocE
 
 /// The same chunk.
 fn copied_chunk(chunk: &Chunk) -> Result<Chunk, AllocError>
-    ensures { IfOk result (λ c. members c ≡ members chunk.now) }
+    ensures members { IfOk result (λ c. members c ≡ members chunk.now) }
+    ensures kind { IfOk result (λ c. kind_of c ≡ kind_of chunk.now) }
+    ensures full { IfOk result (λ c. is_full c ≡ is_full chunk.now) }
 {
     match chunk {
         Chunk::Normal(text) => Ok(Chunk::Normal(text.clone()?)),

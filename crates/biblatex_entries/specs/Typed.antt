@@ -8,7 +8,7 @@ use Rattle.biblatex_text.specs.declared.spanned.Spanned.{Spanned}
 use Rattle.biblatex_content.specs.declared.chunk.Chunk.{Chunk}
 use Rattle.biblatex_content.specs.Styled.{Member, plain as plain_text}
 use Rattle.biblatex_content.specs.Views.{styled, span_start, span_end}
-use Rattle.biblatex_fields.specs.Fields.{Named, value_named}
+use Rattle.biblatex_fields.specs.Fields.{Named, text_named}
 use Rattle.biblatex_dates.specs.Parts.{of_parts}
 use Rattle.biblatex_dates.specs.declared.date.Date.{Date}
 use Rattle.biblatex_dates.specs.declared.error.TypeErrorKind.{TypeErrorKind}
@@ -52,7 +52,7 @@ IsAt (Err (errors.TypeError e)) cs = (e.span.start ≡ span_start cs) × (e.span
 
 -- what the field of that name reads as, if there is one
 abbrev pub read_as : {V : Type 0} → (List Member → Result V TypeErrorKind) → List ℕ → List Named → Option (Result V TypeErrorKind)
-read_as reads name fs = option_map reads (value_named name fs)
+read_as reads name fs = option_map reads (text_named name fs)
 
 -- The chunks that were borrowed spell the value; Missing says that there is none.
 abbrev pub IsLent : Result (Bor (List (Spanned Chunk))) RetrievalError → Option (List Member) → Type 0
@@ -66,7 +66,7 @@ characters_of (Some ms) = plain_text ms
 
 -- the characters of the field of that name
 abbrev pub field_characters : List ℕ → List Named → List ℕ
-field_characters name fs = characters_of (value_named name fs)
+field_characters name fs = characters_of (text_named name fs)
 
 -- the date of year, month and day as far as they can be read, where a missing field reads as an empty one
 abbrev pub date_of_parts : List Named → Option Date
@@ -96,7 +96,7 @@ editors_of did ms = (people_in ms, did)
 
 -- the people of `editor` with what `editortype` says they did; none where there is no `editor`
 abbrev pub editors_in : List Named → List (List PersonName × EditorName)
-editors_in fs = option_to_list (option_map (editors_of (type_or_editor (value_named (codes "editortype") fs))) (value_named (codes "editor") fs))
+editors_in fs = option_to_list (option_map (editors_of (type_or_editor (text_named (codes "editortype") fs))) (text_named (codes "editor") fs))
 
 -- people with what they did, as they stand in memory
 abbrev pub people_and_type : Vec Person Global × EditorType → List PersonName × EditorName

@@ -5,10 +5,11 @@ ghost use Rattle.std.specs.Option.{option_map};
 ghost use Rattle.std.specs.Str.{chars};
 ghost use Rattle.laws.specs.Text.{text as text_of, lowered};
 ghost use Rattle.biblatex_content.specs.Views.{styled};
-ghost use Rattle.biblatex_fields.specs.Fields.{value_named, with_field, without_field};
+ghost use Rattle.biblatex_fields.specs.Fields.{value_named, without_field};
+ghost use Rattle.biblatex_fields.specs.Value.{value_seen};
 ghost use Rattle.biblatex_entries.specs.TypeNames.{type_name};
 ghost use Rattle.biblatex_entries.specs.Names.{trimmed, listed};
-ghost use Rattle.biblatex_entries.specs.Entries.{source, field_text, parents_of, names_of};
+ghost use Rattle.biblatex_entries.specs.Entries.{source, with_value, field_text, parents_of, names_of};
 ghost use Rattle.biblatex_content.specs.Styled.{plain};
 
 use crate::entry_type::EntryType;
@@ -39,14 +40,14 @@ impl Entry {
 
     /// The value of the field of that name in lower case.
     pub fn get(&self, name: &str) -> Option<&Chunks>
-        ensures { option_map (λ v. styled v.now.items) result ≡ value_named name.now self.now.fields }
+        ensures { option_map (λ v. value_seen v.now.items) result ≡ value_named name.now self.now.fields }
     {
         self.fields.get(name)
     }
 
     /// Gives the field of that name, in lower ASCII case, the value.
     pub fn set(&mut self, name: &str, value: Chunks) -> Result<(), AllocError>
-        ensures ok { OnOk result (source self.new ≡ record { key = string_bytes self.old.key; entry_type = type_name self.old.entry_type; fields = with_field self.old.fields (lowered (chars name.now)) (styled value.items) }) }
+        ensures ok { OnOk result (source self.new ≡ with_value (source self.old) (lowered (chars name.now)) (value_seen value.items)) }
         ensures err { OnErr result (source self.new ≡ source self.old) }
     {
         let name = lower_name(*self.key.allocator(), name)?;
@@ -55,7 +56,7 @@ impl Entry {
 
     /// Takes the field of that name in lower case out.
     pub fn remove(&mut self, name: &str) -> Option<Chunks>
-        ensures value { option_map (λ v. styled v.items) result ≡ value_named name.now self.old.fields }
+        ensures value { option_map (λ v. value_seen v.items) result ≡ value_named name.now self.old.fields }
         ensures rest { source self.new ≡ record { key = string_bytes self.old.key; entry_type = type_name self.old.entry_type; fields = without_field name.now self.old.fields } }
     {
         self.fields.remove(name)

@@ -1,18 +1,18 @@
 //! The fields of an entry as values of types.
 
-ghost use Rattle.std.specs.Prelude.{◌≡◌, [], map, Some, IfOk, OnOk, OnErr, string_bytes, codes};
+ghost use Rattle.std.specs.Prelude.{◌≡◌, [], map, Some, IfOk, OnOk, OnErr, codes};
 ghost use Rattle.std.specs.Option.{option_map};
 ghost use Rattle.std.specs.Str.{chars};
 ghost use Rattle.laws.specs.Text.{lowered, characters};
 ghost use Rattle.biblatex_content.specs.Views.{styled};
-ghost use Rattle.biblatex_fields.specs.Fields.{value_named, with_field};
+ghost use Rattle.biblatex_fields.specs.Fields.{text_named};
+ghost use Rattle.biblatex_fields.specs.Value.{value_seen};
 ghost use Rattle.biblatex_people.specs.Views.{named};
 ghost use Rattle.biblatex_values.specs.Dates.{reads_date};
 ghost use Rattle.biblatex_values.specs.EditorType.{editor_name};
 ghost use Rattle.biblatex_values.specs.Permissive.{reads_permissive};
 ghost use Rattle.biblatex_field_types.specs.Views.{permitted, reads_people};
-ghost use Rattle.biblatex_entries.specs.TypeNames.{type_name};
-ghost use Rattle.biblatex_entries.specs.Entries.{source};
+ghost use Rattle.biblatex_entries.specs.Entries.{source, HasSet};
 ghost use Rattle.biblatex_entries.specs.Typed.{Retrieves, IsAt, IsLent, read_as, sure, field_characters, date_of_parts, date_in_fields, type_or_editor, editors_in, people_and_type, refusal_of};
 ghost use Rattle.laws.specs.Results.{GivesBack};
 
@@ -37,7 +37,7 @@ impl Entry {
         // What the field reads as, or its fault, or that it is missing.
         ensures reading { Retrieves T.view result (read_as T.reads name.now self.now.fields) }
         // Of what is written of a value of the type's class that value comes back.
-        ensures back { (v : T.View) → T.InClass v → value_named name.now self.now.fields ≡ Some (T.writes v) → GivesBack refusal_of T.view result v }
+        ensures back { (v : T.View) → T.InClass v → text_named name.now self.now.fields ≡ Some (T.writes v) → GivesBack refusal_of T.view result v }
     {
         match self.fields.get(name) {
             Some(value) => read_value(alloc, value.as_slice()),
@@ -46,11 +46,11 @@ impl Entry {
     }
 
     /// Gives the field of that name, in lower ASCII case, what is written of the value.
-    #[tactic(auto, using(crate::proofs::TypedStored::value_put))]
+    #[tactic(auto, using(crate::proofs::TypedStored::has_set))]
     pub fn set_as<T: FieldType>(&mut self, name: &str, value: &T) -> Result<(), AllocError>
-        ensures ok { OnOk result (source self.new ≡ record { key = string_bytes self.old.key; entry_type = type_name self.old.entry_type; fields = with_field self.old.fields (lowered (chars name.now)) (T.writes (T.view value.now)) }) }
+        ensures ok { OnOk result (HasSet (source self.old) (lowered (chars name.now)) (T.writes (T.view value.now)) (source self.new)) }
         // The field of that name has what is written of the value.
-        ensures written { OnOk result (value_named (lowered (chars name.now)) self.new.fields ≡ Some (T.writes (T.view value.now))) }
+        ensures written { OnOk result (text_named (lowered (chars name.now)) self.new.fields ≡ Some (T.writes (T.view value.now))) }
         ensures err { OnErr result (source self.new ≡ source self.old) }
     {
         let chunks = value.to_chunks(*self.key.allocator())?;
@@ -62,7 +62,7 @@ impl Entry {
     /// # Errors
     /// `Missing` where there is no field `title`. Takes no memory.
     pub fn title(&self) -> Result<&[Spanned<Chunk>], RetrievalError>
-        ensures { IsLent result (value_named (codes "title") self.now.fields) }
+        ensures { IsLent result (text_named (codes "title") self.now.fields) }
     {
         match self.fields.get("title") {
             Some(value) => Ok(value.as_slice()),
@@ -163,7 +163,7 @@ fn read_value<T: FieldType>(alloc: Global, value: &[Spanned<Chunk>]) -> Result<T
 
 /// What the people in an `editor` field did: what the field names, or editors where there is none.
 fn editor_type(alloc: Global, value: Option<&Chunks>) -> Result<EditorType, AllocError>
-    ensures { IfOk result (λ t. editor_name t ≡ type_or_editor (option_map (λ v. styled v.now.items) value.entry)) }
+    ensures { IfOk result (λ t. editor_name t ≡ type_or_editor (option_map (λ v. v.text) (option_map (λ v. value_seen v.now.items) value.entry))) }
 {
     match value {
         Some(value) => EditorType::new(alloc, plain_text(alloc, value.as_slice())?.as_str()),

@@ -5,8 +5,8 @@ use Rattle.std.specs.List.{list_any}
 use Rattle.std.specs.Map.{keys_of}
 use Rattle.std.proofs.lemmas.Bool.{or_parts}
 use Rattle.std.proofs.lemmas.List.Folds.{list_any-append}
-use Rattle.biblatex_content.specs.Styled.{Member}
 use Rattle.biblatex_fields.specs.Fields.{Named, value_named}
+use Rattle.biblatex_fields.specs.Value.{Value}
 use Rattle.biblatex_dates.specs.declared.date.Date.{Date}
 use Rattle.biblatex_entries.specs.declared.role.Role.{Role}
 use Rattle.biblatex_entries.specs.Roles.{role_of, is_multi_volume}
@@ -89,19 +89,19 @@ none_offered : (q : List ℕ) → IsNotGiven q → (to : Role) (es : List Source
 none_offered q n to es see [] h = refl
 none_offered q n to es see (r ∷ rs) h = by (slice_get es r) (none_offered q n to es see rs h)
   where
-    one : (b : Bool) (x y : Option (List Member)) → x ≡ None → y ≡ None → first (if b then x else None) y ≡ None
-    one true x y no_x no_y = ap (λ (z : Option (List Member)). first z y) no_x ∙ no_y
+    one : (b : Bool) (x y : Option Value) → x ≡ None → y ≡ None → first (if b then x else None) y ≡ None
+    one true x y no_x no_y = ap (λ (z : Option Value). first z y) no_x ∙ no_y
     one false x y no_x no_y = no_y
 
     by : (s : Option Source) → first_offer to (offers es see rs) q ≡ None → first_offer to (offer_seen r s (see r) ++ offers es see rs) q ≡ None
     by None rest = rest
     by (Some e) rest = one (inherits to q) (see r (source_name to (role_of e.entry_type) q)) (first_offer to (offers es see rs) q) (ap (see r) (same_name to (role_of e.entry_type) q n) ∙ h r) rest
 
-none_either : (b : Bool) (x : Option (List Member)) → x ≡ None → (if b then None else x) ≡ None
+none_either : (b : Bool) (x : Option Value) → x ≡ None → (if b then None else x) ≡ None
 none_either true x is = refl
 none_either false x is = is
 
-none_past : (b : Bool) (x y : Option (List Member)) → b ≡ false → y ≡ None → (if b then x else y) ≡ None
+none_past : (b : Bool) (x y : Option Value) → b ≡ false → y ≡ None → (if b then x else y) ≡ None
 none_past true x y e is = absurd (true≢false e)
 none_past false x y e is = is
 
@@ -112,8 +112,8 @@ none_dated q n (Some d) t is = none_past (bytes_eq q (codes "date")) _ _ n.date 
 none_resolved : (q : List ℕ) → IsNotGiven q → (e : Source) (os : List Offer) → value_named q e.fields ≡ None → first_offer (role_of e.entry_type) os q ≡ None → resolved e os q ≡ None
 none_resolved q n e os no_own no_offer = none_dated q n (date_for (role_of e.entry_type) os) (undated e os) (both (own e q) (first_offer (role_of e.entry_type) os q) (none_either (bytes_eq q (codes "xdata")) (value_named q e.fields) no_own) no_offer)
   where
-    both : (x y : Option (List Member)) → x ≡ None → y ≡ None → first x y ≡ None
-    both x y no_x no_y = ap (λ (z : Option (List Member)). first z y) no_x ∙ no_y
+    both : (x y : Option Value) → x ≡ None → y ≡ None → first x y ≡ None
+    both x y no_x no_y = ap (λ (z : Option Value). first z y) no_x ∙ no_y
 
 -- a name that no entry has
 none_named : (q : List ℕ) (fs : List Named) → list_any (bytes_eq q) (keys_of fs) ≡ false → value_named q fs ≡ None

@@ -6,8 +6,8 @@ use Rattle.std.specs.List.{AllByRecursion, list_any}
 use Rattle.std.specs.List.Sorted.{IsStrictlySortedBy}
 use Rattle.std.specs.Map.{keys_of}
 use Rattle.std.proofs.lemmas.Slice.Eq.{bytes_eq-Decides}
-use Rattle.biblatex_content.specs.Styled.{Member}
 use Rattle.biblatex_fields.specs.Fields.{Named, value_named, with_field, AreInOrder}
+use Rattle.biblatex_fields.specs.Value.{Value}
 use Rattle.biblatex_fields.proofs.FieldsLookUps.{put_found}
 use Rattle.biblatex_inheritance.specs.Resolved.{Table}
 
@@ -19,7 +19,7 @@ below_more : (a b : List ℕ) (names : List (List ℕ)) → slice_cmp nat_cmp a 
 below_more a b [] less all = tt
 below_more a b (n ∷ names) less all = (nat_list_cmp_total.trans a b n less all.0, below_more a b names less all.1)
 
-below_put : (m : List ℕ) (fs : List Named) (name : List ℕ) (v : List Member) → slice_cmp nat_cmp m name ≡ Less → IsBelow m (keys_of fs) → IsBelow m (keys_of (with_field fs name v))
+below_put : (m : List ℕ) (fs : List Named) (name : List ℕ) (v : Value) → slice_cmp nat_cmp m name ≡ Less → IsBelow m (keys_of fs) → IsBelow m (keys_of (with_field fs name v))
 below_put m [] name v less all = (less, tt)
 below_put m (f ∷ fs) name v less all = by (slice_cmp nat_cmp name f.0) (below_put m fs name v less all.1)
   where
@@ -28,7 +28,7 @@ below_put m (f ∷ fs) name v less all = by (slice_cmp nat_cmp name f.0) (below_
     by Equal more = all
     by Greater more = (all.0, more)
 
-put_sorted : (fs : List Named) (name : List ℕ) (v : List Member) → AreInOrder fs → AreInOrder (with_field fs name v)
+put_sorted : (fs : List Named) (name : List ℕ) (v : Value) → AreInOrder fs → AreInOrder (with_field fs name v)
 unfolding IsStrictlySortedBy
 put_sorted [] name v sorted = (tt, tt)
 put_sorted (f ∷ fs) name v sorted = by (slice_cmp nat_cmp name f.0) refl (put_sorted fs name v sorted.1)
@@ -42,7 +42,7 @@ nil_sorted : AreInOrder []
 unfolding IsStrictlySortedBy
 nil_sorted = tt
 
-abbrev pub put : Option (List Member) → List ℕ → List Named → List Named
+abbrev pub put : Option Value → List ℕ → List Named → List Named
 put None name fs = fs
 put (Some v) name fs = with_field fs name v
 
@@ -55,20 +55,20 @@ pub row_sorted : (names : List (List ℕ)) (t : Table) → AreInOrder (row names
 row_sorted [] t = nil_sorted
 row_sorted (n ∷ names) t = by (t n) (row_sorted names t)
   where
-    by : (o : Option (List Member)) → AreInOrder (row names t) → AreInOrder (put o n (row names t))
+    by : (o : Option Value) → AreInOrder (row names t) → AreInOrder (put o n (row names t))
     by None sorted = sorted
     by (Some v) sorted = put_sorted (row names t) n v sorted
 
 -- what a look-up finds
-abbrev found : Bool → Option (List Member) → Option (List Member) → Option (List Member)
+abbrev found : Bool → Option Value → Option Value → Option Value
 found b None other = other
 found b (Some v) other = cond b (Some v) other
 
-put_at : (o : Option (List Member)) (n : List ℕ) (fs : List Named) (q : List ℕ) → value_named q (put o n fs) ≡ found (bytes_eq q n) o (value_named q fs)
+put_at : (o : Option Value) (n : List ℕ) (fs : List Named) (q : List ℕ) → value_named q (put o n fs) ≡ found (bytes_eq q n) o (value_named q fs)
 put_at None n fs q = refl
 put_at (Some v) n fs q = put_found fs n v q
 
-chosen : (b c : Bool) (o t : Option (List Member)) → (b ≡ true → t ≡ o) → found b o (cond c t None) ≡ cond (b || c) t None
+chosen : (b c : Bool) (o t : Option Value) → (b ≡ true → t ≡ o) → found b o (cond c t None) ≡ cond (b || c) t None
 chosen true true None t same = refl
 chosen true false None t same = sym (same refl)
 chosen true c (Some v) t same = sym (same refl)

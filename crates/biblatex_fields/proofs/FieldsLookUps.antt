@@ -7,14 +7,14 @@ use Rattle.std.specs.List.Sorted.{IsStrictlySortedBy}
 use Rattle.std.specs.Map.{keys_of}
 use Rattle.std.proofs.lemmas.Map.Text.{is_eq-slice_cmp}
 use Rattle.std.proofs.lemmas.Slice.Eq.{bytes_eq-Decides}
-use Rattle.biblatex_content.specs.Styled.{Member}
+use Rattle.biblatex_fields.specs.Value.{Value}
 use Rattle.biblatex_fields.specs.Fields.{Named, value_named, with_field, without_field, AreInOrder}
 
 -- names that are equal to the same one
 same_test : (name key q : List ℕ) → bytes_eq name key ≡ true → bytes_eq q key ≡ bytes_eq q name
 same_test name key q e = ap (bytes_eq q) (sym ((bytes_eq-Decides name key).0 e))
 
-pub put_found : (fs : List Named) (name : List ℕ) (v : List Member) (q : List ℕ) → value_named q (with_field fs name v) ≡ cond (bytes_eq q name) (Some v) (value_named q fs)
+pub put_found : (fs : List Named) (name : List ℕ) (v : Value) (q : List ℕ) → value_named q (with_field fs name v) ≡ cond (bytes_eq q name) (Some v) (value_named q fs)
 put_found [] name v q = refl
 put_found (f ∷ fs) name v q = by_order (slice_cmp nat_cmp name f.0) refl (put_found fs name v q)
   where

@@ -11,5 +11,7 @@ pub mod FieldsEntries
 pub mod AbbreviationsFlags
 pub mod FieldsLookUps
 pub mod FieldsSorted
+pub mod FieldsJoined
 pub mod ValueWhole
+pub mod ValueCopies
 pub mod NamesRefused

@@ -15,7 +15,7 @@ use Rattle.biblatex_content.specs.Places.{after_at}
 use Rattle.biblatex_fields.specs.Month.{month}
 use Rattle.biblatex_fields.specs.Abbreviations.{Refusal, unknown, circular, malformed, Glossary, place_of, pieces_at, Sense, spelled, defined, month_or_unknown, sense_of, sense_in, sense}
 use Rattle.biblatex_fields.specs.Fields.{Named, with_field, fields_after, fields_of}
-use Rattle.biblatex_fields.specs.Value.{Reading, placed, text_read, in_order, by_sense, reading, deep, read, members_of, content_of, value_of}
+use Rattle.biblatex_fields.specs.Value.{Reading, placed, text_read, in_order, by_sense, reading, deep, read, members_of, value_in, value_of}
 
 -- a name for which a field is refused has characters of identifiers
 abbrev pub RefusesName : Refusal → Type 0
@@ -87,7 +87,7 @@ unfolding read
 read-named g is_verbatim all p done is = deep-named g is_verbatim all (suc (length g.definitions)) p done is
 
 value_of-named : (g : Glossary) (f : Field) → All HasNames g.definitions → HasNames f → RefusesNames (value_of g f)
-unfolding content_of
+unfolding value_in
 value_of-named g f all named =
     bind_match Whatever Whatever RefusesName (members_of g f.name.v f.value.v) _ (in_order-named (read g (is_verbatim_name (lowered f.name.v))) (read-named g (is_verbatim_name (lowered f.name.v)) all) f.value.v [] named) (λ ms _. tt)
 

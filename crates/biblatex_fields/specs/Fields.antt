@@ -1,6 +1,7 @@
 -- The fields of an entry: names in lower case, as bytes, in their order, each with its value.
 use Rattle.std.specs.Global.{Global}
-use Rattle.std.specs.Prelude.{ℕ, List, [], ◌∷◌, map, Option, Result, Ok, String, string_bytes, Vec}
+use Rattle.std.specs.Prelude.{◌≡◌, ℕ, true, List, [], ◌∷◌, map, Option, Result, Ok, IfSome, String, string_bytes, Vec}
+use Rattle.std.specs.Option.{option_map}
 use Rattle.std.specs.Str.{bytes_eq}
 use Rattle.std.specs.List.Sorted.{IsStrictlySortedBy}
 use Rattle.std.specs.Map.{keys_of, lookup, remove_entry}
@@ -12,22 +13,24 @@ use Rattle.laws.specs.Text.{lowered}
 use Rattle.biblatex_text.specs.Raw.{Field}
 use Rattle.biblatex_text.specs.declared.spanned.Spanned.{Spanned}
 use Rattle.biblatex_content.specs.Styled.{Member}
-use Rattle.biblatex_content.specs.Views.{styled}
 use Rattle.biblatex_content.specs.declared.chunk.Chunk.{Chunk}
 use Rattle.biblatex_fields.specs.Abbreviations.{Refusal, Glossary}
-use Rattle.biblatex_fields.specs.Value.{value_of}
+use Rattle.biblatex_fields.specs.Value.{Value, value_seen, value_of}
 
--- a name and the styled text of its value
+-- a name and its value
 abbrev pub Named : Type 0
-Named = List ℕ × List Member
+Named = List ℕ × Value
 
 -- fields with one more, which takes the place of an equal name, or its own place in the order of names
-abbrev pub with_field : List Named → List ℕ → List Member → List Named
+abbrev pub with_field : List Named → List ℕ → Value → List Named
 with_field fs name value = insert_entry (slice_cmp nat_cmp) fs name value
 
--- the value of a name
-abbrev pub value_named : List ℕ → List Named → Option (List Member)
+-- the value of a name, and the styled text of this value
+abbrev pub value_named : List ℕ → List Named → Option Value
 value_named name fs = lookup (bytes_eq name) fs
+
+abbrev pub text_named : List ℕ → List Named → Option (List Member)
+text_named name fs = option_map (λ v. v.text) (value_named name fs)
 
 -- fields without a name
 abbrev pub without_field : List ℕ → List Named → List Named
@@ -46,9 +49,17 @@ fields_after g done (f ∷ fs) = value_of g f >>= λ value. fields_after g (with
 abbrev pub fields_of : Glossary → List Field → Result (List Named) Refusal
 fields_of g fs = fields_after g [] fs
 
--- the fields of a map, as names and styled texts
+-- a value whose chunks are joined, where there is one
+abbrev pub IsJoined : Option Value → Type 0
+IsJoined o = IfSome o (λ v. v.is_joined ≡ true)
+
+-- the chunks of each field are joined
+abbrev pub AreJoined : List Named → Type 0
+AreJoined fs = (name : List ℕ) → IsJoined (value_named name fs)
+
+-- the fields of a map, as names and values
 abbrev pub named_in : String Global × Vec (Spanned Chunk) Global → Named
-named_in e = (string_bytes e.0, styled e.1.items)
+named_in e = (string_bytes e.0, value_seen e.1.items)
 
 abbrev pub named_of : List (String Global × Vec (Spanned Chunk) Global) → List Named
 named_of es = map named_in es

@@ -4,13 +4,27 @@ use Rattle.std.specs.Prelude.{◌≡◌, ℕ, zero, suc, Bool, true, false, List
 use Rattle.laws.specs.Results.{◌>>=◌}
 use Rattle.laws.specs.Text.{lowered}
 use Rattle.biblatex_text.specs.Raw.{At, Piece, Field}
+use Rattle.biblatex_text.specs.declared.spanned.Spanned.{Spanned}
+use Rattle.biblatex_content.specs.declared.chunk.Chunk.{Chunk}
 use Rattle.biblatex_content.specs.declared.chunk.Kind.TheVariants.{Verbatim}
 use Rattle.biblatex_content.specs.Styled.{Member, letters}
 use Rattle.biblatex_content.specs.Verbatim.{verbatim_text, is_verbatim_name}
 use Rattle.biblatex_content.specs.Ordinary.{ordinary}
 use Rattle.biblatex_content.specs.Tidy.{tidied}
-use Rattle.biblatex_content.specs.Places.{all_at, without_places, after_at, tidied_at, places_of}
+use Rattle.biblatex_content.specs.Parted.{are_parted}
+use Rattle.biblatex_content.specs.Places.{all_at, without_places, after_at, tidied_at, places, places_of}
+use Rattle.biblatex_content.specs.Views.{styled}
 use Rattle.biblatex_fields.specs.Abbreviations.{Refusal, malformed, Glossary, Sense, spelled, defined, sense}
+
+-- What is seen of the chunks of a value: the styled text that they spell, where each of them stands, and whether they are joined, so
+-- that no text is empty and no two neighbours are text of one kind.
+pub record Value : Type 0 where
+  pub text : List Member
+  pub places : List (ℕ × ℕ)
+  pub is_joined : Bool
+
+abbrev pub value_seen : List (Spanned Chunk) → Value
+value_seen cs = record { text = styled cs; places = places cs; is_joined = are_parted cs }
 
 -- What is read after what was read before.
 abbrev pub Reading : Type 0
@@ -58,22 +72,16 @@ ReadsByTheRule g = (is_verbatim : Bool) (p : At Piece) → read g is_verbatim p 
 abbrev pub members_of : Glossary → List ℕ → List (At Piece) → Result (List (At Member)) Refusal
 members_of g name ps = in_order (read g (is_verbatim_name (lowered name))) ps []
 
--- what pieces give as the value of a field of that name, in the kind of the field
-unfoldable pub content_of : Glossary → List ℕ → List (At Piece) → Result (List Member) Refusal
-content_of g name ps = do
-  ms ← members_of g name ps
-  Ok (tidied (without_places ms))
+-- members as a value: tidied and joined, each chunk at the place of its members
+abbrev pub value_from : List (At Member) → Value
+value_from ms = record { text = tidied (without_places ms); places = places_of (tidied_at ms); is_joined = true }
 
--- where the chunks of this value stand
-unfoldable pub places_in : Glossary → List ℕ → List (At Piece) → Result (List (ℕ × ℕ)) Refusal
-places_in g name ps = do
+-- what pieces give as the value of a field of that name, in the kind of the field
+unfoldable pub value_in : Glossary → List ℕ → List (At Piece) → Result Value Refusal
+value_in g name ps = do
   ms ← members_of g name ps
-  Ok (places_of (tidied_at ms))
+  Ok (value_from ms)
 
 -- the value of a field
-abbrev pub value_of : Glossary → Field → Result (List Member) Refusal
-value_of g f = content_of g f.name.v f.value.v
-
--- where the chunks of the value of a field stand
-abbrev pub places_of_field : Glossary → Field → Result (List (ℕ × ℕ)) Refusal
-places_of_field g f = places_in g f.name.v f.value.v
+abbrev pub value_of : Glossary → Field → Result Value Refusal
+value_of g f = value_in g f.name.v f.value.v

@@ -4,8 +4,8 @@ ghost use Rattle.std.specs.Prelude.{◌≡◌, ◌==◌, ℕ, [], List, if◌the
 ghost use Rattle.std.specs.Option.{option_map};
 ghost use Rattle.std.specs.Str.{bytes_eq};
 ghost use Rattle.biblatex_text.specs.Views.{fields};
-ghost use Rattle.biblatex_content.specs.Views.{styled};
 ghost use Rattle.biblatex_fields.specs.Fields.{Named, named_of, value_named, with_field, without_field, AreInOrder, fields_of};
+ghost use Rattle.biblatex_fields.specs.Value.{value_seen};
 ghost use Rattle.biblatex_fields.specs.Views.{refusal_of};
 ghost use Rattle.laws.specs.Results.{Gives};
 
@@ -59,7 +59,7 @@ impl Fields {
 
     /// The value of the field of that name.
     pub fn get(&self, name: &str) -> Option<&Chunks>
-        ensures { option_map (λ v. styled v.now.items) result ≡ value_named name.now self.now }
+        ensures { option_map (λ v. value_seen v.now.items) result ≡ value_named name.now self.now }
     {
         self.values.get(name)
     }
@@ -67,8 +67,8 @@ impl Fields {
     /// Puts a field in, in place of one of equal name. The name is taken as it is given; fields that are written in a text have names in
     /// lower ASCII case.
     pub fn insert(&mut self, name: String, value: Chunks) -> Result<(), AllocError>
-        ensures ok { OnOk result (self.new ≡ with_field self.old (string_bytes name) (styled value.items)) }
-        ensures found { OnOk result ((q : List ℕ) → value_named q self.new ≡ (if bytes_eq q (string_bytes name) then Some (styled value.items) else value_named q self.old)) }
+        ensures ok { OnOk result (self.new ≡ with_field self.old (string_bytes name) (value_seen value.items)) }
+        ensures found { OnOk result ((q : List ℕ) → value_named q self.new ≡ (if bytes_eq q (string_bytes name) then Some (value_seen value.items) else value_named q self.old)) }
         ensures err { OnErr result (self.new ≡ self.old) }
     {
         self.values.insert(name, value)?;
@@ -77,7 +77,7 @@ impl Fields {
 
     /// Takes the field of that name out.
     pub fn remove(&mut self, name: &str) -> Option<Chunks>
-        ensures value { option_map (λ v. styled v.items) result ≡ value_named name.now self.old }
+        ensures value { option_map (λ v. value_seen v.items) result ≡ value_named name.now self.old }
         ensures rest { self.new ≡ without_field name.now self.old }
         ensures found { (q : List ℕ) → value_named q self.new ≡ (if bytes_eq q name.now then None else value_named q self.old) }
     {

@@ -1,13 +1,11 @@
 //! The values of fields: pieces are read in order, and abbreviations are opened.
 
-ghost use Rattle.std.specs.Prelude.{◌≡◌, [], map, true, IfOk};
+ghost use Rattle.std.specs.Prelude.{[], map};
 ghost use Rattle.std.specs.Str.{chars};
 ghost use Rattle.biblatex_text.specs.Views.{field, piece};
-ghost use Rattle.biblatex_content.specs.Parted.{are_parted};
-ghost use Rattle.biblatex_content.specs.Places.{placed_so_far, places};
-ghost use Rattle.biblatex_content.specs.Views.{styled};
+ghost use Rattle.biblatex_content.specs.Places.{placed_so_far};
 ghost use Rattle.biblatex_fields.specs.Abbreviations.{pieces_at};
-ghost use Rattle.biblatex_fields.specs.Value.{in_order, read, content_of, value_of, places_in, places_of_field};
+ghost use Rattle.biblatex_fields.specs.Value.{in_order, read, value_seen, value_in, value_of};
 ghost use Rattle.biblatex_fields.specs.Views.{refusal_of};
 ghost use Rattle.laws.specs.Results.{Gives};
 
@@ -87,16 +85,14 @@ impl<'r, 's> Abbreviations<'r, 's> {
     /// # Errors
     ///
     /// The first fault in the order of pieces. A name is found to be circular before its pieces are read.
-    #[tactic(auto, using(crate::proofs::ValueWhole::value_given, crate::proofs::ValueWhole::places_given, crate::proofs::ValueWhole::value_refused, crate::proofs::ValueWhole::places_refused))]
+    #[tactic(auto, using(crate::proofs::ValueWhole::value_given, crate::proofs::ValueWhole::value_refused))]
     pub fn parse_field(
         &self,
         alloc: Global,
         key: &str,
         field: &[Spanned<RawChunk<'s>>],
     ) -> Result<Chunks, FieldError<'s>>
-        ensures value { Gives refusal_of (λ cs. styled cs.items) result (content_of self.now (chars key.now) (map piece field.now)) }
-        ensures places { Gives refusal_of (λ cs. places cs.items) result (places_in self.now (chars key.now) (map piece field.now)) }
-        ensures parted { IfOk result (λ cs. are_parted cs.items ≡ true) }
+        ensures { Gives refusal_of (λ cs. value_seen cs.items) result (value_in self.now (chars key.now) (map piece field.now)) }
     {
         let name = lowered(alloc, key)?;
         let is_verbatim = is_verbatim_field(name.as_str());
@@ -110,9 +106,7 @@ impl<'r, 's> Abbreviations<'r, 's> {
     ///
     /// Those of `parse_field`.
     pub fn read(&self, alloc: Global, pair: &Pair<'s>) -> Result<Chunks, FieldError<'s>>
-        ensures value { Gives refusal_of (λ cs. styled cs.items) result (value_of self.now (field pair.now)) }
-        ensures places { Gives refusal_of (λ cs. places cs.items) result (places_of_field self.now (field pair.now)) }
-        ensures parted { IfOk result (λ cs. are_parted cs.items ≡ true) }
+        ensures { Gives refusal_of (λ cs. value_seen cs.items) result (value_of self.now (field pair.now)) }
     {
         self.parse_field(alloc, pair.key.v, pair.value.v.as_slice())
     }

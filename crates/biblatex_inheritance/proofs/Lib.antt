@@ -1,6 +1,8 @@
-pub mod TableHanding
+pub mod TablePassing
 pub mod ResolvedDates
 pub mod ResolvedReferences
+pub mod ResolvedJoined
 pub mod SolutionSteps
 pub mod SolutionOrder
+pub mod SolutionJoined
 pub mod SolutionAlong

@@ -1,11 +1,12 @@
 -- Dates and faults of references, one after the other.
-use Rattle.std.proofs.Common.{◌≡◌, ℕ, suc, ◌+◌, ◌<◌, List, [], ◌∷◌, ◌++◌, length, drop, get_or, slice_get, Option, Some, None, Bor, String, string_bytes, Global, refl, sym, ap, ◌∙◌, arith}
+use Rattle.std.proofs.Common.{◌≡◌, ℕ, suc, ◌+◌, ◌<◌, List, [], ◌∷◌, ◌++◌, length, drop, get_or, slice_get, Option, Some, None, option_map, Bor, String, string_bytes, Global, refl, sym, ap, ◌∙◌, arith}
 use Rattle.std.specs.Prelude.{IfSome, MatchOption, ◌≤◌}
 use Rattle.std.proofs.lemmas.Option.{slice_get_past, slice_get-get_or}
 use Rattle.std.proofs.Math.Seq.{drop-cons}
 use Rattle.std.proofs.lemmas.Str.{IsUtf8-string_bytes}
 use Rattle.laws.proofs.Text.{chars-text}
-use Rattle.biblatex_content.specs.Styled.{Member, plain}
+use Rattle.biblatex_content.specs.Styled.{plain}
+use Rattle.biblatex_fields.specs.Value.{Value}
 use Rattle.laws.specs.Text.{characters}
 use Rattle.biblatex_entries.specs.Entries.{text_in}
 use Rattle.biblatex_dates.specs.declared.date.Date.{Date}
@@ -14,9 +15,9 @@ use Rattle.biblatex_inheritance.specs.declared.error.DateFault.{DateFault}
 use Rattle.biblatex_inheritance.specs.Resolved.{Offer, plain_in, earlier, later, readable, fault, date_in, last_date, first_fault}
 use Rattle.biblatex_inheritance.specs.Views.{offer_in, offer_borrowed, offers_in}
 
-pub text_is : (s : String Global) (o : Option (List Member)) → string_bytes s ≡ text_in o → characters s ≡ plain_in o
+pub text_is : (s : String Global) (o : Option Value) → string_bytes s ≡ text_in (option_map (λ v. v.text) o) → characters s ≡ plain_in o
 text_is s None e = chars-text (string_bytes s) [] (IsUtf8-string_bytes s) e
-text_is s (Some ms) e = chars-text (string_bytes s) (plain ms) (IsUtf8-string_bytes s) e
+text_is s (Some v) e = chars-text (string_bytes s) (plain v.text) (IsUtf8-string_bytes s) e
 
 pub earlier_twice : (a b c : Option DateFault) → earlier (earlier a b) c ≡ earlier a (earlier b c)
 earlier_twice None b c = refl

@@ -7,7 +7,7 @@ use Rattle.std.proofs.lemmas.List.{length-set, take_all}
 use Rattle.std.proofs.lemmas.Option.{slice_get-map, slice_get-get_or, slice_get_within}
 use Rattle.biblatex_fields.specs.Fields.{AreInOrder}
 use Rattle.biblatex_entries.specs.TypeNames.{type_name}
-use Rattle.biblatex_entries.specs.Entries.{Source, source, sources}
+use Rattle.biblatex_entries.specs.Entries.{Source, source, sources, HaveJoinedFields}
 use Rattle.biblatex_entries.specs.declared.entry.Entry.{Entry}
 use Rattle.biblatex_entries.specs.Roles.{role_of}
 use Rattle.biblatex_dates.specs.declared.date.Date.{Date}
@@ -20,6 +20,7 @@ use Rattle.biblatex_inheritance.specs.Resolved.{Table, Offer, resolved, needs_da
 use Rattle.biblatex_inheritance.specs.Views.{offer_in, offers_in}
 use Rattle.biblatex_inheritance.specs.Solution.{Solves, seen, value_in, HasSameHead, HaveSameHeads, IsOnly, fault_in, fault_at, IsFirstFault, IsFirst, IsResolvedAt, AreResolved, NoneIsCircular}
 use Rattle.biblatex_inheritance.proofs.SolutionSteps.{slice_get-set_other, slice_get-set_same, offers_apart}
+use Rattle.biblatex_inheritance.proofs.SolutionJoined.{joined_more}
 use Rattle.biblatex_inheritance.proofs.SolutionOrder.{not_before, below_order, not_itself, not_from_before, up_to, last_in, one_more, number_is}
 
 -- of those done, what they resolve to; the others stand as they were
@@ -31,6 +32,7 @@ pub record IsResolvedUpTo (old cur : List Entry) (R : List (List ℕ)) (done : L
   pub equation : (i : ℕ) → Contains done i → IfSome (slice_get old i) (λ e. (q : List ℕ) → seen cur i q ≡ resolved (source e) (offers_in cur (references_of R i)) q)
   pub ordered : (i : ℕ) → Contains done i → IfSome (slice_get cur i) (λ e. AreInOrder e.fields)
   pub faulted : (i : ℕ) → Contains done i → slice_get faults i ≡ Some (fault_in (option_map source (slice_get old i)) (offers_in cur (references_of R i)))
+  pub joined : HaveJoinedFields (sources old) → HaveJoinedFields (sources cur)
 
 head_same : (o : Option Entry) → HasSameHead o o
 head_same None = tt
@@ -45,6 +47,7 @@ resolved_first old R faults many = record {
   equation = λ i c. absurd (omega (arith, c.1));
   ordered = λ i c. absurd (omega (arith, c.1));
   faulted = λ i c. absurd (omega (arith, c.1));
+  joined = λ all. all;
 }
 
 -- the head at another place, and at the place that was written
@@ -86,6 +89,7 @@ resolved_more old cur new R order k faults fault o none same low h (d, new_is, (
         | inr is ↦ subst (λ (x : ℕ). slice_get (set faults n fault) x ≡ Some (fault_in (option_map source (slice_get old x)) (offers_in new (references_of R x)))) is
             (slice_get-set_same faults n fault (omega (arith, n_low, same, h.many)) ∙ ap (λ (f : Option DateFault). Some f) (fault_is ∙ rw (old_n, stay n (not_itself R n none)) refl))
       ];
+      joined = λ all. joined_more cur new n (references_of R n) d n_cur new_is table_is (h.joined all);
     }
   where
     by_place : (i : ℕ) → (i ≡ get_or order k 0) ⊎ (i ≡ get_or order k 0 → ⊥) → HasSameHead (slice_get old i) (slice_get cur i) → ((i ≡ get_or order k 0 → ⊥) → slice_get new i ≡ slice_get cur i)
@@ -113,6 +117,7 @@ pub all_resolved : (old cur : List Entry) (R : List (List ℕ)) (order : List �
 all_resolved old cur R order faults o same h = record {
   heads = h.heads;
   long = h.many;
+  joined = h.joined;
   ordered = λ i. where_there (slice_get cur i) (λ e is. h.ordered i (stands_in_order R order o i (let low = slice_get_within cur i e is in omega (arith, low, same, h.long))));
   solved = λ i. subst (λ (x : Option Source). IfSome x (λ e. (q : List ℕ) → seen cur i q ≡ resolved e (offers (sources old) (seen cur) (references_of R i)) q)) (sym (slice_get-map source old i))
       (there i (slice_get old i) (λ low. rw (sym (offers_same old cur h.heads (references_of R i))) (h.equation i (stands_in_order R order o i (omega (arith, low, same))))) (λ e is. slice_get_within old i e is));

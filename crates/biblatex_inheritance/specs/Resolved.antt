@@ -1,10 +1,13 @@
--- What an entry is once its references are resolved. Fields are seen as what stands under each name.
-use Rattle.std.specs.Prelude.{ℕ, Bool, true, false, List, [], ◌∷◌, slice_get, if◌then◌else◌, ◌||◌, Option, Some, None, Result, Ok, Err, codes}
+-- What an entry is once its references are resolved. Fields are seen as what stands under each name. What is inherited stands where it
+-- is written: the places of its chunks are those that they have in the reference.
+use Rattle.std.specs.Prelude.{ℕ, ◌^◌, ◌-◌, Bool, true, false, List, [], ◌∷◌, slice_get, if◌then◌else◌, ◌||◌, Option, Some, None, Result, Ok, Err, codes}
 use Rattle.std.specs.List.{flat_map}
 use Rattle.std.specs.Str.{bytes_eq}
+use Rattle.laws.specs.Text.{is_filled}
 use Rattle.biblatex_content.specs.declared.chunk.Kind.TheVariants.{Normal}
-use Rattle.biblatex_content.specs.Styled.{Member, letters, plain}
+use Rattle.biblatex_content.specs.Styled.{letters, plain}
 use Rattle.biblatex_fields.specs.Fields.{value_named}
+use Rattle.biblatex_fields.specs.Value.{Value}
 use Rattle.biblatex_entries.specs.declared.role.Role.{Role}
 use Rattle.biblatex_entries.specs.declared.role.Role.TheVariants.{XData, Set}
 use Rattle.biblatex_entries.specs.Roles.{role_of}
@@ -20,7 +23,7 @@ use Rattle.biblatex_inheritance.specs.Table.{inherits, source_name}
 
 -- the value under each name, if there is one
 abbrev pub Table : Type 0
-Table = List ℕ → Option (List Member)
+Table = List ℕ → Option Value
 
 -- what a reference has to offer: the entry of a number, by its role and its fields
 pub record Offer : Type 0 where
@@ -29,7 +32,7 @@ pub record Offer : Type 0 where
   pub fields : Table
 
 -- the first of two values
-abbrev pub first : Option (List Member) → Option (List Member) → Option (List Member)
+abbrev pub first : Option Value → Option Value → Option Value
 first None other = other
 first (Some v) other = Some v
 
@@ -50,9 +53,9 @@ own e = without_xdata (λ name. value_named name e.fields)
 
 -- The date in fields: that of `date`, unless it is missing or empty; else that of `year`, `month` and `day`, where a missing
 -- field reads as an empty one.
-abbrev pub plain_in : Option (List Member) → List ℕ
+abbrev pub plain_in : Option Value → List ℕ
 plain_in None = []
-plain_in (Some ms) = plain ms
+plain_in (Some v) = plain v.text
 
 abbrev pub characters_at : Table → List ℕ → List ℕ
 characters_at fields name = plain_in (fields name)
@@ -102,10 +105,18 @@ needs_date XData = false
 needs_date Set = false
 needs_date _ = true
 
--- a date that comes, without its time, stands for the entry's own date, year, month and day
+-- a value of one text, which stands in no source
+abbrev pub text_value : List ℕ → Value
+text_value cs = record { text = letters Normal cs; places = (2 ^ 64 - 1, 2 ^ 64 - 1) ∷ []; is_joined = is_filled cs }
+
+-- a date, without its time, as a value
+abbrev pub date_value : Date → Value
+date_value d = text_value (date_text (date_without_time d))
+
+-- a date that comes stands for the entry's own date, year, month and day
 abbrev pub with_date : Date → Table → Table
 with_date d fields name =
-    if bytes_eq name (codes "date") then Some (letters Normal (date_text (date_without_time d)))
+    if bytes_eq name (codes "date") then Some (date_value d)
     else (if bytes_eq name (codes "year") || (bytes_eq name (codes "month") || bytes_eq name (codes "day")) then None else fields name)
 
 abbrev pub dated : Option Date → Table → Table

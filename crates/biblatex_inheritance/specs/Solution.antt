@@ -3,7 +3,7 @@ use Rattle.std.specs.Prelude.{◌≡◌, ◌<◌, ℕ, List, length, slice_get, 
 use Rattle.reference_graph.specs.References.{references_of, IsCircular}
 use Rattle.biblatex_fields.specs.Fields.{value_named, AreInOrder}
 use Rattle.biblatex_entries.specs.TypeNames.{type_name}
-use Rattle.biblatex_entries.specs.Entries.{Source, source, sources}
+use Rattle.biblatex_entries.specs.Entries.{Source, source, sources, HaveJoinedFields}
 use Rattle.biblatex_entries.specs.declared.entry.Entry.{Entry}
 use Rattle.biblatex_inheritance.specs.declared.error.DateFault.{DateFault}
 use Rattle.biblatex_inheritance.specs.declared.error.ResolveError.{ResolveError}
@@ -61,6 +61,7 @@ pub record AreResolved (old new : List Entry) (references : List (List ℕ)) (fa
   pub faulted : (i : ℕ) → i < length old → slice_get faults i ≡ Some (fault_at (sources old) references (seen new) i)
   pub long : length faults ≡ length old
   pub ordered : AreOrdered new
+  pub joined : HaveJoinedFields (sources old) → HaveJoinedFields (sources new)
 
 -- the fault of the first entry that has one, of faults in a list
 abbrev pub IsFirstFault : List (Option DateFault) → DateFault → Type 0

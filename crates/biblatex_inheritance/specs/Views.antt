@@ -5,8 +5,8 @@ use Rattle.std.specs.List.{flat_map}
 use Rattle.std.specs.Borrow.{Bor}
 use Rattle.biblatex_text.specs.declared.spanned.Spanned.{Spanned}
 use Rattle.biblatex_content.specs.declared.chunk.Chunk.{Chunk}
-use Rattle.biblatex_content.specs.Views.{styled}
 use Rattle.biblatex_fields.specs.Fields.{Named, value_named}
+use Rattle.biblatex_fields.specs.Value.{value_seen}
 use Rattle.biblatex_entries.specs.TypeNames.{type_name}
 use Rattle.biblatex_entries.specs.Roles.{role_of}
 use Rattle.biblatex_entries.specs.declared.entry.Entry.{Entry}
@@ -27,12 +27,12 @@ abbrev pub texts : List (Bor (List ℕ)) → List (List ℕ)
 texts ts = map (λ t. t.now) ts
 
 -- what is lacking comes where it is offered
-abbrev pub HandsOn : List Named → List Named → Table → Type 0
-HandsOn old new offers = (name : List ℕ) → value_named name new ≡ first (value_named name old) (offers name)
+abbrev pub PassesOn : List Named → List Named → Table → Type 0
+PassesOn old new offers = (name : List ℕ) → value_named name new ≡ first (value_named name old) (offers name)
 
 -- fields that are borrowed one by one
 abbrev pub borrowed_fields : List (Bor (String Global) × Bor (Vec (Spanned Chunk) Global)) → List Named
-borrowed_fields es = map (λ e. (string_bytes e.0.now, styled e.1.now.items)) es
+borrowed_fields es = map (λ e. (string_bytes e.0.now, value_seen e.1.now.items)) es
 
 -- what references have to offer, as the entries stand
 abbrev pub offer_in : ℕ → Option Entry → List Offer

@@ -2,19 +2,16 @@
 
 ghost use Rattle.std.specs.Prelude.{◌≡◌, IfOk, OnOk, List, ℕ, None, Some, slice_get, if◌then◌else◌, ◌||◌, codes};
 ghost use Rattle.std.specs.Str.{bytes_eq};
-ghost use Rattle.biblatex_content.specs.declared.chunk.Kind.TheVariants.{Normal};
-ghost use Rattle.biblatex_content.specs.Styled.{letters};
-ghost use Rattle.biblatex_content.specs.Views.{styled};
 ghost use Rattle.laws.specs.Text.{characters};
-ghost use Rattle.biblatex_dates.specs.Date.{date_without_time};
 ghost use Rattle.biblatex_dates.specs.Written.{date_text};
 ghost use Rattle.biblatex_fields.specs.Fields.{value_named};
-ghost use Rattle.biblatex_inheritance.specs.Resolved.{first, first_offer, with_date, dated, date_for, needs_date, first_fault, without_xdata};
-ghost use Rattle.biblatex_inheritance.specs.Views.{table, HandsOn, IsTable, offer_in, offers_in};
+ghost use Rattle.biblatex_fields.specs.Value.{value_seen};
+ghost use Rattle.biblatex_inheritance.specs.Resolved.{first, first_offer, text_value, date_value, with_date, dated, date_for, needs_date, first_fault, without_xdata};
+ghost use Rattle.biblatex_inheritance.specs.Views.{table, PassesOn, IsTable, offer_in, offers_in};
 
 use crate::dated::{Dated, dates_of, entry_at};
 use crate::error::DateFault;
-use crate::hand_on::hand_on;
+use crate::pass_on::pass_on;
 use biblatex_content::{Chunk, Chunks, Spanned};
 use biblatex_dates::Date;
 use biblatex_entries::{Entry, Role};
@@ -34,7 +31,7 @@ pub(crate) fn inherit(
     ensures fault { IfOk result (λ f. f ≡ (if needs_date role then first_fault (offers_in entries.now references.now) else None)) }
 {
     fields.remove("xdata");
-    hand_on_all_of(alloc, role, fields, references, entries)?;
+    pass_on_all_of(alloc, role, fields, references, entries)?;
     if !needs_date(role) {
         return Ok(None);
     }
@@ -53,33 +50,33 @@ fn needs_date(role: Role) -> bool
 }
 
 /// Gives the fields what they lack from the first of the references that offers it to an entry of the role.
-fn hand_on_all_of(
+fn pass_on_all_of(
     alloc: Global,
     role: Role,
     fields: &mut Fields,
     references: &[usize],
     entries: &[Entry],
 ) -> Result<(), AllocError>
-    ensures { OnOk result (HandsOn fields.old fields.new (first_offer role (offers_in entries.now references.now))) }
+    ensures { OnOk result (PassesOn fields.old fields.new (first_offer role (offers_in entries.now references.now))) }
 {
     for &reference in references {
-        hand_on_where(alloc, role, fields, reference, entries)?;
+        pass_on_where(alloc, role, fields, reference, entries)?;
     }
     Ok(())
 }
 
 /// The same of one reference, where there is such an entry.
-fn hand_on_where(
+fn pass_on_where(
     alloc: Global,
     role: Role,
     fields: &mut Fields,
     reference: usize,
     entries: &[Entry],
 ) -> Result<(), AllocError>
-    ensures { OnOk result (HandsOn fields.old fields.new (first_offer role (offer_in reference (slice_get entries.now reference)))) }
+    ensures { OnOk result (PassesOn fields.old fields.new (first_offer role (offer_in reference (slice_get entries.now reference)))) }
 {
     match entry_at(entries, reference) {
-        Some(from) => hand_on(alloc, role, fields, from),
+        Some(from) => pass_on(alloc, role, fields, from),
         None => Ok(()),
     }
 }
@@ -96,7 +93,7 @@ fn set_date(alloc: Global, fields: &mut Fields, date: Date) -> Result<(), AllocE
 
 /// The date, without its time, as a value.
 fn date_value(alloc: Global, date: Date) -> Result<Chunks, AllocError>
-    ensures { IfOk result (λ v. styled v.items ≡ letters Normal (date_text (date_without_time date))) }
+    ensures { IfOk result (λ v. value_seen v.items ≡ date_value date) }
 {
     let date = date.without_time();
     let text = text_of_date(alloc, &date)?;
@@ -112,7 +109,7 @@ fn text_of_date(alloc: Global, date: &Date) -> Result<String, AllocError>
 
 /// A value of one normal text.
 fn text_value(alloc: Global, text: String) -> Result<Chunks, AllocError>
-    ensures { IfOk result (λ v. styled v.items ≡ letters Normal (characters text)) }
+    ensures { IfOk result (λ v. value_seen v.items ≡ text_value (characters text)) }
 {
     let mut value = Vec::new(alloc);
     value.reserve_exact(1)?;

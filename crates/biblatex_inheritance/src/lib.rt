@@ -3,8 +3,8 @@
 
 mod dated;
 mod error;
-mod hand_on;
 mod inherit;
+mod pass_on;
 mod solution;
 mod table;
 

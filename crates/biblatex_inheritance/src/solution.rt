@@ -3,7 +3,7 @@
 ghost use Rattle.std.specs.Prelude.{◌≡◌, ◌<◌, ℕ, List, length, slice_get, Contains, Some, None, IfOk, IfErr, MatchOption};
 ghost use Rattle.reference_graph.specs.References.{lists};
 ghost use Rattle.reference_graph.specs.Order.{IsOrder};
-ghost use Rattle.biblatex_entries.specs.Entries.{sources};
+ghost use Rattle.biblatex_entries.specs.Entries.{sources, HaveJoinedFields};
 ghost use Rattle.biblatex_inheritance.specs.Views.{offers_in};
 ghost use Rattle.biblatex_inheritance.specs.Solution.{Solves, seen, fault_at, HaveSameHeads, AreOrdered, AreResolved, IsFirstFault, IsOnly, IsRefusedAs, IsResolvedAt, NoneIsCircular};
 
@@ -53,6 +53,8 @@ pub fn resolve(
     ensures readable { IfOk result (λ r. (i : ℕ) → i < length entries.items → fault_at (sources entries.items) (lists references.now) (seen r.entries.items) i ≡ None) }
     // The fields of each entry stand in the order of their names.
     ensures ordered { IfOk result (λ r. AreOrdered r.entries.items) }
+    // Where the chunks of all fields are joined, they still are.
+    ensures joined { IfOk result (λ r. HaveJoinedFields (sources entries.items) → HaveJoinedFields (sources r.entries.items)) }
     // No entry reaches itself.
     ensures acyclic { IfOk result (λ r. NoneIsCircular (lists references.now)) }
     // Each entry was made once.

@@ -29,6 +29,7 @@ fn answer(alloc: Global, case: &Value<'_>, out: &mut Writer) -> Result<(), Refus
         || cases_entries::answer(alloc, kind, case, out)?
         || cases_literature::answer(alloc, kind, case, out)?
         || cases_rendering::answer(alloc, kind, case, out)?
+        || cases_answers::answer(alloc, kind, case, out)?
         || cases_cite::answer(alloc, kind, case, out)?;
     if is_answered {
         return Ok(());

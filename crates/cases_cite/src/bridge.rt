@@ -85,7 +85,7 @@ fn put_entries(out: &mut Writer, library: &Library) -> Result<(), Refusal> {
 }
 
 /// Writes why entries are not bridged.
-fn put_bridge_error(
+pub(crate) fn put_bridge_error(
     alloc: Global,
     case: &Value<'_>,
     out: &mut Writer,

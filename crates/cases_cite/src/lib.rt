@@ -1,10 +1,11 @@
-//! Cases of the bridge from BibLaTeX files to libraries, of documents with their citations, and of the programs.
+//! Cases of the bridge from BibLaTeX files to libraries, of labels and documents with their citations, and of the programs.
 #![tactic(auto)]
 
 mod bridge;
 mod bytes;
 mod document;
 mod files;
+mod labels;
 mod limits;
 mod program;
 mod refusals;
@@ -19,6 +20,7 @@ use std::alloc::Global;
 pub fn answer(alloc: Global, kind: &str, case: &Value<'_>, out: &mut Writer) -> Answered {
     match kind {
         "bridge" => bridge::answer_bridge(alloc, case, out)?,
+        "citation_label" => labels::answer_label(alloc, case, out)?,
         "document" => document::answer_document(alloc, case, out)?,
         "program" => program::answer_program(alloc, case, out)?,
         "show" => show::answer_show(alloc, case, out)?,

@@ -14,11 +14,7 @@ use std::alloc::{AllocError, Global};
 use std::hash::{DefaultHasher, Hash, Hasher};
 
 /// The entry of a member.
-pub(crate) fn entry_member(
-    alloc: Global,
-    case: &Value<'_>,
-    name: &'static str,
-) -> Result<Entry, Refusal> {
+pub fn entry_member(alloc: Global, case: &Value<'_>, name: &'static str) -> Result<Entry, Refusal> {
     match member(case, name) {
         Some(given) => entry_of(alloc, given, ENTRY_DEPTH),
         None => Err(Refusal::Wanted(name, "an entry")),

@@ -13,6 +13,7 @@ mod selectors;
 mod written_entries;
 
 use cases::{Answered, Value, Writer};
+pub use entry_steps::entry_member;
 pub use given_entries::entry_of;
 use std::alloc::Global;
 pub use written_entries::put_entry;

@@ -55,15 +55,20 @@ fn put_ordinals(asked: &AskedLocales<'_>, out: &mut Writer) -> Result<(), AllocE
     }
 }
 
+/// Writes a list of texts.
+fn put_list(out: &mut Writer, texts: &[&str]) -> Result<(), AllocError> {
+    out.begin_array()?;
+    for text in texts {
+        out.string(text)?;
+    }
+    out.end_array()
+}
+
 /// Writes the open quote and the close quotes.
 fn put_quotes(alloc: Global, asked: &AskedLocales<'_>, out: &mut Writer) -> Result<(), AllocError> {
     put_text(out, "open_quote", asked.quote_text(OtherTerm::OpenQuote))?;
     out.key("close_quotes")?;
-    out.begin_array()?;
-    for quote in asked.close_quotes(alloc)? {
-        out.string(quote)?;
-    }
-    out.end_array()
+    put_list(out, asked.close_quotes(alloc)?.as_slice())
 }
 
 /// Writes the member of the name.

@@ -6,11 +6,11 @@ use rendering_locale::{LocaleCode, language};
 use std::alloc::{AllocError, Global};
 
 /// Writes a code, its base language, and the code that stands for its language.
-fn put_code(alloc: Global, out: &mut Writer, code: &LocaleCode) -> Result<(), AllocError> {
+fn put_code(alloc: Global, out: &mut Writer, code: &LocaleCode) -> Result<(), Refusal> {
     put_text(out, "code", code.0.as_str())?;
     put_text(out, "base", code.parse_base())?;
     out.key("fallback")?;
-    put_fallback(out, code.fallback(alloc)?)
+    Ok(put_fallback(out, code.fallback(alloc)?)?)
 }
 
 /// Writes a code, or null.
@@ -36,18 +36,27 @@ pub(crate) fn answer_code(
     out: &mut Writer,
 ) -> Result<(), Refusal> {
     only(alloc, case, &["case", "name", "code"])?;
-    let code = code_of(alloc, case)?;
-    put_code(alloc, out, &code)?;
-    Ok(())
+    put_code(alloc, out, &code_of(alloc, case)?)
 }
 
 /// Writes the language that is wanted.
-fn put_language(
+fn put_wanted(
     out: &mut Writer,
-    asked: &Option<LocaleCode>,
-    own: &Option<LocaleCode>,
-) -> Result<(), AllocError> {
-    put_text(out, "language", language(asked.as_ref(), own.as_ref()))
+    asked: Option<&LocaleCode>,
+    own: Option<&LocaleCode>,
+) -> Result<(), Refusal> {
+    Ok(put_text(out, "language", language(asked, own))?)
+}
+
+/// Writes the language that is wanted of the one asked for and the one of a case.
+fn put_language(
+    alloc: Global,
+    case: &Value<'_>,
+    out: &mut Writer,
+    asked: Option<&LocaleCode>,
+) -> Result<(), Refusal> {
+    let own = maybe_code(alloc, case, "own")?;
+    put_wanted(out, asked, own.as_ref())
 }
 
 /// `language`: the language that is wanted of the one asked for and the style's own.
@@ -58,7 +67,5 @@ pub(crate) fn answer_language(
 ) -> Result<(), Refusal> {
     only(alloc, case, &["case", "name", "asked", "own"])?;
     let asked = maybe_code(alloc, case, "asked")?;
-    let own = maybe_code(alloc, case, "own")?;
-    put_language(out, &asked, &own)?;
-    Ok(())
+    put_language(alloc, case, out, asked.as_ref())
 }

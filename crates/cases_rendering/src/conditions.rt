@@ -8,7 +8,8 @@ use rendering_style::{ChooseTest, Condition};
 use rendering_taxonomy::{ChooseMatch, Kind, TestPosition};
 use std::alloc::Global;
 
-const KINDS: &[(&str, Kind)] = &[
+/// The words of the kinds, in alphabetical order.
+pub const KINDS: &[(&str, Kind)] = &[
     ("article", Kind::Article),
     ("article-journal", Kind::ArticleJournal),
     ("book", Kind::Book),

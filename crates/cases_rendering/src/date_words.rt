@@ -1,11 +1,9 @@
 //! The words of dates and of their parts.
 
-use crate::terms::LENGTHS;
+use crate::terms::form_of;
 use crate::words::word_or;
 use cases::{Refusal, Value, text};
-use rendering_taxonomy::{
-    DateDayForm, DateForm, DateMonthForm, DatePartForm, DateParts, LongShortForm,
-};
+use rendering_taxonomy::{DateDayForm, DateForm, DateMonthForm, DatePartForm, DateParts};
 
 /// Forms of a locale's dates.
 pub(crate) const FORMS: &[(&str, DateForm)] = &[
@@ -35,7 +33,7 @@ const DAYS: &[(&str, DateDayForm)] = &[
 
 /// A year in its form.
 fn year(part: &Value<'_>) -> Result<DatePartForm, Refusal> {
-    Ok(DatePartForm::Year(word_or(part, "form", LENGTHS, LongShortForm::Long)?))
+    Ok(DatePartForm::Year(form_of(part)?))
 }
 
 /// A month in its form.

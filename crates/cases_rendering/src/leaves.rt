@@ -4,12 +4,12 @@ use crate::date_words::{FORMS as DATE_FORMS, PARTS};
 use crate::dates::date_parts;
 use crate::looks::look;
 use crate::names::label_look;
-use crate::terms::{FORMS, LENGTHS, term_of};
+use crate::terms::{FORMS, form_of, term_of};
 use crate::variables::{date_of, numbered_of, printed_of};
 use crate::words::{maybe_word, word_or};
-use cases::{Refusal, Value, is_set, maybe_owned_text, maybe_text, only};
+use cases::{Refusal, Value, is_set, maybe_owned_text, member, only, owned_text, text};
 use rendering_style::{Date, Label, Node, Number, Text, TextLook, TextTarget};
-use rendering_taxonomy::{DateParts, LongShortForm, NumberForm, TermForm};
+use rendering_taxonomy::{DateParts, NumberForm, TermForm};
 use std::alloc::Global;
 
 /// Forms of numbers.
@@ -20,9 +20,9 @@ pub(crate) const NUMBER_FORMS: &[(&str, NumberForm)] = &[
 ];
 
 /// The answer to a variable, in its form.
-fn variable_target(node: &Value<'_>, word: &str) -> Result<TextTarget, Refusal> {
-    let form = word_or(node, "form", LENGTHS, LongShortForm::Long)?;
-    Ok(TextTarget::Variable(printed_of(word)?, form))
+fn variable_target(node: &Value<'_>) -> Result<TextTarget, Refusal> {
+    let form = form_of(node)?;
+    Ok(TextTarget::Variable(printed_of(text(node, "variable")?)?, form))
 }
 
 /// A term in its form.
@@ -31,18 +31,41 @@ fn term_target(node: &Value<'_>) -> Result<TextTarget, Refusal> {
     Ok(TextTarget::Term(term_of(node, "term")?, form, is_set(node, "plural")?))
 }
 
+/// A macro.
+fn macro_target(alloc: Global, node: &Value<'_>) -> Result<TextTarget, Refusal> {
+    Ok(TextTarget::Macro(owned_text(alloc, node, "macro")?))
+}
+
+/// A text of the style's own.
+fn value_target(alloc: Global, node: &Value<'_>) -> Result<TextTarget, Refusal> {
+    Ok(TextTarget::Value(owned_text(alloc, node, "value")?))
+}
+
+/// The members that may say what a text node prints.
+const TARGETS: [&str; 4] = ["variable", "macro", "term", "value"];
+
+/// The one member that says what a text node prints, where there is just one.
+fn said(node: &Value<'_>) -> Option<&'static str> {
+    let mut said = None;
+    for name in TARGETS {
+        if member(node, name).is_some() {
+            if said.is_some() {
+                return None;
+            }
+            said = Some(name);
+        }
+    }
+    said
+}
+
 /// What a text node prints: that of the one member that says it.
 fn target(alloc: Global, node: &Value<'_>) -> Result<TextTarget, Refusal> {
-    let variable = maybe_text(node, "variable")?;
-    let called = maybe_text(node, "macro")?;
-    let term = maybe_text(node, "term")?;
-    let value = maybe_text(node, "value")?;
-    match (variable, called, term, value) {
-        (Some(word), None, None, None) => variable_target(node, word),
-        (None, Some(name), None, None) => { Ok(TextTarget::Macro(String::from_str(alloc, name)?)) }
-        (None, None, Some(_), None) => term_target(node),
-        (None, None, None, Some(text)) => Ok(TextTarget::Value(String::from_str(alloc, text)?)),
-        _ => Err(Refusal::Wanted("a text", "of a variable, macro, term or value")),
+    match said(node) {
+        Some("variable") => variable_target(node),
+        Some("macro") => macro_target(alloc, node),
+        Some("term") => term_target(node),
+        Some(_) => value_target(alloc, node),
+        None => Err(Refusal::Wanted("a text", "of a variable, macro, term or value")),
     }
 }
 

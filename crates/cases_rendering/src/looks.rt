@@ -1,14 +1,14 @@
 //! How characters and nodes look.
 
 use crate::members::text_or_empty;
-use crate::words::maybe_word;
-use cases::{Refusal, Value, member, only};
+use crate::words::{maybe_word, word_of};
+use cases::{Refusal, Value, Writer, member, only, put_text};
 use rendering_style::Look;
 use rendering_taxonomy::{
     Display, FontStyle, FontVariant, FontWeight, Formatting, FormattingChanges, TextDecoration,
     VerticalAlign,
 };
-use std::alloc::Global;
+use std::alloc::{AllocError, Global};
 
 const STYLES: &[(&str, FontStyle)] = &[
     ("normal", FontStyle::Normal),
@@ -55,16 +55,22 @@ const MEMBERS: [&str; 5] = [
     "vertical_align",
 ];
 
+/// Sets what an object says of the font.
+fn set_font(given: &Value<'_>, changes: &mut FormattingChanges) -> Result<(), Refusal> {
+    changes.font_style = maybe_word(given, "font_style", STYLES)?;
+    changes.font_variant = maybe_word(given, "font_variant", VARIANTS)?;
+    changes.font_weight = maybe_word(given, "font_weight", WEIGHTS)?;
+    Ok(())
+}
+
 /// What an object says of the look of characters.
 fn changes_in(alloc: Global, given: &Value<'_>) -> Result<FormattingChanges, Refusal> {
     only(alloc, given, &MEMBERS)?;
-    Ok(FormattingChanges {
-        font_style: maybe_word(given, "font_style", STYLES)?,
-        font_variant: maybe_word(given, "font_variant", VARIANTS)?,
-        font_weight: maybe_word(given, "font_weight", WEIGHTS)?,
-        text_decoration: maybe_word(given, "text_decoration", DECORATIONS)?,
-        vertical_align: maybe_word(given, "vertical_align", ALIGNS)?,
-    })
+    let mut changes = FormattingChanges::default();
+    set_font(given, &mut changes)?;
+    changes.text_decoration = maybe_word(given, "text_decoration", DECORATIONS)?;
+    changes.vertical_align = maybe_word(given, "vertical_align", ALIGNS)?;
+    Ok(changes)
 }
 
 /// What the member `formatting` says of the look of characters; what is left out stays open.
@@ -103,4 +109,72 @@ pub(crate) fn look(alloc: Global, node: &Value<'_>) -> Result<Look, Refusal> {
         suffix,
         display,
     })
+}
+
+/// How characters look of which nothing is said.
+pub(crate) fn plain() -> Formatting {
+    settled(FormattingChanges::default())
+}
+
+/// Whether characters look as they do of themselves.
+pub(crate) fn is_plain(formatting: Formatting) -> bool {
+    formatting == plain()
+}
+
+/// Writes the word of an attribute, unless it is the one that characters have of themselves.
+fn put_word<T: Copy + PartialEq>(
+    out: &mut Writer,
+    name: &str,
+    words: &[(&'static str, T)],
+    usual: T,
+    value: T,
+) -> Result<(), AllocError> {
+    if value == usual {
+        return Ok(());
+    }
+    put_text(out, name, word_of(words, value))
+}
+
+/// Writes the members of a formatting that are not as they are of themselves.
+fn put_members(out: &mut Writer, it: Formatting) -> Result<(), AllocError> {
+    put_word(out, "font_style", STYLES, FontStyle::Normal, it.font_style)?;
+    put_word(
+        out,
+        "font_variant",
+        VARIANTS,
+        FontVariant::Normal,
+        it.font_variant,
+    )?;
+    put_word(
+        out,
+        "font_weight",
+        WEIGHTS,
+        FontWeight::Normal,
+        it.font_weight,
+    )?;
+    put_word(
+        out,
+        "text_decoration",
+        DECORATIONS,
+        TextDecoration::None,
+        it.text_decoration,
+    )?;
+    put_word(
+        out,
+        "vertical_align",
+        ALIGNS,
+        VerticalAlign::None,
+        it.vertical_align,
+    )
+}
+
+/// Writes a formatting as the member `formatting`, unless characters look plain.
+pub(crate) fn put_formatting(out: &mut Writer, formatting: Formatting) -> Result<(), AllocError> {
+    if is_plain(formatting) {
+        return Ok(());
+    }
+    out.key("formatting")?;
+    out.begin_object()?;
+    put_members(out, formatting)?;
+    out.end_object()
 }

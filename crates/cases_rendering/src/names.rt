@@ -113,10 +113,15 @@ fn bare_names(alloc: Global, node: &Value<'_>) -> Result<Names, Refusal> {
     })
 }
 
-/// Sets what else is said of names.
-fn set_rest(alloc: Global, node: &Value<'_>, names: &mut Names) -> Result<(), Refusal> {
+/// Sets what is said of single names and of the names left out.
+fn set_names(alloc: Global, node: &Value<'_>, names: &mut Names) -> Result<(), Refusal> {
     names.name = name(alloc, node)?;
     names.et_al = et_al(alloc, node)?;
+    Ok(())
+}
+
+/// Sets the label of names and what stands between them.
+fn set_label(alloc: Global, node: &Value<'_>, names: &mut Names) -> Result<(), Refusal> {
     names.label = label(alloc, node)?;
     names.delimiter = maybe_owned_text(alloc, node, "delimiter")?;
     Ok(())
@@ -142,6 +147,7 @@ const MEMBERS: [&str; 12] = [
 pub(crate) fn names(alloc: Global, node: &Value<'_>) -> Result<Names, Refusal> {
     only(alloc, node, &MEMBERS)?;
     let mut names = bare_names(alloc, node)?;
-    set_rest(alloc, node, &mut names)?;
+    set_names(alloc, node, &mut names)?;
+    set_label(alloc, node, &mut names)?;
     Ok(names)
 }

@@ -20,21 +20,23 @@ pub(crate) fn answer_year(
     only(alloc, case, &["case", "name", "year", "short", "ad", "bc"])?;
     let year = small_number(case, "year")?;
     let short = is_set(case, "short")?;
-    let written = written_year(alloc, year, short, text(case, "ad")?, text(case, "bc")?)?;
-    Ok(put_text(out, "text", written.as_str())?)
+    let ad = text(case, "ad")?;
+    let bc = text(case, "bc")?;
+    Ok(put_year(alloc, out, year, short, ad, bc)?)
 }
 
-/// What is written of a year.
-fn written_year(
+/// Writes what is written of a year.
+fn put_year(
     alloc: Global,
+    out: &mut Writer,
     year: i32,
     short: bool,
     ad: &str,
     bc: &str,
-) -> Result<String, AllocError> {
+) -> Result<(), AllocError> {
     let mut written = String::new(alloc);
     push_year(&mut written, year, short, ad, bc)?;
-    Ok(written)
+    put_text(out, "text", written.as_str())
 }
 
 /// `suffix_letters`: the letters of a place from zero.
@@ -47,15 +49,14 @@ pub(crate) fn answer_letters(
     let Ok(place) = u16::try_from(number(case, "place")?) else {
         return Err(Refusal::Wanted("place", "an integer from 0 of 16 bits"));
     };
-    let written = written_letters(alloc, place)?;
-    Ok(put_text(out, "text", written.as_str())?)
+    Ok(put_letters(alloc, out, place)?)
 }
 
-/// The letters of a place.
-fn written_letters(alloc: Global, place: u16) -> Result<String, AllocError> {
+/// Writes the letters of a place.
+fn put_letters(alloc: Global, out: &mut Writer, place: u16) -> Result<(), AllocError> {
     let mut written = String::new(alloc);
     push_suffix_letters(&mut written, place)?;
-    Ok(written)
+    put_text(out, "text", written.as_str())
 }
 
 /// What is written of the number of a case in the form.
@@ -65,8 +66,9 @@ fn written_number(
     form: NumberForm,
     ordinals: &Ordinals,
 ) -> Result<String, Refusal> {
+    let number = small_number(case, "number")?;
     let mut written = String::new(alloc);
-    push_number(&mut written, ordinals, form, small_number(case, "number")?)?;
+    push_number(&mut written, ordinals, form, number)?;
     Ok(written)
 }
 
@@ -78,7 +80,7 @@ fn written_numeral(
     ordinals: &Ordinals,
 ) -> Result<String, Refusal> {
     let numeral: MaybeTyped<Numeric> = given(alloc, case, "numeral")?;
-    Ok(written_of(alloc, &numeral, form, ordinals)?)
+    written_of(alloc, &numeral, form, ordinals)
 }
 
 /// What is written of a number with letters, or of the text in its place, in the form.
@@ -87,7 +89,7 @@ fn written_of(
     numeral: &MaybeTyped<Numeric>,
     form: NumberForm,
     ordinals: &Ordinals,
-) -> Result<String, AllocError> {
+) -> Result<String, Refusal> {
     let mut written = String::new(alloc);
     push_numeral_or_text(&mut written, ordinals, form, numeral)?;
     Ok(written)
@@ -113,6 +115,11 @@ fn written(alloc: Global, case: &Value<'_>, ordinals: &Ordinals) -> Result<Strin
     written_number(alloc, case, form, ordinals)
 }
 
+/// Writes a text as the member `text`.
+fn put(out: &mut Writer, text: &str) -> Result<(), Refusal> {
+    Ok(put_text(out, "text", text)?)
+}
+
 /// Writes what is written by these endings.
 fn put_written(
     alloc: Global,
@@ -121,8 +128,7 @@ fn put_written(
     out: &mut Writer,
 ) -> Result<(), Refusal> {
     let written = written(alloc, case, ordinals)?;
-    put_text(out, "text", written.as_str())?;
-    Ok(())
+    put(out, written.as_str())
 }
 
 /// `write_number`: a number, or one with letters, or the text in its place, in a form.

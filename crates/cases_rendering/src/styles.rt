@@ -87,16 +87,26 @@ const MEMBERS: [&str; 8] = [
     "bibliography",
 ];
 
+/// Sets what a style is made of.
+fn set_all(alloc: Global, style: &Value<'_>, parts: &mut StyleParts) -> Result<(), Refusal> {
+    only(alloc, style, &MEMBERS)?;
+    set_head(alloc, style, parts)?;
+    set_rest(alloc, style, parts)
+}
+
+/// What a style is made of.
+fn parts_of(alloc: Global, style: &Value<'_>) -> Result<StyleParts, Refusal> {
+    let mut parts = empty_parts(alloc);
+    set_all(alloc, style, &mut parts)?;
+    Ok(parts)
+}
+
 /// What the style of a case is made of.
 fn read_parts(alloc: Global, case: &Value<'_>) -> Result<StyleParts, Refusal> {
-    let Some(style) = member(case, "style") else {
-        return Err(Refusal::Wanted("style", "a style"));
-    };
-    only(alloc, style, &MEMBERS)?;
-    let mut parts = empty_parts(alloc);
-    set_head(alloc, style, &mut parts)?;
-    set_rest(alloc, style, &mut parts)?;
-    Ok(parts)
+    match member(case, "style") {
+        Some(style) => parts_of(alloc, style),
+        None => Err(Refusal::Wanted("style", "a style")),
+    }
 }
 
 /// Writes that the macro of this name reaches itself.
@@ -114,11 +124,21 @@ fn put_refusal(out: &mut Writer, error: StyleError) -> Result<(), Refusal> {
     }
 }
 
+/// Why there is no style of these parts, if there is none.
+fn refusal(alloc: Global, parts: StyleParts) -> Option<StyleError> {
+    Style::new(alloc, parts).err()
+}
+
+/// Writes that a style was accepted, or why it was refused.
+fn put_verdict(out: &mut Writer, refusal: Option<StyleError>) -> Result<(), Refusal> {
+    match refusal {
+        Some(error) => put_refusal(out, error),
+        None => Ok(put_text(out, "style", "accepted")?),
+    }
+}
+
 /// `style`: whether there is a style of these parts.
 pub(crate) fn answer(alloc: Global, case: &Value<'_>, out: &mut Writer) -> Result<(), Refusal> {
     only(alloc, case, &["case", "name", "style"])?;
-    match Style::new(alloc, read_parts(alloc, case)?) {
-        Ok(_) => Ok(put_text(out, "style", "accepted")?),
-        Err(error) => put_refusal(out, error),
-    }
+    put_verdict(out, refusal(alloc, read_parts(alloc, case)?))
 }

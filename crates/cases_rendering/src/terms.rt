@@ -1,7 +1,7 @@
 //! The words of terms, of their forms and of the labels of locators.
 
 use crate::variables::any;
-use crate::words::value_of;
+use crate::words::{value_of, word_or};
 use cases::{Refusal, Value, text};
 use rendering_taxonomy::{LabelPluralize, Locator, LongShortForm, OtherTerm, Term, TermForm};
 
@@ -15,7 +15,7 @@ pub(crate) const FORMS: &[(&str, TermForm)] = &[
 ];
 
 /// A long or a short form.
-pub(crate) const LENGTHS: &[(&str, LongShortForm)] = &[
+const LENGTHS: &[(&str, LongShortForm)] = &[
     ("long", LongShortForm::Long),
     ("short", LongShortForm::Short),
 ];
@@ -108,4 +108,9 @@ pub(crate) fn term_of(object: &Value<'_>, name: &'static str) -> Result<Term, Re
         Some(term) => Ok(term),
         None => Err(Refusal::Wanted(name, "the word of a term")),
     }
+}
+
+/// A long or a short form; the long one where it is left out.
+pub fn form_of(object: &Value<'_>) -> Result<LongShortForm, Refusal> {
+    word_or(object, "form", LENGTHS, LongShortForm::Long)
 }

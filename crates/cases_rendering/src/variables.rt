@@ -138,3 +138,11 @@ pub(crate) fn date_of(node: &Value<'_>) -> Result<DateVariable, Refusal> {
         None => Err(Refusal::Wanted("variable", "one of a date")),
     }
 }
+
+/// The variable of a case.
+pub fn variable_of(case: &Value<'_>) -> Result<Variable, Refusal> {
+    match any(text(case, "variable")?) {
+        Some(variable) => Ok(variable),
+        None => Err(Refusal::Wanted("variable", "a variable")),
+    }
+}

@@ -13,6 +13,16 @@ pub(crate) fn value_of<T: Copy>(words: &[(&str, T)], wanted: &str) -> Option<T> 
     None
 }
 
+/// The word of a value in a table of words; empty where the table does not have it.
+pub(crate) fn word_of<T: Copy + PartialEq>(words: &[(&'static str, T)], wanted: T) -> &'static str {
+    for word in words {
+        if word.1 == wanted {
+            return word.0;
+        }
+    }
+    ""
+}
+
 /// The value of the word of a member that may be left out.
 pub(crate) fn maybe_word<T: Copy>(
     object: &Value<'_>,
@@ -53,6 +63,20 @@ fn word_in<T: Copy>(
     }
 }
 
+/// The values of the words of a list of the name.
+fn words_in<T: Copy>(
+    alloc: Global,
+    items: &[Value<'_>],
+    name: &'static str,
+    words: &[(&str, T)],
+) -> Result<Vec<T>, Refusal> {
+    let mut values = Vec::new(alloc);
+    for item in items {
+        values.push(word_in(item, name, words)?)?;
+    }
+    Ok(values)
+}
+
 /// The values of the words of a list; one that is left out is empty.
 pub(crate) fn words<T: Copy>(
     alloc: Global,
@@ -60,12 +84,8 @@ pub(crate) fn words<T: Copy>(
     name: &'static str,
     words: &[(&str, T)],
 ) -> Result<Vec<T>, Refusal> {
-    let mut values = Vec::new(alloc);
-    let Some(items) = items(object, name)? else {
-        return Ok(values);
-    };
-    for item in items {
-        values.push(word_in(item, name, words)?)?;
+    match items(object, name)? {
+        Some(items) => words_in(alloc, items, name, words),
+        None => Ok(Vec::new(alloc)),
     }
-    Ok(values)
 }

@@ -1,5 +1,5 @@
 -- Files that say the same, and files that do not.
-use Rattle.std.proofs.Common.{◌≡◌, ◌≢◌, ◌↔◌, ℕ, List, [], ◌∷◌, Contains, codes, refl, sym, subst, true≢false, ⊎_elim, arith}
+use Rattle.std.proofs.Common.{◌≡◌, ◌≢◌, ◌↔◌, ℕ, List, [], ◌∷◌, Contains, true, codes, refl, sym, subst, true≢false, ⊎_elim, arith}
 use Rattle.std.specs.List.{IsDistinct}
 use Rattle.std.proofs.lemmas.List.Elements.{All-cons, All-nil, All-contains, Contains-append_cases, Contains-append_left, Contains-append_right}
 use Rattle.std.proofs.lemmas.Option.{same_Some}
@@ -7,13 +7,18 @@ use Rattle.biblatex_content.specs.Styled.{Member}
 use Rattle.biblatex_entries.specs.Entries.{Source}
 use Rattle.biblatex_entries.specs.TypeNames.{known}
 use Rattle.biblatex_fields.specs.Fields.{Named}
+use Rattle.biblatex_fields.specs.Value.{Value}
 use Rattle.interop_values.specs.Values.{values}
-use Rattle.interop_values.specs.Written.{written_fields, AreWrittenApart}
+use Rattle.interop_values.specs.Written.{Written, written_fields, AreWrittenApart}
 use Rattle.interop.specs.SameFiles.{SaysTheSameAs, SayTheSame}
 
 -- an entry of a known type
 abbrev entry : List ℕ → List ℕ → List Named → Source
 entry key type_name fields = record { key = key; entry_type = known type_name; fields = fields }
+
+-- a value of a text, wherever its chunks stand
+abbrev spelling : List Member → Value
+spelling text = record { text = text; places = []; is_joined = true }
 
 -- an entry says the same as itself, unless two of its fields are written under one name
 pub itself : (e : Source) → AreWrittenApart e.fields → SaysTheSameAs e e
@@ -29,8 +34,8 @@ swapped a b x has = ⊎_elim (Contains-append_right (b ∷ []) (a ∷ []) x) (Co
 -- a master's thesis with a title, a school and an empty note, and a thesis with an institution and a title
 pub other_names_and_order : (key : List ℕ) (t s : Member) (title school : List Member)
     → SayTheSame
-    (entry key (codes "mastersthesis") ((codes "title", t ∷ title) ∷ (codes "school", s ∷ school) ∷ (codes "note", []) ∷ []) ∷ [])
-    (entry key (codes "thesis") ((codes "institution", s ∷ school) ∷ (codes "title", t ∷ title) ∷ []) ∷ [])
+    (entry key (codes "mastersthesis") ((codes "title", spelling (t ∷ title)) ∷ (codes "school", spelling (s ∷ school)) ∷ (codes "note", spelling []) ∷ []) ∷ [])
+    (entry key (codes "thesis") ((codes "institution", spelling (s ∷ school)) ∷ (codes "title", spelling (t ∷ title)) ∷ []) ∷ [])
 unfolding IsDistinct
 other_names_and_order key t s title school = (
   record {
@@ -47,15 +52,15 @@ other_names_and_order key t s title school = (
 
 -- two entries with other notes do not say the same
 pub other_note : (key : List ℕ) (m n : Member) (first second : List Member) → m ∷ first ≢ n ∷ second
-    → SayTheSame (entry key (codes "book") ((codes "note", m ∷ first) ∷ []) ∷ []) (entry key (codes "book") ((codes "note", n ∷ second) ∷ []) ∷ []) → ⊥
+    → SayTheSame (entry key (codes "book") ((codes "note", spelling (m ∷ first)) ∷ []) ∷ []) (entry key (codes "book") ((codes "note", spelling (n ∷ second)) ∷ []) ∷ []) → ⊥
 other_note key m n first second differ h =
-    differ (All-contains (λ (f : Named). f.1 ≡ n ∷ second) ((codes "note", n ∷ second) ∷ []) (codes "note", m ∷ first)
-    (All-cons (λ (f : Named). f.1 ≡ n ∷ second) (codes "note", n ∷ second) [] refl (All-nil (λ (f : Named). f.1 ≡ n ∷ second)))
+    differ (All-contains (λ (f : Written). f.1 ≡ n ∷ second) ((codes "note", n ∷ second) ∷ []) (codes "note", m ∷ first)
+    (All-cons (λ (f : Written). f.1 ≡ n ∷ second) (codes "note", n ∷ second) [] refl (All-nil (λ (f : Written). f.1 ≡ n ∷ second)))
     ((h.0.fields.fields (codes "note") (m ∷ first)).0 (0, omega arith, refl)))
 
 -- two fields that are written under one name
 abbrev journals : List Member → List Member → List Named
-journals journal journaltitle = (codes "journal", journal) ∷ (codes "journaltitle", journaltitle) ∷ []
+journals journal journaltitle = (codes "journal", spelling journal) ∷ (codes "journaltitle", spelling journaltitle) ∷ []
 
 -- no entry says the same as one with both
 pub two_of_one_name : (e f : Source) (m n : Member) (first second : List Member) → e.fields ≡ journals (m ∷ first) (n ∷ second) → SaysTheSameAs e f → ⊥

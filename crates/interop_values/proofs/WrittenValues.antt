@@ -10,9 +10,10 @@ use Rattle.std.proofs.lemmas.Map.Views.{Contains-from_lookup, lookup-from_Contai
 use Rattle.std.proofs.lemmas.Option.{none-some, same_Some}
 use Rattle.std.proofs.lemmas.Slice.Eq.{bytes_eq-Decides}
 use Rattle.biblatex_content.specs.Styled.{Member}
-use Rattle.biblatex_fields.specs.Fields.{Named, value_named}
+use Rattle.biblatex_fields.specs.Fields.{Named, value_named, text_named}
+use Rattle.biblatex_fields.specs.Value.{Value}
 use Rattle.interop_values.specs.Values.{filled, first_or, other_names, is_never_written, values}
-use Rattle.interop_values.specs.Written.{written_name, written_fields, AreWrittenApart, AreWrittenAlike}
+use Rattle.interop_values.specs.Written.{Written, written_name, written_fields, AreWrittenApart, AreWrittenAlike}
 
 -- a row of the names: fields of the first name are written under it, and those of the other under the first
 record IsRow (names : List ℕ × List ℕ) : Type 0 where
@@ -111,11 +112,11 @@ none_read look q h = by_row (find (λ names. bytes_eq q names.1) other_names) re
         ap look r.1 ∙ (sym (ap (option_and_then look) r.0.other) ∙ next_none (look p.0) (option_and_then look (lookup (bytes_eq p.0) other_names)) (open_at p.0 r.0.own is))
 
 -- a content as it is written
-abbrev written_as : List ℕ → Option (List Member) → List Named
+abbrev written_as : List ℕ → Option (List Member) → List Written
 written_as name o = option_to_list (option_map (λ ms. (written_name name, ms)) o)
 
 -- the written fields of fields that are read somewhere
-abbrev written_of : Read → List Named → List Named
+abbrev written_of : Read → List Named → List Written
 written_of look gs = flat_map (λ f. written_as f.0 (look f.0)) gs
 
 -- a field that is found was read under a name that is written so
@@ -132,11 +133,11 @@ found_read look (f ∷ gs) n ms h = by_value (look f.0) refl h (found_read look 
     by_value (Some v) e is more = by_test v e (bytes_eq n (written_name f.0)) refl is more
 
 -- a field that was read is among those that are written
-read_found : (look : Read) (gs : List Named) (q : List ℕ) (v ms : List Member) → value_named q gs ≡ Some v → look q ≡ Some ms → Contains (written_of look gs) (written_name q, ms)
+read_found : (look : Read) (gs : List Named) (q : List ℕ) (v ms : List Member) → text_named q gs ≡ Some v → look q ≡ Some ms → Contains (written_of look gs) (written_name q, ms)
 read_found look [] q v ms h there = absurd (none-some v h)
 read_found look (f ∷ gs) q v ms h there = by_test (bytes_eq q f.0) refl h (λ is. read_found look gs q v ms is there)
   where
-    by_test : (b : Bool) → bytes_eq q f.0 ≡ b → cond b (Some f.1) (value_named q gs) ≡ Some v → (value_named q gs ≡ Some v → Contains (written_of look gs) (written_name q, ms)) → Contains (written_as f.0 (look f.0) ++ written_of look gs) (written_name q, ms)
+    by_test : (b : Bool) → bytes_eq q f.0 ≡ b → option_map (λ (x : Value). x.text) (cond b (Some f.1) (value_named q gs)) ≡ Some v → (text_named q gs ≡ Some v → Contains (written_of look gs) (written_name q, ms)) → Contains (written_as f.0 (look f.0) ++ written_of look gs) (written_name q, ms)
     by_test true e is more =
         let same : q ≡ f.0 = (bytes_eq-Decides q f.0).0 e in
         Contains-append_left (written_as f.0 (look f.0)) (written_of look gs) (written_name q, ms)
@@ -145,7 +146,7 @@ read_found look (f ∷ gs) q v ms h there = by_test (bytes_eq q f.0) refl h (λ 
 
 -- what stands under each name that is read in fields
 abbrev read_in : List Named → Read
-read_in fs q = filled (value_named q fs)
+read_in fs q = filled (text_named q fs)
 
 -- what stands under a written name is what a look-up finds in the written fields
 values-lookup : (fs : List Named) → AreWrittenApart fs → (n : List ℕ) → values fs n ≡ lookup (bytes_eq n) (written_fields fs)
@@ -167,10 +168,10 @@ values-lookup fs apart n = by_value (values fs n) refl
     by_value (Some ms) e =
         let r : IsRead (read_in fs) n ms = some_read (read_in fs) n ms e in
         sym (lookup-from_Contains nat_list_eq_equiv n ms (written_fields fs) apart
-        (subst (λ (name : List ℕ). Contains (written_fields fs) (name, ms)) r.1 (read_found (read_in fs) fs r.0 ms ms (filled_some (value_named r.0 fs) ms r.2) r.2)))
+        (subst (λ (name : List ℕ). Contains (written_fields fs) (name, ms)) r.1 (read_found (read_in fs) fs r.0 ms ms (filled_some (text_named r.0 fs) ms r.2) r.2)))
 
 -- written fields with the same pairs have the same under each name
-found_alike : (ws xs : List Named) → (distinct_ws : IsDistinct bytes_eq (keys_of ws)) → (distinct_xs : IsDistinct bytes_eq (keys_of xs)) → ((name : List ℕ) (value : List Member) → Contains ws (name, value) ↔ Contains xs (name, value)) → (n : List ℕ) → lookup (bytes_eq n) ws ≡ lookup (bytes_eq n) xs
+found_alike : (ws xs : List Written) → (distinct_ws : IsDistinct bytes_eq (keys_of ws)) → (distinct_xs : IsDistinct bytes_eq (keys_of xs)) → ((name : List ℕ) (value : List Member) → Contains ws (name, value) ↔ Contains xs (name, value)) → (n : List ℕ) → lookup (bytes_eq n) ws ≡ lookup (bytes_eq n) xs
 found_alike ws xs distinct_ws distinct_xs same n = by_first (lookup (bytes_eq n) ws) refl
   where
     exact : (x y : List ℕ) → bytes_eq x y ≡ true → x ≡ y

@@ -4,7 +4,7 @@ use Rattle.std.specs.List.{list_any}
 use Rattle.std.specs.Map.{lookup}
 use Rattle.std.specs.Str.{bytes_eq}
 use Rattle.biblatex_content.specs.Styled.{Member}
-use Rattle.biblatex_fields.specs.Fields.{Named, value_named}
+use Rattle.biblatex_fields.specs.Fields.{Named, text_named}
 use Rattle.biblatex_entries.specs.Typed.{characters_of}
 
 -- what stands under each written name
@@ -40,12 +40,12 @@ is_never_written name = list_any (λ names. bytes_eq name names.1) other_names
 
 -- the content of a field by its other name, where it has one
 abbrev pub by_other_name : List ℕ → List Named → Option (List Member)
-by_other_name name fs = option_and_then (λ other. filled (value_named other fs)) (lookup (bytes_eq name) other_names)
+by_other_name name fs = option_and_then (λ other. filled (text_named other fs)) (lookup (bytes_eq name) other_names)
 
 -- what stands under a written name: of two fields that are written as one, the one that was read under it, unless it is empty; under the
 -- other of the two names nothing stands
 abbrev pub values : List Named → Values
-values fs name = if is_never_written name then None else first_or (filled (value_named name fs)) (by_other_name name fs)
+values fs name = if is_never_written name then None else first_or (filled (text_named name fs)) (by_other_name name fs)
 
 -- the characters under a name; none where nothing stands under it
 abbrev pub text_under : List ℕ → Values → List ℕ

@@ -4,21 +4,25 @@ use Rattle.std.specs.List.{flat_map, IsDistinct}
 use Rattle.std.specs.Map.{keys_of}
 use Rattle.std.specs.Str.{bytes_eq}
 use Rattle.biblatex_content.specs.Styled.{Member}
-use Rattle.biblatex_fields.specs.Fields.{Named, value_named}
+use Rattle.biblatex_fields.specs.Fields.{Named, text_named}
 use Rattle.interop_values.specs.Values.{filled, other_names}
 
 -- the name under which a field is written: `journaltitle` for `journal`, and so on; most fields are written under their own
 abbrev pub written_name : List ℕ → List ℕ
 written_name name = unwrap_or (option_map (λ names. names.0) (find (λ names. bytes_eq name names.1) other_names)) name
 
+-- a written name and what is written under it
+abbrev pub Written : Type 0
+Written = List ℕ × List Member
+
 -- a field as it is written; one with nothing in it is not written
-abbrev pub written_field : List ℕ → Option (List Member) → List Named
+abbrev pub written_field : List ℕ → Option (List Member) → List Written
 written_field name value = option_to_list (option_map (λ ms. (written_name name, ms)) (filled value))
 
 -- the fields with something in them, each under its written name; of several fields of one name, which no entry of a file has, the value
 -- of the first counts
-abbrev pub written_fields : List Named → List Named
-written_fields fs = flat_map (λ f. written_field f.0 (value_named f.0 fs)) fs
+abbrev pub written_fields : List Named → List Written
+written_fields fs = flat_map (λ f. written_field f.0 (text_named f.0 fs)) fs
 
 -- No two fields with something in them are written under one name.
 abbrev pub AreWrittenApart : List Named → Type 0

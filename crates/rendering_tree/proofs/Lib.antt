@@ -1,9 +1,11 @@
 pub mod TreesReading
 pub mod LawsNormal
 pub mod TreesFinding
+pub mod TreesParting
 pub mod SameDecided
 pub mod ViewsLevels
 pub mod SimplifySteps
 pub mod ViewsEquality
 pub mod WritingTaken
 pub mod WritingNested
+pub mod WritingDisplayed

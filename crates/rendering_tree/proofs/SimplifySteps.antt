@@ -72,7 +72,7 @@ normal-followed_by (before x xs) ys zs h k e =
     let p = normals x (followed_by xs ys) h in
     normal_from x (followed_by xs zs) p.first (ap not (joins-followed_by x xs ys zs e) ∙ p.apart) (normal-followed_by xs ys zs p.others k e)
 
-followed_by-assoc : (xs ys zs : Children) → followed_by (followed_by xs ys) zs ≡ followed_by xs (followed_by ys zs)
+pub followed_by-assoc : (xs ys zs : Children) → followed_by (followed_by xs ys) zs ≡ followed_by xs (followed_by ys zs)
 followed_by-assoc nothing ys zs = refl
 followed_by-assoc (before x xs) ys zs = ap (before x) (followed_by-assoc xs ys zs)
 

@@ -1,6 +1,7 @@
 pub mod Metas
 pub mod Tokens
 pub mod Trees
+pub mod Parting
 pub mod Same
 pub mod Laws
 pub mod Views

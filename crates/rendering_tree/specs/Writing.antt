@@ -2,7 +2,7 @@
 use Rattle.std.specs.Prelude.{ℕ, List, [], ◌∷◌, ◌++◌}
 use Rattle.std.specs.List.{flat_map}
 use Rattle.rendering_output.specs.Writing.{Tag, words, spanned, divided, linked, plain_tag, html_tag, AreNested}
-use Rattle.rendering_tree.specs.Trees.{Child, Children, Text, Elem, Markup, Link, Transparent, nothing, before}
+use Rattle.rendering_tree.specs.Trees.{Child, Children, Element, Text, Elem, Markup, Link, Transparent, nothing, before}
 
 abbrev mutual
   -- the tags and texts of a child
@@ -21,6 +21,14 @@ abbrev mutual
 -- in plain text
 abbrev pub plain_text : Children → List ℕ
 plain_text xs = flat_map plain_tag (tags xs)
+
+-- the same of a child
+abbrev pub plain_child_text : Child → List ℕ
+plain_child_text x = flat_map plain_tag (tags_in x)
+
+-- and of an element
+abbrev pub plain_element_text : Element → List ℕ
+plain_element_text e = flat_map plain_tag (divided e.display (tags e.children))
 
 -- in HTML
 abbrev pub html_text : Children → List ℕ

@@ -5,6 +5,7 @@ mod copies;
 mod element;
 mod equal;
 mod find;
+mod remove;
 mod simplify;
 mod tree_laws;
 mod writing;

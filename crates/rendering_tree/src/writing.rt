@@ -1,9 +1,10 @@
 //! Trees in plain text and in HTML.
 
-ghost use Rattle.std.specs.Prelude.{OnOk};
+ghost use Rattle.std.specs.Prelude.{OnOk, Some};
+ghost use Rattle.laws.specs.Text.{text};
 ghost use Rattle.rendering_output.specs.Writing.{WritesTags, divided};
-ghost use Rattle.rendering_tree.specs.Views.{child, tree};
-ghost use Rattle.rendering_tree.specs.Writing.{tags, tags_in};
+ghost use Rattle.rendering_tree.specs.Views.{child, element, tree};
+ghost use Rattle.rendering_tree.specs.Writing.{tags, tags_in, plain_text, plain_child_text, plain_element_text};
 
 use crate::{Elem, ElemChild, ElemChildren};
 use rendering_output::BufWriteFormat;
@@ -59,5 +60,32 @@ impl Elem {
         self.children.write_buf(w, format)?;
         format.end(w, self.display)?;
         Ok(())
+    }
+}
+
+impl fmt::Display for ElemChildren {
+    ghost output = { λ cs. Some (text (plain_text (tree cs))) };
+
+    /// Writes the children in plain text, one after the other.
+    fn fmt<W: fmt::Write>(&self, f: &mut fmt::Formatter<W>) -> fmt::Result {
+        ElemChildren::write_buf(self, f, BufWriteFormat::Plain)
+    }
+}
+
+impl fmt::Display for ElemChild {
+    ghost output = { λ c. Some (text (plain_child_text (child c))) };
+
+    /// Writes the child in plain text.
+    fn fmt<W: fmt::Write>(&self, f: &mut fmt::Formatter<W>) -> fmt::Result {
+        ElemChild::write_buf(self, f, BufWriteFormat::Plain)
+    }
+}
+
+impl fmt::Display for Elem {
+    ghost output = { λ e. Some (text (plain_element_text (element e))) };
+
+    /// Writes the element in plain text.
+    fn fmt<W: fmt::Write>(&self, f: &mut fmt::Formatter<W>) -> fmt::Result {
+        Elem::write_buf(self, f, BufWriteFormat::Plain)
     }
 }

@@ -15,7 +15,7 @@ pub returns-in_ok-show-in-Ok-clause-shown : goal.returns-in_ok-show-in-Ok-clause
 returns-in_ok-show-in-Ok-clause-shown c = record {
   resolved = seen c.in-Ok.bibliography;
   is_text = is_utf8-from_IsUtf8 c.args.text.now c.utf8.text;
-  means = c.in-Ok.ensures;
+  means = c.in-Ok.ensures.meaning;
   in_order = c.in_ok-show-in-Ok.ensures.order;
   output_is = c.in_ok-show-in-Ok.ensures.shown;
 }
@@ -23,5 +23,5 @@ returns-in_ok-show-in-Ok-clause-shown c = record {
 pub returns-in-Err-Refused-clause-fault : goal.returns-in-Err-Refused-clause-fault
 returns-in-Err-Refused-clause-fault c =
     let refusal : Refusal = record { reason = reason c.in-Err-Refused.kind; start = c.in-Err-Refused.span.start; end = c.in-Err-Refused.span.end } in
-    let means = subst (λ (e : ParseError). IfSome (refusal_of e) (λ r. TextMeans (chars c.args.text.now) (Err r))) c.in-Err-Refused.field-0-is c.in-Err-Refused.ensures in
+    let means = subst (λ (e : ParseError). IfSome (refusal_of e) (λ r. TextMeans (chars c.args.text.now) (Err r))) c.in-Err-Refused.field-0-is c.in-Err-Refused.ensures.meaning in
     refused_text c.args.path.now c.args.text.now (said_of c.text_fault.result) refusal c.utf8.text means c.text_fault.ensures

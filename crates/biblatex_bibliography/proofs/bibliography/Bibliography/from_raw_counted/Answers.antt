@@ -8,6 +8,7 @@ use Rattle.biblatex_bibliography.specs.Reading.{nothing_loaded}
 use Rattle.biblatex_bibliography.specs.Resolved.{number_of, unresolved_at}
 use Rattle.biblatex_bibliography.specs.Errors.{loaded_in, refusal_of}
 use Rattle.biblatex_bibliography.proofs.ReadingLoaded.{loaded_more, number_within, meaning, meaning_refused}
+use Rattle.biblatex_bibliography.proofs.ReadingJoined.{loaded_joined}
 use Rattle.biblatex_bibliography.proofs.bibliography.Bibliography.from_raw_counted.Goals as goal
 
 pub returns-in-Ok-clause-count : goal.returns-in-Ok-clause-count
@@ -34,3 +35,6 @@ pub returns-clause-meaning : goal.returns-clause-meaning
 returns-clause-meaning c =
     meaning_refused (written c.args.raw) c.in_ok-abbreviations.abbreviations (loaded_in c.in_ok-loaded.loaded) c.in-Err.error (refusal_of c.in_ok-unresolved-in-Err.field-0) (c.in_ok-abbreviations.ensures.definitions ∙ ap (map field) c.as_slice.ensures.value)
     c.in_ok-abbreviations.ensures.flags c.in_ok-loaded.ensures c.in-Err.ensures.err (c.in_ok-unresolved-in-Err.ensures ∙ ap (λ (ks : List (Spanned (Bor (List ℕ)))). unresolved_at (map part ks) c.in-Err.error) c.as_slice-in-Err.ensures.value)
+
+pub returns-in-Ok-clause-joined : goal.returns-in-Ok-clause-joined
+returns-in-Ok-clause-joined c = c.in-Ok.ensures.joined (loaded_joined c.in_ok-abbreviations.abbreviations (loaded_in c.in_ok-loaded.loaded) (map entry c.args.raw.entries.items) c.in_ok-loaded.ensures)

@@ -1,7 +1,7 @@
 use Rattle.std.proofs.Common.{◌≡◌, ℕ, refl, sym, ap, subst, ◌∙◌}
 use Rattle.std.proofs.lemmas.Result.{err_from_is_err_and}
 use Rattle.reference_graph.specs.References.{lists}
-use Rattle.biblatex_entries.specs.Entries.{sources}
+use Rattle.biblatex_entries.specs.Entries.{sources, HaveJoinedFields}
 use Rattle.biblatex_bibliography.specs.Places.{meaning_in, names_in, AreWithin}
 use Rattle.biblatex_bibliography.specs.Bibliographies.{Indexed, Listed, seen, indexed, references}
 use Rattle.biblatex_bibliography.specs.Resolved.{IsResolved}
@@ -28,3 +28,6 @@ returns-clause-ok c =
     subst (λ (l : Listed). IsResolved l (record { entries = sources c.in_ok-entries.field-0.entries.items; place = meaning_in (names_in c.self.inside.places) })) is
     (resolved_is (seen (indexed c.self.inside.entries.items c.self.inside.places)) c.self.inside.entries.items c.in_ok-entries.field-0.entries.items (lists c.deref.result.now)
     refl (ap lists c.deref.ensures.value ∙ (c.in_ok-references.ensures ∙ ap references (sym is))) e.heads e.equation e.only e.acyclic e.readable e.ordered)
+
+pub returns-clause-joined : goal.returns-clause-joined
+returns-clause-joined c all = c.in_ok-entries.ensures.joined (subst HaveJoinedFields (sym (ap (λ (h : Indexed). h.entries) c.self.view_is)) all)

@@ -1,6 +1,6 @@
 use Rattle.std.proofs.Common.{List, ap, ◌∙◌, string_bytes}
 use Rattle.biblatex_fields.specs.Fields.{Named, named_of, value_named, with_field}
-use Rattle.biblatex_content.specs.Views.{styled}
+use Rattle.biblatex_fields.specs.Value.{value_seen}
 use Rattle.biblatex_fields.proofs.FieldsLookUps.{put_found}
 use Rattle.biblatex_fields.proofs.FieldsEntries.{put_there, ordered_there}
 use Rattle.biblatex_fields.proofs.fields.Fields.insert.Goals as goal
@@ -8,13 +8,13 @@ use Rattle.biblatex_fields.proofs.fields.Fields.insert.Goals as goal
 pub returns-clause-ok : goal.returns-clause-ok
 returns-clause-ok c =
     let put = ap named_of c.in_ok-insert.ensures.entries ∙ put_there c.self.inside.values.entries c.args.name c.args.value in
-    put ∙ ap (λ (fs : List Named). with_field fs (string_bytes c.args.name) (styled c.args.value.items)) c.self.view_is
+    put ∙ ap (λ (fs : List Named). with_field fs (string_bytes c.args.name) (value_seen c.args.value.items)) c.self.view_is
 
 pub returns-clause-found : goal.returns-clause-found
 returns-clause-found c q =
     let put = ap named_of c.in_ok-insert.ensures.entries ∙ put_there c.self.inside.values.entries c.args.name c.args.value in
-    let whole = put ∙ ap (λ (fs : List Named). with_field fs (string_bytes c.args.name) (styled c.args.value.items)) c.self.view_is in
-    ap (value_named q) whole ∙ put_found c.args.self.now (string_bytes c.args.name) (styled c.args.value.items) q
+    let whole = put ∙ ap (λ (fs : List Named). with_field fs (string_bytes c.args.name) (value_seen c.args.value.items)) c.self.view_is in
+    ap (value_named q) whole ∙ put_found c.args.self.now (string_bytes c.args.name) (value_seen c.args.value.items) q
 
 pub invariant_of-self-2 : goal.invariant_of-self-2
 invariant_of-self-2 c = ordered_there c.insert.new.self.entries c.in_ok-insert.ensures.ordered

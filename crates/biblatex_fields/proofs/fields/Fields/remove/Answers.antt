@@ -1,11 +1,11 @@
 use Rattle.std.proofs.Common.{ap, subst, ◌∙◌, option_map}
 use Rattle.biblatex_fields.specs.Fields.{named_of, value_named, without_field, AreInOrder}
-use Rattle.biblatex_fields.proofs.FieldsEntries.{value_there, removed_there, ordered_there, text_of}
+use Rattle.biblatex_fields.proofs.FieldsEntries.{value_there, removed_there, ordered_there, value_of}
 use Rattle.biblatex_fields.proofs.FieldsLookUps.{removed_found}
 use Rattle.biblatex_fields.proofs.fields.Fields.remove.Goals as goal
 
 pub returns-clause-value : goal.returns-clause-value
-returns-clause-value c = rw (← c.self.view_is) (ap (option_map text_of) c.remove.ensures.value ∙ value_there c.args.name.now c.self.inside.values.entries)
+returns-clause-value c = rw (← c.self.view_is) (ap (option_map value_of) c.remove.ensures.value ∙ value_there c.args.name.now c.self.inside.values.entries)
 
 pub returns-clause-rest : goal.returns-clause-rest
 returns-clause-rest c =

@@ -1,0 +1,4 @@
+pub mod WorksLevels
+pub mod WorksAnswers
+pub mod LibraryAnswers
+pub mod LibraryLabels

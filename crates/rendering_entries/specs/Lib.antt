@@ -1,0 +1,4 @@
+pub mod Answers
+pub mod Works
+pub mod Library
+pub mod Views

@@ -1,0 +1,16 @@
+//! What entries answer to a style: the trait that rendering asks, and the answers of a library's entries.
+#![tactic(auto)]
+
+mod dates;
+mod entry_like;
+mod kinds;
+mod labels;
+mod library;
+mod nearest;
+mod numbers;
+mod people;
+mod standard;
+mod works;
+
+pub use entry_like::{EntryLike, are_one_entry};
+pub use labels::Alphanumerical;

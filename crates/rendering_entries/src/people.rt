@@ -1,0 +1,74 @@
+//! People of entries.
+
+ghost use Rattle.std.specs.Prelude.{◌≡◌, ◌++◌, map, option_and_then, IfOk, OnOk};
+ghost use Rattle.literature_values.specs.PersonViews.{person as person_of};
+ghost use Rattle.literature_entries.specs.Views.{fields, people, seen_in};
+ghost use Rattle.rendering_entries.specs.Library.{people_or_none, people_answer};
+ghost use Rattle.rendering_entries.specs.Views.{person_seen, entry_standing};
+ghost use Rattle.rendering_entries.specs.Works.{container};
+
+use crate::nearest::nearest_editor;
+use crate::works::container;
+use literature_entries::Entry;
+use literature_values::Person;
+use rendering_taxonomy::NameVariable;
+use std::alloc::{AllocError, Global};
+use std::borrow::Cow;
+
+/// The people of a variable.
+///
+/// # Errors
+/// Out of memory.
+pub(crate) fn people_answer(
+    alloc: Global,
+    entry: &Entry,
+    variable: NameVariable,
+) -> Result<Vec<Cow<'_, Person>>, AllocError>
+    ensures { IfOk result (λ ps. map person_seen ps.items ≡ people_answer (entry_standing entry.now) variable) }
+{
+    match variable {
+        NameVariable::Author => borrowed_people(alloc, entry.author()),
+        NameVariable::ContainerAuthor => borrowed_people(alloc, container_author(entry)),
+        NameVariable::Editor => borrowed_people(alloc, nearest_editor(entry)?),
+        NameVariable::Translator => borrowed_people(alloc, entry.translator()),
+    }
+}
+
+/// The authors of the container.
+fn container_author(entry: &Entry) -> Option<&[Person]>
+    ensures { seen_in people result ≡ option_and_then (λ fs. fs.author) (container (entry_standing entry.now)) }
+{
+    container(entry)?.author()
+}
+
+/// The people, borrowed, or none.
+fn borrowed_people<'a>(
+    alloc: Global,
+    list: Option<&'a [Person]>,
+) -> Result<Vec<Cow<'a, Person>>, AllocError>
+    ensures { IfOk result (λ ps. map person_seen ps.items ≡ people_or_none (seen_in people list.entry)) }
+{
+    let mut all = Vec::new(alloc);
+    push_people(&mut all, people_or_none(list))?;
+    Ok(all)
+}
+
+/// Appends people, borrowed.
+fn push_people<'a>(all: &mut Vec<Cow<'a, Person>>, list: &'a [Person]) -> Result<(), AllocError>
+    ensures { OnOk result (map person_seen all.new.items ≡ map person_seen all.old.items ++ map person_of list.now) }
+{
+    for person in list {
+        all.push(Cow::Borrowed(person))?;
+    }
+    Ok(())
+}
+
+/// The people of a list that may be there.
+pub(crate) fn people_or_none(list: Option<&[Person]>) -> &[Person]
+    ensures { map person_of result.now ≡ people_or_none (seen_in people list.entry) }
+{
+    match list {
+        Some(list) => list,
+        None => &[],
+    }
+}

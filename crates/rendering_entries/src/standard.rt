@@ -1,0 +1,155 @@
+//! Texts of entries.
+
+ghost use Rattle.std.specs.Prelude.{◌≡◌, Some, IfOk};
+ghost use Rattle.std.specs.Option.{option_map};
+ghost use Rattle.std.specs.Str.{chars};
+ghost use Rattle.laws.specs.Text.{characters};
+ghost use Rattle.literature_values.specs.OtherViews.{address as address_seen};
+ghost use Rattle.literature_values.specs.TextViews.{chunks, format};
+ghost use Rattle.literature_entries.specs.Views.{fields, seen_in};
+ghost use Rattle.rendering_entries.specs.Library.{one_chunk, serial_text, long_text, short_text, text_in, title_of, address_text, label_of, standard_answer};
+ghost use Rattle.rendering_entries.specs.Views.{text_seen, entry_standing};
+
+use crate::labels::label;
+use crate::nearest::{nearest_isbn, nearest_issn, nearest_place, nearest_publisher};
+use crate::works::{collection, container, first_parent};
+use literature_entries::Entry;
+use literature_values::{
+    ChunkKind, ChunkedString, EntryType, FormatString, MaybeTyped, QualifiedUrl, StringChunk,
+};
+use rendering_taxonomy::{LongShortForm, StandardVariable};
+use std::alloc::{AllocError, Global};
+use std::borrow::Cow;
+use texts::owned;
+
+/// The text of a variable in a form.
+///
+/// # Errors
+/// Out of memory.
+pub(crate) fn standard_answer(
+    alloc: Global,
+    entry: &Entry,
+    form: LongShortForm,
+    variable: StandardVariable,
+) -> Result<Option<Cow<'_, ChunkedString>>, AllocError>
+    ensures { IfOk result (λ t. option_map text_seen t ≡ standard_answer (entry_standing entry.now) form variable) }
+{
+    match variable {
+        StandardVariable::CitationLabel => label_text(alloc, entry),
+        StandardVariable::CollectionTitle => Ok(title_of(collection(entry)?)),
+        StandardVariable::ContainerTitle => Ok(title_of(container(entry))),
+        StandardVariable::Doi => serial_text(alloc, entry.doi()),
+        StandardVariable::EventTitle => Ok(title_of(first_parent(entry, EntryType::Conference))),
+        StandardVariable::Isbn => serial_text(alloc, nearest_isbn(entry)?),
+        StandardVariable::Issn => serial_text(alloc, nearest_issn(entry)?),
+        StandardVariable::Note => Ok(long_text(entry.note())),
+        StandardVariable::Publisher => Ok(long_text(nearest_publisher(entry)?)),
+        StandardVariable::PublisherPlace => Ok(long_text(nearest_place(entry)?)),
+        StandardVariable::Title => Ok(text_in(form, entry.title())),
+        StandardVariable::TitleShort => Ok(short_text(entry.title())),
+        StandardVariable::Url => url_text(alloc, entry),
+        StandardVariable::YearSuffix => Ok(None),
+    }
+}
+
+/// A text as one ordinary piece.
+fn one_chunk(alloc: Global, value: String) -> Result<ChunkedString, AllocError>
+    ensures { IfOk result (λ t. chunks t ≡ one_chunk (characters value)) }
+{
+    let mut pieces = Vec::new(alloc);
+    pieces.push(StringChunk {
+        value,
+        kind: ChunkKind::Normal,
+    })?;
+    Ok(ChunkedString(pieces))
+}
+
+/// The label of the entry, with three letters of one name.
+fn label_text(alloc: Global, entry: &Entry) -> Result<Option<Cow<'_, ChunkedString>>, AllocError>
+    ensures { IfOk result (λ t. option_map text_seen t ≡ Some (one_chunk (label_of 3 (entry_standing entry.now)))) }
+{
+    let label = label(alloc, entry, 3)?;
+    Ok(Some(Cow::Owned(one_chunk(alloc, label)?)))
+}
+
+/// A serial number as a text of one piece.
+fn serial_text<'a>(
+    alloc: Global,
+    number: Option<&'a str>,
+) -> Result<Option<Cow<'a, ChunkedString>>, AllocError>
+    ensures { IfOk result (λ t. option_map text_seen t ≡ serial_text (seen_in (λ s. s) number.entry)) }
+{
+    match number {
+        Some(number) => Ok(Some(Cow::Owned(copied_text(alloc, number)?))),
+        None => Ok(None),
+    }
+}
+
+/// A copy of a text as one ordinary piece.
+fn copied_text(alloc: Global, text: &str) -> Result<ChunkedString, AllocError>
+    ensures { IfOk result (λ t. chunks t ≡ one_chunk (chars text.now)) }
+{
+    one_chunk(alloc, owned(alloc, text)?)
+}
+
+/// The address as a text of one piece.
+fn url_text(alloc: Global, entry: &Entry) -> Result<Option<Cow<'_, ChunkedString>>, AllocError>
+    ensures { IfOk result (λ t. option_map text_seen t ≡ option_map (λ u. one_chunk (address_text u.value)) (fields entry.now).url) }
+{
+    match entry.url() {
+        Some(url) => Ok(Some(Cow::Owned(copied_text(alloc, address(url))?))),
+        None => Ok(None),
+    }
+}
+
+/// The address as it is written.
+fn address(url: &QualifiedUrl) -> &str
+    ensures { chars result.now ≡ address_text (address_seen url.now).value }
+{
+    match &url.value {
+        MaybeTyped::Typed(url) => url.as_str(),
+        MaybeTyped::String(text) => text.as_str(),
+    }
+}
+
+/// The text in its long form.
+fn long_text(text: Option<&FormatString>) -> Option<Cow<'_, ChunkedString>>
+    ensures { option_map text_seen result ≡ long_text (seen_in format text.entry) }
+{
+    Some(Cow::Borrowed(&text?.value))
+}
+
+/// The text in its short form, where it has one.
+fn short_text(text: Option<&FormatString>) -> Option<Cow<'_, ChunkedString>>
+    ensures { option_map text_seen result ≡ short_text (seen_in format text.entry) }
+{
+    Some(Cow::Borrowed(text?.short.as_ref()?))
+}
+
+/// The text in a form; the long form stands in for a short one that is not there.
+fn text_in(form: LongShortForm, text: Option<&FormatString>) -> Option<Cow<'_, ChunkedString>>
+    ensures { option_map text_seen result ≡ option_map (text_in form) (seen_in format text.entry) }
+{
+    let text = text?;
+    match form {
+        LongShortForm::Long => Some(Cow::Borrowed(&text.value)),
+        LongShortForm::Short => Some(Cow::Borrowed(short_or_long(text))),
+    }
+}
+
+/// The short form, or the long one where there is none.
+fn short_or_long(text: &FormatString) -> &ChunkedString
+    ensures { chunks result.now ≡ text_in LongShortForm.Short (format text.now) }
+{
+    match &text.short {
+        Some(short) => short,
+        None => &text.value,
+    }
+}
+
+/// The title of a work, where there is a work with one.
+fn title_of(work: Option<&Entry>) -> Option<Cow<'_, ChunkedString>>
+    ensures { option_map text_seen result ≡ title_of (seen_in fields work.entry) }
+{
+    long_text(work?.title())
+}
