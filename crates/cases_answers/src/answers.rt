@@ -16,7 +16,6 @@ use std::borrow::Cow;
 pub(crate) fn answer(alloc: Global, case: &Value<'_>, out: &mut Writer) -> Result<(), Refusal> {
     only(alloc, case, &["case", "name", "entry", "variable", "form"])?;
     let entry = entry_member(alloc, case, "entry")?;
-    out.key("answer")?;
     put_answer(alloc, case, &entry, out)
 }
 
@@ -27,6 +26,7 @@ fn put_answer(
     entry: &Entry,
     out: &mut Writer,
 ) -> Result<(), Refusal> {
+    out.key("answer")?;
     match variable_of(case)? {
         Variable::Standard(variable) => {
             Ok(put_standard(alloc, entry, form_of(case)?, variable, out)?)

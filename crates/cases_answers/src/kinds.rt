@@ -13,11 +13,21 @@ use std::borrow::CowStr;
 pub(crate) fn answer(alloc: Global, case: &Value<'_>, out: &mut Writer) -> Result<(), Refusal> {
     only(alloc, case, &["case", "name", "entry", "other"])?;
     let entry = entry_member(alloc, case, "entry")?;
-    put_answers(&entry, out)?;
+    put_all(alloc, case, &entry, out)
+}
+
+/// Writes what is asked of the entry.
+fn put_all(
+    alloc: Global,
+    case: &Value<'_>,
+    entry: &Entry,
+    out: &mut Writer,
+) -> Result<(), Refusal> {
+    put_answers(entry, out)?;
     if member(case, "other").is_none() {
         return Ok(());
     }
-    put_compared(alloc, case, &entry, out)
+    put_compared(alloc, case, entry, out)
 }
 
 /// Writes whether the entry is equal to the other one.

@@ -6,7 +6,6 @@ pub mod OrdersNumbered
 pub mod MarkerElements
 pub mod ProgramServed
 pub mod WorksKeys
-pub mod PageEnds
 pub mod ProgramLines
 pub mod VerdictStages
 pub mod VerdictUnique

@@ -1,18 +1,15 @@
 -- What the program serves, from what it makes of its words.
-use Rattle.std.proofs.Common.{◌≡◌, ℕ, ◌≤◌, Bool, true, false, List, [], ◌∷◌, ◌++◌, length, get_or, drop, Option, Some, None, Result, Ok, Err, OnErr, IfErr, refl, sym, subst, arith, ◌⊎◌, inl, inr}
+use Rattle.std.proofs.Common.{◌≡◌, ℕ, ◌≤◌, Bool, true, List, [], ◌∷◌, length, get_or, drop, Option, Some, Result, Ok, Err, OnErr, IfErr, refl, sym, subst, arith, ◌⊎◌, inl, inr}
 use lib.Chars.{codes}
-use Rattle.std.specs.Prelude.{◌&&◌, is_some, take}
+use Rattle.std.specs.Prelude.{is_some, take}
 use Rattle.std.specs.Borrow.{Bor}
 use Rattle.sinks.specs.Sinks.{HasFailed, AppendsFront}
 use Rattle.sinks.specs.Files.{Outcome}
 use Rattle.sinks.specs.Programs.{Served, IsUntouched, Says, no_memory}
-use Rattle.sinks.specs.declared.files.ReadFault.{ReadFault}
-use Rattle.sinks.specs.declared.files.ReadFault.TheVariants as reads
-use Rattle.biblatex.specs.ParseError.{ParseError}
 use Rattle.biblatex.specs.ParseError.TheVariants as parsing
 use Rattle.cite.specs.Verdict.{Refusal, IsVerdict}
 use Rattle.cite.specs.Answers.{Wanted, Writes, IsRefusal, UnlessWrite, OnWrite}
-use Rattle.cite.specs.Program.{Reads, is_style, format_of, asked, Serves, ServesAs, ServesFiles, ServesBytes, IsFileFault, IsBytesFault, IsFormatFault, IsStyleFault, IsFault, IsReason, CannotRead, told, said_of, fault_of}
+use Rattle.cite.specs.Program.{Reads, is_style, format_of, asked, Serves, ServesAs, ServesFiles, IsFileFault, IsBytesFault, IsFormatFault, IsStyleFault, IsFault, IsReason, CannotRead, told, said_of, fault_of}
 use Rattle.cite.specs.declared.error.CiteError.{CiteError}
 use Rattle.cite.specs.declared.error.CiteError.TheVariants as errors
 use Rattle.cite.specs.declared.error.BibTextError.TheVariants as bib

@@ -1,6 +1,6 @@
 -- What is answered once it is known what a bib text comes to.
-use Rattle.std.proofs.Common.{◌≡◌, ℕ, Bool, true, false, eqb, List, Option, Some, None, Result, Ok, Err, refl, sym, ap, subst, ◌∙◌}
-use Rattle.cite.specs.Answers.{Wanted, IsBibRefusal, IsRefusal, Answers, Gives}
+use Rattle.std.proofs.Common.{◌≡◌, ℕ, Bool, true, false, eqb, List, Option, Some, None, Result, Ok, Err, refl, sym, subst}
+use Rattle.cite.specs.Answers.{Wanted, IsBibRefusal, IsRefusal, Answers}
 use Rattle.cite.specs.Formats.{is_html}
 use Rattle.cite.specs.Marker.{Citation}
 use Rattle.cite.specs.Works.{Works}

@@ -1,11 +1,10 @@
 -- The keys of works and of the entries that they are seen in.
-use Rattle.std.proofs.Common.{◌≡◌, ℕ, List, [], ◌∷◌, map, Option, Some, None, refl, sym, ap, ◌∙◌, Bool, true, false, cond, rules}
-use Rattle.std.specs.Prelude.{find}
+use Rattle.std.proofs.Common.{◌≡◌, ℕ, List, [], ◌∷◌, map, Some, refl, sym, ap, ◌∙◌, Bool, true, false, cond, rules}
 use Rattle.std.specs.Option.{option_map}
 use Rattle.std.specs.Str.{bytes_eq}
 use Rattle.std.specs.Borrow.{Bor}
 use Rattle.literature_entries.specs.Views.{key}
-use Rattle.literature_entries.specs.Wholes.{Whole, whole}
+use Rattle.literature_entries.specs.Wholes.{whole}
 use Rattle.literature_entries.specs.declared.entry.Entry.{Entry, the_lemmas}
 use Rattle.literature.specs.Keys.{with_key}
 use Rattle.interop.specs.Shelf.{key_of}

@@ -1,5 +1,5 @@
 -- What a call returns where its definition gives a value or a refusal.
-use Rattle.std.specs.Prelude.{◌≡◌, ℕ, List, map, Option, Some, None, Result, Ok, Err, string_bytes}
+use Rattle.std.specs.Prelude.{◌≡◌, map, Option, Some, None, Result, Ok, Err, string_bytes}
 use Rattle.biblatex.specs.Reading as reading
 use Rattle.biblatex.specs.Errors.{refusal_of}
 use Rattle.interop.specs.Views.{fault}

@@ -1,5 +1,4 @@
 pub mod Works
-pub mod Page
 pub mod Marker
 pub mod Order
 pub mod Output

@@ -4,9 +4,9 @@ use Rattle.std.specs.List.{flat_map}
 use Rattle.std.specs.Fmt.{decimal}
 use Rattle.laws.specs.Text.{text}
 use Rattle.literature_entries.specs.Wholes.{Whole, Holding}
+use Rattle.rendering_page.specs.Titles.{title_text}
 use Rattle.cite.specs.Marker.{Citation}
 use Rattle.cite.specs.Works.{Works, meaning}
-use Rattle.cite.specs.Page.{title_text}
 use Rattle.cite.specs.Order.{number_in}
 
 -- [ , the number, ]

@@ -5,7 +5,6 @@ use Rattle.std.specs.Str.{bytes_eq}
 use Rattle.std.specs.Borrow.{Bor}
 use Rattle.sinks.specs.Files.{Outcome}
 use Rattle.sinks.specs.Programs as programs
-use Rattle.sinks.specs.declared.files.ReadFault.{ReadFault}
 use Rattle.sinks.specs.declared.files.ReadFault.TheVariants.{Memory, Unreadable}
 use Rattle.interop.specs.Bridge.{Fault}
 use Rattle.interop.specs.Views.{fault}

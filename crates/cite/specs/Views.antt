@@ -1,15 +1,11 @@
 -- What the engine holds and gives, without where it lies in memory.
 use Rattle.std.specs.Prelude.{◌≡◌, ℕ, List, map, Option, Result, Ok, Err}
 use Rattle.std.specs.Option.{option_map}
-use Rattle.std.specs.Str.{chars}
-use Rattle.std.specs.Borrow.{Bor}
-use Rattle.laws.specs.Text.{characters, spelled}
+use Rattle.laws.specs.Text.{spelled}
 use Rattle.biblatex.specs.Bibliographies.{seen}
 use Rattle.interop.specs.Views.{shelf}
 use Rattle.cite.specs.Marker as marker
-use Rattle.cite.specs.Page as pages
 use Rattle.cite.specs.Works as specs
-use Rattle.cite.specs.declared.page.Page.{Page}
 use Rattle.cite.specs.declared.works.Works.{Works}
 use Rattle.cite.specs.declared.document.Citation.{Citation}
 use Rattle.cite.specs.declared.document.Document.{Document}
@@ -38,7 +34,3 @@ parsed d = (citations d.citations.items, spelled d.tail)
 -- the works of a bib text
 abbrev pub works_in : Works → specs.Works
 works_in w = record { file = seen w.file; library = shelf w.library }
-
--- a page's texts
-abbrev pub page : Page → pages.Page
-page p = record { before = characters p.before; last = characters p.last }

@@ -3,7 +3,6 @@
 #![tactic(auto)]
 
 mod bytes;
-mod closing;
 mod document;
 mod engine;
 mod error;
@@ -12,7 +11,6 @@ mod numbers;
 mod one_line;
 mod order;
 mod output;
-mod page;
 mod program;
 mod style;
 mod works;

@@ -5,10 +5,9 @@ ghost use Rattle.std.specs.Str.{chars};
 ghost use Rattle.laws.specs.Text.{text as text_of};
 ghost use Rattle.literature_entries.specs.Views.{seen_in};
 ghost use Rattle.literature_values.specs.TextViews.{chunk, format};
+ghost use Rattle.rendering_page.specs.Titles.{printed, title_text};
 ghost use Rattle.cite.specs.Output.{numbered};
-ghost use Rattle.cite.specs.Page.{printed, title_text};
 
-use crate::page::{Page, prints_any};
 use literature_values::{FormatString, StringChunk};
 use std::alloc::{AllocError, Global};
 use std::fmt::Write;
@@ -46,7 +45,7 @@ pub(crate) fn push_title(
     output.push('\n')
 }
 
-/// Writes pieces, where one of them prints.
+/// Writes a title in pieces.
 fn push_printed(
     alloc: Global,
     output: &mut String,
@@ -54,9 +53,5 @@ fn push_printed(
 ) -> Result<(), AllocError>
     ensures { OnOk result (string_bytes output.new ≡ string_bytes output.old ++ text_of (printed (map chunk pieces.now))) }
 {
-    if !prints_any(pieces) {
-        return Ok(());
-    }
-    let page = Page::of(alloc, pieces)?;
-    page.push_to(output)
+    rendering_page::push_title(alloc, output, pieces)
 }

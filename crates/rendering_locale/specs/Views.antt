@@ -3,8 +3,7 @@ use Rattle.std.specs.Prelude.{ℕ, List, map}
 use Rattle.std.specs.Borrow.{Bor}
 use Rattle.std.specs.Option.{option_map}
 use Rattle.laws.specs.Text.{characters}
-use Rattle.rendering_taxonomy.specs.Formats.{Changes}
-use Rattle.rendering_taxonomy.specs.declared.formatting.FormattingChanges.{FormattingChanges}
+pub use Rattle.rendering_taxonomy.specs.Views.{changes_seen}
 use Rattle.rendering_locale.specs.CodeViews.{code_seen}
 use Rattle.rendering_locale.specs.Locales as locales
 use Rattle.rendering_locale.specs.declared.locale.LocalizedTerm.{LocalizedTerm}
@@ -13,16 +12,6 @@ use Rattle.rendering_locale.specs.declared.locale.Ordinals.{Ordinals}
 use Rattle.rendering_locale.specs.declared.locale.DatePart.{DatePart}
 use Rattle.rendering_locale.specs.declared.locale.LocalizedDate.{LocalizedDate}
 use Rattle.rendering_locale.specs.declared.locale.Locale.{Locale}
-
--- what is said of the look of characters
-abbrev pub changes_seen : FormattingChanges → Changes
-changes_seen c = record {
-  font_style = c.font_style;
-  font_variant = c.font_variant;
-  font_weight = c.font_weight;
-  text_decoration = c.text_decoration;
-  vertical_align = c.vertical_align;
-}
 
 -- a term
 abbrev pub term_seen : LocalizedTerm → locales.LocalizedTerm

@@ -9,7 +9,10 @@ use std::alloc::AllocError;
 use std::fmt::Write;
 
 /// Appends a number in digits.
-pub(crate) fn push_digits(out: &mut String, number: u32) -> Result<(), AllocError>
+///
+/// # Errors
+/// Out of memory alone.
+pub fn push_digits(out: &mut String, number: u32) -> Result<(), AllocError>
     ensures { OnOk result (characters out.new ≡ characters out.old ++ decimal number) }
 {
     write!(out, "{number}")
@@ -23,7 +26,10 @@ pub(crate) fn push_signed(out: &mut String, number: i32) -> Result<(), AllocErro
 }
 
 /// Appends a number in two digits or more.
-pub(crate) fn push_two_digits(out: &mut String, number: u32) -> Result<(), AllocError>
+///
+/// # Errors
+/// Out of memory alone.
+pub fn push_two_digits(out: &mut String, number: u32) -> Result<(), AllocError>
     ensures { OnOk result (characters out.new ≡ characters out.old ++ padded 2 number) }
 {
     write!(out, "{number:02}")

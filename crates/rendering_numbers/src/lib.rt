@@ -7,6 +7,7 @@ mod letters;
 mod numbers;
 mod years;
 
+pub use digits::{push_digits, push_two_digits};
 pub use letters::{push_citation_label, push_suffix_letters};
 pub use numbers::{
     push_number, push_numeral, push_numeral_or_text, push_ordinal, push_roman, push_value,

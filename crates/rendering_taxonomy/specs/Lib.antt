@@ -3,3 +3,4 @@ pub mod Kinds
 pub mod Terms
 pub mod Formats
 pub mod NameForms
+pub mod Views

@@ -1,5 +1,9 @@
 //! How characters look, and where an element stands.
 
+ghost use Rattle.std.specs.Prelude.{◌≡◌};
+ghost use Rattle.rendering_taxonomy.specs.Formats.{changed};
+ghost use Rattle.rendering_taxonomy.specs.Views.{changes_seen};
+
 /// The style of a font.
 #[derive(Clone, Copy, Debug, PartialEq, Eq, Hash)]
 pub enum FontStyle {
@@ -65,4 +69,19 @@ pub struct FormattingChanges {
     pub font_weight: Option<FontWeight>,
     pub text_decoration: Option<TextDecoration>,
     pub vertical_align: Option<VerticalAlign>,
+}
+
+impl FormattingChanges {
+    /// How characters look inside what looks so around: what is left open is as around.
+    pub fn over(self, around: Formatting) -> Formatting
+        ensures { result ≡ changed (changes_seen self) around }
+    {
+        Formatting {
+            font_style: self.font_style.unwrap_or(around.font_style),
+            font_variant: self.font_variant.unwrap_or(around.font_variant),
+            font_weight: self.font_weight.unwrap_or(around.font_weight),
+            text_decoration: self.text_decoration.unwrap_or(around.text_decoration),
+            vertical_align: self.vertical_align.unwrap_or(around.vertical_align),
+        }
+    }
 }

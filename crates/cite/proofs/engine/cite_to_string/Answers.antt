@@ -2,7 +2,7 @@ use Rattle.std.proofs.Common.{◌≡◌, ℕ, List, length, Result, Ok, Err, rul
 use Rattle.std.specs.Prelude.{String, string_bytes}
 use Rattle.std.specs.Global.{Global}
 use Rattle.cite.specs.Answers.{Answers}
-use Rattle.cite.specs.Verdict.{Refusal, IsVerdict}
+use Rattle.cite.specs.Verdict.{IsVerdict}
 use Rattle.cite.specs.Views.{works_in, parsed}
 use Rattle.cite.specs.declared.error.CiteError.{CiteError}
 use Rattle.cite.proofs.VerdictStages.{refused_weaker, answers_weaker, comes_to, works_stop, document_stops, goes_on}

@@ -1,4 +1,4 @@
-use Rattle.std.proofs.Common.{◌≡◌, ℕ, List, [], ◌∷◌, ◌++◌, rules, ◌∙◌}
+use Rattle.std.proofs.Common.{◌≡◌, [], ◌∷◌, ◌++◌, rules, ◌∙◌}
 use Rattle.std.specs.Prelude.{OnOk, string_bytes, codes}
 use Rattle.std.proofs.lemmas.Result.{on_ok_weaker}
 use Rattle.interop.specs.Views.{fault}

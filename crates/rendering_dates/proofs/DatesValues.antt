@@ -1,0 +1,67 @@
+-- Parts of some dates, and years of ranges.
+use Rattle.std.proofs.Common.{◌≡◌, ℕ, [], ◌∷◌, ◌++◌, Option, Some, None, false, codes, pos, refl}
+use Rattle.std.specs.Fmt.{digits}
+use Rattle.literature_values.specs.declared.date.Date.{Date}
+use Rattle.literature_values.specs.declared.date.DateEnd.{DateEnd}
+use Rattle.literature_values.specs.declared.date.DateEnd.TheVariants.{On, Open}
+use Rattle.rendering_locale.specs.Locales.{Locale}
+use Rattle.rendering_dates.specs.Dates.{dash, part_text, years_text}
+use Rattle.rendering_taxonomy.specs.declared.date.DateDayForm.TheVariants as days
+use Rattle.rendering_taxonomy.specs.declared.date.DateMonthForm.TheVariants as months
+use Rattle.rendering_taxonomy.specs.declared.date.DatePartForm.TheVariants.{Day, Month, Year}
+use Rattle.rendering_taxonomy.specs.declared.date.LongShortForm.TheVariants as lengths
+use Rattle.rendering_taxonomy.specs.declared.term.OtherTerm.TheVariants as others
+use Rattle.rendering_taxonomy.specs.declared.term.Term.TheVariants as terms
+use Rattle.rendering_taxonomy.specs.declared.term.TermForm.TheVariants as forms
+
+-- a locale with a short word for January, and endings of numbers
+abbrev english : Locale
+english = record {
+  lang = None;
+  terms = record { name = terms.Other (others.Month 0); form = forms.Short; single = Some (codes "Jan."); multiple = None } ∷ [];
+  dates = [];
+  ordinals = Some (record { endings = (1, codes "st") ∷ (2, codes "nd") ∷ []; default = codes "th" });
+  punctuation_in_quote = None;
+}
+
+-- a year, a month and a day, alone or with an end
+abbrev date : ℕ → Option ℕ → Option ℕ → Option DateEnd → Date
+date y month day end = record { year = pos y; month = month; day = day; end = end; approximate = false }
+
+pub second_of_january : part_text (english ∷ []) (date 2014 (Some 0) (Some 1) None) (Day days.Ordinal) ≡ codes "2nd"
+unfolding digits
+second_of_january = refl
+
+pub day_without_endings : part_text [] (date 2014 (Some 0) (Some 1) None) (Day days.Ordinal) ≡ codes "2"
+unfolding digits
+day_without_endings = refl
+
+pub no_day : part_text [] (date 2014 (Some 0) None None) (Day days.Numeric) ≡ []
+no_day = refl
+
+pub short_january : part_text (english ∷ []) (date 2014 (Some 0) None None) (Month months.Short) ≡ codes "Jan."
+short_january = refl
+
+pub january_in_digits : part_text [] (date 2014 (Some 0) None None) (Month months.TwoDigits) ≡ codes "01"
+unfolding digits
+january_in_digits = refl
+
+pub short_2014 : part_text [] (date 2014 None None None) (Year lengths.Short) ≡ codes "14"
+unfolding digits
+short_2014 = refl
+
+pub short_800 : part_text [] (date 800 None None None) (Year lengths.Short) ≡ codes "800 AD"
+unfolding digits
+short_800 = refl
+
+pub years_apart : years_text [] (date 2014 None None (Some (On (pos 2016) None None))) ≡ codes "2014" ++ dash ++ codes "2016"
+unfolding digits
+years_apart = refl
+
+pub years_alike : years_text [] (date 2014 (Some 4) None (Some (On (pos 2014) (Some 5) None))) ≡ codes "2014"
+unfolding digits
+years_alike = refl
+
+pub years_open : years_text [] (date 2014 None None (Some Open)) ≡ codes "2014" ++ dash
+unfolding digits
+years_open = refl

@@ -1,0 +1,4 @@
+pub mod DatesTexts
+pub mod DatesPut
+pub mod DatesValues
+pub mod JoinedSteps

@@ -1,0 +1,14 @@
+pub mod ViewsPieces
+pub mod ViewsTexts
+pub mod ViewsLetters
+pub mod CutsEnds
+pub mod CursorsBackwards
+pub mod CursorsTrimming
+pub mod CursorsPlaces
+pub mod TailEnds
+pub mod PagesMarks
+pub mod PagesPutting
+pub mod TitlesShown
+pub mod PlainTitlesPages
+pub mod BuildingReading
+pub mod CutsTexts

@@ -1,0 +1,10 @@
+pub mod Tail
+pub mod Pages
+pub mod Pieces
+pub mod Titles
+pub mod PlainTitles
+pub mod Views
+pub mod Cuts
+pub mod Cursors
+pub mod Marks
+pub mod Building

@@ -1,0 +1,146 @@
+-- Pages: what was put down so far, and what putting down the next thing makes of it.
+use Rattle.std.specs.Prelude.{ℕ, zero, suc, Bool, true, false, not, ◌==◌, ◌&&◌, ◌||◌, List, [], ◌∷◌, length, find, if◌then◌else◌, Option, Some, None}
+use Rattle.std.specs.Char.{is_whitespace}
+pub use Rattle.laws.specs.Text.{is_filled}
+use Rattle.rendering_taxonomy.specs.Formats.{plain}
+use Rattle.rendering_tree.specs.Metas.{Meta}
+use Rattle.rendering_tree.specs.Tokens.{Token, letter, formula, link, transparent, opening, closing, mark, unmark, with_letters, last_text, last_backwards, with_letter_before}
+use Rattle.rendering_page.specs.Tail.{is_punctuation, ends_in, remaining, stripped}
+use Rattle.rendering_taxonomy.specs.declared.formatting.Display.{Display}
+use Rattle.rendering_taxonomy.specs.declared.formatting.Formatting.{Formatting}
+
+-- What was put down, the last token first; and whether the close quote of a quoted node was the last text to be put down.
+pub record Page : Type 0 where
+  pub tokens : List Token
+  pub after_quote : Bool
+
+-- a page on which nothing was put down
+abbrev pub empty_page : Page
+empty_page = record { tokens = []; after_quote = false }
+
+-- How the texts of a node are put down: how they look, and whether their full stops go.
+pub record Manner : Type 0 where
+  pub formatting : Formatting
+  pub strips_periods : Bool
+
+-- The close quotes inside which punctuation goes, in the order in which they are tried; none where it stays outside.
+abbrev pub Quotes : Type 0
+Quotes = List (List ℕ)
+
+-- the quote that ends the last text
+abbrev pub quote_at_end : Quotes → List Token → Option (List ℕ)
+quote_at_end quotes ts = find (λ q. is_filled q && ends_in q (last_text ts)) quotes
+
+-- a text as it is put down in a manner
+abbrev pub in_manner : Manner → List ℕ → List ℕ
+in_manner m cs = if m.strips_periods then stripped cs else cs
+
+-- a text after what remains of the page
+abbrev pub appended : Manner → List ℕ → Page → Page
+appended m cs p = record { tokens = with_letters m.formatting (in_manner m cs) (remaining cs p.tokens); after_quote = false }
+
+-- a first character goes inside a quote that ends the last text, and what follows it is put down; without one all is
+abbrev pub punctuated : Manner → ℕ → List ℕ → Option (List ℕ) → Page → Page
+punctuated m c cs None p = appended m (c ∷ cs) p
+punctuated m c cs (Some q) p = appended m cs (record p { tokens = with_letter_before (length q) c p.tokens })
+
+-- an ordinary text: its first character goes inside a quote after which it stands, if it is punctuation; an empty text is none
+abbrev pub normal_put : Quotes → Manner → List ℕ → Page → Page
+normal_put quotes m [] p = p
+normal_put quotes m (c ∷ cs) p = if p.after_quote && is_punctuation c then punctuated m c cs (quote_at_end quotes p.tokens) p else appended m (c ∷ cs) p
+
+-- a text that is put down as it is; an empty text is none
+abbrev pub verbatim_put : Formatting → List ℕ → Page → Page
+verbatim_put f [] p = p
+verbatim_put f (c ∷ cs) p = record { tokens = with_letters f (c ∷ cs) p.tokens; after_quote = false }
+
+-- what is no text is put down as it is
+abbrev pub token_put : Token → Page → Page
+token_put t p = record { tokens = t ∷ p.tokens; after_quote = false }
+
+-- a close quote, after which punctuation may go inside
+abbrev pub quote_put : Quotes → Manner → List ℕ → Page → Page
+quote_put quotes m [] p = p
+quote_put quotes m (c ∷ cs) p = record (normal_put quotes m (c ∷ cs) p) { after_quote = true }
+
+-- a suffix, unless the last text ends with it
+abbrev pub suffix_put : Quotes → Manner → List ℕ → Page → Page
+suffix_put quotes m suffix p = if ends_in suffix (last_text p.tokens) then p else normal_put quotes m suffix p
+
+-- An element: its display and what it stands for, how its affixes are put down, and these.
+pub record Frame : Type 0 where
+  pub display : Option Display
+  pub meta : Option Meta
+  pub manner : Manner
+  pub prefix : List ℕ
+  pub suffix : List ℕ
+
+-- where an element begins; one without display and meaning is only marked
+abbrev pub first_token : Option Display → Option Meta → Token
+first_token None None = mark
+first_token d m = opening d m
+
+-- where it ends
+abbrev pub last_token : Option Display → Option Meta → Token
+last_token None None = unmark
+last_token d m = closing
+
+-- whether more was put down after the last mark that is open than white space and the beginnings and ends of elements; so
+-- many marks that are closed have still to be passed
+abbrev pub prints : ℕ → List Token → Bool
+prints n [] = false
+prints n (letter f c ∷ ts) = not (is_whitespace c) || prints n ts
+prints n (formula cs ∷ ts) = true
+prints n (link f cs url ∷ ts) = true
+prints n (transparent f k ∷ ts) = true
+prints n (opening d m ∷ ts) = prints n ts
+prints n (closing ∷ ts) = prints n ts
+prints n (unmark ∷ ts) = prints (suc n) ts
+prints zero (mark ∷ ts) = false
+prints (suc n) (mark ∷ ts) = prints n ts
+
+-- what stands before the last mark that is open
+abbrev pub before_mark : ℕ → List Token → List Token
+before_mark n [] = []
+before_mark n (unmark ∷ ts) = before_mark (suc n) ts
+before_mark zero (mark ∷ ts) = ts
+before_mark (suc n) (mark ∷ ts) = before_mark n ts
+before_mark n (t ∷ ts) = before_mark n ts
+
+-- what stands before an element of which there is only the prefix
+abbrev pub before_prefix : List Token → List Token
+before_prefix [] = []
+before_prefix (opening d m ∷ ts) = ts
+before_prefix (mark ∷ ts) = ts
+before_prefix (t ∷ ts) = before_prefix ts
+
+-- an element begins: its prefix is put down as it is, and what it contains begins with a mark
+abbrev pub begun : Frame → Page → Page
+begun f p = record p { tokens = mark ∷ with_letters f.manner.formatting f.prefix (first_token f.display f.meta ∷ p.tokens) }
+
+-- the end of an element
+abbrev pub closed_off : Frame → Page → Page
+closed_off f p = record p { tokens = last_token f.display f.meta ∷ p.tokens }
+
+-- an element ends: with its suffix, or, where it prints nothing, by going whole
+abbrev pub ended : Quotes → Frame → Page → Page
+ended quotes f p =
+    if prints 0 p.tokens
+    then closed_off f (suffix_put quotes f.manner f.suffix (record p { tokens = unmark ∷ p.tokens }))
+    else record p { tokens = before_prefix (before_mark 0 p.tokens) }
+
+-- whether anything was put down
+abbrev pub is_begun : List Token → Bool
+is_begun [] = false
+is_begun (mark ∷ ts) = is_begun ts
+is_begun (unmark ∷ ts) = is_begun ts
+is_begun (t ∷ ts) = true
+
+-- whether a text that is written from its last character on ends in a space, be it one that does not break
+abbrev pub ends_spaced : List ℕ → Bool
+ends_spaced [] = false
+ends_spaced (c ∷ cs) = c == 32 || c == 160
+
+-- a space after all elements, unless nothing was put down or the last text ends in one
+abbrev pub space_put : Page → Page
+space_put p = if not (is_begun p.tokens) || ends_spaced (last_backwards p.tokens) then p else verbatim_put plain (32 ∷ []) p

@@ -1,0 +1,363 @@
+//! Pages.
+
+ghost use Rattle.std.specs.Prelude.{◌≡◌, ◌∷◌, ◌++◌, false, OnOk, IfOk, Some, map, if◌then◌else◌};
+ghost use Rattle.std.specs.Str.{bytes_eq, chars};
+ghost use Rattle.laws.specs.Text.{characters};
+ghost use Rattle.literature_values.specs.TextViews.{chunk as chunk_of};
+ghost use Rattle.rendering_tree.specs.Metas.{Meta};
+ghost use Rattle.rendering_tree.specs.Tokens.{formula, link, transparent, unmark};
+ghost use Rattle.rendering_tree.specs.Trees.{tree_of};
+ghost use Rattle.rendering_tree.specs.Views.{meaning, tree};
+ghost use Rattle.rendering_page.specs.Pages.{before_mark, before_prefix, begun, empty_page, ended, normal_put, prints, quote_put, space_put, suffix_put, token_put, verbatim_put};
+ghost use Rattle.rendering_page.specs.Pieces.{all_down, chunk_piece, chunk_pieces, put_down};
+ghost use Rattle.rendering_page.specs.Titles.{page_text};
+ghost use Rattle.rendering_page.specs.Views as views;
+ghost use Rattle.rendering_page.specs.Views.{letters, quotes_of};
+
+use crate::backwards::{ends_in, ends_spaced};
+use crate::builder::{build, plain};
+use crate::manner::{Frame, Manner};
+use crate::marks::{begin_of_nothing, begin_of_prefix, is_begun};
+use crate::piece::{Meaning, Piece, Words};
+use crate::putting::{append, append_after_quote, begin, first_piece, last_piece, put_words};
+use crate::shown::{push_shown, show_the_same};
+use crate::tail::is_punctuation;
+use literature_values::{ChunkKind, StringChunk};
+use rendering_taxonomy::Formatting;
+use rendering_tree::{ElemChildren, ElemMeta};
+use std::alloc::{AllocError, Global};
+use std::marker::Model;
+use texts::{has_text, split_first};
+
+/// A page on which texts and elements are put down, one after the other.
+///
+/// An ordinary text changes the end of the text that is last: the characters at the end of the page that look alike, whatever
+/// begins or ends after them. White space at its end goes before white space and `. , ] )`; an end that a text without letters
+/// would repeat goes; and after a close quote a first `. , ; ! ?` goes inside it. Texts that are put down as they are change
+/// nothing, and after a formula, a link or a locator of the caller's own there is no last text. `quotes` are the close quotes
+/// inside which punctuation goes, in the order in which they are tried; none where it stays outside.
+///
+/// Texts are borrowed until the tree is made. A text costs its own length, what it cuts, and the marks after the last text.
+/// After an error nothing is known of what stands on the page.
+#[derive(Drop)]
+pub struct Page<'a> {
+    pieces: Vec<Piece<'a>>,
+    after_quote: bool,
+}
+
+impl<'a> Model for Page<'a> {
+    ghost use Rattle.rendering_page.specs.Pages as pages;
+
+    ghost Value = { pages.Page };
+
+    ghost use Rattle.rendering_page.specs.Views.{tokens_of};
+
+    ghost view = { λ p. record { tokens = tokens_of p.pieces.items; after_quote = p.after_quote } };
+}
+
+impl<'a> Page<'a> {
+    /// A page on which nothing was put down.
+    pub fn new(alloc: Global) -> Page<'a>
+        ensures { result ≡ empty_page }
+    {
+        Page {
+            pieces: Vec::new(alloc),
+            after_quote: false,
+        }
+    }
+
+    /// Puts an ordinary text down; an empty one is none.
+    ///
+    /// # Errors
+    /// Out of memory.
+    pub fn push_text(
+        &mut self,
+        quotes: &[&str],
+        manner: Manner,
+        text: &'a str,
+    ) -> Result<(), AllocError>
+        ensures { OnOk result (self.new ≡ normal_put (quotes_of quotes.now) (views.manner manner) (chars text.now) self.old) }
+    {
+        self.put(quotes, manner, Words::Borrowed(text))
+    }
+
+    /// Puts an ordinary text down that was made; an empty one is none.
+    ///
+    /// # Errors
+    /// Out of memory.
+    pub fn push_made(
+        &mut self,
+        quotes: &[&str],
+        manner: Manner,
+        text: String,
+    ) -> Result<(), AllocError>
+        ensures { OnOk result (self.new ≡ normal_put (quotes_of quotes.now) (views.manner manner) (characters text) self.old) }
+    {
+        self.put(quotes, manner, Words::Made(text))
+    }
+
+    /// Puts a text down as it is; an empty one is none.
+    ///
+    /// # Errors
+    /// Out of memory.
+    pub fn push_verbatim(&mut self, formatting: Formatting, text: &'a str) -> Result<(), AllocError>
+        ensures { OnOk result (self.new ≡ verbatim_put formatting (chars text.now) self.old) }
+    {
+        if has_text(text) {
+            put_words(&mut self.pieces, formatting, Words::Borrowed(text))?;
+            self.after_quote = false;
+        }
+        Ok(())
+    }
+
+    /// Puts the close quote of a node down, an ordinary text; punctuation that is put down next goes inside. An empty one is none.
+    ///
+    /// # Errors
+    /// Out of memory.
+    pub fn push_close_quote(
+        &mut self,
+        quotes: &[&str],
+        manner: Manner,
+        text: &'a str,
+    ) -> Result<(), AllocError>
+        ensures { OnOk result (self.new ≡ quote_put (quotes_of quotes.now) (views.manner manner) (chars text.now) self.old) }
+    {
+        if has_text(text) {
+            self.push_text(quotes, manner, text)?;
+            self.after_quote = true;
+        }
+        Ok(())
+    }
+
+    /// Puts a formula down.
+    ///
+    /// # Errors
+    /// Out of memory.
+    pub fn push_markup(&mut self, text: &'a str) -> Result<(), AllocError>
+        ensures { OnOk result (self.new ≡ token_put (formula (chars text.now)) self.old) }
+    {
+        self.push(Piece::Markup(text))
+    }
+
+    /// Puts a link from a text to an address down.
+    ///
+    /// # Errors
+    /// Out of memory.
+    pub fn push_link(
+        &mut self,
+        formatting: Formatting,
+        text: &'a str,
+        url: &'a str,
+    ) -> Result<(), AllocError>
+        ensures { OnOk result (self.new ≡ token_put (link formatting (chars text.now) (chars url.now)) self.old) }
+    {
+        self.push(Piece::Link {
+            formatting,
+            text,
+            url,
+        })
+    }
+
+    /// Puts a locator of the caller's own down, by the place of its cite in its request, from zero.
+    ///
+    /// # Errors
+    /// Out of memory.
+    pub fn push_transparent(
+        &mut self,
+        formatting: Formatting,
+        cite_idx: usize,
+    ) -> Result<(), AllocError>
+        ensures { OnOk result (self.new ≡ token_put (transparent formatting cite_idx) self.old) }
+    {
+        self.push(Piece::Transparent {
+            formatting,
+            cite_idx,
+        })
+    }
+
+    /// Begins an element.
+    ///
+    /// # Errors
+    /// Out of memory.
+    pub fn begin(&mut self, frame: &Frame<'a>) -> Result<(), AllocError>
+        ensures { OnOk result (self.new ≡ begun (views.frame frame.now) self.old) }
+    {
+        begin(&mut self.pieces, first_piece(frame), frame)
+    }
+
+    /// Begins an element that stands for what was made on the way, whatever the frame says that it stands for.
+    ///
+    /// # Errors
+    /// Out of memory.
+    pub fn begin_element(&mut self, frame: &Frame<'a>, meta: ElemMeta) -> Result<(), AllocError>
+        ensures { OnOk result (self.new ≡ begun (record (views.frame frame.now) { meta = Some (meaning meta) }) self.old) }
+    {
+        let first = Piece::Opening {
+            display: frame.display,
+            meta: Some(Meaning::Made(meta)),
+        };
+        begin(&mut self.pieces, first, frame)
+    }
+
+    /// Ends the element that was begun last. Where it has printed nothing but white space, all of it goes, with its affixes.
+    ///
+    /// # Errors
+    /// Out of memory.
+    pub fn end(&mut self, quotes: &[&str], frame: &Frame<'a>) -> Result<(), AllocError>
+        ensures { OnOk result (self.new ≡ ended (quotes_of quotes.now) (views.frame frame.now) self.old) }
+    {
+        if self.end_content(quotes, frame)? {
+            self.pieces.push(last_piece(frame))?;
+        }
+        Ok(())
+    }
+
+    /// Ends the element that was begun last and stands for what was made on the way.
+    ///
+    /// # Errors
+    /// Out of memory.
+    pub fn end_element(&mut self, quotes: &[&str], frame: &Frame<'a>) -> Result<(), AllocError>
+        ensures { (m : Meta) → OnOk result (self.new ≡ ended (quotes_of quotes.now) (record (views.frame frame.now) { meta = Some m }) self.old) }
+    {
+        if self.end_content(quotes, frame)? {
+            self.pieces.push(Piece::Closing)?;
+        }
+        Ok(())
+    }
+
+    /// A space at the end, in characters as they look of themselves and after all elements. There is none where nothing was put
+    /// down, and none where the last text ends in a space, be it one that does not break.
+    ///
+    /// # Errors
+    /// Out of memory.
+    pub fn ensure_space(&mut self) -> Result<(), AllocError>
+        ensures { OnOk result (self.new ≡ space_put self.old) }
+    {
+        if !is_begun(&self.pieces) || ends_spaced(&self.pieces) {
+            return Ok(());
+        }
+        self.push_verbatim(plain(), " ")
+    }
+
+    /// Puts a text down in pieces: formulas, texts as they are, and ordinary texts.
+    ///
+    /// # Errors
+    /// Out of memory.
+    pub fn push_chunks(
+        &mut self,
+        quotes: &[&str],
+        manner: Manner,
+        chunks: &'a [StringChunk],
+    ) -> Result<(), AllocError>
+        ensures { OnOk result (self.new ≡ all_down (quotes_of quotes.now) (chunk_pieces (views.manner manner) (map chunk_of chunks.now)) self.old) }
+    {
+        for chunk in chunks {
+            self.push_chunk(quotes, manner, chunk)?;
+        }
+        Ok(())
+    }
+
+    /// Whether two pages show the same characters, however they look and whatever element they stand in.
+    pub fn has_text_of(&self, other: &Page<'_>) -> bool
+        ensures { result ≡ bytes_eq (page_text self.now.tokens) (page_text other.now.tokens) }
+    {
+        show_the_same(&self.pieces, &other.pieces)
+    }
+
+    /// Appends the characters of the page in the order of reading: its texts, formulas, and the texts of its links.
+    ///
+    /// # Errors
+    /// Out of memory.
+    pub fn push_to(&self, output: &mut String) -> Result<(), AllocError>
+        ensures { OnOk result (characters output.new ≡ characters output.old ++ page_text self.now.tokens) }
+    {
+        push_shown(output, &self.pieces)
+    }
+
+    /// The tree of the page. Texts of one formatting that stand beside each other are joined.
+    ///
+    /// # Errors
+    /// Out of memory.
+    pub fn into_tree(self) -> Result<ElemChildren, AllocError>
+        ensures { IfOk result (λ t. tree t ≡ tree_of self.entry.tokens) }
+    {
+        let Page {
+            pieces,
+            after_quote: _,
+        } = self;
+        build(pieces)
+    }
+
+    /// Puts an ordinary text down.
+    fn put(&mut self, quotes: &[&str], manner: Manner, words: Words<'a>) -> Result<(), AllocError>
+        ensures { OnOk result (self.new ≡ normal_put (quotes_of quotes.now) (views.manner manner) (letters words.entry) self.old) }
+    {
+        let Some((first, _)) = split_first(words.as_str()) else {
+            return Ok(());
+        };
+        let after_quote = self.after_quote;
+        self.after_quote = false;
+        if after_quote && is_punctuation(first) {
+            append_after_quote(&mut self.pieces, quotes, manner, first, words)
+        } else {
+            append(&mut self.pieces, manner, words)
+        }
+    }
+
+    /// Puts down what is no text.
+    fn push(&mut self, piece: Piece<'a>) -> Result<(), AllocError>
+        ensures { OnOk result ((self.new.tokens ≡ views.put self.old.tokens piece.entry) × (self.new.after_quote ≡ false)) }
+    {
+        self.pieces.push(piece)?;
+        self.after_quote = false;
+        Ok(())
+    }
+
+    /// Puts a piece of a text down.
+    fn push_chunk(
+        &mut self,
+        quotes: &[&str],
+        manner: Manner,
+        chunk: &'a StringChunk,
+    ) -> Result<(), AllocError>
+        ensures { OnOk result (self.new ≡ put_down (quotes_of quotes.now) self.old (chunk_piece (views.manner manner) (chunk_of chunk.now))) }
+    {
+        let text = chunk.value.as_str();
+        match chunk.kind {
+            ChunkKind::Normal => self.push_text(quotes, manner, text),
+            ChunkKind::Verbatim => self.push_verbatim(manner.formatting, text),
+            ChunkKind::Math => self.push_markup(text),
+        }
+    }
+
+    /// Ends what an element contains, with its suffix. Where it has printed nothing but white space, the element goes whole.
+    /// Returns whether it is still there.
+    fn end_content(&mut self, quotes: &[&str], frame: &Frame<'a>) -> Result<bool, AllocError>
+        ensures prints { IfOk result (λ b. b ≡ prints 0 self.old.tokens) }
+        ensures page { IfOk result (λ b. self.new ≡ (if b then suffix_put (quotes_of quotes.now) (views.manner frame.now.manner) (chars frame.now.suffix.now) (record self.old { tokens = unmark ∷ self.old.tokens }) else record self.old { tokens = before_prefix (before_mark 0 self.old.tokens) })) }
+    {
+        match begin_of_nothing(&self.pieces) {
+            Some(place) => {
+                self.pieces.truncate(place);
+                let place = begin_of_prefix(&self.pieces);
+                self.pieces.truncate(place);
+                Ok(false)
+            }
+            None => {
+                self.put_suffix(quotes, frame)?;
+                Ok(true)
+            }
+        }
+    }
+
+    /// Puts the suffix of an element down that has printed something.
+    fn put_suffix(&mut self, quotes: &[&str], frame: &Frame<'a>) -> Result<(), AllocError>
+        ensures { OnOk result (self.new ≡ suffix_put (quotes_of quotes.now) (views.manner frame.now.manner) (chars frame.now.suffix.now) (record self.old { tokens = unmark ∷ self.old.tokens })) }
+    {
+        self.pieces.push(Piece::Unmark)?;
+        if !ends_in(&self.pieces, frame.suffix) {
+            self.push_text(quotes, frame.manner, frame.suffix)?;
+        }
+        Ok(())
+    }
+}
