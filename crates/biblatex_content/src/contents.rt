@@ -106,7 +106,7 @@ impl Contents {
         self.push_chunk(&piece.span, Chunk::Normal(text))
     }
 
-    /// The same with a piece of an ordinary field after it, whose first row that fits counts: `---`, `--` and `~` are
+    /// These contents with a piece of an ordinary field after them, whose first row that fits counts: `---`, `--` and `~` are
     /// dashes and a tie; a backslash and one of `{ } # & % $ _` that character, a backslash before a backslash or a blank a
     /// space, `\,` a thin space, `\-` and `\/` nothing; accents are composed with their arguments; commands of letters are
     /// characters or are passed over; a backslash and another character is that character; groups are verbatim but for
@@ -130,7 +130,7 @@ impl Contents {
         Ok(self)
     }
 
-    /// The same with a piece of a verbatim field after it: a backslash before one of `{ } \ ~ ^ # & % $ _` gives that
+    /// These contents with a piece of a verbatim field after them: a backslash before one of `{ } \ ~ ^ # & % $ _` gives that
     /// character, other braces give nothing, and all else is itself. What the piece gives has its place.
     pub fn push_verbatim(mut self, piece: Spanned<&str>) -> Result<Contents, AllocError>
         ensures read { IfOk result (λ c. so_far c ≡ so_far self ++ letters Verbatim (verbatim_text (chars piece.entry.v.now))) }

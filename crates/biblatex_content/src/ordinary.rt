@@ -412,7 +412,7 @@ impl Reading {
 }
 
 impl Joining {
-    /// The same with a piece of an ordinary field after it.
+    /// What was joined so far, with a piece of an ordinary field after it.
     fn push_tokens(self, piece: &str) -> Result<Joining, ContentError>
         ensures { Gives refusal_of joined result (following (joined self) (ordinary (chars piece.now))) }
     {

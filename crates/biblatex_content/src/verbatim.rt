@@ -37,7 +37,7 @@ pub fn is_verbatim_field(key: &str) -> bool
 }
 
 impl Joining {
-    /// The same with a piece of a verbatim field after it.
+    /// What was joined so far, with a piece of a verbatim field after it.
     fn push_verbatim(mut self, piece: &str) -> Result<Joining, AllocError>
         ensures { IfOk result (λ c. joined c ≡ joined self ++ letters Verbatim (verbatim_text (chars piece.now))) }
     {

@@ -8,7 +8,7 @@ use Rattle.biblatex_dates.specs.declared.datetime.Time.{Time}
 use Rattle.biblatex_dates.specs.declared.error.TypeErrorKind.{TypeErrorKind}
 use Rattle.biblatex_dates.specs.declared.error.TypeErrorKind.TheVariants.{WrongNumberOfDigits, MonthOutOfRange, DayOutOfRange}
 
--- the same without its time
+-- a date without its time
 abbrev pub without_time : Datetime → Datetime
 without_time d = record { year = d.year; month = d.month; day = d.day; time = None }
 

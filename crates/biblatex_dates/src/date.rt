@@ -68,7 +68,7 @@ impl Date {
         dated_by_parts(year, month, day)
     }
 
-    /// The same without times.
+    /// This date, or range of dates, without times.
     pub fn without_time(self) -> Date
         ensures value { result ≡ date_without_time self }
         ensures exists { SidesExist self.value → SidesExist result.value }
@@ -81,7 +81,7 @@ impl Date {
 }
 
 impl DateValue {
-    /// The same without times.
+    /// These dates without their times.
     pub fn without_time(self) -> DateValue
         ensures { result ≡ value_without_time self }
     {

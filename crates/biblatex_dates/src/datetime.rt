@@ -38,7 +38,7 @@ pub enum TimeOffset {
 }
 
 impl Datetime {
-    /// The same without its time.
+    /// This date without its time.
     pub fn without_time(self) -> Datetime
         ensures { result ≡ without_time self }
     {

@@ -33,7 +33,7 @@ pub(crate) fn pass_on(
     }
 }
 
-/// Hands on the fields of every entry and of some.
+/// Passes on the fields of every entry and of some.
 fn pass_on_both(
     alloc: Global,
     to: Role,
@@ -47,7 +47,7 @@ fn pass_on_both(
     pass_on_named(alloc, to, fields, from, names)
 }
 
-/// Hands on the fields of these names.
+/// Passes on the fields of these names.
 fn pass_on_named(
     alloc: Global,
     to: Role,
@@ -63,7 +63,7 @@ fn pass_on_named(
     Ok(())
 }
 
-/// Hands on the field of the name.
+/// Passes on the field of the name.
 fn pass_on_one(
     alloc: Global,
     to: Role,
@@ -79,7 +79,7 @@ fn pass_on_one(
     }
 }
 
-/// Hands on all fields but those that never come.
+/// Passes on all fields but those that never come.
 fn pass_on_all(alloc: Global, fields: &mut Fields, from: &Fields) -> Result<(), AllocError>
     ensures { OnOk result (PassesOn fields.old fields.new (λ name. if is_among never name then None else value_named name from.now)) }
 {

@@ -1,20 +1,23 @@
-//! Cases of styles, numbers as texts, locales, written texts and trees.
+//! Cases of styles, numbers and dates as texts, locales, written texts, pages and trees.
 #![tactic(auto)]
 
 mod asking;
 mod codes;
 mod conditions;
 mod date_words;
+mod dated;
 mod dates;
 mod leaves;
 mod locales;
 mod looks;
 mod members;
 mod metas;
+mod name_forms;
 mod name_options;
 mod names;
 mod nodes;
 mod numbers;
+mod pages;
 mod parts;
 mod styles;
 mod terms;
@@ -44,6 +47,9 @@ fn answer_text(alloc: Global, kind: &str, case: &Value<'_>, out: &mut Writer) ->
         "write_number" => told(numbers::answer_number(alloc, case, out)),
         "suffix_letters" => told(numbers::answer_letters(alloc, case, out)),
         "write_text" => told(writing::answer(alloc, case, out)),
+        "name_form" => told(name_forms::answer(alloc, case, out)),
+        "date" => told(dated::answer(alloc, case, out)),
+        "page" => told(pages::answer(alloc, case, out)),
         _ => tree_calls::answer(alloc, kind, case, out),
     }
 }

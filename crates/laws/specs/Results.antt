@@ -27,7 +27,7 @@ abbrev pub Gives : {E F X Y : Type 0} → (E → Option F) → (X → Y) → Res
 Gives refusal view (Ok x) read = read ≡ Ok (view x)
 Gives refusal view (Err e) read = EndsWith (refusal e) read
 
--- the same with what the call left to read
+-- what the call gives, and what it left to read, are what is read and what follows it; or they refuse alike
 abbrev pub GivesRest : {E F T X Y : Type 0} → (E → Option F) → (X → Y) → Result X E → T → Result (Y × T) F → Type 0
 GivesRest refusal view (Ok x) rest read = read ≡ Ok (view x, rest)
 GivesRest refusal view (Err e) rest read = EndsWith (refusal e) read
@@ -57,7 +57,7 @@ abbrev pub GivesOrRefuses : {E F G X Y : Type 0} → (E → Option G) → (X →
 GivesOrRefuses refusal view (Ok x) read = read ≡ Ok (view x)
 GivesOrRefuses refusal view (Err e) read = BothRefuse (is_some (refusal e)) read
 
--- the same with what the call left to read
+-- what the call gives, and what it left to read, are what is read and what follows it; or both refuse
 abbrev pub GivesRestOrRefuses : {E F G T X Y : Type 0} → (E → Option G) → (X → Y) → Result X E → T → Result (Y × T) F → Type 0
 GivesRestOrRefuses refusal view (Ok x) rest read = read ≡ Ok (view x, rest)
 GivesRestOrRefuses refusal view (Err e) rest read = BothRefuse (is_some (refusal e)) read

@@ -164,7 +164,7 @@ closes open_div (open_div ∷ os) others = others os
 closes open_anchor (open_anchor ∷ os) others = others os
 closes o os others = ⊥
 
--- tags behind what is open are properly nested
+-- tags after what is open are properly nested
 abbrev pub AreNested : List Tag → List Open → Type 0
 AreNested [] [] = Unit {0}
 AreNested [] (o ∷ os) = ⊥

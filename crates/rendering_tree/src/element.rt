@@ -89,7 +89,7 @@ impl ElemChildren {
     /// Appends a child. The list is as it was where there is no memory for it.
     ///
     /// # Errors
-    /// Want of memory.
+    /// Out of memory.
     pub fn push(&mut self, part: ElemChild) -> Result<(), AllocError>
         ensures ok { OnOk result (tree self.new ≡ followed_by (tree self.old) (before (child part) nothing)) }
         ensures err { OnErr result (tree self.new ≡ tree self.old) }

@@ -18,7 +18,7 @@ use texts::{has_text, push_text};
 /// and neighbouring texts of one formatting are joined.
 ///
 /// # Errors
-/// Want of memory.
+/// Out of memory.
 #[cycle(simplify)]
 pub fn simplify_children(parts: ElemChildren) -> Result<ElemChildren, AllocError>
     ensures { IfOk result (λ t. tree t ≡ simplified (tree parts)) }
