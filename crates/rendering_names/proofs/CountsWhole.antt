@@ -1,0 +1,150 @@
+-- Properties as they lie in memory.
+use Rattle.std.proofs.Common.{arith, ◌≡◌, ℕ, suc, zero, ◌+◌, ◌-◌, ◌<◌, ◌≤◌, min, max, Bool, true, false, cond, List, [], ◌∷◌, ◌++◌, map, length, take, drop, replicate, Option, Some, None, refl, sym, ap, ◌∙◌}
+use Rattle.std.specs.Prelude.{nat_lt, nat_le, sum_by, slice_set, ◌&&◌, ◌||◌}
+use Rattle.std.specs.List.{list_any, list_all, flat_map}
+use Rattle.std.proofs.lemmas.List.{length-take-le, length-drop, take-append-drop, length-replicate, take-replicate, drop-replicate, take-set-le, drop-set-lt, drop-set-add}
+use Rattle.std.proofs.lemmas.Bool.Decides.{nat_tests}
+use Rattle.std.proofs.lemmas.List.Sums.{sum_by-cons}
+use Rattle.rendering_style.specs.Options.{NameOptions}
+use Rattle.rendering_tree.specs.Metas.{Answered}
+use Rattle.rendering_names.specs.Properties.{VariableProperties, Properties, showing, adds_name, all_forms, all_shown, form_at, with_form}
+use Rattle.rendering_names.specs.Counts.{cut, all_people, is_within, IsWhole, counted, own_count, people_count}
+use Rattle.rendering_names.specs.Names.{shown_by, shown_of, own_properties, base_form}
+use Rattle.rendering_names.specs.declared.properties.PeopleCount.{PeopleCount}
+use Rattle.rendering_taxonomy.specs.declared.name.DisambiguatedNameForm.{DisambiguatedNameForm}
+
+abbrev Forms : Type 0
+Forms = List DisambiguatedNameForm
+
+-- there are as many forms as people of the first variable and of the others
+pub first_fits : (n m : ℕ) (fs : Forms) → length fs ≡ n + m → length (take n fs) ≡ n
+first_fits n m fs e = let low : n ≤ length fs = omega arith in length-take-le n fs low
+
+pub others_fit : (n m : ℕ) (fs : Forms) → length fs ≡ n + m → length (drop n fs) ≡ m
+others_fit n m fs e = let f : length (drop n fs) ≡ length fs - n = length-drop n fs in omega arith
+
+-- each form stands once
+pub all_forms-cut : (cs : List PeopleCount) (fs : Forms) → length fs ≡ all_people cs → all_forms (cut cs fs) ≡ fs
+all_forms-cut [] [] e = refl
+all_forms-cut [] (f ∷ fs) e = absurd (omega arith)
+all_forms-cut (c ∷ cs) fs e = ap (λ gs. take c.people fs ++ gs) (all_forms-cut cs (drop c.people fs) (others_fit c.people (all_people cs) fs e)) ∙ take-append-drop c.people fs
+
+-- the numbers are those of the variables
+pub all_shown-cut : (cs : List PeopleCount) (fs : Forms) → all_shown (cut cs fs) ≡ sum_by (λ c. c.shown) cs
+all_shown-cut [] fs = refl
+all_shown-cut (c ∷ cs) fs =
+    sum_by-cons (λ (p : VariableProperties). p.shown) (record { variable = c.variable; forms = take c.people fs; shown = c.shown }) (cut cs (drop c.people fs))
+    ∙ ap (λ n. c.shown + n) (all_shown-cut cs (drop c.people fs))
+    ∙ sym (sum_by-cons (λ (d : PeopleCount). d.shown) c cs)
+
+-- more people are shown of each variable
+pub cut-counted : (n : ℕ) (cs : List PeopleCount) (fs : Forms) → length fs ≡ all_people cs → cut (map (counted n) cs) fs ≡ map (showing n) (cut cs fs)
+cut-counted n [] fs e = refl
+cut-counted n (c ∷ cs) fs e = λ i.
+    record { variable = c.variable; forms = take c.people fs; shown = min (sym (first_fits c.people (all_people cs) fs e) i) (max c.shown n) }
+    ∷ cut-counted n cs (drop c.people fs) (others_fit c.people (all_people cs) fs e) i
+
+-- and that is more than before
+pub adds-counted : (n : ℕ) (cs : List PeopleCount) (fs : Forms) → length fs ≡ all_people cs → list_any (λ c. nat_lt c.shown (counted n c).shown) cs ≡ adds_name n (cut cs fs)
+adds-counted n [] fs e = refl
+adds-counted n (c ∷ cs) fs e = λ i.
+    nat_lt c.shown (min (sym (first_fits c.people (all_people cs) fs e) i) (max c.shown n))
+    || adds-counted n cs (drop c.people fs) (others_fit c.people (all_people cs) fs e) i
+
+people-counted : (n : ℕ) (cs : List PeopleCount) → all_people (map (counted n) cs) ≡ all_people cs
+people-counted n [] = refl
+people-counted n (c ∷ cs) = ap (λ k. c.people + k) (people-counted n cs)
+
+pub min_within : (m n : ℕ) → nat_le (min m n) m ≡ true
+min_within m n = grind (arith, nat_tests)
+
+within-counted : (n : ℕ) (cs : List PeopleCount) → list_all is_within (map (counted n) cs) ≡ true
+within-counted n [] = refl
+within-counted n (c ∷ cs) = λ i. min_within c.people (max c.shown n) i && within-counted n cs i
+
+-- it is whole still
+pub whole-counted : (n : ℕ) (cs : List PeopleCount) (fs : Forms) → IsWhole cs fs → IsWhole (map (counted n) cs) fs
+whole-counted n cs fs w = record { people = w.people ∙ sym (people-counted n cs); shown = within-counted n cs }
+
+-- those who are shown are among those who are there
+pub shown-within : (cs : List PeopleCount) → list_all is_within cs ≡ true → sum_by (λ c. c.shown) cs ≤ all_people cs
+shown-within [] all = omega arith
+shown-within (c ∷ cs) all =
+    let here : c.shown ≤ c.people = le_of c.shown c.people (first_true (is_within c) (list_all is_within cs) all) in
+    let others : sum_by (λ (d : PeopleCount). d.shown) cs ≤ all_people cs = shown-within cs (second_true (is_within c) (list_all is_within cs) all) in
+    let sum : sum_by (λ (d : PeopleCount). d.shown) (c ∷ cs) ≡ c.shown + sum_by (λ (d : PeopleCount). d.shown) cs = sum_by-cons (λ (d : PeopleCount). d.shown) c cs in
+    omega arith
+  where
+    le_of : (m n : ℕ) → nat_le m n ≡ true → m ≤ n
+    le_of m n e = grind (arith, nat_tests)
+
+    first_true : (a b : Bool) → a && b ≡ true → a ≡ true
+    first_true true b e = refl
+    first_true false b e = absurd cc
+
+    second_true : (a b : Bool) → a && b ≡ true → b ≡ true
+    second_true true b e = e
+    second_true false b e = absurd cc
+
+-- one form changes in the row
+take-set : (n : ℕ) (fs : Forms) (i : ℕ) (f : DisambiguatedNameForm) → i < n → take n (slice_set fs i f) ≡ slice_set (take n fs) i f
+take-set zero fs i f low = absurd (omega arith)
+take-set (suc n) [] i f low = refl
+take-set (suc n) (g ∷ fs) zero f low = refl
+take-set (suc n) (g ∷ fs) (suc i) f low = ap (λ gs. g ∷ gs) (take-set n fs i f (omega arith))
+
+pub cut-set : (i : ℕ) (f : DisambiguatedNameForm) (cs : List PeopleCount) (fs : Forms) → length fs ≡ all_people cs → with_form i f (cut cs fs) ≡ cut cs (slice_set fs i f)
+cut-set i f [] fs e = refl
+cut-set i f (c ∷ cs) fs e =
+    ap (λ n. cond (nat_lt i n) changed_here (c_shown ∷ with_form (i - n) f (cut cs (drop c.people fs)))) (first_fits c.people (all_people cs) fs e)
+    ∙ by_place (cut-set (i - c.people) f cs (drop c.people fs) (others_fit c.people (all_people cs) fs e)) (nat_lt i c.people) refl
+  where
+    c_shown : VariableProperties
+    c_shown = record { variable = c.variable; forms = take c.people fs; shown = c.shown }
+
+    changed_here : Properties
+    changed_here = record { variable = c.variable; forms = slice_set (take c.people fs) i f; shown = c.shown } ∷ cut cs (drop c.people fs)
+
+    by_place : with_form (i - c.people) f (cut cs (drop c.people fs)) ≡ cut cs (slice_set (drop c.people fs) (i - c.people) f)
+        → (b : Bool) → nat_lt i c.people ≡ b → cond b changed_here (c_shown ∷ with_form (i - c.people) f (cut cs (drop c.people fs))) ≡ cut (c ∷ cs) (slice_set fs i f)
+    by_place others true low =
+        let under : i < c.people = grind (arith, nat_tests) in
+        λ j. record { variable = c.variable; forms = sym (take-set c.people fs i f under) j; shown = c.shown } ∷ cut cs (sym (drop-set-lt c.people fs i f under) j)
+    by_place others false high =
+        let over : c.people ≤ i = grind (arith, nat_tests) in
+        let split : c.people + (i - c.people) ≡ i = omega arith in
+        λ j. record { variable = c.variable; forms = sym (take-set-le c.people fs i f over) j; shown = c.shown }
+        ∷ (others
+        ∙ ap (cut cs) (sym (drop-set-add c.people fs (i - c.people) f) ∙ ap (λ k. drop c.people (slice_set fs k f)) split)) j
+
+-- what the options print of people
+pub cut-own : (o : NameOptions) (first : Bool) (people : List Answered) → cut (map (own_count o first) people) (replicate (people_count people) (base_form o)) ≡ map (own_properties o first) people
+cut-own o first [] = refl
+cut-own o first (a ∷ people) =
+    let n = length a.0 in
+    let m = people_count people in
+    let low : n ≤ n + m = omega arith in
+    let rest : n + m - n ≡ m = omega arith in
+    λ i. record { variable = a.1; forms = take-replicate n (n + m) (base_form o) low i; shown = shown_of o first n }
+    ∷ (ap (cut (map (own_count o first) people)) (drop-replicate n (n + m) (base_form o) ∙ ap (λ k. replicate k (base_form o)) rest) ∙ cut-own o first people) i
+
+people-own : (o : NameOptions) (first : Bool) (people : List Answered) → people_count people ≡ all_people (map (own_count o first) people)
+people-own o first [] = refl
+people-own o first (a ∷ people) = ap (λ k. length a.0 + k) (people-own o first people)
+
+shown_by-within : (least first : Option ℕ) (n : ℕ) → nat_le (shown_by least first n) n ≡ true
+shown_by-within (Some least) (Some first) n = grind (arith, nat_tests)
+shown_by-within (Some least) None n = grind (arith, nat_tests)
+shown_by-within None (Some first) n = grind (arith, nat_tests)
+shown_by-within None None n = grind (arith, nat_tests)
+
+shown_of-within : (o : NameOptions) (first : Bool) (n : ℕ) → nat_le (shown_of o first n) n ≡ true
+shown_of-within o true n = shown_by-within o.et_al_min o.et_al_use_first n
+shown_of-within o false n = shown_by-within _ _ n
+
+within-own : (o : NameOptions) (first : Bool) (people : List Answered) → list_all is_within (map (own_count o first) people) ≡ true
+within-own o first [] = refl
+within-own o first (a ∷ people) = λ i. shown_of-within o first (length a.0) i && within-own o first people i
+
+pub whole-own : (o : NameOptions) (first : Bool) (f : DisambiguatedNameForm) (people : List Answered) → IsWhole (map (own_count o first) people) (replicate (people_count people) f)
+whole-own o first f people = record { people = length-replicate (people_count people) f ∙ people-own o first people; shown = within-own o first people }

@@ -1,0 +1,11 @@
+pub mod NamesTexts
+pub mod PersonsJoined
+pub mod NamesCases
+pub mod PiecesPut
+pub mod PlacedSteps
+pub mod CountsWhole
+pub mod FormsLent
+pub mod CountsSteps
+pub mod OwnSteps
+pub mod PeopleSteps
+pub mod RaisedWhole

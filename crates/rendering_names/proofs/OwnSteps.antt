@@ -1,0 +1,25 @@
+-- The forms of the people of one variable after those of others.
+use Rattle.std.proofs.Common.{arith, ◌≡◌, ℕ, ◌+◌, ◌<◌, List, [], ◌∷◌, ◌++◌, map, length, take, get_or, replicate, sym, ap, ◌∙◌}
+use Rattle.std.proofs.lemmas.List.{length-map, map_more, replicate-append-replicate}
+use Rattle.rendering_tree.specs.Metas as metas
+use Rattle.rendering_names.specs.Counts.{people_count}
+use Rattle.rendering_names.specs.Views.{answered_by, person_by}
+use Rattle.rendering_names.specs.declared.people.Answered.{Answered}
+use Rattle.rendering_taxonomy.specs.declared.name.DisambiguatedNameForm.{DisambiguatedNameForm}
+
+count_push : (xs : List metas.Answered) (a : metas.Answered) → people_count (xs ++ a ∷ []) ≡ people_count xs + length a.0
+count_push [] a = omega arith
+count_push (x ∷ xs) a = let e : people_count (xs ++ a ∷ []) ≡ people_count xs + length a.0 = count_push xs a in omega arith
+
+pub forms_more : (ps : List Answered) (i : ℕ) (a : Answered) (f : DisambiguatedNameForm) (n : ℕ) (old new : List DisambiguatedNameForm)
+    → i < length ps → a ≡ get_or ps i a → n ≡ length a.people.items
+    → old ≡ replicate (people_count (map answered_by (take i ps))) f → new ≡ old ++ replicate n f
+    → new ≡ replicate (people_count (map answered_by (take (i + 1) ps))) f
+forms_more ps i a f n old new low is_a is_n before after =
+    let front = map answered_by (take i ps) in
+    after
+    ∙ (λ k. before k ++ replicate ((is_n ∙ sym (length-map a.people.items person_by)) k) f)
+    ∙ replicate-append-replicate (people_count front) (length (answered_by a).0) f
+    ∙ ap (λ m. replicate m f)
+    (sym (count_push front (answered_by a))
+    ∙ ap people_count (ap (λ b. front ++ answered_by b ∷ []) is_a ∙ sym (map_more answered_by ps i a low)))

@@ -1,0 +1,7 @@
+use Rattle.std.proofs.Common.{◌≡◌, map, take}
+use Rattle.rendering_names.specs.Counts.{own_count}
+use Rattle.rendering_names.specs.Views.{answered_by, options_by}
+use Rattle.rendering_names.proofs.own.own_counts.Given as goal
+
+abbrev pub invariant-loop-answered : goal.invariant-loop-answered
+invariant-loop-answered l = l.counts.items ≡ map (own_count (options_by l.options) l.is_first) (map answered_by (take l.answered-index l.people))

@@ -1,0 +1,268 @@
+-- How names are printed.
+use Rattle.std.specs.Prelude.{ℕ, ◌+◌, ◌-◌, Bool, true, false, ◌==◌, ◌&&◌, ◌||◌, nat_le, nat_lt, List, [], ◌∷◌, ◌++◌, map, length, replicate, take, drop, zip, if◌then◌else◌, is_some, Option, Some, None}
+use Rattle.std.specs.List.{flat_map, enumerate_from}
+use Rattle.std.specs.Option.{option_map_or, option_or, unwrap_or}
+use Rattle.std.specs.Fmt.{decimal}
+use Rattle.literature_values.specs.PersonViews.{Named}
+use Rattle.rendering_taxonomy.specs.Formats.{changed, unchanged}
+use Rattle.rendering_tree.specs.Metas.{Answered, NameVariableOf, Name, Names}
+use Rattle.rendering_locale.specs.Locales.{Locale}
+use Rattle.rendering_locale.specs.Lookup.{term_text}
+use Rattle.rendering_page.specs.Pages.{Manner, Frame}
+use Rattle.rendering_page.specs.Pieces.{Piece, normal, framed}
+use Rattle.rendering_style.specs.Options.{NameOptions, options_over, open_options}
+use Rattle.rendering_style.specs.Nodes.{NameLook, EtAl, LabelLook, NamesNode}
+use Rattle.rendering_names.specs.Properties.{VariableProperties, Properties, all_shown}
+use Rattle.rendering_names.specs.Persons.{comma_and_space, person_text}
+use Rattle.rendering_taxonomy.specs.declared.name.NameAnd.{NameAnd}
+use Rattle.rendering_taxonomy.specs.declared.name.NameAnd.TheVariants as ands
+use Rattle.rendering_taxonomy.specs.declared.name.DelimiterBehavior.{DelimiterBehavior}
+use Rattle.rendering_taxonomy.specs.declared.name.DelimiterBehavior.TheVariants as behaviors
+use Rattle.rendering_taxonomy.specs.declared.name.DisambiguatedNameForm.{DisambiguatedNameForm}
+use Rattle.rendering_taxonomy.specs.declared.name.DisambiguatedNameForm.TheVariants as forms
+use Rattle.rendering_taxonomy.specs.declared.name.EtAlTerm.{EtAlTerm}
+use Rattle.rendering_taxonomy.specs.declared.name.EtAlTerm.TheVariants as et_al_terms
+use Rattle.rendering_taxonomy.specs.declared.name.NameAsSortOrder.{NameAsSortOrder}
+use Rattle.rendering_taxonomy.specs.declared.name.NameAsSortOrder.TheVariants as orders
+use Rattle.rendering_taxonomy.specs.declared.name.NameForm.{NameForm}
+use Rattle.rendering_taxonomy.specs.declared.name.NameForm.TheVariants as name_forms
+use Rattle.rendering_taxonomy.specs.declared.number.LabelPluralize.{LabelPluralize}
+use Rattle.rendering_taxonomy.specs.declared.number.LabelPluralize.TheVariants as plurals
+use Rattle.rendering_taxonomy.specs.declared.term.OtherTerm.{OtherTerm}
+use Rattle.rendering_taxonomy.specs.declared.term.OtherTerm.TheVariants as others
+use Rattle.rendering_taxonomy.specs.declared.term.Term.TheVariants as terms
+use Rattle.rendering_taxonomy.specs.declared.term.TermForm.TheVariants as term_forms
+use Rattle.rendering_taxonomy.specs.declared.variable.NameVariable.{NameVariable}
+use Rattle.rendering_taxonomy.specs.declared.variable.Variable.TheVariants as variables
+
+-- the form of names by their options
+abbrev pub form_by : NameForm → Bool → DisambiguatedNameForm
+form_by name_forms.Count has_initials = forms.Count
+form_by name_forms.Short true = forms.ShortInitialized
+form_by name_forms.Short false = forms.ShortFull
+form_by name_forms.Long true = forms.LongInitialized
+form_by name_forms.Long false = forms.LongFull
+
+-- the form that the options say
+abbrev pub base_form : NameOptions → DisambiguatedNameForm
+base_form o = form_by (unwrap_or o.form name_forms.Long) (is_some o.initialize_with)
+
+-- how many of n are shown: so many as the options say from so many on, where that is fewer, else all
+abbrev pub shown_by : Option ℕ → Option ℕ → ℕ → ℕ
+shown_by (Some least) (Some first) n = if nat_le least n && nat_lt first n then first else n
+shown_by least first n = n
+
+-- in subsequent cites their own options count, or else those of the first
+abbrev pub shown_of : NameOptions → Bool → ℕ → ℕ
+shown_of o true n = shown_by o.et_al_min o.et_al_use_first n
+shown_of o false n = shown_by (option_or o.et_al_subsequent_min o.et_al_min) (option_or o.et_al_subsequent_use_first o.et_al_use_first) n
+
+-- what is printed of people by the options
+abbrev pub own_properties : NameOptions → Bool → Answered → VariableProperties
+own_properties o is_first a = record { variable = a.1; forms = replicate (length a.0) (base_form o); shown = shown_of o is_first (length a.0) }
+
+-- the same of the people of each variable
+abbrev pub properties_by : NameOptions → Bool → List Answered → Properties
+properties_by o is_first people = map (own_properties o is_first) people
+
+-- what stands between names
+abbrev pub delimiter_by : NameOptions → List ℕ
+delimiter_by o = unwrap_or o.delimiter comma_and_space
+
+-- whether the name at a place is inverted
+abbrev pub inverts : Option NameAsSortOrder → ℕ → Bool
+inverts None i = false
+inverts (Some orders.All) i = true
+inverts (Some orders.First) i = i == 0
+
+-- the sign or the word before the last name; a word that the locale lacks is none
+abbrev pub and_text : List Locale → Option NameAnd → List ℕ
+and_text ls None = []
+and_text ls (Some ands.Symbol) = 38 ∷ []
+and_text ls (Some ands.Text) = term_text ls (terms.Other others.And) term_forms.Long false
+
+-- whether the delimiter stands before the last of n names, where a word does
+abbrev pub delimits_last : NameOptions → ℕ → DelimiterBehavior → Bool
+delimits_last o n behaviors.Contextual = nat_le 3 n
+delimits_last o n behaviors.Always = true
+delimits_last o n behaviors.Never = false
+delimits_last o n behaviors.AfterInvertedName = inverts o.name_as_sort_order (n - 2)
+
+-- the delimiter or a space, the word, a space; without a word the delimiter
+abbrev pub before_last_by : Manner → NameOptions → ℕ → List ℕ → List Piece
+before_last_by m o n [] = normal m (delimiter_by o) ∷ []
+before_last_by m o n (c ∷ cs) =
+    normal m (if delimits_last o n (unwrap_or o.delimiter_precedes_last behaviors.Contextual) then delimiter_by o else 32 ∷ [])
+    ∷ normal m (c ∷ cs) ∷ normal m (32 ∷ []) ∷ []
+
+-- what stands before the name at a place among n: nothing before the first; before the last, if it is not the first, the word; the delimiter
+-- before others
+abbrev pub before_name : List Locale → Manner → NameOptions → ℕ → ℕ → List Piece
+before_name ls m o n i =
+    if i == 0 then []
+    else (if i + 1 == n then before_last_by m o n (and_text ls o.and_term) else normal m (delimiter_by o) ∷ [])
+
+-- How names stand: the locales, the manner of the node, the look of single names, and the options.
+pub record NameStyle : Type 0 where
+  pub locales : List Locale
+  pub manner : Manner
+  pub look : NameLook
+  pub et_al : EtAl
+  pub options : NameOptions
+
+-- a single name, in its own look and its affixes in that of the node, as the person at a place
+abbrev pub name_pieces : NameStyle → NameVariable → ℕ → DisambiguatedNameForm → Named → List Piece
+name_pieces s v i f p =
+    framed (record { display = None; meta = Some (Name v i); manner = s.manner; prefix = s.look.prefix; suffix = s.look.suffix })
+    (normal (record s.manner { formatting = changed s.look.formatting s.manner.formatting }) (person_text s.options (inverts s.options.name_as_sort_order i) f p) ∷ [])
+
+-- a person of a variable with a form, under its place
+abbrev pub Placed : Type 0
+Placed = ℕ × (DisambiguatedNameForm × Named)
+
+-- the person at a place
+abbrev pub placed_pieces : NameStyle → NameVariable → Placed → List Piece
+placed_pieces s v p = name_pieces s v p.0 (p.1).0 (p.1).1
+
+-- people of a variable that has n, each after what stands before it
+abbrev pub shown_pieces : NameStyle → NameVariable → ℕ → List Placed → List Piece
+shown_pieces s v n ps = flat_map (λ p. before_name s.locales s.manner s.options n p.0 ++ placed_pieces s v p) ps
+
+-- the last of n people
+abbrev pub last_pieces : NameStyle → NameVariable → ℕ → List Placed → List Piece
+last_pieces s v n ps = flat_map (placed_pieces s v) (drop (n - 1) ps)
+
+-- the term by its name
+abbrev pub et_al_term : EtAlTerm → OtherTerm
+et_al_term et_al_terms.EtAl = others.EtAl
+et_al_term et_al_terms.AndOthers = others.AndOthers
+
+-- The term for those left out, after the delimiter where two or more are shown, else after a space. Without a term there is neither.
+abbrev pub et_al_by : NameStyle → ℕ → List ℕ → List Piece
+et_al_by s shown [] = []
+et_al_by s shown (c ∷ cs) =
+    normal s.manner (if nat_le 2 shown then delimiter_by s.options else 32 ∷ [])
+    ∷ normal (record s.manner { formatting = changed s.et_al.formatting s.manner.formatting }) (c ∷ cs) ∷ []
+
+-- what stands for those left out
+abbrev pub et_al_pieces : NameStyle → ℕ → List Piece
+et_al_pieces s shown = et_al_by s shown (term_text s.locales (terms.Other (et_al_term s.et_al.name)) term_forms.Long false)
+
+-- an ellipsis
+abbrev pub ellipsis : List ℕ
+ellipsis = 8230 ∷ []
+
+-- a name after the delimiter, an ellipsis and a space
+abbrev pub after_ellipsis : NameStyle → List Piece → List Piece
+after_ellipsis s ps = normal s.manner (delimiter_by s.options) ∷ normal s.manner ellipsis ∷ normal s.manner (32 ∷ []) ∷ ps
+
+-- After the shown names, where there are more: the last one, after an ellipsis, where it is wanted and two or more are left out;
+-- else the term for them.
+abbrev pub rest_pieces : NameStyle → NameVariable → ℕ → ℕ → List Placed → List Piece
+rest_pieces s v n shown ps =
+    if nat_le n shown then []
+    else (if unwrap_or s.options.et_al_use_last false && nat_le 2 (n - shown) then after_ellipsis s (last_pieces s v n ps) else et_al_pieces s shown)
+
+-- the first of the people, so many, and what stands for the rest
+abbrev pub list_pieces : NameStyle → NameVariable → ℕ → List Placed → List Piece
+list_pieces s v shown ps = shown_pieces s v (length ps) (take shown ps) ++ rest_pieces s v (length ps) shown ps
+
+-- whether a label stands in the plural, where its value does or not
+abbrev pub pluralizes : LabelPluralize → Bool → Bool
+pluralizes plurals.Contextual plural = plural
+pluralizes plurals.Always plural = true
+pluralizes plurals.Never plural = false
+
+-- how a label's text is put down
+abbrev pub label_manner : Manner → LabelLook → Manner
+label_manner m l = record { formatting = changed l.look.formatting m.formatting; strips_periods = m.strips_periods || l.strips_periods }
+
+-- a label by its term, in its affixes
+abbrev pub label_text_pieces : Manner → LabelLook → List ℕ → List Piece
+label_text_pieces m l text =
+    framed (record { display = None; meta = None; manner = m; prefix = l.look.prefix; suffix = l.look.suffix }) (normal (label_manner m l) text ∷ [])
+
+-- the label of a name variable, by how many people answer it
+abbrev pub label_pieces : List Locale → Manner → NameVariable → ℕ → Option LabelLook → List Piece
+label_pieces ls m v n None = []
+label_pieces ls m v n (Some l) = label_text_pieces m l (term_text ls (terms.Variable (variables.Name v)) l.form (pluralizes l.plural (nat_lt 1 n)))
+
+-- a label before or after what it belongs to
+abbrev pub beside : Bool → List Piece → List Piece → List Piece
+beside true label ps = label ++ ps
+beside false label ps = ps ++ label
+
+-- an element that says only what it stands for
+abbrev pub variable_frame : Manner → NameVariable → Frame
+variable_frame m v = record { display = None; meta = Some (NameVariableOf v); manner = m; prefix = []; suffix = [] }
+
+-- the people of a variable, by what is to be printed of them
+abbrev pub variable_pieces : NameStyle → NamesNode → VariableProperties × Answered → List Piece
+variable_pieces s h (p, a) =
+    framed (variable_frame s.manner a.1)
+    (beside h.label_is_first (label_pieces s.locales s.manner a.1 (length a.0) h.label)
+    (list_pieces s a.1 p.shown (enumerate_from 0 (zip p.forms a.0))))
+
+-- the look of single names where nothing is said of them
+abbrev pub no_look : NameLook
+no_look = record { options = open_options; formatting = unchanged; prefix = []; suffix = [] }
+
+-- the term for others where nothing is said of it
+abbrev pub plain_et_al : EtAl
+plain_et_al = record { name = et_al_terms.EtAl; formatting = unchanged }
+
+-- the options of a names node over those around it
+abbrev pub node_options : NamesNode → NameOptions → NameOptions
+node_options h around = option_map_or (λ n. options_over n.options around) h.name around
+
+-- how the names of a node stand
+abbrev pub style_of : List Locale → Manner → NamesNode → NameOptions → NameStyle
+style_of ls m h around = record {
+  locales = ls;
+  manner = m;
+  look = unwrap_or h.name no_look;
+  et_al = unwrap_or h.et_al plain_et_al;
+  options = node_options h around;
+}
+
+-- whether only the number is printed
+abbrev pub is_count : Option NameForm → Bool
+is_count (Some name_forms.Count) = true
+is_count f = false
+
+-- what stands before the people of the variable at a place: the node's delimiter, but before the first nothing
+abbrev pub before_people : Manner → NamesNode → ℕ → List Piece
+before_people m h i = if i == 0 then [] else normal m (unwrap_or h.delimiter comma_and_space) ∷ []
+
+-- the people of the variable at a place, after what stands before them
+abbrev pub placed_variable : NameStyle → NamesNode → ℕ × (VariableProperties × Answered) → List Piece
+placed_variable s h p = before_people s.manner h p.0 ++ variable_pieces s h p.1
+
+-- the people of each variable, or only how many are shown
+abbrev pub people_pieces : NameStyle → NamesNode → Properties → List Answered → List Piece
+people_pieces s h ps people =
+    if is_count s.options.form
+    then normal s.manner (decimal (all_shown ps)) ∷ []
+    else flat_map (placed_variable s h) (enumerate_from 0 (zip ps people))
+
+-- the element of a names node
+abbrev pub names_frame : Manner → NamesNode → List Answered → Frame
+names_frame m h people = record { display = h.look.display; meta = Some (Names people); manner = m; prefix = h.look.prefix; suffix = h.look.suffix }
+
+-- how a names node's own texts are put down
+abbrev pub names_manner : Manner → NamesNode → Manner
+names_manner m h = record m { formatting = changed h.look.formatting m.formatting }
+
+-- a names node with its people, by what is to be printed of them
+abbrev pub names_pieces : List Locale → Manner → NamesNode → NameOptions → Properties → List Answered → List Piece
+names_pieces ls m h around ps people = framed (names_frame m h people) (people_pieces (style_of ls (names_manner m h) h around) h ps people)
+
+-- What a names node says of names where it stands in for another: without a name and without a term for others it takes those of that
+-- node, and its label with the label's place, if it has none itself.
+abbrev pub completed : NamesNode → NamesNode → NamesNode
+completed outer h = if is_some h.name || is_some h.et_al then h else record h {
+  name = outer.name;
+  et_al = outer.et_al;
+  label = option_or h.label outer.label;
+  label_is_first = if is_some h.label then h.label_is_first else outer.label_is_first;
+}

@@ -1,0 +1,91 @@
+//! Labels.
+
+ghost use Rattle.std.specs.Prelude.{◌≡◌, OnOk, None};
+ghost use Rattle.std.specs.Option.{option_map};
+ghost use Rattle.laws.specs.Text.{spelled};
+ghost use Rattle.rendering_names.specs.Names.{label_manner, label_pieces, label_text_pieces, pluralizes};
+ghost use Rattle.rendering_names.specs.Views.{down, style_by};
+ghost use Rattle.rendering_page.specs.Views.{manner as manner_seen, frame as frame_seen};
+ghost use Rattle.rendering_style.specs.Views.{label_seen};
+
+use crate::style::{NameStyle, changed_manner};
+use rendering_page::{Frame, Manner, Page};
+use rendering_style::LabelLook;
+use rendering_taxonomy::{LabelPluralize, NameVariable, Term, Variable};
+use std::alloc::AllocError;
+
+/// Whether a label stands in the plural, where what it is the label of is more than one or not.
+pub fn pluralizes(plural: LabelPluralize, is_plural: bool) -> bool
+    ensures { result ≡ pluralizes plural is_plural }
+{
+    match plural {
+        LabelPluralize::Contextual => is_plural,
+        LabelPluralize::Always => true,
+        LabelPluralize::Never => false,
+    }
+}
+
+/// How the text of a label is put down.
+pub fn label_manner(manner: Manner, label: &LabelLook) -> Manner
+    ensures { manner_seen result ≡ label_manner (manner_seen manner) (label_seen label.now) }
+{
+    let own = changed_manner(label.look.formatting, manner);
+    Manner {
+        formatting: own.formatting,
+        strips_periods: manner.strips_periods || label.strip_periods,
+    }
+}
+
+impl<'s, 'a> NameStyle<'s, 'a> {
+    /// Puts down the label of a variable with so many people, where there is one.
+    pub(crate) fn push_label(
+        &self,
+        page: &mut Page<'a>,
+        variable: NameVariable,
+        people: usize,
+        label: Option<&'a LabelLook>,
+    ) -> Result<(), AllocError>
+        ensures { OnOk result (page.new ≡ down self.now (label_pieces self.now.setting.locales.now (style_by self.now).manner variable people (option_map (λ b. label_seen b.now) label.entry)) page.old) }
+    {
+        let Some(label) = label else {
+            return Ok(());
+        };
+        let term = Term::Variable(Variable::Name(variable));
+        let is_plural = pluralizes(label.plural, 1 < people);
+        let locales = self.setting.locales;
+        self.push_label_text(page, label, locales.term_text(term, label.form, is_plural))
+    }
+
+    /// Puts down the text of a label between its affixes.
+    fn push_label_text(
+        &self,
+        page: &mut Page<'a>,
+        label: &'a LabelLook,
+        text: &'a str,
+    ) -> Result<(), AllocError>
+        ensures { OnOk result (page.new ≡ down self.now (label_text_pieces (style_by self.now).manner (label_seen label.now) (spelled text.entry)) page.old) }
+    {
+        let frame = label_frame(self.setting.manner, label);
+        page.begin(&frame)?;
+        page.push_text(
+            self.setting.quotes,
+            label_manner(self.setting.manner, label),
+            text,
+        )?;
+        page.end(self.setting.quotes, &frame)?;
+        Ok(())
+    }
+}
+
+/// The affixes of a label.
+fn label_frame<'a>(manner: Manner, label: &'a LabelLook) -> Frame<'a>
+    ensures { frame_seen result ≡ record { display = None; meta = None; manner = manner_seen manner; prefix = (label_seen label.now).look.prefix; suffix = (label_seen label.now).look.suffix } }
+{
+    Frame {
+        display: None,
+        meta: None,
+        manner,
+        prefix: label.look.prefix.as_str(),
+        suffix: label.look.suffix.as_str(),
+    }
+}

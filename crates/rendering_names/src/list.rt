@@ -1,0 +1,225 @@
+//! The names of one variable on a page: those that are shown, and what stands for the rest.
+
+ghost use Rattle.std.specs.Prelude.{◌≡◌, ◌+◌, ◌<◌, ◌≤◌, ◌∷◌, [], IfOk, OnOk, length, take, if◌then◌else◌};
+ghost use Rattle.laws.specs.Text.{characters, spelled};
+ghost use Rattle.literature_values.specs.PersonViews.{person as person_seen};
+ghost use Rattle.rendering_names.specs.Names.{after_ellipsis, and_text, before_last_by, before_name, delimiter_by, et_al_by, et_al_pieces, inverts, last_pieces, list_pieces, name_pieces, rest_pieces, shown_pieces};
+ghost use Rattle.rendering_names.specs.Persons.{person_text};
+ghost use Rattle.rendering_names.specs.Views.{down, options_by, person_by, placed, style_by};
+ghost use Rattle.rendering_page.specs.Pages.{normal_put};
+ghost use Rattle.rendering_page.specs.Views.{quotes_of};
+
+use crate::people::borrowed_person;
+use crate::person::person_text;
+use crate::style::NameStyle;
+use crate::words::{ellipsis, space};
+use literature_values::Person;
+use rendering_page::Page;
+use rendering_taxonomy::{DisambiguatedNameForm, NameVariable, Term, TermForm};
+use rendering_tree::ElemMeta;
+use std::alloc::AllocError;
+use std::borrow::Cow;
+use texts::has_text;
+
+impl<'s, 'a> NameStyle<'s, 'a> {
+    /// Puts down the first people of a variable, so many of them, and what stands for the rest.
+    pub(crate) fn push_list(
+        &self,
+        page: &mut Page<'a>,
+        variable: NameVariable,
+        shown: usize,
+        forms: &[DisambiguatedNameForm],
+        people: &[Cow<'_, Person>],
+    ) -> Result<(), AllocError>
+        ensures { OnOk result (page.new ≡ down self.now (list_pieces (style_by self.now) variable shown (placed forms.now people.now)) page.old) }
+    {
+        let count = forms.len().min(people.len());
+        self.push_shown(page, variable, count, shown.min(count), forms, people)?;
+        self.push_rest(page, variable, count, shown, forms, people)
+    }
+
+    /// Puts down the first people of a variable, each after what stands before it.
+    fn push_shown(
+        &self,
+        page: &mut Page<'a>,
+        variable: NameVariable,
+        count: usize,
+        shown: usize,
+        forms: &[DisambiguatedNameForm],
+        people: &[Cow<'_, Person>],
+    ) -> Result<(), AllocError>
+        requires forms { count ≤ length forms.now }
+        requires people { count ≤ length people.now }
+        requires shown { shown ≤ count }
+        ensures { OnOk result (page.new ≡ down self.now (shown_pieces (style_by self.now) variable count (take shown (placed forms.now people.now))) page.old) }
+    {
+        for place in 0..shown {
+            self.push_before(page, count, place)?;
+            self.push_name(page, variable, place, forms[place], &people[place])?;
+        }
+        Ok(())
+    }
+
+    /// Puts down what stands before the name at a place among so many.
+    fn push_before(&self, page: &mut Page<'a>, count: usize, place: usize) -> Result<(), AllocError>
+        requires { place < count }
+        ensures { OnOk result (page.new ≡ down self.now (before_name self.now.setting.locales.now (style_by self.now).manner (options_by self.now.options) count place) page.old) }
+    {
+        if place == 0 {
+            return Ok(());
+        }
+        if place + 1 == count {
+            return self.push_before_last(page, count);
+        }
+        self.push_delimiter(page)
+    }
+
+    /// Puts down what stands before the last of so many names: the delimiter or a space, the word and a space; without a word
+    /// the delimiter.
+    fn push_before_last(&self, page: &mut Page<'a>, count: usize) -> Result<(), AllocError>
+        ensures { OnOk result (page.new ≡ down self.now (before_last_by (style_by self.now).manner (options_by self.now.options) count (and_text self.now.setting.locales.now self.now.options.and)) page.old) }
+    {
+        let word = self.and_text();
+        if !has_text(word) {
+            return self.push_delimiter(page);
+        }
+        self.push_delimiter_or_space(page, self.options.delimits_last(count))?;
+        page.push_text(self.setting.quotes, self.setting.manner, word)?;
+        self.push_space(page)
+    }
+
+    /// Puts down the delimiter, or else a space.
+    fn push_delimiter_or_space(
+        &self,
+        page: &mut Page<'a>,
+        is_delimited: bool,
+    ) -> Result<(), AllocError>
+        ensures { OnOk result (page.new ≡ normal_put (quotes_of self.now.setting.quotes.now) (style_by self.now).manner (if is_delimited then delimiter_by (options_by self.now.options) else 32 ∷ []) page.old) }
+    {
+        if is_delimited {
+            return self.push_delimiter(page);
+        }
+        self.push_space(page)
+    }
+
+    /// Puts down the text between names.
+    fn push_delimiter(&self, page: &mut Page<'a>) -> Result<(), AllocError>
+        ensures { OnOk result (page.new ≡ normal_put (quotes_of self.now.setting.quotes.now) (style_by self.now).manner (delimiter_by (options_by self.now.options)) page.old) }
+    {
+        page.push_text(
+            self.setting.quotes,
+            self.setting.manner,
+            self.options.delimiter(),
+        )
+    }
+
+    /// Puts down a space.
+    fn push_space(&self, page: &mut Page<'a>) -> Result<(), AllocError>
+        ensures { OnOk result (page.new ≡ normal_put (quotes_of self.now.setting.quotes.now) (style_by self.now).manner (32 ∷ []) page.old) }
+    {
+        page.push_text(self.setting.quotes, self.setting.manner, space())
+    }
+
+    /// Puts down a name between its affixes, as the person at a place.
+    fn push_name(
+        &self,
+        page: &mut Page<'a>,
+        variable: NameVariable,
+        place: usize,
+        form: DisambiguatedNameForm,
+        person: &Cow<'_, Person>,
+    ) -> Result<(), AllocError>
+        ensures { OnOk result (page.new ≡ down self.now (name_pieces (style_by self.now) variable place form (person_by person.now)) page.old) }
+    {
+        let frame = self.name_frame();
+        let text = self.name_text(place, form, borrowed_person(person))?;
+        page.begin_element(&frame, ElemMeta::Name(variable, place))?;
+        page.push_made(self.setting.quotes, self.name_manner(), text)?;
+        page.end_element(self.setting.quotes, &frame)?;
+        Ok(())
+    }
+
+    /// The text of the name at a place.
+    fn name_text(
+        &self,
+        place: usize,
+        form: DisambiguatedNameForm,
+        person: &Person,
+    ) -> Result<String, AllocError>
+        ensures { IfOk result (λ s. characters s ≡ person_text (options_by self.now.options) (inverts self.now.options.name_as_sort_order place) form (person_seen person.now)) }
+    {
+        let is_inverted = self.options.inverts(place);
+        person_text(self.setting.alloc, &self.options, is_inverted, form, person)
+    }
+
+    /// Puts down what stands for those who are not shown: the last one, after an ellipsis, where that is wanted and two or more
+    /// are left out, or else the term for them.
+    fn push_rest(
+        &self,
+        page: &mut Page<'a>,
+        variable: NameVariable,
+        count: usize,
+        shown: usize,
+        forms: &[DisambiguatedNameForm],
+        people: &[Cow<'_, Person>],
+    ) -> Result<(), AllocError>
+        requires forms { count ≤ length forms.now }
+        requires people { count ≤ length people.now }
+        requires all { length (placed forms.now people.now) ≡ count }
+        ensures { OnOk result (page.new ≡ down self.now (rest_pieces (style_by self.now) variable count shown (placed forms.now people.now)) page.old) }
+    {
+        if count <= shown {
+            return Ok(());
+        }
+        if self.options.et_al_use_last.unwrap_or(false) && 2 <= count - shown {
+            return self.push_last(page, variable, count - 1, forms, people);
+        }
+        self.push_et_al(page, shown)
+    }
+
+    /// Puts down the name at the last place after an ellipsis.
+    fn push_last(
+        &self,
+        page: &mut Page<'a>,
+        variable: NameVariable,
+        last: usize,
+        forms: &[DisambiguatedNameForm],
+        people: &[Cow<'_, Person>],
+    ) -> Result<(), AllocError>
+        requires forms { last < length forms.now }
+        requires people { last < length people.now }
+        requires all { length (placed forms.now people.now) ≡ last + 1 }
+        ensures { OnOk result (page.new ≡ down self.now (after_ellipsis (style_by self.now) (last_pieces (style_by self.now) variable (last + 1) (placed forms.now people.now))) page.old) }
+    {
+        self.push_delimiter(page)?;
+        page.push_text(self.setting.quotes, self.setting.manner, ellipsis())?;
+        self.push_space(page)?;
+        self.push_name(page, variable, last, forms[last], &people[last])
+    }
+
+    /// Puts down the term for those left out, after the delimiter where two or more are shown, else after a space. Without a
+    /// term there is neither.
+    fn push_et_al(&self, page: &mut Page<'a>, shown: usize) -> Result<(), AllocError>
+        ensures { OnOk result (page.new ≡ down self.now (et_al_pieces (style_by self.now) shown) page.old) }
+    {
+        let term = Term::Other(self.et_al_term());
+        let locales = self.setting.locales;
+        self.push_et_al_text(page, shown, locales.term_text(term, TermForm::Long, false))
+    }
+
+    /// The same with that text.
+    fn push_et_al_text(
+        &self,
+        page: &mut Page<'a>,
+        shown: usize,
+        text: &'a str,
+    ) -> Result<(), AllocError>
+        ensures { OnOk result (page.new ≡ down self.now (et_al_by (style_by self.now) shown (spelled text.entry)) page.old) }
+    {
+        if !has_text(text) {
+            return Ok(());
+        }
+        self.push_delimiter_or_space(page, 2 <= shown)?;
+        page.push_text(self.setting.quotes, self.et_al_manner(), text)
+    }
+}

@@ -1,0 +1,222 @@
+//! A names node on a page.
+
+ghost use Rattle.std.specs.Prelude.{◌≡◌, ◌∷◌, ◌++◌, [], IfOk, OnOk, None, drop, length, take, zip};
+ghost use Rattle.std.specs.Fmt.{decimal};
+ghost use Rattle.std.specs.List.{enumerate_from, flat_map};
+ghost use Rattle.laws.specs.Text.{characters};
+ghost use Rattle.rendering_names.specs.Counts.{cut};
+ghost use Rattle.rendering_names.specs.Names.{before_people, beside, label_pieces, list_pieces, names_frame, names_manner, names_pieces, people_pieces, placed_variable, variable_frame, variable_pieces};
+ghost use Rattle.rendering_names.specs.Views.{all_answered, answered_by, down, node_by, options_by, placed, style_by};
+ghost use Rattle.rendering_page.specs.Pieces.{all_down, normal};
+ghost use Rattle.rendering_page.specs.Views.{quotes_of, manner as manner_seen, frame as frame_seen};
+
+use crate::options::ResolvedNameOptions;
+use crate::parts::NamesParts;
+use crate::people::{Answered, names_meta};
+use crate::properties::{NameDisambiguationProperties, PeopleCount};
+use crate::style::{NameSetting, NameStyle, changed_manner};
+use crate::words::no_text;
+use rendering_page::{Frame, Manner, Page};
+use rendering_taxonomy::{DisambiguatedNameForm, NameVariable};
+use rendering_tree::ElemMeta;
+use std::alloc::{AllocError, Global};
+use std::fmt::Write;
+use texts::empty_text;
+
+/// Puts down the people of a names node in an element that stands for them: of each variable the names that the properties
+/// show, each in its form, with the label of the variable; or only how many are shown, where the options say so. The
+/// properties are those of the same people, variable by variable. Nothing is promised of the page after an error.
+///
+/// # Errors
+/// Out of memory alone.
+pub fn push_names<'a>(
+    page: &mut Page<'a>,
+    setting: &NameSetting<'_, 'a>,
+    node: &NamesParts<'a>,
+    around: &ResolvedNameOptions<'a>,
+    properties: &NameDisambiguationProperties,
+    people: &[Answered<'_>],
+) -> Result<(), AllocError>
+    ensures { OnOk result (page.new ≡ all_down (quotes_of setting.now.quotes.now) (names_pieces setting.now.locales.now (manner_seen setting.now.manner) (node_by node.now) (options_by around.now) properties.now (all_answered people.now)) page.old) }
+{
+    let frame = names_frame(setting.manner, node);
+    let meta = names_meta(setting.alloc, people)?;
+    let style = NameStyle::new(names_setting(setting, node), node, around);
+    page.begin_element(&frame, meta)?;
+    style.push_people(page, node, properties, people)?;
+    page.end_element(setting.quotes, &frame)?;
+    Ok(())
+}
+
+/// The element of a names node, whatever it stands for.
+fn names_frame<'a>(manner: Manner, node: &NamesParts<'a>) -> Frame<'a>
+    ensures { frame_seen result ≡ record (names_frame (manner_seen manner) (node_by node.now) []) { meta = None } }
+{
+    Frame {
+        display: node.look.display,
+        meta: None,
+        manner,
+        prefix: node.look.prefix.as_str(),
+        suffix: node.look.suffix.as_str(),
+    }
+}
+
+/// Where the names of a node are put down: there, with the look of the node.
+fn names_setting<'s, 'a>(
+    setting: &NameSetting<'s, 'a>,
+    node: &NamesParts<'a>,
+) -> NameSetting<'s, 'a>
+    ensures quotes { result.quotes.now ≡ setting.now.quotes.now }
+    ensures locales { result.locales.now ≡ setting.now.locales.now }
+    ensures manner { manner_seen result.manner ≡ names_manner (manner_seen setting.now.manner) (node_by node.now) }
+{
+    NameSetting {
+        alloc: setting.alloc,
+        quotes: setting.quotes,
+        locales: setting.locales,
+        manner: changed_manner(node.look.formatting, setting.manner),
+    }
+}
+
+impl<'s, 'a> NameStyle<'s, 'a> {
+    /// Puts down the people of each variable, or only how many are shown.
+    fn push_people(
+        &self,
+        page: &mut Page<'a>,
+        node: &NamesParts<'a>,
+        properties: &NameDisambiguationProperties,
+        people: &[Answered<'_>],
+    ) -> Result<(), AllocError>
+        ensures { OnOk result (page.new ≡ down self.now (people_pieces (style_by self.now) (node_by node.now) properties.now (all_answered people.now)) page.old) }
+    {
+        if self.options.is_count() {
+            return self.push_count(page, properties.all_shown());
+        }
+        let counts = properties.counts.as_slice();
+        self.push_variables(page, node, counts, properties.forms.as_slice(), people)
+    }
+
+    /// Puts down a number.
+    fn push_count(&self, page: &mut Page<'a>, shown: usize) -> Result<(), AllocError>
+        ensures { OnOk result (page.new ≡ down self.now (normal (style_by self.now).manner (decimal shown) ∷ []) page.old) }
+    {
+        let text = digits(self.setting.alloc, shown)?;
+        page.push_made(self.setting.quotes, self.setting.manner, text)
+    }
+
+    /// Puts down the people of each variable, with the node's delimiter between those of two.
+    fn push_variables(
+        &self,
+        page: &mut Page<'a>,
+        node: &NamesParts<'a>,
+        counts: &[PeopleCount],
+        forms: &[DisambiguatedNameForm],
+        people: &[Answered<'_>],
+    ) -> Result<(), AllocError>
+        ensures { OnOk result (page.new ≡ down self.now (flat_map (placed_variable (style_by self.now) (node_by node.now)) (enumerate_from 0 (zip (cut counts.now forms.now) (all_answered people.now)))) page.old) }
+    {
+        let mut rest = forms;
+        for place in 0..counts.len().min(people.len()) {
+            let count = counts[place];
+            let (own, others) = split_forms(rest, count.people);
+            self.push_before_people(page, node, place)?;
+            self.push_variable(page, node, count, own, &people[place])?;
+            rest = others;
+        }
+        Ok(())
+    }
+
+    /// Puts down what stands before the people of the variable at a place.
+    fn push_before_people(
+        &self,
+        page: &mut Page<'a>,
+        node: &NamesParts<'a>,
+        place: usize,
+    ) -> Result<(), AllocError>
+        ensures { OnOk result (page.new ≡ down self.now (before_people (style_by self.now).manner (node_by node.now) place) page.old) }
+    {
+        if place == 0 {
+            return Ok(());
+        }
+        page.push_text(self.setting.quotes, self.setting.manner, node.delimiter())
+    }
+
+    /// Puts down the people of a variable in an element, with the label.
+    fn push_variable(
+        &self,
+        page: &mut Page<'a>,
+        node: &NamesParts<'a>,
+        count: PeopleCount,
+        forms: &[DisambiguatedNameForm],
+        answered: &Answered<'_>,
+    ) -> Result<(), AllocError>
+        ensures { OnOk result (page.new ≡ down self.now (variable_pieces (style_by self.now) (node_by node.now) (record { variable = count.variable; forms = forms.now; shown = count.shown }, answered_by answered.now)) page.old) }
+    {
+        let frame = self.variable_frame();
+        page.begin_element(&frame, ElemMeta::NameVariable(answered.variable))?;
+        self.push_labelled(page, node, count.shown, forms, answered)?;
+        page.end_element(self.setting.quotes, &frame)?;
+        Ok(())
+    }
+
+    /// Puts down the people of a variable with the label before or after them.
+    fn push_labelled(
+        &self,
+        page: &mut Page<'a>,
+        node: &NamesParts<'a>,
+        shown: usize,
+        forms: &[DisambiguatedNameForm],
+        answered: &Answered<'_>,
+    ) -> Result<(), AllocError>
+        ensures { OnOk result (page.new ≡ down self.now (beside (node_by node.now).label_is_first (label_pieces self.now.setting.locales.now (style_by self.now).manner answered.now.variable (length (answered_by answered.now).0) (node_by node.now).label) (list_pieces (style_by self.now) answered.now.variable shown (placed forms.now answered.now.people.items))) page.old) }
+    {
+        let variable = answered.variable;
+        let people = answered.people.as_slice();
+        if node.label_is_first {
+            self.push_label(page, variable, people.len(), node.label)?;
+            return self.push_list(page, variable, shown, forms, people);
+        }
+        self.push_list(page, variable, shown, forms, people)?;
+        self.push_label(page, variable, people.len(), node.label)
+    }
+
+    /// An element without affixes.
+    fn variable_frame(&self) -> Frame<'a>
+        ensures { frame_seen result ≡ record (variable_frame (style_by self.now).manner NameVariable.Author) { meta = None } }
+    {
+        Frame {
+            display: None,
+            meta: None,
+            manner: self.setting.manner,
+            prefix: no_text(),
+            suffix: no_text(),
+        }
+    }
+}
+
+/// The first forms, so many or all, and the others.
+pub(crate) fn split_forms(
+    forms: &[DisambiguatedNameForm],
+    count: usize,
+) -> (&[DisambiguatedNameForm], &[DisambiguatedNameForm])
+    ensures first { result.0.now ≡ take count forms.now }
+    ensures others { result.1.now ≡ drop count forms.now }
+{
+    forms.split_at(count.min(forms.len()))
+}
+
+/// A number in digits.
+fn digits(alloc: Global, number: usize) -> Result<String, AllocError>
+    ensures { IfOk result (λ s. characters s ≡ decimal number) }
+{
+    let mut text = empty_text(alloc);
+    push_digits(&mut text, number)?;
+    Ok(text)
+}
+
+/// Appends a number in digits.
+fn push_digits(out: &mut String, number: usize) -> Result<(), AllocError>
+    ensures { OnOk result (characters out.new ≡ characters out.old ++ decimal number) }
+{
+    write!(out, "{number}")
+}

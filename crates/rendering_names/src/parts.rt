@@ -1,0 +1,109 @@
+//! The parts of a names node.
+
+ghost use Rattle.std.specs.Prelude.{◌≡◌, ◌||◌, is_some, if◌then◌else◌};
+ghost use Rattle.std.specs.Option.{option_map, option_or, unwrap_or};
+ghost use Rattle.laws.specs.Text.{spelled};
+ghost use Rattle.rendering_names.specs.Persons.{comma_and_space};
+ghost use Rattle.rendering_names.specs.Names.{completed, node_options};
+ghost use Rattle.rendering_names.specs.Views.{node_by, options_by};
+ghost use Rattle.rendering_style.specs.Views.{names_seen, label_seen};
+
+use crate::options::ResolvedNameOptions;
+use crate::words::{borrowed, comma_and_space, text_or};
+use rendering_style::{EtAl, LabelLook, Look, Name, Names};
+use rendering_taxonomy::NameVariable;
+
+/// What a names node says: its own, and, where it stands in for another one, what it takes from that.
+#[derive(Clone, Copy)]
+pub struct NamesParts<'a> {
+    pub variables: &'a [NameVariable],
+    pub name: Option<&'a Name>,
+    pub et_al: Option<&'a EtAl>,
+    pub label: Option<&'a LabelLook>,
+    /// Whether the label stands before the names.
+    pub label_is_first: bool,
+    /// The text between the people of two variables.
+    pub delimiter: Option<&'a str>,
+    pub look: &'a Look,
+}
+
+impl<'a> NamesParts<'a> {
+    /// What the node says by itself.
+    pub fn new(node: &'a Names) -> NamesParts<'a>
+        ensures { node_by result ≡ names_seen node.now }
+    {
+        NamesParts {
+            variables: node.variables.as_slice(),
+            name: node.name.as_ref(),
+            et_al: node.et_al.as_ref(),
+            label: node.label.as_ref(),
+            label_is_first: node.label_is_first,
+            delimiter: borrowed(&node.delimiter),
+            look: &node.look,
+        }
+    }
+
+    /// What it says where it stands in for another node: without a name and a term for those left out it takes those of the
+    /// other node, and without a label of its own the label too, with its place.
+    pub fn completed(&self, outer: &NamesParts<'a>) -> NamesParts<'a>
+        ensures { node_by result ≡ completed (node_by outer.now) (node_by self.now) }
+    {
+        if self.says_how() {
+            return *self;
+        }
+        NamesParts {
+            name: outer.name,
+            et_al: outer.et_al,
+            label: or_label(self.label, outer.label),
+            label_is_first: self.label_is_first_or(outer.label_is_first),
+            ..*self
+        }
+    }
+
+    /// Whether something is said of single names or of the term for those left out.
+    fn says_how(&self) -> bool
+        ensures { result ≡ (is_some (node_by self.now).name || is_some (node_by self.now).et_al) }
+    {
+        match (self.name, self.et_al) {
+            (Some(_), _) | (None, Some(_)) => true,
+            (None, None) => false,
+        }
+    }
+
+    /// Whether the label stands before the names, where there is none as another one does.
+    fn label_is_first_or(&self, other: bool) -> bool
+        ensures { result ≡ (if is_some (node_by self.now).label then self.now.label_is_first else other) }
+    {
+        match self.label {
+            Some(_) => self.label_is_first,
+            None => other,
+        }
+    }
+
+    /// The text between the people of two variables.
+    pub(crate) fn delimiter(&self) -> &'a str
+        ensures { spelled result ≡ unwrap_or (option_map spelled self.now.delimiter) comma_and_space }
+    {
+        text_or(self.delimiter, comma_and_space())
+    }
+
+    /// What it says of names, and where it says nothing what is said around it.
+    pub fn options(&self, around: &ResolvedNameOptions<'a>) -> ResolvedNameOptions<'a>
+        ensures { options_by result ≡ node_options (node_by self.now) (options_by around.now) }
+    {
+        match self.name {
+            Some(name) => ResolvedNameOptions::new(&name.options).over(around),
+            None => *around,
+        }
+    }
+}
+
+/// The first of two labels, or else the second.
+fn or_label<'a>(label: Option<&'a LabelLook>, other: Option<&'a LabelLook>) -> Option<&'a LabelLook>
+    ensures { option_map (λ b. label_seen b.now) result ≡ option_or (option_map (λ b. label_seen b.now) label.entry) (option_map (λ b. label_seen b.now) other.entry) }
+{
+    match label {
+        Some(label) => Some(label),
+        None => other,
+    }
+}
