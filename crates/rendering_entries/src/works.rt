@@ -18,7 +18,7 @@ const CONTAINERS: [EntryType; 4] = [
     EntryType::Reference,
 ];
 
-/// The same with that of the works that contain the parts of an anthology.
+/// The types of the works that contain others, and that of those which contain the parts of an anthology.
 const WITH_ANTHOLOGY: [EntryType; 5] = [
     EntryType::Periodical,
     EntryType::Book,

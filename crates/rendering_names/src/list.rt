@@ -207,7 +207,7 @@ impl<'s, 'a> NameStyle<'s, 'a> {
         self.push_et_al_text(page, shown, locales.term_text(term, TermForm::Long, false))
     }
 
-    /// The same with that text.
+    /// Puts down that text for those left out, after the delimiter or a space; an empty text has neither.
     fn push_et_al_text(
         &self,
         page: &mut Page<'a>,

@@ -125,7 +125,7 @@ fn show_at_least(counts: &mut [PeopleCount], num: usize) -> bool
 }
 
 impl PeopleCount {
-    /// The same of one variable.
+    /// Shows so many people of one variable at least, as far as there are people. Returns whether that shows more.
     fn show_at_least(&mut self, num: usize) -> bool
         ensures after { self.new ≡ counted num self.old }
         ensures changed { result ≡ nat_lt self.old.shown (counted num self.old).shown }

@@ -27,7 +27,7 @@ pub(crate) fn text_in<'p>(piece: &'p Piece<'_>, met: &mut Option<Formatting>) ->
     }
 }
 
-/// The same of a text.
+/// The text, where it is part of the last text; none where it looks otherwise. `met` is how characters look, once one was met.
 fn text_that_goes_on<'p>(
     formatting: Formatting,
     text: &'p str,
@@ -46,7 +46,7 @@ fn text_that_goes_on<'p>(
     Some(text)
 }
 
-/// The same of the beginning or the end of an element, which only stands after the last text.
+/// An empty text for the beginning or the end of an element, where nothing of the last text was met; else none.
 fn text_before_all(met: Option<Formatting>) -> Option<&'static str>
     ensures { MatchOption result (met ≡ none → ⊥) (λ t. (chars t.now ≡ []) × (met ≡ none)) }
 {

@@ -141,7 +141,7 @@ fn put_within<'a>(
     }
 }
 
-/// The same of a text.
+/// Puts a character before the last ones of a text, where it has so many. They are cut from it and stand in a piece of their own.
 fn put_within_words<'a>(
     alloc: Global,
     formatting: Formatting,

@@ -18,7 +18,7 @@ impl ElemChildren {
     }
 }
 
-/// The same of a row of children.
+/// Takes out the first element of a row of children, and of what they contain, that stands for something.
 #[cycle(removing)]
 fn remove_first(parts: &mut Vec<ElemChild>) -> Option<Elem>
     ensures taken { option_map (λ e. element e) result ≡ taken (parted (row parts.old.items)) }
@@ -36,7 +36,7 @@ fn remove_first(parts: &mut Vec<ElemChild>) -> Option<Elem>
     None
 }
 
-/// The same of what a child contains that stands for nothing itself.
+/// Takes out the first element that stands for something of what a child contains that stands for nothing itself.
 #[cycle(removing)]
 fn remove_within(part: &mut ElemChild) -> Option<Elem>
     requires { has_meta (child part.old) ≡ false }
@@ -49,7 +49,7 @@ fn remove_within(part: &mut ElemChild) -> Option<Elem>
     }
 }
 
-/// The same of what an element contains.
+/// Takes out the first element that stands for something of what an element contains.
 #[cycle(removing)]
 fn remove_in(elem: &mut Elem) -> Option<Elem>
     ensures taken { option_map (λ e. element e) result ≡ taken (parted (tree elem.old.children)) }
