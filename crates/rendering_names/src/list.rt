@@ -34,7 +34,7 @@ impl<'s, 'a> NameStyle<'s, 'a> {
         ensures { OnOk result (page.new ≡ down self.now (list_pieces (style_by self.now) variable shown (placed forms.now people.now)) page.old) }
     {
         let count = forms.len().min(people.len());
-        self.push_shown(page, variable, count, shown.min(count), forms, people)?;
+        self.push_shown(page, variable, forms, people, count, shown.min(count))?;
         self.push_rest(page, variable, count, shown, forms, people)
     }
 
@@ -43,14 +43,14 @@ impl<'s, 'a> NameStyle<'s, 'a> {
         &self,
         page: &mut Page<'a>,
         variable: NameVariable,
-        count: usize,
-        shown: usize,
         forms: &[DisambiguatedNameForm],
         people: &[Cow<'_, Person>],
+        count: usize,
+        shown: usize,
     ) -> Result<(), AllocError>
+        requires shown { shown ≤ count }
         requires forms { count ≤ length forms.now }
         requires people { count ≤ length people.now }
-        requires shown { shown ≤ count }
         ensures { OnOk result (page.new ≡ down self.now (shown_pieces (style_by self.now) variable count (take shown (placed forms.now people.now))) page.old) }
     {
         for place in 0..shown {
