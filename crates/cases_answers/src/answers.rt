@@ -2,8 +2,8 @@
 
 use cases::{Refusal, Value, Writer, only};
 use cases_literature::entry_member;
-use cases_rendering::{form_of, variable_of};
-use cases_values::{CaseValue, put_or_null};
+use cases_styles::{form_of, variable_of};
+use cases_values::{CaseValue, all_written, put_or_null};
 use literature::{ChunkedString, Date, Entry, MaybeTyped, Numeric, Person};
 use rendering_entries::EntryLike;
 use rendering_taxonomy::{
@@ -27,15 +27,14 @@ fn put_answer(
     out: &mut Writer,
 ) -> Result<(), Refusal> {
     out.key("answer")?;
-    match variable_of(case)? {
-        Variable::Standard(variable) => {
-            Ok(put_standard(alloc, entry, form_of(case)?, variable, out)?)
-        }
-        Variable::Number(variable) => Ok(put_number(alloc, entry, variable, out)?),
-        Variable::Page => Ok(put_pages(alloc, entry, out)?),
-        Variable::Name(variable) => Ok(put_people(alloc, entry, variable, out)?),
-        Variable::Date(variable) => Ok(put_date(entry, variable, out)?),
-    }
+    let written = match variable_of(case)? {
+        Variable::Standard(variable) => put_standard(alloc, entry, form_of(case)?, variable, out),
+        Variable::Number(variable) => put_number(alloc, entry, variable, out),
+        Variable::Page => put_pages(alloc, entry, out),
+        Variable::Name(variable) => put_people(alloc, entry, variable, out),
+        Variable::Date(variable) => put_date(entry, variable, out),
+    };
+    written.map_err(Refusal::from)
 }
 
 /// Writes a text.
@@ -84,9 +83,11 @@ fn put_numeric(answered: &Cow<'_, Numeric>, out: &mut Writer) -> Result<(), Allo
 
 /// Writes a text that spells no number.
 fn put_untyped(text: &str, out: &mut Writer) -> Result<(), AllocError> {
-    out.begin_object()?;
-    cases::put_text(out, "text", text)?;
-    out.end_object()
+    all_written(&[
+        out.begin_object(),
+        cases::put_text(out, "text", text),
+        out.end_object(),
+    ])
 }
 
 /// Writes the pages.

@@ -2,7 +2,7 @@
 
 use cases::{Refusal, Value, Writer, member, only, put_bool, put_text};
 use cases_literature::entry_member;
-use cases_rendering::KINDS;
+use cases_styles::KINDS;
 use literature::Entry;
 use rendering_entries::{EntryLike, are_one_entry};
 use std::alloc::{AllocError, Global};
@@ -38,7 +38,7 @@ fn put_compared(
     out: &mut Writer,
 ) -> Result<(), Refusal> {
     let other = entry_member(alloc, case, "other")?;
-    Ok(put_bool(out, "is_other", are_one_entry(entry, &other))?)
+    put_bool(out, "is_other", are_one_entry(entry, &*other)).map_err(Refusal::from)
 }
 
 /// Writes kinds, language and key.

@@ -9,10 +9,11 @@ use std::alloc::Global;
 
 /// Writes the members of the answer to a case of this kind; false where the kind is none of these.
 pub fn answer(alloc: Global, kind: &str, case: &Value<'_>, out: &mut Writer) -> Answered {
-    match kind {
-        "answer" => answers::answer(alloc, case, out)?,
-        "entry_kinds" => kinds::answer(alloc, case, out)?,
+    let answered = match kind {
+        "answer" => answers::answer(alloc, case, out),
+        "entry_kinds" => kinds::answer(alloc, case, out),
         _ => return Ok(false),
-    }
+    };
+    answered?;
     Ok(true)
 }

@@ -1,11 +1,12 @@
 //! Entries of BibLaTeX files as entries of a library.
 
-use crate::refusals::{put_faults, put_message, put_unknown};
+use crate::refusals::{put_faults, put_unknown};
 use crate::source::{Source, read_source};
 use biblatex::{Bibliography, Entry};
 use cases::{Refusal, Value, Writer, maybe_text, only};
-use cases_entries::put_parse_error;
-use cases_literature::{ENTRY_DEPTH, put_entry};
+use cases_entries::{put_message, put_parse_error};
+use cases_literature::{ENTRY_DEPTH, boxed, put_entry};
+use cases_values::all_written;
 use interop::{BridgeError, entry, from_biblatex};
 use literature::Library;
 use std::alloc::Global;
@@ -38,7 +39,7 @@ fn put_bridged(
     };
     match bibliography.get(name) {
         Some(read) => put_work(alloc, case, out, read),
-        None => Ok(put_unknown(out, name)?),
+        None => put_unknown(out, name).map_err(Refusal::from),
     }
 }
 
@@ -50,7 +51,7 @@ fn put_work(
     read: &Entry,
 ) -> Result<(), Refusal> {
     match entry(alloc, read) {
-        Ok(work) => put_member(out, &work),
+        Ok(work) => put_member(out, &*boxed(alloc, work)?),
         Err(error) => put_bridge_error(alloc, case, out, &error),
     }
 }
@@ -76,24 +77,23 @@ fn put_library(
 
 /// Writes the entries of a library in their order.
 fn put_entries(out: &mut Writer, library: &Library) -> Result<(), Refusal> {
-    out.key("entries")?;
-    out.begin_array()?;
+    all_written(&[out.key("entries"), out.begin_array()])?;
     for entry in library.iter() {
         put_entry(out, entry, ENTRY_DEPTH)?;
     }
-    Ok(out.end_array()?)
+    out.end_array().map_err(Refusal::from)
 }
 
 /// Writes why entries are not bridged.
-pub(crate) fn put_bridge_error(
+pub fn put_bridge_error(
     alloc: Global,
     case: &Value<'_>,
     out: &mut Writer,
     error: &BridgeError,
 ) -> Result<(), Refusal> {
-    match error {
-        BridgeError::Memory => return Err(Refusal::Memory),
-        BridgeError::Fields(faults) => put_faults(out, faults)?,
-    }
+    let BridgeError::Fields(faults) = error else {
+        return Err(Refusal::Memory);
+    };
+    put_faults(out, faults)?;
     put_message(alloc, case, out, error)
 }

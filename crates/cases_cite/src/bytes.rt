@@ -2,6 +2,7 @@
 
 use crate::taker::Taker;
 use cases::{Refusal, Value, Writer};
+use cases_values::all_written;
 use std::alloc::{AllocError, Global};
 
 /// What a member with bytes has to be.
@@ -71,6 +72,5 @@ fn put_list(out: &mut Writer, bytes: &[u8]) -> Result<(), AllocError> {
 
 /// Writes the bytes that a writer took as the member of the name.
 pub(crate) fn put_taken(out: &mut Writer, name: &str, taker: &Taker) -> Result<(), AllocError> {
-    out.key(name)?;
-    put_bytes(out, &taker.taken)
+    all_written(&[out.key(name), put_bytes(out, &taker.taken)])
 }

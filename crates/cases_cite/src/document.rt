@@ -24,6 +24,14 @@ pub(crate) fn answer_document(
     answer_into(alloc, case, &mut taker, out)
 }
 
+/// How a document is to be cited.
+#[derive(Clone, Copy)]
+struct Asked<'c> {
+    style: &'c Style,
+    sections: &'c [&'c str],
+    format: BufWriteFormat,
+}
+
 /// Cites the document of a case into a writer, and writes what came of it.
 fn answer_into(
     alloc: Global,
@@ -31,13 +39,77 @@ fn answer_into(
     taker: &mut Taker,
     out: &mut Writer,
 ) -> Result<(), Refusal> {
-    let outcome = cite_into(alloc, case, taker)?;
+    let style = style(case)?;
+    let format = format(case)?;
+    let sections = texts(alloc, case, "sections")?;
+    let asked = Asked {
+        style: &style,
+        sections: &sections,
+        format,
+    };
+    cite_bib(alloc, case, asked, taker, out)
+}
+
+/// Cites the document of a case as is asked, and writes what came of it.
+fn cite_bib(
+    alloc: Global,
+    case: &Value<'_>,
+    asked: Asked<'_>,
+    taker: &mut Taker,
+    out: &mut Writer,
+) -> Result<(), Refusal> {
+    let bib = bytes(alloc, case, "bib")?;
+    cite_document(alloc, case, asked, &bib, taker, out)
+}
+
+/// Cites the document of a case with the entries of a bib text, and writes what came of it.
+fn cite_document(
+    alloc: Global,
+    case: &Value<'_>,
+    asked: Asked<'_>,
+    bib: &[u8],
+    taker: &mut Taker,
+    out: &mut Writer,
+) -> Result<(), Refusal> {
+    let document = bytes(alloc, case, "document")?;
+    let outcome = cite_into(alloc, asked, bib, &document, taker);
+    put_outcome(alloc, case, outcome, taker, out)
+}
+
+/// Cites a document with the entries of a bib text into a writer.
+fn cite_into(
+    alloc: Global,
+    asked: Asked<'_>,
+    bib: &[u8],
+    document: &[u8],
+    taker: &mut Taker,
+) -> Result<(), CiteError> {
+    cite(
+        alloc,
+        bib,
+        document,
+        asked.style,
+        &english(),
+        asked.sections,
+        asked.format,
+        &mut Tap::new(taker),
+    )
+}
+
+/// Writes what came of a document.
+fn put_outcome(
+    alloc: Global,
+    case: &Value<'_>,
+    outcome: Result<(), CiteError>,
+    taker: &Taker,
+    out: &mut Writer,
+) -> Result<(), Refusal> {
     if taker.lacks_memory {
         return Err(Refusal::Memory);
     }
-    match &outcome {
-        Ok(()) => Ok(put_taken(out, "output", taker)?),
-        Err(error) => put_failure(alloc, case, error, taker, out),
+    match outcome {
+        Ok(()) => put_taken(out, "output", taker).map_err(Refusal::from),
+        Err(error) => put_failure(alloc, case, &error, taker, out),
     }
 }
 
@@ -51,32 +123,9 @@ fn put_failure(
 ) -> Result<(), Refusal> {
     put_cite_error(alloc, case, out, error)?;
     match error {
-        CiteError::Write(_) => Ok(put_taken(out, "taken", taker)?),
+        CiteError::Write(_) => put_taken(out, "taken", taker).map_err(Refusal::from),
         _ => Ok(()),
     }
-}
-
-/// Cites the document of a case.
-fn cite_into(
-    alloc: Global,
-    case: &Value<'_>,
-    taker: &mut Taker,
-) -> Result<Result<(), CiteError>, Refusal> {
-    let style = style(case)?;
-    let format = format(case)?;
-    let sections = texts(alloc, case, "sections")?;
-    let bib = bytes(alloc, case, "bib")?;
-    let document = bytes(alloc, case, "document")?;
-    Ok(cite(
-        alloc,
-        &bib,
-        &document,
-        &style,
-        &english(),
-        &sections,
-        format,
-        &mut Tap::new(taker),
-    ))
 }
 
 /// The style of a case.

@@ -11,9 +11,18 @@ pub(crate) fn read_files<'c>(
     case: &Value<'c>,
 ) -> Result<Vec<FileRead<'c>>, Refusal> {
     let mut files = Vec::new(alloc);
-    push_refused(alloc, case, &mut files)?;
-    push_files(alloc, case, &mut files)?;
+    push_all(alloc, case, &mut files)?;
     Ok(files)
+}
+
+/// Appends the files of a case.
+fn push_all<'c>(
+    alloc: Global,
+    case: &Value<'c>,
+    files: &mut Vec<FileRead<'c>>,
+) -> Result<(), Refusal> {
+    push_refused(alloc, case, files)?;
+    push_files(alloc, case, files)
 }
 
 /// Whether for one of the files there was no memory.

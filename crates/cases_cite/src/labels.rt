@@ -6,6 +6,7 @@ use crate::source::{Source, read_source};
 use biblatex::{Bibliography, Entry};
 use cases::{Refusal, Value, Writer, count, member, only, put_text, text};
 use cases_entries::put_parse_error;
+use cases_literature::boxed;
 use interop::entry;
 use rendering_entries::Alphanumerical;
 use std::alloc::Global;
@@ -38,7 +39,7 @@ fn put_named(
     let name = text(case, "entry")?;
     match bibliography.get(name) {
         Some(read) => put_read(alloc, case, out, read),
-        None => Ok(put_unknown(out, name)?),
+        None => put_unknown(out, name).map_err(Refusal::from),
     }
 }
 
@@ -50,7 +51,7 @@ fn put_read(
     read: &Entry,
 ) -> Result<(), Refusal> {
     match entry(alloc, read) {
-        Ok(work) => put_label(alloc, case, out, &work),
+        Ok(work) => put_label(alloc, case, out, &*boxed(alloc, work)?),
         Err(error) => put_bridge_error(alloc, case, out, &error),
     }
 }
@@ -63,7 +64,7 @@ fn put_label(
     work: &literature::Entry,
 ) -> Result<(), Refusal> {
     let label = labels(case)?.citation(alloc, work)?;
-    Ok(put_text(out, "text", label.as_str())?)
+    put_text(out, "text", label.as_str()).map_err(Refusal::from)
 }
 
 /// How labels are made: with three letters where the case does not say it.

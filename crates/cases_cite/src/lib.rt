@@ -13,18 +13,22 @@ mod show;
 mod source;
 mod taker;
 
+pub use bridge::put_bridge_error;
 use cases::{Answered, Value, Writer};
+pub use refusals::put_unknown;
+pub use source::{Source, read_source};
 use std::alloc::Global;
 
 /// Writes the members of the answer to a case of this kind; false where the kind is none of these.
 pub fn answer(alloc: Global, kind: &str, case: &Value<'_>, out: &mut Writer) -> Answered {
-    match kind {
-        "bridge" => bridge::answer_bridge(alloc, case, out)?,
-        "citation_label" => labels::answer_label(alloc, case, out)?,
-        "document" => document::answer_document(alloc, case, out)?,
-        "program" => program::answer_program(alloc, case, out)?,
-        "show" => show::answer_show(alloc, case, out)?,
+    let answered = match kind {
+        "bridge" => bridge::answer_bridge(alloc, case, out),
+        "citation_label" => labels::answer_label(alloc, case, out),
+        "document" => document::answer_document(alloc, case, out),
+        "program" => program::answer_program(alloc, case, out),
+        "show" => show::answer_show(alloc, case, out),
         _ => return Ok(false),
-    }
+    };
+    answered?;
     Ok(true)
 }

@@ -5,6 +5,7 @@ use crate::files::{are_refused, read_files};
 use crate::limits::read_taker;
 use crate::taker::Taker;
 use cases::{Refusal, Value, Writer, only, put_number, text, texts};
+use cases_values::all_written;
 use cite::{FileRead, Tap};
 use std::alloc::Global;
 
@@ -39,9 +40,32 @@ fn answer_run(
     out: &mut Writer,
 ) -> Result<(), Refusal> {
     let mut first = read_taker(alloc, case, "out_sink")?;
+    answer_into(alloc, case, files, &mut first, out)
+}
+
+/// The same, with the writer of the output.
+fn answer_into(
+    alloc: Global,
+    case: &Value<'_>,
+    files: &[FileRead<'_>],
+    first: &mut Taker,
+    out: &mut Writer,
+) -> Result<(), Refusal> {
     let mut second = read_taker(alloc, case, "err_sink")?;
-    let status = run(alloc, case, files, &mut first, &mut second)?;
-    put_run(files, status, &first, &second, out)
+    answer_both(alloc, case, files, first, &mut second, out)
+}
+
+/// The same, with both writers.
+fn answer_both(
+    alloc: Global,
+    case: &Value<'_>,
+    files: &[FileRead<'_>],
+    first: &mut Taker,
+    second: &mut Taker,
+    out: &mut Writer,
+) -> Result<(), Refusal> {
+    let status = run(alloc, case, files, first, second)?;
+    put_run(files, status, first, second, out)
 }
 
 /// Runs the program of a case.
@@ -79,7 +103,10 @@ fn put_run(
     if lacks_memory || (says_no_memory(&second.taken) && !are_refused(files)) {
         return Err(Refusal::Memory);
     }
-    put_number(out, "status", i64::from(status))?;
-    put_taken(out, "out", first)?;
-    Ok(put_taken(out, "err", second)?)
+    let written = all_written(&[
+        put_number(out, "status", i64::from(status)),
+        put_taken(out, "out", first),
+        put_taken(out, "err", second),
+    ]);
+    written.map_err(Refusal::from)
 }

@@ -1,36 +1,23 @@
 //! Why entries are not bridged and documents not cited, as members of an answer. Out of memory has no answer.
 
-use cases::{Refusal, Value, Writer, is_set, put_count, put_refused, put_text};
-use cases_entries::put_parse_error;
-use cases_values::type_error_name;
+use cases::{Refusal, Value, Writer, put_count, put_refused, put_text};
+use cases_entries::{put_message, put_parse_error};
+use cases_values::{all_written, type_error_name};
 use cite::{BibTextError, CiteError, DocumentTextError, FieldFault, SinkFault};
 use std::alloc::{AllocError, Global};
-use std::fmt::Display;
-
-/// Writes what is said of a refusal, where the case asks for it.
-pub(crate) fn put_message<E: Display>(
-    alloc: Global,
-    case: &Value<'_>,
-    out: &mut Writer,
-    error: &E,
-) -> Result<(), Refusal> {
-    if !is_set(case, "message")? {
-        return Ok(());
-    }
-    Ok(put_text(out, "message", error.to_string(alloc)?.as_str())?)
-}
 
 /// Writes a name that means no entry.
-pub(crate) fn put_unknown(out: &mut Writer, name: &str) -> Result<(), AllocError> {
-    put_refused(out, "Name")?;
-    put_text(out, "entry", name)
+pub fn put_unknown(out: &mut Writer, name: &str) -> Result<(), AllocError> {
+    all_written(&[put_refused(out, "Name"), put_text(out, "entry", name)])
 }
 
 /// Writes the fields that cannot be read.
 pub(crate) fn put_faults(out: &mut Writer, faults: &[FieldFault]) -> Result<(), AllocError> {
-    put_refused(out, "Fields")?;
-    out.key("faults")?;
-    out.begin_array()?;
+    all_written(&[
+        put_refused(out, "Fields"),
+        out.key("faults"),
+        out.begin_array(),
+    ])?;
     for fault in faults {
         put_fault(out, fault)?;
     }
@@ -39,11 +26,13 @@ pub(crate) fn put_faults(out: &mut Writer, faults: &[FieldFault]) -> Result<(), 
 
 /// Writes a field that cannot be read: the key of its entry, its name and why.
 fn put_fault(out: &mut Writer, fault: &FieldFault) -> Result<(), AllocError> {
-    out.begin_array()?;
-    out.string(fault.key.as_str())?;
-    out.string(fault.field.name())?;
-    out.string(type_error_name(fault.kind))?;
-    out.end_array()
+    all_written(&[
+        out.begin_array(),
+        out.string(fault.key.as_str()),
+        out.string(fault.field.name()),
+        out.string(type_error_name(fault.kind)),
+        out.end_array(),
+    ])
 }
 
 /// Writes why a document was not cited, with the stage of what several stages refuse.
@@ -53,17 +42,23 @@ pub(crate) fn put_cite_error(
     out: &mut Writer,
     error: &CiteError,
 ) -> Result<(), Refusal> {
-    match error {
-        CiteError::Memory => return Err(Refusal::Memory),
-        CiteError::BibText(error) => put_bib_error(alloc, out, error)?,
-        CiteError::Fields(faults) => put_faults(out, faults)?,
-        CiteError::Document(error) => put_document_error(out, error)?,
-        CiteError::Name(name) => put_unknown(out, name.as_str())?,
-        CiteError::Overflow => put_refused(out, "Overflow")?,
-        CiteError::Write(fault) => put_write_error(out, *fault)?,
-        CiteError::NotYet => put_refused(out, "NotYet")?,
-    }
+    put_reason(alloc, out, error)?;
     put_message(alloc, case, out, error)
+}
+
+/// Writes why a document was not cited.
+fn put_reason(alloc: Global, out: &mut Writer, error: &CiteError) -> Result<(), Refusal> {
+    let written = match error {
+        CiteError::Memory => Err(AllocError),
+        CiteError::BibText(error) => return put_bib_error(alloc, out, error),
+        CiteError::Fields(faults) => put_faults(out, faults),
+        CiteError::Document(error) => put_document_error(out, error),
+        CiteError::Name(name) => put_unknown(out, name.as_str()),
+        CiteError::Overflow => put_refused(out, "Overflow"),
+        CiteError::Write(fault) => put_write_error(out, *fault),
+        CiteError::NotYet => put_refused(out, "NotYet"),
+    };
+    written.map_err(Refusal::from)
 }
 
 /// Writes why the bib text of a document was refused. What is said of it is said of the document's refusal alone.
@@ -72,19 +67,19 @@ fn put_bib_error(alloc: Global, out: &mut Writer, error: &BibTextError) -> Resul
         BibTextError::Utf8 => put_refused(out, "Utf8")?,
         BibTextError::Parse(error) => put_parse_error(alloc, &Value::Null, out, error)?,
     }
-    Ok(put_text(out, "stage", "BibText")?)
+    put_text(out, "stage", "BibText").map_err(Refusal::from)
 }
 
 /// Writes why a document was refused.
 fn put_document_error(out: &mut Writer, error: &DocumentTextError) -> Result<(), AllocError> {
-    match error {
-        DocumentTextError::Utf8 => put_refused(out, "Utf8")?,
-        DocumentTextError::Marker { offset } => {
-            put_refused(out, "Marker")?;
-            put_count(out, "offset", *offset)?;
-        }
-    }
-    put_text(out, "stage", "Document")
+    let refused = match error {
+        DocumentTextError::Utf8 => put_refused(out, "Utf8"),
+        DocumentTextError::Marker { offset } => all_written(&[
+            put_refused(out, "Marker"),
+            put_count(out, "offset", *offset),
+        ]),
+    };
+    all_written(&[refused, put_text(out, "stage", "Document")])
 }
 
 /// Writes what a sink did that did not take all.

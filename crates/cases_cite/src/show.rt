@@ -23,5 +23,5 @@ pub(crate) fn answer_show(
 /// Writes what is shown of entries.
 fn put_shown(alloc: Global, out: &mut Writer, bibliography: &Bibliography) -> Result<(), Refusal> {
     let shown = show(alloc, bibliography)?;
-    Ok(put_text(out, "shown", shown.as_str())?)
+    put_text(out, "shown", shown.as_str()).map_err(Refusal::from)
 }

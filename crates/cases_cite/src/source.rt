@@ -7,7 +7,7 @@ use std::alloc::Global;
 
 /// What the entries of a case come to.
 #[derive(Drop)]
-pub(crate) enum Source {
+pub enum Source {
     /// Entries.
     Entries(Bibliography),
     /// The bib text was refused.
@@ -15,7 +15,7 @@ pub(crate) enum Source {
 }
 
 /// The entries of a case: those of `entries`, or else those of `bib`; or why the bib text was refused.
-pub(crate) fn read_source(alloc: Global, case: &Value<'_>) -> Result<Source, Refusal> {
+pub fn read_source(alloc: Global, case: &Value<'_>) -> Result<Source, Refusal> {
     if let Some(entries) = items(case, "entries")? {
         return Ok(Source::Entries(read_entries(alloc, entries)?));
     }

@@ -6,8 +6,9 @@ use crate::refusals::{put_parse_error, put_raw_error};
 use biblatex::{Bibliography, Entry, RawBibliography};
 use cases::{
     Refusal, Value, Writer, count, is_set, is_shown, items, maybe_text, only, only_shown,
-    put_count, put_text, text,
+    put_count, put_text, put_text_or_null, text,
 };
+use cases_values::all_written;
 use std::alloc::{AllocError, Global};
 
 /// Returns a case of the kind `bibliography`.
@@ -83,13 +84,11 @@ fn take_steps(
     let Some(steps) = items(case, "steps")? else {
         return Ok(());
     };
-    out.key("steps")?;
-    out.begin_array()?;
+    all_written(&[out.key("steps"), out.begin_array()])?;
     for step in steps {
         take_step(alloc, step, bibliography, out)?;
     }
-    out.end_array()?;
-    Ok(())
+    out.end_array().map_err(Refusal::from)
 }
 
 /// Takes a step, and writes what it gives back.
@@ -124,8 +123,7 @@ fn push(
 ) -> Result<(), Refusal> {
     only(alloc, step, &["step", "key", "type", "fields"])?;
     bibliography.push(read_entry(alloc, step)?)?;
-    out.null()?;
-    Ok(())
+    out.null().map_err(Refusal::from)
 }
 
 /// Puts an entry in, and writes the key of the one that it replaces.
@@ -154,11 +152,7 @@ fn remove(
 
 /// Writes the key of an entry that is given back, or null.
 fn put_key(out: &mut Writer, entry: Option<Entry>) -> Result<(), Refusal> {
-    let written = match &entry {
-        Some(entry) => out.string(entry.key.as_str()),
-        None => out.null(),
-    };
-    Ok(written?)
+    put_text_or_null(out, entry.as_ref().map(|entry| entry.key.as_str())).map_err(Refusal::from)
 }
 
 /// Lets one more name mean an entry.
@@ -170,16 +164,17 @@ fn alias(
 ) -> Result<(), Refusal> {
     only(alloc, step, &["step", "entry", "alias"])?;
     bibliography.alias(text(step, "entry")?, text(step, "alias")?)?;
-    out.null()?;
-    Ok(())
+    out.null().map_err(Refusal::from)
 }
 
 /// Writes a place and the key of the entry there.
 fn put_found(out: &mut Writer, place: usize, entry: &Entry) -> Result<(), AllocError> {
-    out.begin_object()?;
-    put_count(out, "place", place)?;
-    put_text(out, "key", entry.key.as_str())?;
-    out.end_object()
+    all_written(&[
+        out.begin_object(),
+        put_count(out, "place", place),
+        put_text(out, "key", entry.key.as_str()),
+        out.end_object(),
+    ])
 }
 
 /// Writes the place and the key of the entry that a name means, or null.
@@ -192,8 +187,8 @@ fn get(
     only(alloc, step, &["step", "entry"])?;
     let name = text(step, "entry")?;
     match (bibliography.place(name), bibliography.get(name)) {
-        (Some(place), Some(entry)) => Ok(put_found(out, place, entry)?),
-        _ => Ok(out.null()?),
+        (Some(place), Some(entry)) => put_found(out, place, entry).map_err(Refusal::from),
+        _ => out.null().map_err(Refusal::from),
     }
 }
 
@@ -236,8 +231,7 @@ fn set_in(
     if let Some(entry) = entry {
         set_field(alloc, step, entry)?;
     }
-    out.boolean(is_there)?;
-    Ok(())
+    out.boolean(is_there).map_err(Refusal::from)
 }
 
 /// Gives each entry a field.
@@ -251,9 +245,11 @@ fn set_each(
     for entry in bibliography.iter_mut() {
         set_field(alloc, step, entry)?;
     }
-    out.null()?;
-    Ok(())
+    out.null().map_err(Refusal::from)
 }
+
+/// What can be asked of a bibliography.
+const SHOWN: [&str; 3] = ["entries", "keys", "references"];
 
 /// Shows what a case asks for; the entries where it asks for nothing.
 fn show(
@@ -262,17 +258,29 @@ fn show(
     bibliography: &Bibliography,
     out: &mut Writer,
 ) -> Result<(), Refusal> {
-    only_shown(case, &["entries", "keys", "references"])?;
-    if is_shown(case, "entries", true)? {
-        put_entries(out, bibliography, is_set(case, "places")?)?;
-    }
-    if is_shown(case, "keys", false)? {
-        put_keys(out, bibliography)?;
-    }
-    if is_shown(case, "references", false)? {
-        put_references(out, bibliography.references(alloc)?.as_slice())?;
+    only_shown(case, &SHOWN)?;
+    for name in &SHOWN {
+        if is_shown(case, *name, *name == "entries")? {
+            put_asked(alloc, case, bibliography, *name, out)?;
+        }
     }
     Ok(())
+}
+
+/// Writes the member of the name.
+fn put_asked(
+    alloc: Global,
+    case: &Value<'_>,
+    bibliography: &Bibliography,
+    name: &str,
+    out: &mut Writer,
+) -> Result<(), Refusal> {
+    let written = match name {
+        "entries" => put_entries(out, bibliography, is_set(case, "places")?),
+        "keys" => put_keys(out, bibliography),
+        _ => put_references(out, bibliography.references(alloc)?.as_slice()),
+    };
+    written.map_err(Refusal::from)
 }
 
 /// Writes the member `entries`: each entry in its order.
@@ -281,8 +289,7 @@ fn put_entries(
     bibliography: &Bibliography,
     has_places: bool,
 ) -> Result<(), AllocError> {
-    out.key("entries")?;
-    out.begin_array()?;
+    all_written(&[out.key("entries"), out.begin_array()])?;
     for entry in bibliography.iter() {
         put_entry(out, entry, has_places)?;
     }
@@ -291,9 +298,11 @@ fn put_entries(
 
 /// Writes how many entries there are, and their keys in their order.
 fn put_keys(out: &mut Writer, bibliography: &Bibliography) -> Result<(), AllocError> {
-    put_count(out, "len", bibliography.len())?;
-    out.key("keys")?;
-    out.begin_array()?;
+    all_written(&[
+        put_count(out, "len", bibliography.len()),
+        out.key("keys"),
+        out.begin_array(),
+    ])?;
     for key in bibliography.keys() {
         out.string(key)?;
     }
@@ -302,8 +311,7 @@ fn put_keys(out: &mut Writer, bibliography: &Bibliography) -> Result<(), AllocEr
 
 /// Writes of each entry the places of those that it refers to.
 fn put_references(out: &mut Writer, references: &[Vec<usize>]) -> Result<(), AllocError> {
-    out.key("references")?;
-    out.begin_array()?;
+    all_written(&[out.key("references"), out.begin_array()])?;
     for places in references {
         put_places(out, places.as_slice())?;
     }

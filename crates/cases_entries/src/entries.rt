@@ -7,6 +7,7 @@ use crate::printing::put_value;
 use crate::refusals::put_parse_error;
 use biblatex::{Bibliography, Entry};
 use cases::{Refusal, Value, Writer, items, maybe_text, only, text};
+use cases_values::all_written;
 use std::alloc::Global;
 
 /// Returns a case of the kind `entry`.
@@ -56,8 +57,8 @@ fn answer_in(
     match entry {
         Some(entry) => answer_of(alloc, case, entry, out),
         None => {
-            out.key("entry")?;
-            Ok(out.null()?)
+            let written = all_written(&[out.key("entry"), out.null()]);
+            written.map_err(Refusal::from)
         }
     }
 }
@@ -83,13 +84,11 @@ fn take_steps(
     let Some(steps) = items(case, "steps")? else {
         return Ok(());
     };
-    out.key("steps")?;
-    out.begin_array()?;
+    all_written(&[out.key("steps"), out.begin_array()])?;
     for step in steps {
         take_step(alloc, step, entry, out)?;
     }
-    out.end_array()?;
-    Ok(())
+    out.end_array().map_err(Refusal::from)
 }
 
 /// Takes a step, and writes what it gives back.
@@ -118,7 +117,7 @@ fn set(
 ) -> Result<(), Refusal> {
     only(alloc, step, &["step", "field", "value"])?;
     set_field(alloc, step, entry)?;
-    Ok(out.null()?)
+    out.null().map_err(Refusal::from)
 }
 
 /// Takes a field out, and writes its value, or null.
@@ -130,11 +129,11 @@ fn remove(
 ) -> Result<(), Refusal> {
     only(alloc, step, &["step", "field"])?;
     let value = entry.remove(text(step, "field")?);
-    Ok(put_value(out, value.as_ref())?)
+    put_value(out, value.as_ref()).map_err(Refusal::from)
 }
 
 /// Writes the value of a field, or null.
 fn get(alloc: Global, step: &Value<'_>, entry: &Entry, out: &mut Writer) -> Result<(), Refusal> {
     only(alloc, step, &["step", "field"])?;
-    Ok(put_value(out, entry.get(text(step, "field")?))?)
+    put_value(out, entry.get(text(step, "field")?)).map_err(Refusal::from)
 }

@@ -7,6 +7,16 @@ use cases_values::{CaseValue, given};
 use std::alloc::Global;
 use std::ops::Range;
 
+/// Writes a field as a value of the type, or why it is none.
+fn put_as<T: FieldType + CaseValue>(
+    alloc: Global,
+    entry: &Entry,
+    field: &str,
+    out: &mut Writer,
+) -> Result<(), Refusal> {
+    put_value(out, entry.get_as::<T>(alloc, field))
+}
+
 /// Writes a field as a value of the type that a step names, or why it is none.
 pub(crate) fn get_as(
     alloc: Global,
@@ -17,15 +27,15 @@ pub(crate) fn get_as(
     only(alloc, step, &["step", "field", "type"])?;
     let field = text(step, "field")?;
     match text(step, "type")? {
-        "integer" => put_value(out, entry.get_as::<i64>(alloc, field)),
-        "text" => put_value(out, entry.get_as::<String>(alloc, field)),
-        "gender" => put_value(out, entry.get_as::<Gender>(alloc, field)),
-        "editor-type" => put_value(out, entry.get_as::<EditorType>(alloc, field)),
-        "range" => put_value(out, entry.get_as::<Range<u32>>(alloc, field)),
-        "ranges" => put_value(out, entry.get_as::<Vec<Range<u32>>>(alloc, field)),
-        "texts" => put_value(out, entry.get_as::<Vec<String>>(alloc, field)),
-        "people" => put_value(out, entry.get_as::<Vec<Person>>(alloc, field)),
-        "date" => put_value(out, entry.get_as::<Date>(alloc, field)),
+        "integer" => put_as::<i64>(alloc, entry, field, out),
+        "text" => put_as::<String>(alloc, entry, field, out),
+        "gender" => put_as::<Gender>(alloc, entry, field, out),
+        "editor-type" => put_as::<EditorType>(alloc, entry, field, out),
+        "range" => put_as::<Range<u32>>(alloc, entry, field, out),
+        "ranges" => put_as::<Vec<Range<u32>>>(alloc, entry, field, out),
+        "texts" => put_as::<Vec<String>>(alloc, entry, field, out),
+        "people" => put_as::<Vec<Person>>(alloc, entry, field, out),
+        "date" => put_as::<Date>(alloc, entry, field, out),
         _ => Err(Refusal::Wanted("type", "a type of values")),
     }
 }
@@ -39,7 +49,7 @@ pub(crate) fn set_as(
 ) -> Result<(), Refusal> {
     only(alloc, step, &["step", "field", "type", "value"])?;
     set_typed(alloc, step, text(step, "type")?, entry)?;
-    Ok(out.null()?)
+    out.null().map_err(Refusal::from)
 }
 
 /// Gives an entry a field, as the value of the type of that name that a step gives.
@@ -71,6 +81,5 @@ fn set_value<T: FieldType + CaseValue>(
 ) -> Result<(), Refusal> {
     let field = text(step, "field")?;
     let value: T = given(alloc, step, "value")?;
-    entry.set_as(field, &value)?;
-    Ok(())
+    entry.set_as(field, &value).map_err(Refusal::from)
 }

@@ -6,7 +6,7 @@ use crate::refusals::put_retrieval_error;
 use biblatex::{EditorType, Entry, Person, RetrievalError};
 use cases::{Refusal, Value, Writer, is_set, is_shown, only_shown, put_text};
 use cases_text::put_chunks;
-use cases_values::{CaseValue, put_member};
+use cases_values::{CaseValue, all_written, put_member};
 use std::alloc::{AllocError, Global};
 
 /// What can be asked of an entry.
@@ -33,106 +33,77 @@ pub(crate) fn show(
     out: &mut Writer,
 ) -> Result<(), Refusal> {
     only_shown(case, &NAMES)?;
-    if is_shown(case, "entry", true)? {
-        out.key("entry")?;
-        put_entry(out, entry, is_set(case, "places")?)?;
+    for name in &NAMES {
+        if is_shown(case, *name, *name == "entry")? {
+            put_asked(alloc, case, entry, *name, out)?;
+        }
     }
-    if is_shown(case, "role", false)? {
-        put_text(out, "role", role_name(entry.entry_type.role()))?;
-    }
-    show_names(alloc, case, entry, out)?;
-    if is_shown(case, "title", false)? {
-        put_title(out, entry, is_set(case, "places")?)?;
-    }
-    show_people(alloc, case, entry, out)?;
-    show_dates(alloc, case, entry, out)
+    Ok(())
 }
 
-/// Shows the names of an entry, and of those that it refers to.
-fn show_names(
+/// Writes the member of the name.
+fn put_asked(
     alloc: Global,
     case: &Value<'_>,
     entry: &Entry,
+    name: &str,
     out: &mut Writer,
 ) -> Result<(), Refusal> {
-    if is_shown(case, "names", false)? {
-        put_member(out, "names", &entry.names(alloc)?)?;
+    match name {
+        "entry" => put_whole(out, entry, is_set(case, "places")?),
+        "title" => put_title(out, entry, is_set(case, "places")?),
+        "author" => put_found(out, name, entry.author(alloc)),
+        "translator" => put_found(out, name, entry.translator(alloc)),
+        "date" => put_found(out, name, entry.date(alloc)),
+        "event_date" => put_found(out, name, entry.event_date(alloc)),
+        "orig_date" => put_found(out, name, entry.orig_date(alloc)),
+        "url_date" => put_found(out, name, entry.url_date(alloc)),
+        _ => put_told(alloc, entry, name, out).map_err(Refusal::from),
     }
-    if is_shown(case, "parents", false)? {
-        put_member(out, "parents", &entry.parents(alloc)?)?;
+}
+
+/// Writes the member of the name, of those that are no fields: the role, names, and the people with what they did.
+fn put_told(alloc: Global, entry: &Entry, name: &str, out: &mut Writer) -> Result<(), AllocError> {
+    match name {
+        "role" => put_text(out, name, role_name(entry.entry_type.role())),
+        "names" => put_member(out, name, &entry.names(alloc)?),
+        "parents" => put_member(out, name, &entry.parents(alloc)?),
+        _ => put_editors(out, entry.editors(alloc)?.as_slice()),
     }
-    Ok(())
+}
+
+/// Writes the entry.
+fn put_whole(out: &mut Writer, entry: &Entry, has_places: bool) -> Result<(), Refusal> {
+    let written = all_written(&[out.key("entry"), put_entry(out, entry, has_places)]);
+    written.map_err(Refusal::from)
 }
 
 /// Writes the title.
 fn put_title(out: &mut Writer, entry: &Entry, has_places: bool) -> Result<(), Refusal> {
     out.key("title")?;
     match entry.title() {
-        Ok(chunks) => {
-            put_chunks(out, chunks, has_places)?;
-            Ok(())
-        }
+        Ok(chunks) => put_chunks(out, chunks, has_places).map_err(Refusal::from),
         Err(error) => put_retrieval_error(out, &error),
     }
 }
 
-/// Shows the people of an entry.
-fn show_people(
-    alloc: Global,
-    case: &Value<'_>,
-    entry: &Entry,
-    out: &mut Writer,
-) -> Result<(), Refusal> {
-    if is_shown(case, "author", false)? {
-        put_found(out, "author", entry.author(alloc))?;
-    }
-    if is_shown(case, "translator", false)? {
-        put_found(out, "translator", entry.translator(alloc))?;
-    }
-    if is_shown(case, "editors", false)? {
-        put_editors(out, entry.editors(alloc)?.as_slice())?;
-    }
-    Ok(())
-}
-
 /// Writes people with what they did.
 fn put_editor(out: &mut Writer, editor: &(Vec<Person>, EditorType)) -> Result<(), AllocError> {
-    out.begin_object()?;
-    put_member(out, "people", &editor.0)?;
-    put_member(out, "type", &editor.1)?;
-    out.end_object()
+    all_written(&[
+        out.begin_object(),
+        put_member(out, "people", &editor.0),
+        put_member(out, "type", &editor.1),
+        out.end_object(),
+    ])
 }
 
 /// Writes people, each list with what they did.
 fn put_editors(out: &mut Writer, editors: &[(Vec<Person>, EditorType)]) -> Result<(), AllocError> {
-    out.key("editors")?;
-    out.begin_array()?;
+    all_written(&[out.key("editors"), out.begin_array()])?;
     for editor in editors {
         put_editor(out, editor)?;
     }
     out.end_array()
-}
-
-/// Shows the dates of an entry.
-fn show_dates(
-    alloc: Global,
-    case: &Value<'_>,
-    entry: &Entry,
-    out: &mut Writer,
-) -> Result<(), Refusal> {
-    if is_shown(case, "date", false)? {
-        put_found(out, "date", entry.date(alloc))?;
-    }
-    if is_shown(case, "event_date", false)? {
-        put_found(out, "event_date", entry.event_date(alloc))?;
-    }
-    if is_shown(case, "orig_date", false)? {
-        put_found(out, "orig_date", entry.orig_date(alloc))?;
-    }
-    if is_shown(case, "url_date", false)? {
-        put_found(out, "url_date", entry.url_date(alloc))?;
-    }
-    Ok(())
 }
 
 /// Writes a value of a field, or why there is none.
@@ -141,7 +112,7 @@ pub(crate) fn put_value<T: CaseValue>(
     found: Result<T, RetrievalError>,
 ) -> Result<(), Refusal> {
     match found {
-        Ok(value) => Ok(value.put(out)?),
+        Ok(value) => value.put(out).map_err(Refusal::from),
         Err(error) => put_retrieval_error(out, &error),
     }
 }

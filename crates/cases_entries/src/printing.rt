@@ -3,6 +3,7 @@
 use biblatex::{Chunks, Entry, Fields};
 use cases::{Writer, put_text};
 use cases_text::put_chunks;
+use cases_values::all_written;
 use std::alloc::AllocError;
 
 /// Writes an entry: its key, its type and its fields, of which chunks have their places if that is asked.
@@ -11,17 +12,18 @@ pub(crate) fn put_entry(
     entry: &Entry,
     has_places: bool,
 ) -> Result<(), AllocError> {
-    out.begin_object()?;
-    put_text(out, "key", entry.key.as_str())?;
-    put_text(out, "type", entry.entry_type.name())?;
-    put_fields(out, &entry.fields, has_places)?;
-    out.end_object()
+    all_written(&[
+        out.begin_object(),
+        put_text(out, "key", entry.key.as_str()),
+        put_text(out, "type", entry.entry_type.name()),
+        put_fields(out, &entry.fields, has_places),
+        out.end_object(),
+    ])
 }
 
 /// Writes the member `fields`: each field in the order of names.
 fn put_fields(out: &mut Writer, fields: &Fields, has_places: bool) -> Result<(), AllocError> {
-    out.key("fields")?;
-    out.begin_object()?;
+    all_written(&[out.key("fields"), out.begin_object()])?;
     for (name, value) in fields.iter() {
         out.key(name.as_str())?;
         put_chunks(out, value.as_slice(), has_places)?;

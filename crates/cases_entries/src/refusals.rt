@@ -3,8 +3,22 @@
 use biblatex::{Fault, ParseError, ParseErrorKind, RawError, RetrievalError};
 use cases::{Refusal, Value, Writer, is_set, put_refused, put_text};
 use cases_text::{put_span, token_name};
-use cases_values::type_error_name;
+use cases_values::{all_written, type_error_name};
 use std::alloc::{AllocError, Global};
+use std::fmt::Display;
+
+/// Writes what is said of a refusal, where the case asks for it.
+pub fn put_message<E: Display>(
+    alloc: Global,
+    case: &Value<'_>,
+    out: &mut Writer,
+    error: &E,
+) -> Result<(), Refusal> {
+    if !is_set(case, "message")? {
+        return Ok(());
+    }
+    put_text(out, "message", error.to_string(alloc)?.as_str()).map_err(Refusal::from)
+}
 
 /// Writes the members that say why a text was not read, and what is said of it where the case asks for that.
 pub fn put_parse_error(
@@ -16,12 +30,8 @@ pub fn put_parse_error(
     let ParseError::Refused { kind, span } = error else {
         return Err(Refusal::Memory);
     };
-    put_kind(out, kind)?;
-    put_span(out, span)?;
-    if is_set(case, "message")? {
-        put_text(out, "message", error.to_string(alloc)?.as_str())?;
-    }
-    Ok(())
+    all_written(&[put_kind(out, kind), put_span(out, span)])?;
+    put_message(alloc, case, out, error)
 }
 
 /// The same of a text that is not of the grammar.
@@ -34,30 +44,27 @@ pub(crate) fn put_raw_error(
     let RawError::Refused { fault, at } = error else {
         return Err(Refusal::Memory);
     };
-    put_fault(out, fault)?;
-    put_span(out, &(*at..*at))?;
-    if is_set(case, "message")? {
-        put_text(out, "message", error.to_string(alloc)?.as_str())?;
-    }
-    Ok(())
+    all_written(&[put_fault(out, fault), put_span(out, &(*at..*at))])?;
+    put_message(alloc, case, out, error)
 }
 
 /// Writes an object that says why a field is not had as a value.
 pub(crate) fn put_retrieval_error(out: &mut Writer, error: &RetrievalError) -> Result<(), Refusal> {
-    match error {
-        RetrievalError::Memory => return Err(Refusal::Memory),
-        RetrievalError::Missing => {
-            out.begin_object()?;
-            put_refused(out, "Missing")?;
-        }
-        RetrievalError::TypeError(error) => {
-            out.begin_object()?;
-            put_refused_for(out, "TypeError", "kind", type_error_name(error.kind))?;
-            put_span(out, &error.span)?;
-        }
-    }
-    out.end_object()?;
-    Ok(())
+    let written = match error {
+        RetrievalError::Memory => Err(AllocError),
+        RetrievalError::Missing => all_written(&[
+            out.begin_object(),
+            put_refused(out, "Missing"),
+            out.end_object(),
+        ]),
+        RetrievalError::TypeError(error) => all_written(&[
+            out.begin_object(),
+            put_refused_for(out, "TypeError", "kind", type_error_name(error.kind)),
+            put_span(out, &error.span),
+            out.end_object(),
+        ]),
+    };
+    written.map_err(Refusal::from)
 }
 
 /// Writes why something is refused, and one member more.

@@ -6,6 +6,7 @@ use biblatex::{
 };
 use cases::{Refusal, Value, Writer, items, maybe_text, only, put_text, text};
 use cases_text::put_chunks;
+use cases_values::all_written;
 use std::alloc::{AllocError, Global};
 
 /// Returns a case of the kind `field`.
@@ -83,8 +84,7 @@ fn read_piece<'a>(item: &Value<'a>) -> Result<RawChunk<'a>, Refusal> {
 
 /// Writes the member `chunks`.
 fn put_read(out: &mut Writer, chunks: &[Spanned<Chunk>]) -> Result<(), AllocError> {
-    out.key("chunks")?;
-    put_chunks(out, chunks, false)
+    all_written(&[out.key("chunks"), put_chunks(out, chunks, false)])
 }
 
 /// Writes the member `chunks`, or why there are none.
@@ -95,7 +95,7 @@ fn put_found(
     found: Result<Chunks, ParseError>,
 ) -> Result<(), Refusal> {
     match found {
-        Ok(value) => Ok(put_read(out, value.as_slice())?),
+        Ok(value) => put_read(out, value.as_slice()).map_err(Refusal::from),
         Err(error) => put_parse_error(alloc, case, out, &error),
     }
 }
@@ -133,12 +133,11 @@ fn put_definitions(
     definitions: &[Pair<'_>],
     abbreviations: &Abbreviations<'_, '_>,
 ) -> Result<(), Refusal> {
-    out.key("abbreviations")?;
-    out.begin_array()?;
+    all_written(&[out.key("abbreviations"), out.begin_array()])?;
     for definition in definitions {
         put_definition(alloc, case, out, definition, abbreviations)?;
     }
-    Ok(out.end_array()?)
+    out.end_array().map_err(Refusal::from)
 }
 
 /// Writes a definition with what it gives.
@@ -149,10 +148,9 @@ fn put_definition(
     definition: &Pair<'_>,
     abbreviations: &Abbreviations<'_, '_>,
 ) -> Result<(), Refusal> {
-    out.begin_object()?;
-    put_text(out, "name", definition.key.v)?;
+    all_written(&[out.begin_object(), put_text(out, "name", definition.key.v)])?;
     let pieces = definition.value.v.as_slice();
     let found = parse_field(alloc, definition.key.v, pieces, abbreviations);
     put_found(alloc, case, out, found)?;
-    Ok(out.end_object()?)
+    out.end_object().map_err(Refusal::from)
 }

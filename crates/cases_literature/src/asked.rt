@@ -1,7 +1,7 @@
 //! What is asked of values beside what is printed of them.
 
 use cases::{Refusal, Value, Writer, count, is_shown, member, put_bool, put_text};
-use cases_values::{CaseValue, put_or_null};
+use cases_values::{CaseValue, all_written, put_or_null};
 use literature::{Date, MaybeTyped, Numeric, PageRanges};
 use std::alloc::{AllocError, Global};
 use std::fmt::Display;
@@ -22,7 +22,31 @@ pub(crate) fn put_printed<T: Display>(
     if !is_shown(case, "text", true)? {
         return Ok(());
     }
-    Ok(put_text(out, "text", value.to_string(alloc)?.as_str())?)
+    put_text(out, "text", value.to_string(alloc)?.as_str()).map_err(Refusal::from)
+}
+
+/// Writes whether something is so, where that is to be shown.
+fn put_shown(case: &Value<'_>, name: &str, is_true: bool, out: &mut Writer) -> Result<(), Refusal> {
+    if !is_shown(case, name, false)? {
+        return Ok(());
+    }
+    put_bool(out, name, is_true).map_err(Refusal::from)
+}
+
+/// Writes the one number of a value, where that is to be shown.
+fn put_single(case: &Value<'_>, numeric: &Numeric, out: &mut Writer) -> Result<(), Refusal> {
+    if !is_shown(case, "single_number", false)? {
+        return Ok(());
+    }
+    put_number_or_null(out, "single_number", numeric.single_number()).map_err(Refusal::from)
+}
+
+/// Writes the number at a place, where a case names one.
+fn put_nth(case: &Value<'_>, numeric: &Numeric, out: &mut Writer) -> Result<(), Refusal> {
+    if member(case, "place").is_none() {
+        return Ok(());
+    }
+    put_number_or_null(out, "nth", numeric.nth(count(case, "place")?)).map_err(Refusal::from)
 }
 
 /// Writes a number, or null, as the member of the name.
@@ -37,30 +61,21 @@ fn put_number_or_null(out: &mut Writer, name: &str, number: Option<i32>) -> Resu
 /// Whether it is of several numbers, the one number, and the number at a place.
 impl Asked for Numeric {
     fn put_asked(&self, case: &Value<'_>, out: &mut Writer) -> Result<(), Refusal> {
-        if is_shown(case, "is_plural", false)? {
-            put_bool(out, "is_plural", self.is_plural())?;
-        }
-        if is_shown(case, "single_number", false)? {
-            put_number_or_null(out, "single_number", self.single_number())?;
-        }
-        if member(case, "place").is_some() {
-            put_number_or_null(out, "nth", self.nth(count(case, "place")?))?;
-        }
-        Ok(())
+        put_shown(case, "is_plural", self.is_plural(), out)?;
+        put_single(case, self, out)?;
+        put_nth(case, self, out)
     }
 }
 
 /// Whether it is of several pages, and the first of them.
 impl Asked for PageRanges {
     fn put_asked(&self, case: &Value<'_>, out: &mut Writer) -> Result<(), Refusal> {
-        if is_shown(case, "is_plural", false)? {
-            put_bool(out, "is_plural", self.is_plural())?;
+        put_shown(case, "is_plural", self.is_plural(), out)?;
+        if !is_shown(case, "first", false)? {
+            return Ok(());
         }
-        if is_shown(case, "first", false)? {
-            out.key("first")?;
-            put_or_null(out, self.first())?;
-        }
-        Ok(())
+        let written = all_written(&[out.key("first"), put_or_null(out, self.first())]);
+        written.map_err(Refusal::from)
     }
 }
 
@@ -74,9 +89,6 @@ impl Asked for Date {
 /// Whether it is a value of the type.
 impl<T: CaseValue> Asked for MaybeTyped<T> {
     fn put_asked(&self, case: &Value<'_>, out: &mut Writer) -> Result<(), Refusal> {
-        if is_shown(case, "is_typed", false)? {
-            put_bool(out, "is_typed", self.as_typed().is_some())?;
-        }
-        Ok(())
+        put_shown(case, "is_typed", self.as_typed().is_some(), out)
     }
 }

@@ -1,7 +1,7 @@
 //! Copies of the fields of entries.
 
 use cases::Writer;
-use cases_values::{CaseValue, put_member};
+use cases_values::{CaseValue, all_written, put_member};
 use literature::Entry;
 use std::alloc::AllocError;
 
@@ -27,14 +27,16 @@ fn put_copied_author(out: &mut Writer, entry: &Entry) -> Result<(), AllocError> 
 
 /// Writes an object with a copy of a field of each type.
 pub(crate) fn put_copies(out: &mut Writer, entry: &Entry) -> Result<(), AllocError> {
-    out.begin_object()?;
-    put_copy(out, "title", entry.title())?;
-    put_copied_author(out, entry)?;
-    put_copy(out, "publisher", entry.publisher())?;
-    put_copy(out, "issue", entry.issue())?;
-    put_copy(out, "volume_total", entry.volume_total())?;
-    put_copy(out, "page_range", entry.page_range())?;
-    put_copy(out, "url", entry.url())?;
-    put_copy(out, "serial_number", entry.serial_number())?;
-    out.end_object()
+    all_written(&[
+        out.begin_object(),
+        put_copy(out, "title", entry.title()),
+        put_copied_author(out, entry),
+        put_copy(out, "publisher", entry.publisher()),
+        put_copy(out, "issue", entry.issue()),
+        put_copy(out, "volume_total", entry.volume_total()),
+        put_copy(out, "page_range", entry.page_range()),
+        put_copy(out, "url", entry.url()),
+        put_copy(out, "serial_number", entry.serial_number()),
+        out.end_object(),
+    ])
 }

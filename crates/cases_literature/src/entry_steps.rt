@@ -8,13 +8,17 @@ use cases::{
     Refusal, Value, Writer, items, maybe_owned_text, maybe_text, member, only, put_bool,
     put_text_or_null, text,
 };
-use cases_values::put_or_null;
+use cases_values::{CaseValue, all_written, put_or_null};
 use literature::Entry;
 use std::alloc::{AllocError, Global};
 use std::hash::{DefaultHasher, Hash, Hasher};
 
 /// The entry of a member.
-pub fn entry_member(alloc: Global, case: &Value<'_>, name: &'static str) -> Result<Entry, Refusal> {
+pub fn entry_member(
+    alloc: Global,
+    case: &Value<'_>,
+    name: &'static str,
+) -> Result<Box<Entry>, Refusal> {
     match member(case, name) {
         Some(given) => entry_of(alloc, given, ENTRY_DEPTH),
         None => Err(Refusal::Wanted(name, "an entry")),
@@ -30,9 +34,11 @@ fn hash_of(entry: &Entry) -> u64 {
 
 /// Writes whether two entries are equal, and whether their hashes are.
 fn put_equal(out: &mut Writer, one: &Entry, other: &Entry) -> Result<(), Refusal> {
-    put_bool(out, "is_equal", *one == *other)?;
-    put_bool(out, "hashes_alike", hash_of(one) == hash_of(other))?;
-    Ok(())
+    let written = all_written(&[
+        put_bool(out, "is_equal", *one == *other),
+        put_bool(out, "hashes_alike", hash_of(one) == hash_of(other)),
+    ]);
+    written.map_err(Refusal::from)
 }
 
 /// Writes how an entry compares with that of the member `other`.
@@ -77,16 +83,16 @@ fn first_parent_with<'e>(entry: &'e Entry, field: &str) -> Result<Option<&'e str
 
 /// Sets the serial number of a scheme that has a call of its own; false where the step is none of these calls.
 fn set_number(name: &str, number: String, entry: &mut Entry) -> Result<bool, AllocError> {
-    match name {
-        "set_doi" => entry.set_doi(number)?,
-        "set_isbn" => entry.set_isbn(number)?,
-        "set_issn" => entry.set_issn(number)?,
-        "set_pmid" => entry.set_pmid(number)?,
-        "set_pmcid" => entry.set_pmcid(number)?,
-        "set_arxiv" => entry.set_arxiv(number)?,
+    let is_set = match name {
+        "set_doi" => entry.set_doi(number),
+        "set_isbn" => entry.set_isbn(number),
+        "set_issn" => entry.set_issn(number),
+        "set_pmid" => entry.set_pmid(number),
+        "set_pmcid" => entry.set_pmcid(number),
+        "set_arxiv" => entry.set_arxiv(number),
         _ => return Ok(false),
-    }
-    Ok(true)
+    };
+    is_set.map(|()| true)
 }
 
 /// Takes a step that sets a serial number; false where it is none.
@@ -103,7 +109,7 @@ fn take_number(
         entry.set_keyed_serial_number(text(step, "scheme")?, number)?;
         return Ok(true);
     }
-    Ok(set_number(name, number, entry)?)
+    set_number(name, number, entry).map_err(Refusal::from)
 }
 
 /// Writes the answer of a step that asks for a serial number; false where it is none.
@@ -113,18 +119,17 @@ fn put_number(
     entry: &Entry,
     out: &mut Writer,
 ) -> Result<bool, Refusal> {
-    match name {
-        "doi" => put_text_or_null(out, entry.doi())?,
-        "isbn" => put_text_or_null(out, entry.isbn())?,
-        "issn" => put_text_or_null(out, entry.issn())?,
-        "pmid" => put_text_or_null(out, entry.pmid())?,
-        "pmcid" => put_text_or_null(out, entry.pmcid())?,
-        "arxiv" => put_text_or_null(out, entry.arxiv())?,
-        "keyed_serial_number" => {
-            put_text_or_null(out, entry.keyed_serial_number(text(step, "scheme")?))?
-        }
+    let number = match name {
+        "doi" => entry.doi(),
+        "isbn" => entry.isbn(),
+        "issn" => entry.issn(),
+        "pmid" => entry.pmid(),
+        "pmcid" => entry.pmcid(),
+        "arxiv" => entry.arxiv(),
+        "keyed_serial_number" => entry.keyed_serial_number(text(step, "scheme")?),
         _ => return Ok(false),
-    }
+    };
+    put_text_or_null(out, number)?;
     Ok(true)
 }
 
@@ -138,25 +143,33 @@ fn put_first(
     let Some(field) = maybe_text(step, "field")? else {
         return Ok(false);
     };
-    match name {
-        "has" => out.boolean(entry.has(field))?,
-        "map" => put_text_or_null(out, first_with(entry, field)?)?,
-        "map_parents" => put_text_or_null(out, first_parent_with(entry, field)?)?,
+    let written = match name {
+        "has" => out.boolean(entry.has(field)),
+        "map" => put_text_or_null(out, first_with(entry, field)?),
+        "map_parents" => put_text_or_null(out, first_parent_with(entry, field)?),
         _ => return Ok(false),
-    }
+    };
+    written?;
     Ok(true)
 }
 
-/// Writes the answer of a step that asks for anything else; false where it is none.
-fn put_found(name: &str, entry: &Entry, out: &mut Writer) -> Result<bool, Refusal> {
+/// Writes what is found of an entry and its ancestors, or null.
+fn put_any<T: CaseValue>(
+    out: &mut Writer,
+    found: Result<Option<&T>, AllocError>,
+) -> Result<(), Refusal> {
+    put_or_null(out, found?).map_err(Refusal::from)
+}
+
+/// Writes the answer of a step that asks for anything else.
+fn put_found(name: &str, entry: &Entry, out: &mut Writer) -> Result<(), Refusal> {
     match name {
-        "date_any" => put_or_null(out, entry.date_any()?)?,
-        "url_any" => put_or_null(out, entry.url_any()?)?,
-        "entry" => put_entry(out, entry, ENTRY_DEPTH)?,
-        "copies" => put_copies(out, entry)?,
-        _ => return Ok(false),
+        "date_any" => put_any(out, entry.date_any()),
+        "url_any" => put_any(out, entry.url_any()),
+        "entry" => put_entry(out, entry, ENTRY_DEPTH),
+        "copies" => put_copies(out, entry).map_err(Refusal::from),
+        _ => Err(Refusal::Wanted("step", "the name of a call")),
     }
-    Ok(true)
 }
 
 /// Writes what a step returns.
@@ -168,15 +181,12 @@ fn put_answer(
     out: &mut Writer,
 ) -> Result<(), Refusal> {
     if take_number(alloc, step, name, entry)? {
-        return Ok(out.null()?);
+        return out.null().map_err(Refusal::from);
     }
-    let is_answered = put_number(step, name, entry, out)?
-        || put_first(step, name, entry, out)?
-        || put_found(name, entry, out)?;
-    if is_answered {
+    if put_number(step, name, entry, out)? || put_first(step, name, entry, out)? {
         return Ok(());
     }
-    Err(Refusal::Wanted("step", "the name of a call"))
+    put_found(name, entry, out)
 }
 
 /// Takes a step, and writes what it returns.
@@ -224,9 +234,7 @@ pub(crate) fn library_entry(
     let Some(steps) = items(case, "steps")? else {
         return Err(Refusal::Wanted("steps", "a list"));
     };
-    out.key("steps")?;
-    out.begin_array()?;
+    all_written(&[out.key("steps"), out.begin_array()])?;
     take_at_given(alloc, case, steps, out)?;
-    out.end_array()?;
-    Ok(())
+    out.end_array().map_err(Refusal::from)
 }

@@ -37,15 +37,21 @@ fn type_of(given: &Value<'_>) -> Result<EntryType, Refusal> {
     }
 }
 
+/// An entry in a box, since to hand on what is in the box costs nothing.
+pub fn boxed(alloc: Global, entry: Entry) -> Result<Box<Entry>, Refusal> {
+    Box::new(alloc, entry).map_err(Refusal::from)
+}
+
 /// An entry without fields and parents.
-fn bare(alloc: Global, given: &Value<'_>) -> Result<Entry, Refusal> {
+fn bare(alloc: Global, given: &Value<'_>) -> Result<Box<Entry>, Refusal> {
     only(alloc, given, &MEMBERS)?;
     let entry_type = type_of(given)?;
-    Ok(Entry::new(owned_text(alloc, given, "key")?, entry_type))
+    let key = owned_text(alloc, given, "key")?;
+    boxed(alloc, Entry::new(key, entry_type))
 }
 
 /// An entry without its parents.
-fn alone(alloc: Global, given: &Value<'_>) -> Result<Entry, Refusal> {
+fn alone(alloc: Global, given: &Value<'_>) -> Result<Box<Entry>, Refusal> {
     let mut entry = bare(alloc, given)?;
     set_fields(alloc, given, &mut entry)?;
     Ok(entry)
@@ -53,7 +59,7 @@ fn alone(alloc: Global, given: &Value<'_>) -> Result<Entry, Refusal> {
 
 /// An entry, whose parents nest at most so deep.
 #[cycle(entry)]
-pub fn entry_of(alloc: Global, given: &Value<'_>, depth: u32) -> Result<Entry, Refusal> {
+pub fn entry_of(alloc: Global, given: &Value<'_>, depth: u32) -> Result<Box<Entry>, Refusal> {
     let mut entry = alone(alloc, given)?;
     entry.set_parents(parents_of(alloc, given, depth)?);
     Ok(entry)
@@ -70,7 +76,7 @@ fn parents_of(alloc: Global, given: &Value<'_>, depth: u32) -> Result<Vec<Entry>
         return Err(Refusal::Wanted("parents", "entries less deep in one another"));
     }
     for item in items {
-        parents.push(entry_of(alloc, item, depth - 1)?)?;
+        parents.push(Box::into_inner(entry_of(alloc, item, depth - 1)?))?;
     }
     Ok(parents)
 }

@@ -37,7 +37,7 @@ fn put_initials(
 ) -> Result<(), Refusal> {
     let delimiter = maybe_text(case, "delimiter")?;
     let written = initials_of(alloc, person, delimiter, is_set(case, "hyphen")?)?;
-    Ok(put_text(out, "text", written.as_str())?)
+    put_text(out, "text", written.as_str()).map_err(Refusal::from)
 }
 
 /// `initials`: those of a person of a given name.

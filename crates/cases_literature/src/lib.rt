@@ -14,7 +14,7 @@ mod written_entries;
 
 use cases::{Answered, Value, Writer};
 pub use entry_steps::entry_member;
-pub use given_entries::entry_of;
+pub use given_entries::{boxed, entry_of};
 use std::alloc::Global;
 pub use written_entries::put_entry;
 
@@ -23,16 +23,17 @@ pub const ENTRY_DEPTH: u32 = 400;
 
 /// Writes the members of the answer to a case of this kind; false where the kind is none of these.
 pub fn answer(alloc: Global, kind: &str, case: &Value<'_>, out: &mut Writer) -> Answered {
-    match kind {
-        "read" => reading::read(alloc, case, out)?,
-        "print" => reading::print(alloc, case, out)?,
-        "initials" => initials::initials(alloc, case, out)?,
-        "library_entry" => entry_steps::library_entry(alloc, case, out)?,
-        "equal_entries" => entry_steps::equal_entries(alloc, case, out)?,
-        "selector" => selectors::selector(alloc, case, out)?,
-        "query" => selectors::query(alloc, case, out)?,
-        "library" => libraries::library(alloc, case, out)?,
+    let answered = match kind {
+        "read" => reading::read(alloc, case, out),
+        "print" => reading::print(alloc, case, out),
+        "initials" => initials::initials(alloc, case, out),
+        "library_entry" => entry_steps::library_entry(alloc, case, out),
+        "equal_entries" => entry_steps::equal_entries(alloc, case, out),
+        "selector" => selectors::selector(alloc, case, out),
+        "query" => selectors::query(alloc, case, out),
+        "library" => libraries::library(alloc, case, out),
         _ => return Ok(false),
-    }
+    };
+    answered?;
     Ok(true)
 }

@@ -2,11 +2,11 @@
 
 use crate::asked::{Asked, put_printed};
 use cases::{Refusal, Value, Writer, is_shown, only, only_shown, put_refused, put_text, text};
-use cases_values::{given, put_member};
+use cases_values::{all_written, given, put_member};
 use literature::{
     Date, DateError, EntryType, MaybeTyped, Numeric, NumericError, PageRanges, PageRangesError,
 };
-use std::alloc::Global;
+use std::alloc::{AllocError, Global};
 use std::fmt::Display;
 
 /// What the types of values are called.
@@ -29,10 +29,10 @@ fn put_answer<T: Asked + Display>(
 /// Writes why a text was not read: the refusal's type, and its variant where that is to be shown.
 fn put_refusal(case: &Value<'_>, name: &str, kind: &str, out: &mut Writer) -> Result<(), Refusal> {
     put_refused(out, name)?;
-    if is_shown(case, "kind", false)? {
-        put_text(out, "kind", kind)?;
+    if !is_shown(case, "kind", false)? {
+        return Ok(());
     }
-    Ok(())
+    put_text(out, "kind", kind).map_err(Refusal::from)
 }
 
 /// Reads a number.
@@ -90,10 +90,22 @@ fn read_entry_type(
     match EntryType::read(text) {
         Some(entry_type) => put_printed(alloc, case, &entry_type, out),
         None => {
-            out.key("text")?;
-            out.null()?;
-            Ok(())
+            let written = all_written(&[out.key("text"), out.null()]);
+            written.map_err(Refusal::from)
         }
+    }
+}
+
+/// Writes what is asked of a value that may spell none.
+fn put_read<T: Asked + Display>(
+    alloc: Global,
+    case: &Value<'_>,
+    read: Result<T, AllocError>,
+    out: &mut Writer,
+) -> Result<(), Refusal> {
+    match read {
+        Ok(value) => put_answer(alloc, case, &value, out),
+        Err(AllocError) => Err(Refusal::Memory),
     }
 }
 
@@ -109,14 +121,12 @@ fn read_typed(
         "numeric" => read_numeric(alloc, case, text, out),
         "page-ranges" => read_pages(alloc, case, text, out),
         "date" => read_date(alloc, case, text, out),
-        "maybe-numeric" => {
-            put_answer(alloc, case, &MaybeTyped::<Numeric>::read(alloc, text)?, out)
-        }
+        "maybe-numeric" => put_read(alloc, case, MaybeTyped::<Numeric>::read(alloc, text), out),
         "maybe-page-ranges" => {
-            put_answer(
+            put_read(
                 alloc,
                 case,
-                &MaybeTyped::<PageRanges>::read(alloc, text)?,
+                MaybeTyped::<PageRanges>::read(alloc, text),
                 out,
             )
         }

@@ -6,6 +6,7 @@ use cases::{
     Refusal, Value, Writer, is_shown, member, only, only_shown, put_bool, put_refused, put_text,
     put_text_or_null, text, texts,
 };
+use cases_values::all_written;
 use literature::{Bindings, BoundSelect, Entry, Library, Selected, Selector, SelectorError};
 use std::alloc::{AllocError, Global};
 
@@ -17,44 +18,46 @@ fn put_refusal(
     out: &mut Writer,
 ) -> Result<(), Refusal> {
     put_fault(error, out)?;
-    if is_shown(case, "message", false)? {
-        put_text(out, "message", error.to_string(alloc)?.as_str())?;
+    if !is_shown(case, "message", false)? {
+        return Ok(());
     }
-    Ok(())
+    put_text(out, "message", error.to_string(alloc)?.as_str()).map_err(Refusal::from)
 }
 
 /// Writes the name of a fault.
 fn put_fault(error: &SelectorError, out: &mut Writer) -> Result<(), Refusal> {
-    match error {
-        SelectorError::MissingValue => put_refused(out, "MissingValue")?,
-        SelectorError::MalformedAttribute => put_refused(out, "MalformedAttribute")?,
-        SelectorError::MissingComma => put_refused(out, "MissingComma")?,
-        SelectorError::UnbalancedParens => put_refused(out, "UnbalancedParens")?,
-        SelectorError::UnknownEntryType(name) => {
-            put_refused(out, "UnknownEntryType")?;
-            put_text(out, "type", name.as_str())?;
-        }
-        SelectorError::TooDeep => put_refused(out, "TooDeep")?,
-        SelectorError::Memory => return Err(Refusal::Memory),
-    }
-    Ok(())
+    let written = match error {
+        SelectorError::MissingValue => put_refused(out, "MissingValue"),
+        SelectorError::MalformedAttribute => put_refused(out, "MalformedAttribute"),
+        SelectorError::MissingComma => put_refused(out, "MissingComma"),
+        SelectorError::UnbalancedParens => put_refused(out, "UnbalancedParens"),
+        SelectorError::UnknownEntryType(name) => all_written(&[
+            put_refused(out, "UnknownEntryType"),
+            put_text(out, "type", name.as_str()),
+        ]),
+        SelectorError::TooDeep => put_refused(out, "TooDeep"),
+        SelectorError::Memory => Err(AllocError),
+    };
+    written.map_err(Refusal::from)
 }
 
 /// Writes a name and the key of the entry that it is bound to.
 fn put_bound(out: &mut Writer, name: &str, entry: &Entry) -> Result<(), AllocError> {
-    out.begin_object()?;
-    put_text(out, "name", name)?;
-    put_text(out, "entry", entry.key())?;
-    out.end_object()
+    all_written(&[
+        out.begin_object(),
+        put_text(out, "name", name),
+        put_text(out, "entry", entry.key()),
+        out.end_object(),
+    ])
 }
 
 /// Writes names in order, each with the key of the entry that it is bound to.
-fn put_bindings(out: &mut Writer, bindings: &Bindings<'_>) -> Result<(), Refusal> {
+fn put_bindings(out: &mut Writer, bindings: &Bindings<'_>) -> Result<(), AllocError> {
     out.begin_array()?;
     for (name, entry) in bindings.iter() {
         put_bound(out, name.as_str(), entry)?;
     }
-    Ok(out.end_array()?)
+    out.end_array()
 }
 
 /// Writes what a selector binds at an entry, or null where it does not hold.
@@ -65,10 +68,11 @@ fn put_applied(
     out: &mut Writer,
 ) -> Result<(), Refusal> {
     out.key("bindings")?;
-    match selector.apply(alloc, entry)? {
+    let written = match selector.apply(alloc, entry)? {
         Some(bindings) => put_bindings(out, &bindings),
-        None => Ok(out.null()?),
-    }
+        None => out.null(),
+    };
+    written.map_err(Refusal::from)
 }
 
 /// Writes for each of the names the key of the entry that is bound to it, or null.
@@ -79,14 +83,12 @@ fn put_each_bound(
     names: &[&str],
     out: &mut Writer,
 ) -> Result<(), Refusal> {
-    out.key("bound")?;
-    out.begin_array()?;
+    all_written(&[out.key("bound"), out.begin_array()])?;
     for name in names {
         let bound = entry.bound_select(alloc, selector, *name)?;
         put_text_or_null(out, bound.map(Entry::key))?;
     }
-    out.end_array()?;
-    Ok(())
+    out.end_array().map_err(Refusal::from)
 }
 
 /// Writes what is asked of a selector at an entry.
@@ -159,22 +161,24 @@ pub(crate) fn selector(alloc: Global, case: &Value<'_>, out: &mut Writer) -> Res
 }
 
 /// Writes an entry that was found by its key, and what is bound there.
-fn put_one_found(out: &mut Writer, found: &Selected<'_>) -> Result<(), Refusal> {
-    out.begin_object()?;
-    put_text(out, "entry", found.entry.key())?;
-    out.key("bindings")?;
-    put_bindings(out, &found.bindings)?;
-    Ok(out.end_object()?)
+fn put_one_found(out: &mut Writer, found: &Selected<'_>) -> Result<(), AllocError> {
+    all_written(&[
+        out.begin_object(),
+        put_text(out, "entry", found.entry.key()),
+        out.key("bindings"),
+        put_bindings(out, &found.bindings),
+        out.end_object(),
+    ])
 }
 
 /// Writes the entries that were found.
-fn put_all_found(out: &mut Writer, all: &[Selected<'_>]) -> Result<(), Refusal> {
+fn put_all_found(out: &mut Writer, all: &[Selected<'_>]) -> Result<(), AllocError> {
     out.key("selected")?;
     out.begin_array()?;
     for found in all {
         put_one_found(out, found)?;
     }
-    Ok(out.end_array()?)
+    out.end_array()
 }
 
 /// Writes what a query finds.
@@ -185,7 +189,7 @@ fn put_query(
     out: &mut Writer,
 ) -> Result<(), Refusal> {
     match library.query(alloc, text(case, "selector")?) {
-        Ok(all) => put_all_found(out, all.as_slice()),
+        Ok(all) => put_all_found(out, all.as_slice()).map_err(Refusal::from),
         Err(error) => put_refusal(alloc, case, &error, out),
     }
 }

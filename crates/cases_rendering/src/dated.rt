@@ -1,11 +1,8 @@
 //! Dates as styles print them.
 
-use crate::date_words::PARTS;
-use crate::dates::date_parts;
-use crate::locales::locales;
 use crate::pages::{manner, put_characters, put_page_tree};
-use crate::words::word_or;
 use cases::{Refusal, Value, Writer, maybe_text, only, put_text, text, texts};
+use cases_styles::{PARTS, date_parts, locales, word_or};
 use cases_values::given;
 use literature::Date;
 use rendering_dates::{DateShape, DateStyle, push_years};

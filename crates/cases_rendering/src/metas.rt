@@ -1,8 +1,7 @@
 //! What elements of trees stand for.
 
-use crate::variables::NAMES;
-use crate::words::{maybe_word, word_of};
 use cases::{Refusal, Value, Writer, count, items, member, only, put_count, put_text};
+use cases_styles::{NAMES, maybe_word, word_of};
 use cases_values::{given, put_member};
 use literature::Person;
 use rendering_taxonomy::NameVariable;

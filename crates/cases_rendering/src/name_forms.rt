@@ -1,11 +1,12 @@
 //! Forms of names that tell cites apart.
 
-use crate::words::{maybe_word, word_of};
 use cases::{Refusal, Value, Writer, is_set, only, put_bool};
+use cases_styles::{maybe_word, word_of};
 use rendering_taxonomy::DisambiguatedNameForm;
 use std::alloc::{AllocError, Global};
 
-const FORMS: &[(&str, DisambiguatedNameForm)] = &[
+/// The words of forms of names.
+pub const NAME_FORMS: &[(&str, DisambiguatedNameForm)] = &[
     ("count", DisambiguatedNameForm::Count),
     ("short-initialized", DisambiguatedNameForm::ShortInitialized),
     ("short-full", DisambiguatedNameForm::ShortFull),
@@ -18,7 +19,7 @@ fn put_form(form: DisambiguatedNameForm, full: bool, out: &mut Writer) -> Result
     put_bool(out, "is_long", form.is_long())?;
     out.key("disambiguated")?;
     match form.disambiguate(full) {
-        Some(next) => out.string(word_of(FORMS, next)),
+        Some(next) => out.string(word_of(NAME_FORMS, next)),
         None => out.null(),
     }
 }
@@ -26,7 +27,7 @@ fn put_form(form: DisambiguatedNameForm, full: bool, out: &mut Writer) -> Result
 /// `name_form`: whether a form of names prints given names, and the next form that prints more of them.
 pub(crate) fn answer(alloc: Global, case: &Value<'_>, out: &mut Writer) -> Result<(), Refusal> {
     only(alloc, case, &["case", "name", "form", "full"])?;
-    let Some(form) = maybe_word(case, "form", FORMS)? else {
+    let Some(form) = maybe_word(case, "form", NAME_FORMS)? else {
         return Err(Refusal::Wanted("form", "a form of names"));
     };
     Ok(put_form(form, is_set(case, "full")?, out)?)

@@ -1,9 +1,7 @@
 //! Numbers as texts.
 
-use crate::leaves::NUMBER_FORMS;
-use crate::locales::maybe_ordinals;
-use crate::words::word_or;
 use cases::{Refusal, Value, Writer, is_set, member, number, only, put_text, small_number, text};
+use cases_styles::{NUMBER_FORMS, maybe_ordinals, word_or};
 use cases_values::given;
 use literature::{MaybeTyped, Numeric};
 use rendering_locale::Ordinals;

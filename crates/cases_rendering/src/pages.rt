@@ -1,13 +1,12 @@
 //! Pages on which texts are put down, and their trees.
 
-use crate::looks::{DISPLAYS, formatting};
 use crate::metas::maybe_meta;
-use crate::words::maybe_word;
 use crate::written_trees::put_tree;
 use cases::{
     Refusal, Value, Writer, count, is_set, items, maybe_text, member, only, put_bool, put_text,
     text, texts,
 };
+use cases_styles::{DISPLAYS, formatting, maybe_word};
 use cases_values::maybe_given;
 use literature::StringChunk;
 use rendering_page::{Frame, Manner, Page};

@@ -29,7 +29,11 @@ fn put_simple(out: &mut Writer, tree: &ElemChildren) -> Result<(), AllocError> {
 }
 
 /// Writes what is written of a tree, and its normal form.
-fn put_written(alloc: Global, out: &mut Writer, tree: &ElemChildren) -> Result<(), Refusal> {
+pub fn put_written_tree(
+    alloc: Global,
+    out: &mut Writer,
+    tree: &ElemChildren,
+) -> Result<(), Refusal> {
     put_plain(alloc, out, tree)?;
     put_html(alloc, out, tree)?;
     Ok(put_simple(out, tree)?)
@@ -38,7 +42,7 @@ fn put_written(alloc: Global, out: &mut Writer, tree: &ElemChildren) -> Result<(
 /// `simplify`: what is written of a tree, and its normal form.
 fn answer_simplified(alloc: Global, case: &Value<'_>, out: &mut Writer) -> Result<(), Refusal> {
     only(alloc, case, &["case", "name", "tree"])?;
-    put_written(alloc, out, &tree(alloc, case, "tree")?)
+    put_written_tree(alloc, out, &tree(alloc, case, "tree")?)
 }
 
 /// Writes an element as the member of the name, or null.

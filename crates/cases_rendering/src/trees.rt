@@ -1,9 +1,8 @@
 //! Trees of what was printed, as a case gives them.
 
-use crate::looks::{DISPLAYS, formatting, plain};
 use crate::metas::maybe_meta;
-use crate::words::maybe_word;
 use cases::{Refusal, Value, count, items, member, only, owned_text};
+use cases_styles::{DISPLAYS, formatting, maybe_word, plain};
 use rendering_tree::{Elem, ElemChild, ElemChildren, Formatted};
 use std::alloc::Global;
 

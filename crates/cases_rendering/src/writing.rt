@@ -1,8 +1,7 @@
 //! Texts that look so, links and elements, in plain text and in HTML.
 
-use crate::looks::{DISPLAYS, formatting};
-use crate::words::maybe_word;
 use cases::{Refusal, Value, Writer, is_set, maybe_text, only, put_text, text};
+use cases_styles::{DISPLAYS, formatting, maybe_word};
 use rendering_output::BufWriteFormat;
 use rendering_taxonomy::{Display, Formatting};
 use std::alloc::Global;

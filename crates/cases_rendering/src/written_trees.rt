@@ -1,9 +1,8 @@
 //! Trees of what was printed, written as JSON.
 
-use crate::looks::{DISPLAYS, is_plain, put_formatting};
 use crate::metas::put_meta;
-use crate::words::word_of;
 use cases::{Writer, put_count, put_text};
+use cases_styles::{DISPLAYS, is_plain, put_formatting, word_of};
 use rendering_taxonomy::{Display, Formatting};
 use rendering_tree::{Elem, ElemChild, ElemChildren, Formatted};
 use std::alloc::AllocError;

@@ -70,6 +70,16 @@ pub fn maybe_given<T: CaseValue>(
     }
 }
 
+/// Whether every step of a text was written; a step after one that failed writes what is of no use.
+pub fn all_written(steps: &[Result<(), AllocError>]) -> Result<(), AllocError> {
+    for step in steps {
+        if step.is_err() {
+            return Err(AllocError);
+        }
+    }
+    Ok(())
+}
+
 /// Writes values as a list.
 pub fn put_list<T: CaseValue>(out: &mut Writer, values: &[T]) -> Result<(), AllocError> {
     out.begin_array()?;

@@ -1,7 +1,7 @@
 //! Dates in cases and in answers. Months and days count from zero.
 
 use crate::case_value::{
-    CaseValue, given, maybe_given, put_list, put_maybe, put_member, put_or_null,
+    CaseValue, all_written, given, maybe_given, put_list, put_maybe, put_member, put_or_null,
 };
 use biblatex::{Date, DateValue, Datetime, Time, TimeOffset};
 use cases::{
@@ -11,7 +11,7 @@ use cases::{
 use std::alloc::{AllocError, Global};
 
 /// Writes a member that is true, where it is.
-fn put_if_set(out: &mut Writer, name: &str, is_set: bool) -> Result<(), AllocError> {
+pub(crate) fn put_if_set(out: &mut Writer, name: &str, is_set: bool) -> Result<(), AllocError> {
     if !is_set {
         return Ok(());
     }
@@ -20,11 +20,13 @@ fn put_if_set(out: &mut Writer, name: &str, is_set: bool) -> Result<(), AllocErr
 
 /// Writes an offset from UTC as an object.
 fn put_offset(out: &mut Writer, positive: bool, hours: u8, minutes: u8) -> Result<(), AllocError> {
-    out.begin_object()?;
-    put_bool(out, "positive", positive)?;
-    put_number(out, "hours", i64::from(hours))?;
-    put_number(out, "minutes", i64::from(minutes))?;
-    out.end_object()
+    all_written(&[
+        out.begin_object(),
+        put_bool(out, "positive", positive),
+        put_number(out, "hours", i64::from(hours)),
+        put_number(out, "minutes", i64::from(minutes)),
+        out.end_object(),
+    ])
 }
 
 /// The offset of a time.
@@ -66,12 +68,14 @@ impl CaseValue for Time {
     }
 
     fn put(&self, out: &mut Writer) -> Result<(), AllocError> {
-        out.begin_object()?;
-        put_number(out, "hour", i64::from(self.hour))?;
-        put_number(out, "minute", i64::from(self.minute))?;
-        put_number(out, "second", i64::from(self.second))?;
-        put_maybe(out, "offset", self.offset.as_ref())?;
-        out.end_object()
+        all_written(&[
+            out.begin_object(),
+            put_number(out, "hour", i64::from(self.hour)),
+            put_number(out, "minute", i64::from(self.minute)),
+            put_number(out, "second", i64::from(self.second)),
+            put_maybe(out, "offset", self.offset.as_ref()),
+            out.end_object(),
+        ])
     }
 }
 
@@ -88,12 +92,14 @@ impl CaseValue for Datetime {
     }
 
     fn put(&self, out: &mut Writer) -> Result<(), AllocError> {
-        out.begin_object()?;
-        put_number(out, "year", i64::from(self.year))?;
-        put_maybe_byte(out, "month", self.month)?;
-        put_maybe_byte(out, "day", self.day)?;
-        put_maybe(out, "time", self.time.as_ref())?;
-        out.end_object()
+        all_written(&[
+            out.begin_object(),
+            put_number(out, "year", i64::from(self.year)),
+            put_maybe_byte(out, "month", self.month),
+            put_maybe_byte(out, "day", self.day),
+            put_maybe(out, "time", self.time.as_ref()),
+            out.end_object(),
+        ])
     }
 }
 
@@ -156,11 +162,13 @@ impl CaseValue for Date {
     }
 
     fn put(&self, out: &mut Writer) -> Result<(), AllocError> {
-        out.begin_object()?;
-        put_sides(self.value, out)?;
-        put_if_set(out, "uncertain", self.uncertain)?;
-        put_if_set(out, "approximate", self.approximate)?;
-        out.end_object()
+        all_written(&[
+            out.begin_object(),
+            put_sides(self.value, out),
+            put_if_set(out, "uncertain", self.uncertain),
+            put_if_set(out, "approximate", self.approximate),
+            out.end_object(),
+        ])
     }
 }
 
@@ -175,7 +183,7 @@ pub(crate) fn answer_of_parts(
     let day = maybe_text(case, "day")?;
     let date = Date::from_parts(text(case, "year")?, month, day);
     out.key("date")?;
-    Ok(put_or_null(out, date.as_ref())?)
+    put_or_null(out, date.as_ref()).map_err(Refusal::from)
 }
 
 /// A date without its times.
@@ -186,5 +194,5 @@ pub(crate) fn answer_without_time(
 ) -> Result<(), Refusal> {
     only(alloc, case, &["case", "name", "date"])?;
     let date: Date = given(alloc, case, "date")?;
-    Ok(put_member(out, "date", &date.without_time())?)
+    put_member(out, "date", &date.without_time()).map_err(Refusal::from)
 }

@@ -1,6 +1,6 @@
 //! Genders in cases and in answers.
 
-use crate::case_value::{CaseValue, given, put_member, put_or_null};
+use crate::case_value::{CaseValue, all_written, given, put_member, put_or_null};
 use biblatex::Gender;
 use cases::{Refusal, Value, Writer, only};
 use std::alloc::{AllocError, Global};
@@ -47,8 +47,11 @@ impl CaseValue for Gender {
 pub(crate) fn answer(alloc: Global, case: &Value<'_>, out: &mut Writer) -> Result<(), Refusal> {
     only(alloc, case, &["case", "name", "gender"])?;
     let gender: Gender = given(alloc, case, "gender")?;
-    put_member(out, "singular", &gender.singular())?;
-    Ok(put_member(out, "plural", &gender.plural())?)
+    let written = all_written(&[
+        put_member(out, "singular", &gender.singular()),
+        put_member(out, "plural", &gender.plural()),
+    ]);
+    written.map_err(Refusal::from)
 }
 
 /// The gender of a list together.
@@ -59,6 +62,7 @@ pub(crate) fn answer_together(
 ) -> Result<(), Refusal> {
     only(alloc, case, &["case", "name", "genders"])?;
     let genders: Vec<Gender> = given(alloc, case, "genders")?;
-    out.key("gender")?;
-    Ok(put_or_null(out, Gender::coalesce(genders.as_slice()).as_ref())?)
+    let gender = Gender::coalesce(genders.as_slice());
+    let written = all_written(&[out.key("gender"), put_or_null(out, gender.as_ref())]);
+    written.map_err(Refusal::from)
 }

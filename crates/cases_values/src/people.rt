@@ -1,6 +1,6 @@
 //! People in cases and in answers.
 
-use crate::case_value::CaseValue;
+use crate::case_value::{CaseValue, all_written};
 use biblatex::Person;
 use cases::{Refusal, Value, Writer, maybe_text, only, put_text};
 use std::alloc::{AllocError, Global};
@@ -34,11 +34,13 @@ impl CaseValue for Person {
     }
 
     fn put(&self, out: &mut Writer) -> Result<(), AllocError> {
-        out.begin_object()?;
-        put_text(out, "name", self.name.as_str())?;
-        put_part(out, "given_name", self.given_name.as_str())?;
-        put_part(out, "prefix", self.prefix.as_str())?;
-        put_part(out, "suffix", self.suffix.as_str())?;
-        out.end_object()
+        all_written(&[
+            out.begin_object(),
+            put_text(out, "name", self.name.as_str()),
+            put_part(out, "given_name", self.given_name.as_str()),
+            put_part(out, "prefix", self.prefix.as_str()),
+            put_part(out, "suffix", self.suffix.as_str()),
+            out.end_object(),
+        ])
     }
 }

@@ -1,6 +1,6 @@
 //! Contents of fields as values of types, and values as contents.
 
-use crate::case_value::{CaseValue, put_member};
+use crate::case_value::{CaseValue, all_written, put_member};
 use biblatex::{
     Abbreviations, Chunk, Chunks, ChunksParse, Date, EditorType, FieldType, FieldTypeError, Gender,
     ParseError, PermissiveType, Person, RawChunk, Span, Spanned, TypeErrorKind, parse_field,
@@ -21,15 +21,20 @@ enum Given {
     Malformed(Span),
 }
 
-/// The content of an ordinary field without abbreviations, as it is written there.
-fn written_content(alloc: Global, written: &str, place: Span) -> Result<Given, Refusal> {
-    let abbreviations = Abbreviations::new(alloc, &[])?;
-    let pieces = [Spanned::new(RawChunk::Normal(written), place)];
-    match parse_field(alloc, "note", &pieces, &abbreviations) {
+/// The content that was read of a field.
+fn read_content(read: Result<Chunks, ParseError>) -> Result<Given, Refusal> {
+    match read {
         Ok(chunks) => Ok(Given::Chunks(chunks)),
         Err(ParseError::Refused { span, .. }) => Ok(Given::Malformed(span)),
         Err(ParseError::Memory) => Err(Refusal::Memory),
     }
+}
+
+/// The content of an ordinary field without abbreviations, as it is written there.
+fn written_content(alloc: Global, written: &str, place: Span) -> Result<Given, Refusal> {
+    let abbreviations = Abbreviations::new(alloc, &[])?;
+    let piece = Spanned::new(RawChunk::Normal(written), place);
+    read_content(parse_field(alloc, "note", &[piece], &abbreviations))
 }
 
 /// The place of a text of so many bytes; where a case gives none, the text is its source.
@@ -43,17 +48,15 @@ fn place(case: &Value<'_>, length: usize) -> Result<Span, Refusal> {
 /// The content that a case gives.
 fn given_content(alloc: Global, case: &Value<'_>) -> Result<Given, Refusal> {
     if let Some(text) = maybe_text(case, "text")? {
-        let place = place(case, text.len())?;
-        return Ok(Given::Chunks(normal_chunks(alloc, text, Some(place))?));
+        return Ok(Given::Chunks(normal_chunks(alloc, text, Some(place(case, text.len())?))?));
     }
     if let Some(written) = maybe_text(case, "content")? {
-        let place = place(case, written.len())?;
-        return written_content(alloc, written, place);
+        return written_content(alloc, written, place(case, written.len())?);
     }
     if case.get("chunks").is_none() {
         return Err(Refusal::Wanted("text", "there, or content, chunks or value"));
     }
-    Ok(Given::Chunks(read_chunks(alloc, case, "chunks")?))
+    read_chunks(alloc, case, "chunks").map(Given::Chunks)
 }
 
 /// Whether the value comes back from what is written of it.
@@ -67,8 +70,23 @@ fn comes_back<T: FieldType + PartialEq>(alloc: Global, value: &T) -> Result<bool
 
 /// Writes what is written of a value.
 fn put_written<T: FieldType>(alloc: Global, value: &T, out: &mut Writer) -> Result<(), Refusal> {
-    out.key("written")?;
-    Ok(put_chunks(out, value.to_chunks(alloc)?.as_slice(), true)?)
+    let chunks = value.to_chunks(alloc)?;
+    let written = all_written(&[out.key("written"), put_chunks(out, chunks.as_slice(), true)]);
+    written.map_err(Refusal::from)
+}
+
+/// Writes the member of the name: the value, what is written of it, or whether it comes back.
+fn put_asked<T: FieldType + PartialEq + CaseValue>(
+    alloc: Global,
+    name: &str,
+    value: &T,
+    out: &mut Writer,
+) -> Result<(), Refusal> {
+    match name {
+        "value" => put_member(out, "value", value).map_err(Refusal::from),
+        "written" => put_written(alloc, value, out),
+        _ => put_bool(out, "comes_back", comes_back(alloc, value)?).map_err(Refusal::from),
+    }
 }
 
 /// Writes a value, what is written of it, and whether it comes back.
@@ -78,14 +96,10 @@ fn put_value<T: FieldType + PartialEq + CaseValue>(
     value: &T,
     out: &mut Writer,
 ) -> Result<(), Refusal> {
-    if is_shown(case, "value", true)? {
-        put_member(out, "value", value)?;
-    }
-    if is_shown(case, "written", false)? {
-        put_written(alloc, value, out)?;
-    }
-    if is_shown(case, "comes_back", false)? {
-        put_bool(out, "comes_back", comes_back(alloc, value)?)?;
+    for name in ["value", "written", "comes_back"] {
+        if is_shown(case, name, name == "value")? {
+            put_asked(alloc, name, value, out)?;
+        }
     }
     Ok(())
 }
@@ -111,9 +125,11 @@ fn put_fault(
     let FieldTypeError::TypeError(error) = fault else {
         return Err(Refusal::Memory);
     };
-    put_refused(out, "TypeError")?;
-    put_text(out, "kind", type_error_name(error.kind))?;
-    put_span(out, &error.span)?;
+    all_written(&[
+        put_refused(out, "TypeError"),
+        put_text(out, "kind", type_error_name(error.kind)),
+        put_span(out, &error.span),
+    ])?;
     if is_shown(case, "message", false)? {
         put_text(out, "message", fault.to_string(alloc)?.as_str())?;
     }
@@ -151,7 +167,7 @@ fn answer_as<T: FieldType + PartialEq + CaseValue>(
     }
     match &given_content(alloc, case)? {
         Given::Chunks(chunks) => answer_chunks::<T>(alloc, case, chunks, out),
-        Given::Malformed(span) => Ok(put_malformed(span, out)?),
+        Given::Malformed(span) => put_malformed(span, out).map_err(Refusal::from),
     }
 }
 

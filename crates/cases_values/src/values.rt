@@ -1,6 +1,6 @@
 //! Integers, texts, editor types, ranges of pages, and values that may be chunks, in cases and in answers.
 
-use crate::case_value::CaseValue;
+use crate::case_value::{CaseValue, all_written};
 use biblatex::{EditorType, PermissiveType};
 use cases::{Refusal, Value, Writer, only, owned_text, put_text};
 use cases_text::{put_chunks, read_chunks};
@@ -74,10 +74,12 @@ impl CaseValue for Range<u32> {
     }
 
     fn put(&self, out: &mut Writer) -> Result<(), AllocError> {
-        out.begin_array()?;
-        out.u64(u64::from(self.start))?;
-        out.u64(u64::from(self.end))?;
-        out.end_array()
+        all_written(&[
+            out.begin_array(),
+            out.u64(u64::from(self.start)),
+            out.u64(u64::from(self.end)),
+            out.end_array(),
+        ])
     }
 }
 
@@ -94,10 +96,12 @@ impl<T: CaseValue> CaseValue for PermissiveType<T> {
         match self {
             PermissiveType::Typed(value) => value.put(out),
             PermissiveType::Chunks(chunks) => {
-                out.begin_object()?;
-                out.key("chunks")?;
-                put_chunks(out, chunks.as_slice(), true)?;
-                out.end_object()
+                all_written(&[
+                    out.begin_object(),
+                    out.key("chunks"),
+                    put_chunks(out, chunks.as_slice(), true),
+                    out.end_object(),
+                ])
             }
         }
     }

@@ -1,9 +1,9 @@
 //! Dates, as JSON. Months and days count from zero.
 
-use crate::case_value::{CaseValue, maybe_given, put_maybe};
+use crate::case_value::{CaseValue, all_written, maybe_given, put_maybe};
+use crate::dates::put_if_set;
 use cases::{
-    Refusal, Value, Writer, is_set, maybe_byte, only, put_bool, put_maybe_byte, put_number,
-    small_number,
+    Refusal, Value, Writer, is_set, maybe_byte, only, put_maybe_byte, put_number, small_number,
 };
 use literature::{Date, DateEnd};
 use std::alloc::{AllocError, Global};
@@ -26,13 +26,13 @@ impl CaseValue for Date {
     }
 
     fn put(&self, out: &mut Writer) -> Result<(), AllocError> {
-        out.begin_object()?;
-        put_side(self.year, self.month, self.day, out)?;
-        put_maybe(out, "end", self.end.as_ref())?;
-        if self.approximate {
-            put_bool(out, "approximate", true)?;
-        }
-        out.end_object()
+        all_written(&[
+            out.begin_object(),
+            put_side(self.year, self.month, self.day, out),
+            put_maybe(out, "end", self.end.as_ref()),
+            put_if_set(out, "approximate", self.approximate),
+            out.end_object(),
+        ])
     }
 }
 
@@ -54,9 +54,11 @@ impl CaseValue for DateEnd {
         match self {
             DateEnd::Open => out.string("open"),
             DateEnd::On { year, month, day } => {
-                out.begin_object()?;
-                put_side(*year, *month, *day, out)?;
-                out.end_object()
+                all_written(&[
+                    out.begin_object(),
+                    put_side(*year, *month, *day, out),
+                    out.end_object(),
+                ])
             }
         }
     }
@@ -69,7 +71,9 @@ fn put_side(
     day: Option<u8>,
     out: &mut Writer,
 ) -> Result<(), AllocError> {
-    put_number(out, "year", i64::from(year))?;
-    put_maybe_byte(out, "month", month)?;
-    put_maybe_byte(out, "day", day)
+    all_written(&[
+        put_number(out, "year", i64::from(year)),
+        put_maybe_byte(out, "month", month),
+        put_maybe_byte(out, "day", day),
+    ])
 }

@@ -1,6 +1,6 @@
 //! Numbers with letters, as JSON.
 
-use crate::case_value::{CaseValue, put_member};
+use crate::case_value::{CaseValue, all_written, put_member};
 use cases::{
     Refusal, Value, Writer, maybe_owned_text, maybe_text, member, only, put_maybe_text, put_number,
     small_number,
@@ -36,10 +36,12 @@ impl CaseValue for (i32, Option<NumericDelimiter>) {
     }
 
     fn put(&self, out: &mut Writer) -> Result<(), AllocError> {
-        out.begin_object()?;
-        put_number(out, "number", i64::from(self.0))?;
-        put_maybe_text(out, "delimiter", self.1.map(delimiter_word))?;
-        out.end_object()
+        all_written(&[
+            out.begin_object(),
+            put_number(out, "number", i64::from(self.0)),
+            put_maybe_text(out, "delimiter", self.1.map(delimiter_word)),
+            out.end_object(),
+        ])
     }
 }
 
@@ -71,10 +73,12 @@ impl CaseValue for Numeric {
     }
 
     fn put(&self, out: &mut Writer) -> Result<(), AllocError> {
-        out.begin_object()?;
-        put_numbers(out, &self.value)?;
-        put_maybe_text(out, "prefix", self.prefix.as_deref())?;
-        put_maybe_text(out, "suffix", self.suffix.as_deref())?;
-        out.end_object()
+        all_written(&[
+            out.begin_object(),
+            put_numbers(out, &self.value),
+            put_maybe_text(out, "prefix", self.prefix.as_deref()),
+            put_maybe_text(out, "suffix", self.suffix.as_deref()),
+            out.end_object(),
+        ])
     }
 }

@@ -1,6 +1,6 @@
 //! Page ranges, as JSON.
 
-use crate::case_value::{CaseValue, given, put_member};
+use crate::case_value::{CaseValue, all_written, given, put_member};
 use cases::{Refusal, Value, Writer, member, only};
 use literature::{Numeric, PageRanges, PageRangesPart};
 use std::alloc::{AllocError, Global};
@@ -17,17 +17,21 @@ fn page_or_range(alloc: Global, value: &Value<'_>) -> Result<PageRangesPart, Ref
 
 /// Writes a page as an object.
 fn put_page(out: &mut Writer, page: &Numeric) -> Result<(), AllocError> {
-    out.begin_object()?;
-    put_member(out, "page", page)?;
-    out.end_object()
+    all_written(&[
+        out.begin_object(),
+        put_member(out, "page", page),
+        out.end_object(),
+    ])
 }
 
 /// Writes a range as an object.
 fn put_range(out: &mut Writer, first: &Numeric, last: &Numeric) -> Result<(), AllocError> {
-    out.begin_object()?;
-    put_member(out, "first", first)?;
-    put_member(out, "last", last)?;
-    out.end_object()
+    all_written(&[
+        out.begin_object(),
+        put_member(out, "first", first),
+        put_member(out, "last", last),
+        out.end_object(),
+    ])
 }
 
 /// A separator, a page or a range.
@@ -63,8 +67,10 @@ impl CaseValue for PageRanges {
     }
 
     fn put(&self, out: &mut Writer) -> Result<(), AllocError> {
-        out.begin_object()?;
-        put_member(out, "ranges", &self.ranges)?;
-        out.end_object()
+        all_written(&[
+            out.begin_object(),
+            put_member(out, "ranges", &self.ranges),
+            out.end_object(),
+        ])
     }
 }

@@ -1,6 +1,6 @@
 //! People, as JSON.
 
-use crate::case_value::CaseValue;
+use crate::case_value::{CaseValue, all_written};
 use cases::{Refusal, Value, Writer, maybe_owned_text, only, owned_text, put_maybe_text, put_text};
 use literature::Person;
 use std::alloc::{AllocError, Global};
@@ -18,11 +18,13 @@ impl CaseValue for Person {
     }
 
     fn put(&self, out: &mut Writer) -> Result<(), AllocError> {
-        out.begin_object()?;
-        put_text(out, "name", self.name.as_str())?;
-        put_maybe_text(out, "given_name", self.given_name.as_deref())?;
-        put_maybe_text(out, "prefix", self.prefix.as_deref())?;
-        put_maybe_text(out, "suffix", self.suffix.as_deref())?;
-        out.end_object()
+        all_written(&[
+            out.begin_object(),
+            put_text(out, "name", self.name.as_str()),
+            put_maybe_text(out, "given_name", self.given_name.as_deref()),
+            put_maybe_text(out, "prefix", self.prefix.as_deref()),
+            put_maybe_text(out, "suffix", self.suffix.as_deref()),
+            out.end_object(),
+        ])
     }
 }

@@ -1,6 +1,6 @@
 //! Addresses and serial numbers, as JSON.
 
-use crate::case_value::{CaseValue, maybe_given, put_maybe};
+use crate::case_value::{CaseValue, all_written, maybe_given, put_maybe};
 use cases::{Refusal, Value, Writer, maybe_text, only, owned_text, put_text};
 use literature::{MaybeTyped, QualifiedUrl, SerialNumber, Url};
 use std::alloc::{AllocError, Global};
@@ -44,10 +44,12 @@ impl CaseValue for QualifiedUrl {
     }
 
     fn put(&self, out: &mut Writer) -> Result<(), AllocError> {
-        out.begin_object()?;
-        put_address(out, &self.value)?;
-        put_maybe(out, "visit_date", self.visit_date.as_ref())?;
-        out.end_object()
+        all_written(&[
+            out.begin_object(),
+            put_address(out, &self.value),
+            put_maybe(out, "visit_date", self.visit_date.as_ref()),
+            out.end_object(),
+        ])
     }
 }
 

@@ -1,6 +1,6 @@
 //! Texts in pieces, and publishers, as JSON.
 
-use crate::case_value::{CaseValue, given, maybe_given, put_maybe, put_member};
+use crate::case_value::{CaseValue, all_written, given, maybe_given, put_maybe, put_member};
 use cases::{Refusal, Value, Writer, maybe_text, only, put_text};
 use literature::{ChunkKind, ChunkedString, FormatString, Publisher, StringChunk};
 use std::alloc::{AllocError, Global};
@@ -40,9 +40,11 @@ impl CaseValue for StringChunk {
     }
 
     fn put(&self, out: &mut Writer) -> Result<(), AllocError> {
-        out.begin_object()?;
-        put_text(out, kind_word(self.kind), self.value.as_str())?;
-        out.end_object()
+        all_written(&[
+            out.begin_object(),
+            put_text(out, kind_word(self.kind), self.value.as_str()),
+            out.end_object(),
+        ])
     }
 }
 
@@ -68,10 +70,12 @@ impl CaseValue for FormatString {
     }
 
     fn put(&self, out: &mut Writer) -> Result<(), AllocError> {
-        out.begin_object()?;
-        put_member(out, "value", &self.value)?;
-        put_maybe(out, "short", self.short.as_ref())?;
-        out.end_object()
+        all_written(&[
+            out.begin_object(),
+            put_member(out, "value", &self.value),
+            put_maybe(out, "short", self.short.as_ref()),
+            out.end_object(),
+        ])
     }
 }
 
@@ -86,9 +90,11 @@ impl CaseValue for Publisher {
     }
 
     fn put(&self, out: &mut Writer) -> Result<(), AllocError> {
-        out.begin_object()?;
-        put_maybe(out, "name", self.name.as_ref())?;
-        put_maybe(out, "location", self.location.as_ref())?;
-        out.end_object()
+        all_written(&[
+            out.begin_object(),
+            put_maybe(out, "name", self.name.as_ref()),
+            put_maybe(out, "location", self.location.as_ref()),
+            out.end_object(),
+        ])
     }
 }

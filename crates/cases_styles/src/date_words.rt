@@ -12,7 +12,7 @@ pub(crate) const FORMS: &[(&str, DateForm)] = &[
 ];
 
 /// Which parts are printed.
-pub(crate) const PARTS: &[(&str, DateParts)] = &[
+pub const PARTS: &[(&str, DateParts)] = &[
     ("year-month-day", DateParts::YearMonthDay),
     ("year-month", DateParts::YearMonth),
     ("year", DateParts::Year),

@@ -39,7 +39,7 @@ const ALIGNS: &[(&str, VerticalAlign)] = &[
 ];
 
 /// Where an element stands.
-pub(crate) const DISPLAYS: &[(&str, Display)] = &[
+pub const DISPLAYS: &[(&str, Display)] = &[
     ("block", Display::Block),
     ("left-margin", Display::LeftMargin),
     ("right-inline", Display::RightInline),
@@ -93,7 +93,7 @@ fn settled(changes: FormattingChanges) -> Formatting {
 }
 
 /// How the member `formatting` says that characters look; what is left out is plain.
-pub(crate) fn formatting(alloc: Global, object: &Value<'_>) -> Result<Formatting, Refusal> {
+pub fn formatting(alloc: Global, object: &Value<'_>) -> Result<Formatting, Refusal> {
     Ok(settled(changes(alloc, object)?))
 }
 
@@ -112,12 +112,12 @@ pub(crate) fn look(alloc: Global, node: &Value<'_>) -> Result<Look, Refusal> {
 }
 
 /// How characters look of which nothing is said.
-pub(crate) fn plain() -> Formatting {
+pub fn plain() -> Formatting {
     settled(FormattingChanges::default())
 }
 
 /// Whether characters look as they do of themselves.
-pub(crate) fn is_plain(formatting: Formatting) -> bool {
+pub fn is_plain(formatting: Formatting) -> bool {
     formatting == plain()
 }
 
@@ -169,7 +169,7 @@ fn put_members(out: &mut Writer, it: Formatting) -> Result<(), AllocError> {
 }
 
 /// Writes a formatting as the member `formatting`, unless characters look plain.
-pub(crate) fn put_formatting(out: &mut Writer, formatting: Formatting) -> Result<(), AllocError> {
+pub fn put_formatting(out: &mut Writer, formatting: Formatting) -> Result<(), AllocError> {
     if is_plain(formatting) {
         return Ok(());
     }

@@ -1,6 +1,6 @@
 //! Codes of languages.
 
-use crate::locales::maybe_code;
+use crate::given_locales::maybe_code;
 use cases::{Refusal, Value, Writer, only, put_text};
 use rendering_locale::{LocaleCode, language};
 use std::alloc::{AllocError, Global};

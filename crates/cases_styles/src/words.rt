@@ -14,7 +14,7 @@ pub(crate) fn value_of<T: Copy>(words: &[(&str, T)], wanted: &str) -> Option<T> 
 }
 
 /// The word of a value in a table of words; empty where the table does not have it.
-pub(crate) fn word_of<T: Copy + PartialEq>(words: &[(&'static str, T)], wanted: T) -> &'static str {
+pub fn word_of<T: Copy + PartialEq>(words: &[(&'static str, T)], wanted: T) -> &'static str {
     for word in words {
         if word.1 == wanted {
             return word.0;
@@ -24,7 +24,7 @@ pub(crate) fn word_of<T: Copy + PartialEq>(words: &[(&'static str, T)], wanted: 
 }
 
 /// The value of the word of a member that may be left out.
-pub(crate) fn maybe_word<T: Copy>(
+pub fn maybe_word<T: Copy>(
     object: &Value<'_>,
     name: &'static str,
     words: &[(&str, T)],
@@ -39,7 +39,7 @@ pub(crate) fn maybe_word<T: Copy>(
 }
 
 /// The value of the word of a member; the usual one where it is left out.
-pub(crate) fn word_or<T: Copy>(
+pub fn word_or<T: Copy>(
     object: &Value<'_>,
     name: &'static str,
     words: &[(&str, T)],

@@ -1,7 +1,7 @@
 //! What locales answer that are asked for words, dates and endings.
 
 use crate::date_words::FORMS as DATE_FORMS;
-use crate::locales::locales;
+use crate::given_locales::locales;
 use crate::terms::{FORMS, term_of};
 use crate::words::word_or;
 use cases::{

@@ -1,5 +1,5 @@
 use Rattle.std.proofs.Common.{◌+◌, ◌*◌}
-use Rattle.cases_rendering.proofs.nodes.+reading.Given as goal
+use Rattle.cases_styles.proofs.nodes.+reading.Given as goal
 
 abbrev pub decreases-nodes : goal.decreases-nodes
 decreases-nodes l = 8 * l.depth

@@ -28,7 +28,7 @@ pub(crate) const PLURALS: &[(&str, LabelPluralize)] = &[
 ];
 
 /// Labels of locators.
-pub(crate) const LOCATORS: &[(&str, Locator)] = &[
+pub const LOCATORS: &[(&str, Locator)] = &[
     ("book", Locator::Book),
     ("chapter", Locator::Chapter),
     ("column", Locator::Column),

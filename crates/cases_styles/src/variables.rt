@@ -75,7 +75,7 @@ const NUMBERS: &[(&str, Variable)] = &[
 ];
 
 /// Variables whose answer is people.
-pub(crate) const NAMES: &[(&str, NameVariable)] = &[
+pub const NAMES: &[(&str, NameVariable)] = &[
     ("author", NameVariable::Author),
     ("container-author", NameVariable::ContainerAuthor),
     ("editor", NameVariable::Editor),

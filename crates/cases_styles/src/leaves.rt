@@ -13,7 +13,7 @@ use rendering_taxonomy::{DateParts, NumberForm, TermForm};
 use std::alloc::Global;
 
 /// Forms of numbers.
-pub(crate) const NUMBER_FORMS: &[(&str, NumberForm)] = &[
+pub const NUMBER_FORMS: &[(&str, NumberForm)] = &[
     ("numeric", NumberForm::Numeric),
     ("ordinal", NumberForm::Ordinal),
     ("roman", NumberForm::Roman),

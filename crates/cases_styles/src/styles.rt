@@ -1,6 +1,6 @@
 //! Styles.
 
-use crate::locales::{locales, maybe_code};
+use crate::given_locales::{locales, maybe_code};
 use crate::name_options::set_name_options;
 use crate::nodes::nodes_of;
 use crate::parts::{empty_citation, maybe_bibliography, set_citation};
@@ -102,7 +102,7 @@ fn parts_of(alloc: Global, style: &Value<'_>) -> Result<StyleParts, Refusal> {
 }
 
 /// What the style of a case is made of.
-fn read_parts(alloc: Global, case: &Value<'_>) -> Result<StyleParts, Refusal> {
+pub fn style_parts(alloc: Global, case: &Value<'_>) -> Result<StyleParts, Refusal> {
     match member(case, "style") {
         Some(style) => parts_of(alloc, style),
         None => Err(Refusal::Wanted("style", "a style")),
@@ -116,7 +116,7 @@ fn put_ring(out: &mut Writer, name: &str) -> Result<(), AllocError> {
 }
 
 /// Writes why a style was refused.
-fn put_refusal(out: &mut Writer, error: StyleError) -> Result<(), Refusal> {
+pub fn put_style_error(out: &mut Writer, error: StyleError) -> Result<(), Refusal> {
     match error {
         StyleError::Memory => Err(Refusal::Memory),
         StyleError::MacroRing(name) => Ok(put_ring(out, name.as_str())?),
@@ -132,7 +132,7 @@ fn refusal(alloc: Global, parts: StyleParts) -> Option<StyleError> {
 /// Writes that a style was accepted, or why it was refused.
 fn put_verdict(out: &mut Writer, refusal: Option<StyleError>) -> Result<(), Refusal> {
     match refusal {
-        Some(error) => put_refusal(out, error),
+        Some(error) => put_style_error(out, error),
         None => Ok(put_text(out, "style", "accepted")?),
     }
 }
@@ -140,5 +140,5 @@ fn put_verdict(out: &mut Writer, refusal: Option<StyleError>) -> Result<(), Refu
 /// `style`: whether there is a style of these parts.
 pub(crate) fn answer(alloc: Global, case: &Value<'_>, out: &mut Writer) -> Result<(), Refusal> {
     only(alloc, case, &["case", "name", "style"])?;
-    put_verdict(out, refusal(alloc, read_parts(alloc, case)?))
+    put_verdict(out, refusal(alloc, style_parts(alloc, case)?))
 }

@@ -36,7 +36,7 @@ fn date_part(alloc: Global, part: &Value<'_>) -> Result<DatePart, Refusal> {
 }
 
 /// The parts of a date; a list that is left out is empty.
-pub(crate) fn date_parts(alloc: Global, object: &Value<'_>) -> Result<Vec<DatePart>, Refusal> {
+pub fn date_parts(alloc: Global, object: &Value<'_>) -> Result<Vec<DatePart>, Refusal> {
     let mut parts = Vec::new(alloc);
     let Some(items) = items(object, "date_parts")? else {
         return Ok(parts);

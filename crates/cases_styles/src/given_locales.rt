@@ -11,7 +11,7 @@ use rendering_taxonomy::TermForm;
 use std::alloc::Global;
 
 /// The code of a member that may be left out.
-pub(crate) fn maybe_code(
+pub fn maybe_code(
     alloc: Global,
     object: &Value<'_>,
     name: &'static str,
@@ -136,10 +136,7 @@ fn ordinals_in(alloc: Global, given: &Value<'_>) -> Result<Ordinals, Refusal> {
 }
 
 /// The endings of the member `ordinals`, which may be left out.
-pub(crate) fn maybe_ordinals(
-    alloc: Global,
-    object: &Value<'_>,
-) -> Result<Option<Ordinals>, Refusal> {
+pub fn maybe_ordinals(alloc: Global, object: &Value<'_>) -> Result<Option<Ordinals>, Refusal> {
     match member(object, "ordinals") {
         Some(given) => Ok(Some(ordinals_in(alloc, given)?)),
         None => Ok(None),
@@ -168,7 +165,7 @@ fn bare(alloc: Global, given: &Value<'_>) -> Result<Locale, Refusal> {
 }
 
 /// A locale.
-fn locale(alloc: Global, given: &Value<'_>) -> Result<Locale, Refusal> {
+pub fn locale(alloc: Global, given: &Value<'_>) -> Result<Locale, Refusal> {
     only(
         alloc,
         given,
@@ -180,7 +177,7 @@ fn locale(alloc: Global, given: &Value<'_>) -> Result<Locale, Refusal> {
 }
 
 /// The locales of a list; one that is left out is empty.
-pub(crate) fn locales(
+pub fn locales(
     alloc: Global,
     object: &Value<'_>,
     name: &'static str,
