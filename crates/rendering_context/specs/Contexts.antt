@@ -1,0 +1,18 @@
+-- What nodes are printed from.
+use Rattle.std.specs.Prelude.{ℕ, Bool, List}
+use Rattle.rendering_entries.specs.Answers.{Answers}
+use Rattle.rendering_locale.specs.Locales.{Locale}
+use Rattle.rendering_page.specs.Pages.{Quotes}
+use Rattle.rendering_context.specs.Cites.{CiteProperties}
+
+-- What a call prints from: what the entry answers, what is known of the cite, the locales that are asked, the close quotes inside which
+-- punctuation goes, the letters after a year that tell the cite apart, whether an item of a bibliography is printed, and whether a layout of
+-- the style prints these letters by themselves.
+pub record Context : Type 0 where
+  pub answers : Answers
+  pub properties : CiteProperties
+  pub locales : List Locale
+  pub quotes : Quotes
+  pub letters : List ℕ
+  pub is_bibliography : Bool
+  pub has_suffix_node : Bool

@@ -1,0 +1,5 @@
+pub mod Cites
+pub mod Contexts
+pub mod Answering
+pub mod Choosing
+pub mod Views

@@ -1,0 +1,181 @@
+//! What is known of a cite beside its entry.
+
+ghost use Rattle.std.specs.Prelude.{◌≡◌, ◌+◌, ◌++◌, false, IfOk, OnOk};
+ghost use Rattle.std.specs.Option.{option_map_or};
+ghost use Rattle.laws.specs.Text.{characters};
+ghost use Rattle.rendering_context.specs.Cites.{letters_of, state_rank, may_change, allows_suffix, greater_state};
+ghost use Rattle.rendering_context.specs.Answering as answering;
+ghost use Rattle.rendering_context.specs.Choosing.{is_chosen};
+ghost use Rattle.rendering_context.specs.Views.{answer_by, answer_if, cite_by, state_by};
+ghost use Rattle.rendering_taxonomy.specs.Kinds.{is_locator};
+
+use crate::answer::{Answer, count, locator};
+use crate::locator::SpecificLocator;
+use crate::variables::is_locator;
+use rendering_names::NameDisambiguationProperties;
+use rendering_taxonomy::{IbidState, IdentifierUsage, Locator};
+use std::alloc::{AllocError, Global};
+
+/// What tells a cite apart from others: nothing, more of its names, other branches of a style, letters after its year.
+#[derive(Debug, Default, Drop)]
+pub enum DisambiguateState {
+    #[default]
+    None,
+    NameDisambiguation(NameDisambiguationProperties),
+    Choose,
+    /// The place of the letters, from zero.
+    YearSuffix(u8),
+}
+
+/// What is known of a cite beside its entry.
+#[derive(Debug, Drop)]
+pub struct CiteProperties<'a> {
+    /// The number of the note that it stands in.
+    pub note_number: Option<usize>,
+    /// The number of the note in which its entry was cited first.
+    pub first_note_number: Option<usize>,
+    /// Whether it stands near that note.
+    pub is_near_note: bool,
+    /// Whether its entry was not cited before.
+    pub is_first: bool,
+    /// Its place in its request, from zero.
+    pub initial_idx: usize,
+    /// The part of the work that it cites. What the caller prints by itself is not looked at.
+    pub locator: Option<SpecificLocator<'a, ()>>,
+    /// The place of its entry among all that are cited, from zero.
+    pub citation_number: usize,
+    /// How it stands to the cite before it.
+    pub ibid: IbidState,
+    pub disambiguation: DisambiguateState,
+    /// Which identifiers the entry's cites printed.
+    pub identifier_usage: IdentifierUsage,
+}
+
+impl<'a> CiteProperties<'a> {
+    /// The number of its entry among all that are cited, counted from one.
+    pub(crate) fn number_answer(&self, alloc: Global) -> Result<Answer<'a>, AllocError>
+        ensures { IfOk result (λ a. answer_by a ≡ answering.of_count (self.now.citation_number + 1)) }
+    {
+        count(alloc, self.citation_number as u128 + 1)
+    }
+
+    /// The number of the note in which its entry was cited first, where it is known.
+    pub(crate) fn first_note_answer(&self, alloc: Global) -> Result<Option<Answer<'a>>, AllocError>
+        ensures { IfOk result (λ a. answer_if a ≡ answering.or_no_answer answering.of_count self.now.first_note_number) }
+    {
+        match self.first_note_number {
+            Some(number) => Ok(Some(count(alloc, number as u128)?)),
+            None => Ok(None),
+        }
+    }
+
+    /// The locator as a node prints it, where there is one.
+    pub(crate) fn locator_answer(&self) -> Option<Answer<'a>>
+        ensures { answer_if result ≡ answering.or_no_answer (λ l. answering.of_payload l.payload) (cite_by self.now).locator }
+    {
+        locator(&self.locator.as_ref()?.payload)
+    }
+
+    /// Whether the locator is of more than one.
+    pub(crate) fn has_plural_locator(&self) -> bool
+        ensures { result ≡ option_map_or (λ l. answering.is_plural_payload l.payload) (cite_by self.now).locator false }
+    {
+        match &self.locator {
+            Some(locator) => locator.payload.is_plural(),
+            None => false,
+        }
+    }
+
+    /// Whether the locator spells a number.
+    pub(crate) fn has_numeric_locator(&self, alloc: Global) -> Result<bool, AllocError>
+        ensures { IfOk result (λ b. b ≡ option_map_or (λ l. answering.is_numeric_payload l.payload) (cite_by self.now).locator false) }
+    {
+        match &self.locator {
+            Some(locator) => locator.payload.is_numeric(alloc),
+            None => Ok(false),
+        }
+    }
+
+    /// Whether the locator has this label.
+    pub(crate) fn has_locator(&self, label: Locator) -> bool
+        ensures { result ≡ option_map_or (λ m. is_locator label m.label) (cite_by self.now).locator false }
+    {
+        match &self.locator {
+            Some(locator) => is_locator(label, locator.label),
+            None => false,
+        }
+    }
+}
+
+impl DisambiguateState {
+    /// Whether names and branches may still change it.
+    pub fn may_change(&self) -> bool
+        ensures { result ≡ may_change (state_by self.now) }
+    {
+        match self {
+            DisambiguateState::None | DisambiguateState::NameDisambiguation(_) => true,
+            DisambiguateState::Choose | DisambiguateState::YearSuffix(_) => false,
+        }
+    }
+
+    /// Whether letters after the year may still be given.
+    pub fn allows_suffix(&self) -> bool
+        ensures { result ≡ allows_suffix (state_by self.now) }
+    {
+        match self {
+            DisambiguateState::YearSuffix(_) => false,
+            _ => true,
+        }
+    }
+
+    /// The greater of two: by kind, in the order of the variants' list with letters last; of one kind the one that prints more.
+    pub fn max(self, other: DisambiguateState) -> DisambiguateState
+        ensures { state_by result ≡ greater_state (state_by self) (state_by other) }
+    {
+        match (self, other) {
+            (
+                DisambiguateState::NameDisambiguation(one),
+                DisambiguateState::NameDisambiguation(two),
+            ) => { DisambiguateState::NameDisambiguation(one.max(two)) }
+            (DisambiguateState::YearSuffix(one), DisambiguateState::YearSuffix(two)) => {
+                DisambiguateState::YearSuffix(one.max(two))
+            }
+            (one, two) => { if two.rank() < one.rank() { one } else { two } }
+        }
+    }
+
+    /// Appends the letters after a year, where there are any.
+    ///
+    /// # Errors
+    /// Out of memory alone.
+    pub fn push_letters(&self, out: &mut String) -> Result<(), AllocError>
+        ensures { OnOk result (characters out.new ≡ characters out.old ++ letters_of (state_by self.now)) }
+    {
+        match self {
+            DisambiguateState::YearSuffix(place) => rendering_numbers::push_suffix_letters(
+                out,
+                u16::from(*place),
+            ),
+            _ => Ok(()),
+        }
+    }
+
+    /// Whether the cite is to be told apart by branches.
+    pub(crate) fn is_chosen(&self) -> bool
+        ensures { result ≡ is_chosen (state_by self.now) }
+    {
+        matches!(self, DisambiguateState::Choose)
+    }
+
+    /// The place of its kind.
+    fn rank(&self) -> u8
+        ensures { result ≡ state_rank (state_by self.now) }
+    {
+        match self {
+            DisambiguateState::None => 0,
+            DisambiguateState::NameDisambiguation(_) => 1,
+            DisambiguateState::Choose => 2,
+            DisambiguateState::YearSuffix(_) => 3,
+        }
+    }
+}

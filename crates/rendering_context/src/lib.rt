@@ -1,0 +1,17 @@
+//! What the nodes of a style are printed from: what is known of a cite beside its entry, what variables answer in it, and which
+//! conditions are met.
+#![tactic(auto)]
+
+mod answer;
+mod choosing;
+mod cite;
+mod context;
+mod locator;
+mod pages;
+mod variables;
+
+pub use answer::Answer;
+pub use choosing::asks_disambiguate;
+pub use cite::{CiteProperties, DisambiguateState};
+pub use context::Context;
+pub use locator::{LocatorPayload, SpecificLocator, TransparentLocator};

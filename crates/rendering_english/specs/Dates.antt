@@ -1,0 +1,43 @@
+-- How English prints dates and ordinal numbers.
+use Rattle.std.specs.Prelude.{ℕ, false, List, [], ◌∷◌, codes}
+use Rattle.rendering_locale.specs.Locales.{DatePart, LocalizedDate, Ordinals}
+use Rattle.rendering_taxonomy.specs.Formats.{unchanged}
+use Rattle.rendering_taxonomy.specs.declared.date.DateForm.{DateForm}
+use Rattle.rendering_taxonomy.specs.declared.date.DateForm.TheVariants as dated
+use Rattle.rendering_taxonomy.specs.declared.date.DateDayForm.TheVariants as days
+use Rattle.rendering_taxonomy.specs.declared.date.DateMonthForm.TheVariants as months
+use Rattle.rendering_taxonomy.specs.declared.date.LongShortForm.TheVariants as years
+use Rattle.rendering_taxonomy.specs.declared.date.DatePartForm.{DatePartForm}
+use Rattle.rendering_taxonomy.specs.declared.date.DatePartForm.TheVariants as parts
+
+-- a part of a date, and what stands after it
+abbrev pub part : DatePartForm → List ℕ → DatePart
+part form suffix = record { form = form; strips_periods = false; formatting = unchanged; prefix = []; suffix = suffix }
+
+-- the parts of a date in words
+unfoldable pub text_parts : List DatePart
+text_parts = part (parts.Month months.Long) (codes " ") ∷ part (parts.Day days.Numeric) (codes ", ") ∷ part (parts.Year years.Long) [] ∷ []
+
+-- the parts of a date in digits
+unfoldable pub numeric_parts : List DatePart
+numeric_parts = part (parts.Month months.TwoDigits) (codes "/") ∷ part (parts.Day days.TwoDigits) (codes "/") ∷ part (parts.Year years.Long) [] ∷ []
+
+-- a form of dates
+abbrev pub date : DateForm → List DatePart → LocalizedDate
+date form ps = record { form = form; parts = ps; delimiter = [] }
+
+-- both forms
+abbrev pub dates : List LocalizedDate
+dates = date dated.Text text_parts ∷ date dated.Numeric numeric_parts ∷ []
+
+-- the numbers with an ending of their own
+unfoldable pub endings : List (ℕ × List ℕ)
+endings = (1, codes "st") ∷ (2, codes "nd") ∷ (3, codes "rd") ∷ (11, codes "th") ∷ (12, codes "th") ∷ (13, codes "th") ∷ []
+
+-- the ending of all other numbers
+abbrev pub default_ending : List ℕ
+default_ending = codes "th"
+
+-- the endings of ordinal numbers
+abbrev pub ordinals : Ordinals
+ordinals = record { endings = endings; default = default_ending }

@@ -1,0 +1,3 @@
+pub mod English
+pub mod Dates
+pub mod Rows
