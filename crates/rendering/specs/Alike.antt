@@ -1,0 +1,30 @@
+-- What a style names, and why entries that answer alike to it print alike.
+use Rattle.std.specs.Prelude.{◌≡◌, ℕ, List, Option, Some, None}
+use Rattle.rendering_entries.specs.Answers.{Answers}
+use Rattle.rendering_style.specs.Styles.{Bibliography, Style}
+use Rattle.rendering_context.specs.Cites.{CiteProperties}
+use Rattle.rendering_nodes.specs.Named.{Named, AreAlike, joined_named, always_named, named, none_named}
+use Rattle.rendering.specs.Purposes.{StyleContext, layout_nodes, citation, bibliography}
+use Rattle.rendering_taxonomy.specs.declared.cite.CitePurpose.{CitePurpose}
+use Rattle.rendering_taxonomy.specs.declared.cite.CollapseVerdict.{CollapseVerdict}
+
+-- what the layout of a bibliography names, where there is one
+abbrev pub named_in_bibliography : Style → Option Bibliography → Named
+named_in_bibliography s None = none_named
+named_in_bibliography s (Some b) = named (layout_nodes s b.layout)
+
+-- what stands in the layouts of a style and in the macros that they reach, and what every style names
+abbrev pub style_named : Style → Named
+style_named s = joined_named always_named (joined_named (named (layout_nodes s s.citation.layout)) (named_in_bibliography s s.bibliography))
+
+-- cites of entries that answer alike are one tree with the same facts
+abbrev pub AlikeCitesAreOne : Type 0
+AlikeCitesAreOne =
+    (x : StyleContext) (a b : Answers) (p : CiteProperties) (locale : Option (List ℕ)) (purpose : Option CitePurpose) (verdict : Option CollapseVerdict)
+    → AreAlike (style_named x.style) a b → citation x a p locale purpose verdict ≡ citation x b p locale purpose verdict
+
+-- and so are items of a bibliography
+abbrev pub AlikeItemsAreOne : Type 0
+AlikeItemsAreOne =
+    (x : StyleContext) (a b : Answers) (p : CiteProperties) (locale : Option (List ℕ))
+    → AreAlike (style_named x.style) a b → bibliography x a p locale ≡ bibliography x b p locale

@@ -1,0 +1,2 @@
+pub mod Purposes
+pub mod Alike

@@ -1,0 +1,287 @@
+-- What cites and items of a bibliography print.
+use Rattle.std.specs.Prelude.{ℕ, ◌+◌, ◌-◌, ◌^◌, Bool, true, false, not, ◌&&◌, ◌||◌, min, List, [], ◌∷◌, ◌++◌, filter_map, if◌then◌else◌, Option, Some, None, codes}
+use Rattle.std.specs.List.{list_any}
+use Rattle.std.specs.Option.{option_map, option_map_or, option_or, unwrap_or}
+use Rattle.std.specs.Char.{is_whitespace}
+use Rattle.rendering_taxonomy.specs.Formats.{plain, changed, unchanged}
+use Rattle.rendering_tree.specs.Tokens.{Token, with_letter_after}
+use Rattle.rendering_tree.specs.Trees.{Children, Elem, tree_of, flat, flat_child, Parted, parted}
+use Rattle.rendering_locale.specs.Locales.{Locale}
+use Rattle.rendering_locale.specs.Lookup.{term, asked, language, close_quotes}
+use Rattle.literature_values.specs.declared.date.Date.{Date}
+use Rattle.rendering_dates.specs.Dates.{years_text}
+use Rattle.rendering_page.specs.Pages.{Manner, Frame, space_put}
+use Rattle.rendering_page.specs.Pieces.{normal, begin, end}
+use Rattle.rendering_page.specs.Titles.{plainly}
+use Rattle.rendering_entries.specs.Answers.{Answers}
+use Rattle.rendering_style.specs.Options.{NameOptions, options_over}
+use Rattle.rendering_style.specs.Nodes.{Look, NamesNode, Nodes, names, no_nodes, node}
+use Rattle.rendering_style.specs.Styles.{Layout, Bibliography, Style}
+use Rattle.rendering_style.specs.Opening.{opened_nodes}
+use Rattle.rendering_names.specs.Properties.{Properties}
+use Rattle.rendering_context.specs.Cites.{CiteProperties, letters_of}
+use Rattle.rendering_context.specs.Contexts.{Context}
+use Rattle.rendering_leaves.specs.Settings.{Form, whole, author_only, without_author, first_date_only, suffix_only, Setting, State, begun, put, noted}
+use Rattle.rendering_context.specs.Answering.{has_answer}
+use Rattle.rendering_nodes.specs.Admission.{Survey, surveys}
+use Rattle.rendering_nodes.specs.Content.{stage, contents}
+use Rattle.rendering_nodes.specs.Named.{has_suffix}
+use Rattle.rendering_taxonomy.specs.declared.cite.CitePurpose.{CitePurpose}
+use Rattle.rendering_taxonomy.specs.declared.cite.CitePurpose.TheVariants as purposes
+use Rattle.rendering_taxonomy.specs.declared.cite.CollapseVerdict.{CollapseVerdict}
+use Rattle.rendering_taxonomy.specs.declared.cite.CollapseVerdict.TheVariants as verdicts
+use Rattle.rendering_taxonomy.specs.declared.cite.IbidState.TheVariants as ibids
+use Rattle.rendering_taxonomy.specs.declared.cite.IdentifierUsage.{IdentifierUsage}
+use Rattle.rendering_taxonomy.specs.declared.cite.IdentifierUsage.TheVariants as usages
+use Rattle.rendering_taxonomy.specs.declared.style.SecondFieldAlign.{SecondFieldAlign}
+use Rattle.rendering_taxonomy.specs.declared.style.StyleCategory.{StyleCategory}
+use Rattle.rendering_taxonomy.specs.declared.style.StyleCategory.TheVariants as categories
+use Rattle.rendering_taxonomy.specs.declared.term.OtherTerm.TheVariants as others
+use Rattle.rendering_taxonomy.specs.declared.term.Term.TheVariants as terms
+use Rattle.rendering_taxonomy.specs.declared.term.TermForm.TheVariants as forms
+use Rattle.rendering_taxonomy.specs.declared.variable.DateVariable.{DateVariable}
+use Rattle.rendering_taxonomy.specs.declared.variable.DateVariable.TheVariants as date
+use Rattle.rendering_taxonomy.specs.declared.variable.NameVariable.{NameVariable}
+use Rattle.rendering_taxonomy.specs.declared.variable.NameVariable.TheVariants as name
+use Rattle.rendering_taxonomy.specs.declared.variable.Variable.TheVariants as variables
+
+-- A style with the language that is asked for, and the files with locales.
+pub record StyleContext : Type 0 where
+  pub style : Style
+  pub locale : Option (List ℕ)
+  pub locale_files : List Locale
+
+-- the locales that a call asks
+abbrev pub locales_of : StyleContext → Option (List ℕ) → List Locale
+locales_of x term_locale = asked (language (option_or term_locale x.locale) x.style.default_locale) x.style.locales x.locale_files
+
+-- the nodes of a layout with their macros opened
+abbrev pub layout_nodes : Style → Layout → Nodes
+layout_nodes s l = opened_nodes s.macros l.nodes
+
+-- whether a layout of the style prints the letters after a year by themselves
+abbrev pub prints_suffix : Style → Bool
+prints_suffix s = has_suffix (layout_nodes s s.citation.layout) || option_map_or (λ b. has_suffix (layout_nodes s b.layout)) s.bibliography false
+
+-- what a call prints from
+abbrev pub context_of : StyleContext → Option (List ℕ) → Bool → Answers → CiteProperties → Context
+context_of x term_locale is_bibliography answers properties = record {
+  answers = answers;
+  properties = properties;
+  locales = locales_of x term_locale;
+  quotes = close_quotes (locales_of x term_locale);
+  letters = letters_of properties.disambiguation;
+  is_bibliography = is_bibliography;
+  has_suffix_node = prints_suffix x.style;
+}
+
+-- how a layout's texts are put down
+abbrev pub layout_manner : Layout → Manner
+layout_manner l = record { formatting = changed l.formatting plain; strips_periods = false }
+
+-- what a layout hands down, with its options for names over those of the style
+abbrev pub setting_of : Style → Layout → NameOptions → Form → Setting
+setting_of s l options form = record {
+  manner = layout_manner l;
+  inside_quotes = false;
+  delimiter = None;
+  options = options_over options s.name_options;
+  stands_in = false;
+  form = form;
+}
+
+-- a layout is put down in a form, without its affixes
+abbrev pub layout_put : Style → Context → Layout → NameOptions → Form → State → State
+layout_put s c l options form st = contents c (setting_of s l options form) true (layout_nodes s l) st
+
+-- whether anything of a layout is admitted in a form, and whether it was asked if the cite is like others
+abbrev pub layout_survey : Style → Context → Layout → NameOptions → Form → State → Survey
+layout_survey s c l options form st = surveys (stage c (setting_of s l options form) st) (layout_nodes s l)
+
+-- the layout of the citation
+abbrev pub citation_put : Style → Context → Form → State → State
+citation_put s c form st = layout_put s c s.citation.layout s.citation.name_options form st
+
+-- what is asked of it
+abbrev pub citation_survey : Style → Context → Form → State → Survey
+citation_survey s c form st = layout_survey s c s.citation.layout s.citation.name_options form st
+
+-- the layout of the bibliography
+abbrev pub bibliography_put : Style → Context → Form → Bibliography → State → State
+bibliography_put s c form b st = layout_put s c b.layout b.name_options form st
+
+-- what is asked of it
+abbrev pub bibliography_survey : Style → Context → Form → State → Bibliography → Survey
+bibliography_survey s c form st b = layout_survey s c b.layout b.name_options form st
+
+-- texts of a citation's own look as its layout does
+abbrev pub citation_normal : Style → Context → List ℕ → State → State
+citation_normal s c cs st = put c (normal (layout_manner s.citation.layout) cs ∷ []) st
+
+-- the dates that are asked for a year
+abbrev pub year_dates : List DateVariable
+year_dates = date.Issued ∷ date.EventDate ∷ date.Submitted ∷ date.OriginalDate ∷ []
+
+-- the first of some
+abbrev pub first_dated : List Date → Option Date
+first_dated [] = None
+first_dated (d ∷ ds) = Some d
+
+-- the years of the first date that there is, else the term for none, else its English abbreviation
+abbrev pub year_text : Context → List ℕ
+year_text c = option_map_or (years_text c.locales) (first_dated (filter_map c.answers.date year_dates)) (unwrap_or (term c.locales (terms.Other others.NoDate) forms.Long false) (codes "n.d."))
+
+-- the year by itself looks as texts do of themselves
+abbrev pub year_put : Context → State → State
+year_put c st = put c (normal plainly (year_text c) ∷ []) st
+
+-- the variable whose people are the authors: the editors stand for authors that are missing
+abbrev pub author_variable : Context → NameVariable
+author_variable c = if not (has_answer c (variables.Name name.Author)) && has_answer c (variables.Name name.Editor) then name.Editor else name.Author
+
+-- a cite as it stands where the one before it is of another entry
+abbrev pub elsewhere : Context → Context
+elsewhere c = record c { properties = record c.properties { ibid = ibids.Different } }
+
+-- names of the authors, of which nothing is said
+abbrev pub plain_look : Look
+plain_look = record { formatting = unchanged; prefix = []; suffix = []; display = None }
+
+-- a node for the authors, of which nothing is said
+abbrev pub author_node : NamesNode
+author_node = record {
+  variables = name.Author ∷ [];
+  name = None;
+  et_al = None;
+  label = None;
+  label_is_first = false;
+  delimiter = None;
+  look = plain_look;
+}
+
+-- a node for the authors is put down as the layout of the citation would have it
+abbrev pub made_put : Style → Context → Form → State → State
+made_put s c form st = contents c (setting_of s s.citation.layout s.citation.name_options form) true (node (names author_node no_nodes) no_nodes) st
+
+-- the authors from the layout of the bibliography, where they are admitted there, else from a node of their own
+abbrev pub author_last : Style → Context → Form → Option Bibliography → State → State
+author_last s c form None st = made_put s c form st
+author_last s c form (Some b) st =
+    let asked = bibliography_survey s c form st b in
+    if asked.is_admitted then bibliography_put s c form b (noted asked.met st) else made_put s c form (noted asked.met st)
+
+-- else from that of the citation, as it stands after another entry
+abbrev pub author_elsewhere : Style → Context → Form → State → State
+author_elsewhere s c form st =
+    let asked = citation_survey s (elsewhere c) form st in
+    if asked.is_admitted then citation_put s (elsewhere c) form (noted asked.met st) else author_last s c form s.bibliography (noted asked.met st)
+
+-- The authors: from the layout of the citation, where they are admitted there, else from one of the others.
+abbrev pub author_put : Style → Context → State → State
+author_put s c st =
+    let form = author_only (author_variable c) in
+    let asked = citation_survey s c form st in
+    if asked.is_admitted then citation_put s c form (noted asked.met st) else author_elsewhere s c form (noted asked.met st)
+
+-- whether cites of the style are made of numbers or labels
+abbrev pub is_identifier : StyleCategory → Bool
+is_identifier categories.Label = true
+is_identifier categories.Numeric = true
+is_identifier category = false
+
+-- whether the style says so
+abbrev pub prints_identifiers : Style → Bool
+prints_identifiers s = list_any is_identifier s.categories
+
+-- whether a text begins with white space
+abbrev pub begins_spaced : List ℕ → Bool
+begins_spaced [] = false
+begins_spaced (c ∷ cs) = is_whitespace c
+
+-- a space, but not before a text that begins with white space
+abbrev pub space_before : List ℕ → State → State
+space_before cs st = if begins_spaced cs then st else record st { page = space_put st.page }
+
+-- a form of the citation between two texts, after a space
+abbrev pub enclosed_put : Style → Context → Form → List ℕ → List ℕ → State → State
+enclosed_put s c form prefix suffix st = citation_normal s c suffix (citation_put s c form (citation_normal s c prefix (space_before prefix st)))
+
+-- the authors, then the citation in its affixes; where cites are no numbers or labels, without the authors and in parentheses if not in affixes
+abbrev pub prose_put : Style → Context → State → State
+prose_put s c st =
+    if prints_identifiers s
+    then enclosed_put s c whole (unwrap_or s.citation.layout.prefix []) (unwrap_or s.citation.layout.suffix []) (author_put s c st)
+    else enclosed_put s c without_author (unwrap_or s.citation.layout.prefix (40 ∷ [])) (unwrap_or s.citation.layout.suffix (41 ∷ [])) (author_put s c st)
+
+-- what collapsing leaves of a cite
+abbrev pub form_of : Option CollapseVerdict → Form
+form_of None = whole
+form_of (Some verdicts.First) = first_date_only
+form_of (Some verdicts.YearSuffix) = suffix_only
+
+-- the first field of an item stands in front, with a space after it
+abbrev pub in_front : List Token → Parted → Children
+in_front ts None = tree_of ts
+in_front ts (Some (e, others)) = tree_of (flat others ++ with_letter_after 32 (flat_child (Elem e.display e.meta e.children)))
+
+-- an item whose second field is aligned has its first field in front
+abbrev pub fields_joined : Option SecondFieldAlign → State → Children
+fields_joined None st = tree_of st.page.tokens
+fields_joined (Some align) st = in_front st.page.tokens (parted (tree_of st.page.tokens))
+
+-- which identifiers were printed
+abbrev pub usage_by : Bool → Bool → IdentifierUsage
+usage_by false false = usages.None
+usage_by true false = usages.OnlyCitationLabel
+usage_by false true = usages.OnlyCitationNumber
+usage_by true true = usages.Mixed
+
+-- What a call gives: a tree; whether it was asked if the cite is like others; what was printed of the first names by their options; and
+-- which identifiers were printed.
+pub record Rendered : Type 0 where
+  pub tree : Children
+  pub met_disambiguate : Bool
+  pub names : Option Properties
+  pub usage : IdentifierUsage
+
+-- a tree with the facts of a call
+abbrev pub rendered_as : Children → State → Rendered
+rendered_as tree st = record { tree = tree; met_disambiguate = st.met_disambiguate; names = st.names; usage = usage_by st.used.label st.used.number }
+
+-- the tree of what was put down, with the facts
+abbrev pub rendered : State → Rendered
+rendered st = rendered_as (tree_of st.page.tokens) st
+
+-- the whole item, or without a bibliography what is printed for no purpose
+abbrev pub full_of : Style → Context → Option CollapseVerdict → Option Bibliography → Rendered
+full_of s c verdict None = rendered (citation_put s c (form_of verdict) begun)
+full_of s c verdict (Some b) = let st = bibliography_put s c whole b begun in rendered_as (fields_joined b.second_field_align st) st
+
+-- a cite by its purpose
+abbrev pub rendered_for : Style → Context → Option CollapseVerdict → Option CitePurpose → Rendered
+rendered_for s c verdict None = rendered (citation_put s c (form_of verdict) begun)
+rendered_for s c verdict (Some purposes.Author) = rendered (author_put s c begun)
+rendered_for s c verdict (Some purposes.Year) = rendered (year_put c begun)
+rendered_for s c verdict (Some purposes.Full) = full_of s c verdict s.bibliography
+rendered_for s c verdict (Some purposes.Prose) = rendered (prose_put s c begun)
+
+-- what a call prints of a cite
+abbrev pub citation : StyleContext → Answers → CiteProperties → Option (List ℕ) → Option CitePurpose → Option CollapseVerdict → Rendered
+citation x answers properties term_locale purpose verdict = rendered_for x.style (context_of x term_locale false answers properties) verdict purpose
+
+-- a layout's affixes round all that it prints
+abbrev pub layout_frame : Layout → Frame
+layout_frame l = record { display = None; meta = None; manner = layout_manner l; prefix = unwrap_or l.prefix []; suffix = unwrap_or l.suffix [] }
+
+-- an item of the bibliography is put down
+abbrev pub item_put : Style → Context → Bibliography → State → State
+item_put s c b st = put c (end (layout_frame b.layout) ∷ []) (bibliography_put s c whole b (put c (begin (layout_frame b.layout) ∷ []) st))
+
+-- what a call prints of an item of the bibliography, where the style has one
+abbrev pub bibliography : StyleContext → Answers → CiteProperties → Option (List ℕ) → Option Rendered
+bibliography x answers properties term_locale =
+    option_map (λ b. rendered (item_put x.style (context_of x term_locale true answers properties) b begun)) x.style.bibliography
+
+-- each call counts one, up to the last number that a counter holds
+abbrev pub counted : ℕ → ℕ
+counted n = min (n + 1) (2 ^ 64 - 1)

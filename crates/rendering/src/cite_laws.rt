@@ -1,0 +1,14 @@
+//! When cites and items of a bibliography are one.
+
+ghost use Rattle.rendering.specs.Alike.{AlikeCitesAreOne, AlikeItemsAreOne};
+
+/// Cites of entries that answer alike to all that a style names are one tree with the same facts.
+pub fn alike_cites_are_one()
+    ensures { AlikeCitesAreOne }
+{}
+
+/// Items of a bibliography of entries that answer alike to all that its style names are one tree with the same facts.
+#[tactic(auto, using(crate::proofs::CitesAlike::items_alike))]
+pub fn alike_items_are_one()
+    ensures { AlikeItemsAreOne }
+{}

@@ -1,0 +1,192 @@
+-- What text, number, label and date nodes put down.
+use Rattle.std.specs.Prelude.{ℕ, Bool, true, false, ◌||◌, List, [], ◌∷◌, ◌++◌, if◌then◌else◌, Option, Some, None}
+use Rattle.std.specs.Option.{option_and_then, option_map_or, unwrap_or}
+use Rattle.rendering_taxonomy.specs.Formats.{changed}
+use Rattle.rendering_taxonomy.specs.Variables.{is_variable}
+use Rattle.rendering_tree.specs.Metas as metas
+use Rattle.rendering_tree.specs.Metas.{Meta}
+use Rattle.rendering_locale.specs.Locales.{DatePart, LocalizedDate}
+use Rattle.rendering_locale.specs.Lookup.{term_text, quote_text, ordinals_of, date_found}
+use Rattle.rendering_numbers.specs.Numbers.{numeral_or_text}
+use Rattle.literature_values.specs.declared.date.Date.{Date}
+use Rattle.rendering_dates.specs.Dates.{DateShape, cut_to, date_pieces}
+use Rattle.rendering_page.specs.Pages.{Manner, Frame}
+use Rattle.rendering_page.specs.Pieces.{Piece, normal, close_quote, linked, own_locator, framed, chunk_pieces}
+use Rattle.rendering_style.specs.Nodes.{Look, TextSource, of_variable, of_term, of_value, TextLook, NumberNode, LabelLook, DateNode, Leaf}
+use Rattle.rendering_style.specs.Nodes as nodes
+use Rattle.rendering_names.specs.Names.{pluralizes, label_manner}
+use Rattle.rendering_context.specs.Contexts.{Context}
+use Rattle.rendering_leaves.specs.Settings.{with_variable, Form, suffix_only, Setting, State, put}
+use Rattle.rendering_context.specs.Answering.{Answer, no_answer, pieces, address, count, ranges, own, answer_to, asked_for, ranges_text, date_answer, is_plural_variable}
+use Rattle.rendering_taxonomy.specs.declared.date.LongShortForm.TheVariants as lengths
+use Rattle.rendering_taxonomy.specs.declared.number.NumberForm.{NumberForm}
+use Rattle.rendering_taxonomy.specs.declared.number.NumberForm.TheVariants as number_forms
+use Rattle.rendering_taxonomy.specs.declared.term.OtherTerm.{OtherTerm}
+use Rattle.rendering_taxonomy.specs.declared.term.OtherTerm.TheVariants as others
+use Rattle.rendering_taxonomy.specs.declared.term.Term.{Term}
+use Rattle.rendering_taxonomy.specs.declared.term.Term.TheVariants as terms
+use Rattle.rendering_taxonomy.specs.declared.variable.NumberVariable.TheVariants as number
+use Rattle.rendering_taxonomy.specs.declared.variable.StandardVariable.TheVariants as standard
+use Rattle.rendering_taxonomy.specs.declared.variable.Variable.{Variable}
+use Rattle.rendering_taxonomy.specs.declared.variable.Variable.TheVariants as variables
+
+-- a node's look inside what is around it
+abbrev pub look_manner : Manner → Look → Manner
+look_manner m l = record m { formatting = changed l.formatting m.formatting }
+
+-- the same of a text node, whose full stops may go
+abbrev pub text_manner : Manner → TextLook → Manner
+text_manner m t = record { formatting = changed t.look.formatting m.formatting; strips_periods = m.strips_periods || t.strips_periods }
+
+-- an element with a node's display and affixes, which look as what is around the node
+abbrev pub frame : Manner → Option Meta → Look → Frame
+frame m meta l = record { display = l.display; meta = meta; manner = m; prefix = l.prefix; suffix = l.suffix }
+
+-- the quotes, of which those inside others are of another kind
+abbrev pub open_term : Bool → OtherTerm
+open_term false = others.OpenQuote
+open_term true = others.OpenInnerQuote
+
+-- the same of close quotes
+abbrev pub close_term : Bool → OtherTerm
+close_term false = others.CloseQuote
+close_term true = others.CloseInnerQuote
+
+-- what a node puts down before and after what it prints, where it stands in quotes
+abbrev pub quote_before : Context → Manner → Bool → Bool → List Piece
+quote_before c m false inside = []
+quote_before c m true inside = normal m (quote_text c.locales (terms.Other (open_term inside))) ∷ []
+
+-- the same after it
+abbrev pub quote_after : Context → Manner → Bool → Bool → List Piece
+quote_after c m false inside = []
+quote_after c m true inside = close_quote m (quote_text c.locales (terms.Other (close_term inside))) ∷ []
+
+-- an element that says only what it stands for
+abbrev pub meaning : Manner → Meta → List Piece → List Piece
+meaning m meta ps = framed (record { display = None; meta = Some meta; manner = m; prefix = []; suffix = [] }) ps
+
+-- an answer, with numbers in a form
+abbrev pub answer_pieces : Context → Manner → NumberForm → Answer → List Piece
+answer_pieces c m form no_answer = []
+answer_pieces c m form (pieces cs) = chunk_pieces m cs
+answer_pieces c m form (address cs url) = linked m.formatting cs url ∷ []
+answer_pieces c m form (count n) = normal m (numeral_or_text (ordinals_of c.locales) form n) ∷ []
+answer_pieces c m form (ranges ps) = normal m (ranges_text ps) ∷ []
+answer_pieces c m form own = own_locator m.formatting c.properties.initial_idx ∷ []
+
+-- what one of the two variables that tell entries apart answers stands in an element of its own
+abbrev pub identified : Manner → Variable → List Piece → List Piece
+identified m (variables.Number number.CitationNumber) ps = meaning m metas.CitationNumber ps
+identified m (variables.Standard standard.CitationLabel) ps = meaning m metas.CitationLabel ps
+identified m v ps = ps
+
+-- whether a variable is the label of entries
+abbrev pub is_label_variable : Variable → Bool
+is_label_variable v = is_variable v (variables.Standard standard.CitationLabel)
+
+-- whether it is the number of entries
+abbrev pub is_number_variable : Variable → Bool
+is_number_variable v = is_variable v (variables.Number number.CitationNumber)
+
+-- the letters after a year, unless a layout prints them by themselves
+abbrev pub own_letters : Context → List ℕ
+own_letters c = if c.has_suffix_node then [] else c.letters
+
+-- they stand after a label too
+abbrev pub label_letters : Context → Manner → Variable → List Piece
+label_letters c m v = if is_label_variable v then normal m (own_letters c) ∷ [] else []
+
+-- what a text node prints, without its quotes
+abbrev pub source_pieces : Context → List Variable → Manner → TextSource → List Piece
+source_pieces c suppressed m (of_variable v form) = identified m v (answer_pieces c m number_forms.Numeric (answer_to c suppressed form v)) ++ label_letters c m v
+source_pieces c suppressed m (of_term name form plural) = normal m (term_text c.locales name form plural) ∷ []
+source_pieces c suppressed m (of_value cs) = normal m cs ∷ []
+
+-- what a text node prints
+abbrev pub text_pieces : Context → Setting → List Variable → TextSource → TextLook → List Piece
+text_pieces c s suppressed source look =
+    framed (frame s.manner (Some metas.Text) look.look)
+    (quote_before c (text_manner s.manner look) look.quotes s.inside_quotes
+    ++ source_pieces c suppressed (text_manner s.manner look) source
+    ++ quote_after c (text_manner s.manner look) look.quotes s.inside_quotes)
+
+-- what a number node prints
+abbrev pub number_pieces : Context → Setting → List Variable → NumberNode → List Piece
+number_pieces c s suppressed n =
+    framed (frame s.manner (Some metas.Number) n.look)
+    (identified (look_manner s.manner n.look) n.variable
+    (answer_pieces c (look_manner s.manner n.look) n.form (answer_to c suppressed lengths.Long n.variable)))
+
+-- the term of a variable; of a locator that of what it counts
+abbrev pub label_term : Context → Variable → Term
+label_term c (variables.Number number.Locator) = option_map_or (λ l. terms.Locator l.label) c.properties.locator (terms.Variable (variables.Number number.Locator))
+label_term c v = terms.Variable v
+
+-- what a label prints
+abbrev pub label_pieces : Context → Setting → Variable → LabelLook → List Piece
+label_pieces c s v l =
+    framed (frame s.manner (Some metas.Label) l.look)
+    (normal (label_manner s.manner l) (term_text c.locales (label_term c v) l.form (pluralizes l.plural (is_plural_variable c v))) ∷ [])
+
+-- the locale's date of a node's form
+abbrev pub localized : Context → DateNode → Option LocalizedDate
+localized c d = option_and_then (date_found c.locales) d.form
+
+-- some parts, or else others
+abbrev pub own_or : List DatePart → List DatePart → List DatePart
+own_or [] others = others
+own_or (p ∷ ps) others = p ∷ ps
+
+-- the parts of a date and what stands between them: a node's own, or else those of the locale for its form
+abbrev pub shape_of : Context → DateNode → DateShape
+shape_of c d = record {
+  parts = own_or d.own_parts (option_map_or (λ l. l.parts) (localized c d) []);
+  delimiter = unwrap_or d.delimiter (option_map_or (λ l. l.delimiter) (localized c d) []);
+}
+
+-- what a date prints: the letters alone where they are all that is wanted, else its parts
+abbrev pub date_inside : Context → Manner → Form → DateNode → List ℕ → Date → List Piece
+date_inside c m suffix_only d letters day = normal m letters ∷ []
+date_inside c m form d letters day = date_pieces c.locales m (cut_to d.parts (shape_of c d)) letters day
+
+-- a date whose letters alone are printed has no affixes
+abbrev pub date_frame : Setting → Form → DateNode → Frame
+date_frame s suffix_only d = record (frame s.manner (Some metas.Date) d.look) { prefix = []; suffix = [] }
+date_frame s form d = frame s.manner (Some metas.Date) d.look
+
+-- the letters stand after the year of the first date alone
+abbrev pub date_letters : Context → Bool → List ℕ
+date_letters c has_date = if has_date then [] else own_letters c
+
+-- what a date node prints, if it has an answer
+abbrev pub day_pieces : Context → Setting → Bool → DateNode → Option Date → List Piece
+day_pieces c s has_date d None = []
+day_pieces c s has_date d (Some day) = framed (date_frame s s.form d) (date_inside c (look_manner s.manner d.look) s.form d (date_letters c has_date) day)
+
+-- a variable that a stand-in prints is not printed again
+abbrev pub suppressing : Setting → Variable → State → State
+suppressing s v st = if s.stands_in then record st { suppressed = with_variable st.suppressed v } else st
+
+-- cites remember which identifiers they printed
+abbrev pub using : Context → Variable → State → State
+using c v st =
+    if c.is_bibliography then st
+    else record st { used = record { label = st.used.label || is_label_variable v; number = st.used.number || is_number_variable v } }
+
+-- after a node of a variable
+abbrev pub after_variable : Context → Setting → Variable → State → State
+after_variable c s v st = using c v (if is_variable v (asked_for c v) then suppressing s v st else st)
+
+-- a text node is put down
+abbrev pub text_put : Context → Setting → TextSource → TextLook → State → State
+text_put c s (of_variable v form) look st = after_variable c s v (put c (text_pieces c s st.suppressed (of_variable v form) look) st)
+text_put c s source look st = put c (text_pieces c s st.suppressed source look) st
+
+-- a node that holds no others is put down
+abbrev pub leaf_put : Context → Setting → Leaf → State → State
+leaf_put c s (nodes.text source look) st = text_put c s source look st
+leaf_put c s (nodes.number n) st = after_variable c s n.variable (put c (number_pieces c s st.suppressed n) st)
+leaf_put c s (nodes.label v look) st = put c (label_pieces c s v look) st
+leaf_put c s (nodes.date d) st =
+    record (suppressing s (variables.Date d.variable) (put c (day_pieces c s st.has_date d (date_answer c st.suppressed d.variable)) st)) { has_date = true }

@@ -1,0 +1,286 @@
+-- What leaves and names put down ends what it begins.
+use Rattle.std.proofs.Common.{◌≡◌, ◌+◌, ℕ, Bool, true, false, ◌==◌, List, [], ◌∷◌, ◌++◌, length, take, refl, ◌∙◌, Option, Some, None}
+use Rattle.std.specs.Prelude.{if◌then◌else◌, ◌-◌, ◌&&◌, ◌||◌, bytes_eq, drop, nat_le, nat_lt, zip}
+use Rattle.std.specs.List.{flat_map, enumerate_from}
+use Rattle.std.specs.Fmt.{decimal}
+use Rattle.std.specs.Option.{unwrap_or}
+use Rattle.laws.specs.Text.{is_filled}
+use Rattle.literature_values.specs.declared.date.Date.{Date}
+use Rattle.literature_values.specs.declared.date.DateEnd.{DateEnd}
+use Rattle.literature_values.specs.declared.date.DateEnd.TheVariants.{On, Open}
+use Rattle.rendering_taxonomy.specs.Formats.{changed}
+use Rattle.rendering_locale.specs.Locales.{Locale, DatePart}
+use Rattle.rendering_locale.specs.Lookup.{term_text, quote_text}
+use Rattle.rendering_tree.specs.Metas.{Meta, Answered}
+use Rattle.rendering_tree.specs.Metas as metas
+use Rattle.rendering_dates.specs.Dates as dates
+use Rattle.rendering_dates.specs.Dates.{DateShape, cut_to, date_pieces}
+use Rattle.rendering_page.specs.Pages.{Page, Manner, Frame}
+use Rattle.rendering_page.specs.Pieces.{Piece, normal}
+use Rattle.rendering_style.specs.Options.{NameOptions}
+use Rattle.rendering_style.specs.Nodes.{LabelLook, TextSource, of_variable, of_term, of_value, TextLook, NumberNode, DateNode, NamesNode, Leaf}
+use Rattle.rendering_style.specs.Nodes as nodes
+use Rattle.rendering_names.specs.Names as names
+use Rattle.rendering_names.specs.Names.{NameStyle, Placed, names_pieces}
+use Rattle.rendering_names.specs.Persons.{comma_and_space, person_text}
+use Rattle.rendering_names.specs.Properties.{VariableProperties, Properties, all_shown}
+use Rattle.rendering_context.specs.Contexts.{Context}
+use Rattle.rendering_context.specs.Answering.{Answer, no_answer, pieces, address, count, ranges, own, answer_to, asked_for, ranges_text, date_answer, is_plural_variable}
+use Rattle.rendering_leaves.specs.Settings.{with_variable, Form, suffix_only, Setting, State, put}
+use Rattle.rendering_leaves.specs.Values.{look_manner, text_manner, frame, open_term, close_term, quote_before, quote_after, meaning, answer_pieces, identified, is_label_variable, is_number_variable, label_letters, label_term, own_letters, source_pieces, text_pieces, number_pieces, label_pieces, date_inside, date_frame, date_letters, day_pieces, shape_of, suppressing, using, after_variable, leaf_put}
+use Rattle.rendering_taxonomy.specs.Variables.{is_variable}
+use Rattle.rendering_taxonomy.specs.declared.date.LongShortForm.TheVariants as lengths
+use Rattle.rendering_taxonomy.specs.declared.number.NumberForm.{NumberForm}
+use Rattle.rendering_taxonomy.specs.declared.number.NumberForm.TheVariants as number_forms
+use Rattle.rendering_taxonomy.specs.declared.term.Term.TheVariants as terms
+use Rattle.rendering_taxonomy.specs.declared.term.TermForm.TheVariants as term_forms
+use Rattle.rendering_taxonomy.specs.declared.variable.NameVariable.{NameVariable}
+use Rattle.rendering_taxonomy.specs.declared.variable.NumberVariable.TheVariants as number
+use Rattle.rendering_taxonomy.specs.declared.variable.StandardVariable.TheVariants as standard
+use Rattle.rendering_taxonomy.specs.declared.variable.Variable.{Variable}
+use Rattle.rendering_taxonomy.specs.declared.variable.Variable.TheVariants as variables
+use Rattle.rendering_nodes.proofs.PiecesFraming.{AreLevel, level_to, EndAll, ends_none, ends_more, ends_both, ends_either, ends_normal, ends_quote, ends_link, ends_locator, ends_chunks, ends_framed, ends_each}
+
+-- quotes
+pub ends_quote_before : (c : Context) (m : Manner) (quotes inside : Bool) → EndAll (quote_before c m quotes inside)
+ends_quote_before c m false inside = ends_none
+ends_quote_before c m true inside = ends_normal m (quote_text c.locales (terms.Other (open_term inside)))
+
+pub ends_quote_after : (c : Context) (m : Manner) (quotes inside : Bool) → EndAll (quote_after c m quotes inside)
+ends_quote_after c m false inside = ends_none
+ends_quote_after c m true inside = ends_quote m (quote_text c.locales (terms.Other (close_term inside)))
+
+-- texts and numbers
+ends_answer : (c : Context) (m : Manner) (form : NumberForm) (a : Answer) → EndAll (answer_pieces c m form a)
+ends_answer c m form no_answer = ends_none
+ends_answer c m form (pieces cs) = ends_chunks m cs
+ends_answer c m form (address cs url) = ends_link m.formatting cs url
+ends_answer c m form (count n) = ends_normal m _
+ends_answer c m form (ranges ps) = ends_normal m (ranges_text ps)
+ends_answer c m form own = ends_locator m.formatting c.properties.initial_idx
+
+ends_meaning : (m : Manner) (meta : Meta) (ps : List Piece) → EndAll ps → EndAll (meaning m meta ps)
+ends_meaning m meta ps h = ends_framed (record { display = None; meta = Some meta; manner = m; prefix = []; suffix = [] }) ps h
+
+ends_identified : (m : Manner) (v : Variable) (ps : List Piece) → EndAll ps → EndAll (identified m v ps)
+ends_identified m (variables.Number number.CitationNumber) ps h = ends_meaning m metas.CitationNumber ps h
+ends_identified m (variables.Standard standard.CitationLabel) ps h = ends_meaning m metas.CitationLabel ps h
+ends_identified m v ps h = h
+
+ends_label_letters : (c : Context) (m : Manner) (v : Variable) → EndAll (label_letters c m v)
+ends_label_letters c m v = ends_either (is_label_variable v) (normal m (own_letters c) ∷ []) [] (ends_normal m (own_letters c)) ends_none
+
+ends_source : (c : Context) (vs : List Variable) (m : Manner) (source : TextSource) → EndAll (source_pieces c vs m source)
+ends_source c vs m (of_variable v form) =
+    let answer = answer_pieces c m number_forms.Numeric (answer_to c vs form v) in
+    ends_both (identified m v answer) (label_letters c m v)
+    (ends_identified m v answer (ends_answer c m number_forms.Numeric (answer_to c vs form v))) (ends_label_letters c m v)
+ends_source c vs m (of_term name form plural) = ends_normal m (term_text c.locales name form plural)
+ends_source c vs m (of_value cs) = ends_normal m cs
+
+ends_text : (c : Context) (s : Setting) (vs : List Variable) (source : TextSource) (look : TextLook) → EndAll (text_pieces c s vs source look)
+ends_text c s vs source look =
+    let m = text_manner s.manner look in
+    let before = quote_before c m look.quotes s.inside_quotes in
+    let inside = source_pieces c vs m source in
+    let after = quote_after c m look.quotes s.inside_quotes in
+    let begins = ends_both before inside (ends_quote_before c m look.quotes s.inside_quotes) (ends_source c vs m source) in
+    ends_framed (frame s.manner (Some metas.Text) look.look) ((before ++ inside) ++ after)
+    (ends_both (before ++ inside) after begins (ends_quote_after c m look.quotes s.inside_quotes))
+
+ends_number : (c : Context) (s : Setting) (vs : List Variable) (n : NumberNode) → EndAll (number_pieces c s vs n)
+ends_number c s vs n =
+    let m = look_manner s.manner n.look in
+    let answer = answer_pieces c m n.form (answer_to c vs lengths.Long n.variable) in
+    ends_framed (frame s.manner (Some metas.Number) n.look) (identified m n.variable answer)
+    (ends_identified m n.variable answer (ends_answer c m n.form (answer_to c vs lengths.Long n.variable)))
+
+ends_label : (c : Context) (s : Setting) (v : Variable) (l : LabelLook) → EndAll (label_pieces c s v l)
+ends_label c s v l =
+    let cs = term_text c.locales (label_term c v) l.form (names.pluralizes l.plural (is_plural_variable c v)) in
+    ends_framed (frame s.manner (Some metas.Label) l.look) (normal (names.label_manner s.manner l) cs ∷ []) (ends_normal (names.label_manner s.manner l) cs)
+
+-- dates
+abbrev EndEach : List (List Piece) → Type 0
+EndEach [] = Unit {0}
+EndEach (ps ∷ pss) = EndAll ps × EndEach pss
+
+ends_each_after : (between : List Piece) (pss : List (List Piece)) → EndAll between → EndEach pss → EndAll (dates.each_after between pss)
+ends_each_after between [] h k = ends_none
+ends_each_after between (ps ∷ pss) h k =
+    ends_both (between ++ ps) (dates.each_after between pss) (ends_both between ps h k.0) (ends_each_after between pss h k.1)
+
+ends_joined : (between : List Piece) (pss : List (List Piece)) → EndAll between → EndEach pss → EndAll (dates.joined_with between pss)
+ends_joined between [] h k = ends_none
+ends_joined between (ps ∷ pss) h k = ends_both ps (dates.each_after between pss) k.0 (ends_each_after between pss h k.1)
+
+ends_part : (m : Manner) (letters : List ℕ) (p : DatePart) (cs : List ℕ) → EndAll (dates.text_pieces m letters p cs)
+ends_part m letters p cs =
+    let pm = dates.part_manner m p in
+    let more = normal pm (dates.letters_of p.form letters) ∷ [] in
+    ends_framed (dates.part_frame m p) (normal pm cs ∷ more) (ends_more (normal pm cs) more (ends_normal pm cs) (ends_normal pm (dates.letters_of p.form letters)))
+
+one_if : (b : Bool) (ps : List Piece) (pss : List (List Piece)) → EndAll ps → EndEach pss → EndEach ((if b then ps ∷ [] else []) ++ pss)
+one_if true ps pss h k = (h, k)
+one_if false ps pss h k = k
+
+ends_parts : (ls : List Locale) (m : Manner) (letters : List ℕ) (d : Date) (ps : List DatePart) → EndEach (flat_map (dates.part_pieces ls m letters d) ps)
+ends_parts ls m letters d [] = tt
+ends_parts ls m letters d (p ∷ ps) =
+    let cs = dates.part_text ls d p.form in
+    one_if (is_filled cs) (dates.text_pieces m letters p cs) (flat_map (dates.part_pieces ls m letters d) ps) (ends_part m letters p cs) (ends_parts ls m letters d ps)
+
+ends_side : (ls : List Locale) (m : Manner) (shape : DateShape) (letters : List ℕ) (d : Date) → EndAll (dates.side_pieces ls m shape letters d)
+ends_side ls m shape letters d =
+    ends_joined (normal m shape.delimiter ∷ []) (flat_map (dates.part_pieces ls m letters d) shape.parts) (ends_normal m shape.delimiter) (ends_parts ls m letters d shape.parts)
+
+ends_sides : (ls : List Locale) (m : Manner) (shape : DateShape) (letters : List ℕ) (first last : Date) → EndAll (dates.both_pieces ls m shape letters first last)
+ends_sides ls m shape letters first last =
+    let one = dates.side_pieces ls m shape [] first in
+    let dash = normal m dates.dash ∷ [] in
+    let other = dates.side_pieces ls m shape letters last in
+    let begins = ends_both one dash (ends_side ls m shape [] first) (ends_normal m dates.dash) in
+    ends_either (bytes_eq (dates.side_text ls m shape first) (dates.side_text ls m shape last)) (dates.side_pieces ls m shape letters first) ((one ++ dash) ++ other)
+    (ends_side ls m shape letters first) (ends_both (one ++ dash) other begins (ends_side ls m shape letters last))
+
+ends_to : (ls : List Locale) (m : Manner) (shape : DateShape) (letters : List ℕ) (d : Date) (e : Option DateEnd) → EndAll (dates.ended_pieces ls m shape letters d e)
+ends_to ls m shape letters d None = ends_side ls m shape letters d
+ends_to ls m shape letters d (Some (On y month day)) = ends_sides ls m shape letters d (dates.last_side d y month day)
+ends_to ls m shape letters d (Some Open) =
+    ends_both (dates.side_pieces ls m shape letters d) (normal m dates.dash ∷ []) (ends_side ls m shape letters d) (ends_normal m dates.dash)
+
+ends_inside : (c : Context) (m : Manner) (form : Form) (d : DateNode) (letters : List ℕ) (day : Date) → EndAll (date_inside c m form d letters day)
+ends_inside c m suffix_only d letters day = ends_normal m letters
+ends_inside c m form d letters day = ends_to c.locales m (cut_to d.parts (shape_of c d)) letters day day.end
+
+ends_day : (c : Context) (s : Setting) (has_date : Bool) (d : DateNode) (o : Option Date) → EndAll (day_pieces c s has_date d o)
+ends_day c s has_date d None = ends_none
+ends_day c s has_date d (Some day) =
+    ends_framed (date_frame s s.form d) (date_inside c (look_manner s.manner d.look) s.form d (date_letters c has_date) day)
+    (ends_inside c (look_manner s.manner d.look) s.form d (date_letters c has_date) day)
+
+-- names
+ends_before_last : (m : Manner) (o : NameOptions) (n : ℕ) (cs : List ℕ) → EndAll (names.before_last_by m o n cs)
+ends_before_last m o n [] = ends_normal m (names.delimiter_by o)
+ends_before_last m o n (c ∷ cs) = ends_more _ _ (ends_normal m _) (ends_more _ _ (ends_normal m (c ∷ cs)) (ends_normal m (32 ∷ [])))
+
+ends_before_name : (ls : List Locale) (m : Manner) (o : NameOptions) (n i : ℕ) → EndAll (names.before_name ls m o n i)
+ends_before_name ls m o n i =
+    let last = names.before_last_by m o n (names.and_text ls o.and_term) in
+    let other = normal m (names.delimiter_by o) ∷ [] in
+    ends_either (i == 0) [] (if i + 1 == n then last else other) ends_none
+    (ends_either (i + 1 == n) last other (ends_before_last m o n (names.and_text ls o.and_term)) (ends_normal m (names.delimiter_by o)))
+
+ends_placed : (s : NameStyle) (v : NameVariable) (p : Placed) → EndAll (names.placed_pieces s v p)
+ends_placed s v p =
+    let m : Manner = record s.manner { formatting = changed s.look.formatting s.manner.formatting } in
+    let cs = person_text s.options (names.inverts s.options.name_as_sort_order p.0) (p.1).0 (p.1).1 in
+    let f : Frame = record { display = None; meta = Some (metas.Name v p.0); manner = s.manner; prefix = s.look.prefix; suffix = s.look.suffix } in
+    ends_framed f (normal m cs ∷ []) (ends_normal m cs)
+
+ends_shown : (s : NameStyle) (v : NameVariable) (n : ℕ) (ps : List Placed) → EndAll (names.shown_pieces s v n ps)
+ends_shown s v n ps =
+    ends_each (λ (p : Placed). names.before_name s.locales s.manner s.options n p.0 ++ names.placed_pieces s v p)
+    (λ p. ends_both (names.before_name s.locales s.manner s.options n p.0) (names.placed_pieces s v p) (ends_before_name s.locales s.manner s.options n p.0) (ends_placed s v p)) ps
+
+ends_last : (s : NameStyle) (v : NameVariable) (n : ℕ) (ps : List Placed) → EndAll (names.last_pieces s v n ps)
+ends_last s v n ps = ends_each (names.placed_pieces s v) (ends_placed s v) (drop (n - 1) ps)
+
+ends_et_al : (s : NameStyle) (shown : ℕ) (cs : List ℕ) → EndAll (names.et_al_by s shown cs)
+ends_et_al s shown [] = ends_none
+ends_et_al s shown (c ∷ cs) = ends_more _ _ (ends_normal s.manner _) (ends_normal _ (c ∷ cs))
+
+ends_after_ellipsis : (s : NameStyle) (ps : List Piece) → EndAll ps → EndAll (names.after_ellipsis s ps)
+ends_after_ellipsis s ps h =
+    ends_more _ _ (ends_normal s.manner (names.delimiter_by s.options)) (ends_more _ _ (ends_normal s.manner names.ellipsis) (ends_more _ _ (ends_normal s.manner (32 ∷ [])) h))
+
+ends_rest : (s : NameStyle) (v : NameVariable) (n shown : ℕ) (ps : List Placed) → EndAll (names.rest_pieces s v n shown ps)
+ends_rest s v n shown ps =
+    let last = names.after_ellipsis s (names.last_pieces s v n ps) in
+    let others = names.et_al_pieces s shown in
+    ends_either (nat_le n shown) [] (if unwrap_or s.options.et_al_use_last false && nat_le 2 (n - shown) then last else others) ends_none
+    (ends_either (unwrap_or s.options.et_al_use_last false && nat_le 2 (n - shown)) last others
+    (ends_after_ellipsis s (names.last_pieces s v n ps) (ends_last s v n ps))
+    (ends_et_al s shown (term_text s.locales (terms.Other (names.et_al_term s.et_al.name)) term_forms.Long false)))
+
+ends_list : (s : NameStyle) (v : NameVariable) (shown : ℕ) (ps : List Placed) → EndAll (names.list_pieces s v shown ps)
+ends_list s v shown ps =
+    ends_both (names.shown_pieces s v (length ps) (take shown ps)) (names.rest_pieces s v (length ps) shown ps)
+    (ends_shown s v (length ps) (take shown ps)) (ends_rest s v (length ps) shown ps)
+
+ends_name_label : (ls : List Locale) (m : Manner) (v : NameVariable) (n : ℕ) (o : Option LabelLook) → EndAll (names.label_pieces ls m v n o)
+ends_name_label ls m v n None = ends_none
+ends_name_label ls m v n (Some l) =
+    let cs = term_text ls (terms.Variable (variables.Name v)) l.form (names.pluralizes l.plural (nat_lt 1 n)) in
+    let f : Frame = record { display = None; meta = None; manner = m; prefix = l.look.prefix; suffix = l.look.suffix } in
+    ends_framed f (normal (names.label_manner m l) cs ∷ []) (ends_normal (names.label_manner m l) cs)
+
+ends_beside : (b : Bool) (label ps : List Piece) → EndAll label → EndAll ps → EndAll (names.beside b label ps)
+ends_beside true label ps h k = ends_both label ps h k
+ends_beside false label ps h k = ends_both ps label k h
+
+ends_variable : (s : NameStyle) (h : NamesNode) (p : VariableProperties × Answered) → EndAll (names.variable_pieces s h p)
+ends_variable s h (p, a) =
+    let label = names.label_pieces s.locales s.manner a.1 (length a.0) h.label in
+    let people = names.list_pieces s a.1 p.shown (enumerate_from 0 (zip p.forms a.0)) in
+    ends_framed (names.variable_frame s.manner a.1) (names.beside h.label_is_first label people)
+    (ends_beside h.label_is_first label people (ends_name_label s.locales s.manner a.1 (length a.0) h.label) (ends_list s a.1 p.shown (enumerate_from 0 (zip p.forms a.0))))
+
+ends_before_people : (m : Manner) (h : NamesNode) (i : ℕ) → EndAll (names.before_people m h i)
+ends_before_people m h i =
+    let cs = unwrap_or h.delimiter comma_and_space in
+    ends_either (i == 0) [] (normal m cs ∷ []) ends_none (ends_normal m cs)
+
+ends_placed_variable : (s : NameStyle) (h : NamesNode) (p : ℕ × (VariableProperties × Answered)) → EndAll (names.placed_variable s h p)
+ends_placed_variable s h p =
+    ends_both (names.before_people s.manner h p.0) (names.variable_pieces s h p.1) (ends_before_people s.manner h p.0) (ends_variable s h p.1)
+
+ends_people : (s : NameStyle) (h : NamesNode) (ps : Properties) (people : List Answered) → EndAll (names.people_pieces s h ps people)
+ends_people s h ps people =
+    ends_either (names.is_count s.options.form) (normal s.manner (decimal (all_shown ps)) ∷ []) (flat_map (names.placed_variable s h) (enumerate_from 0 (zip ps people)))
+    (ends_normal s.manner (decimal (all_shown ps))) (ends_each (names.placed_variable s h) (ends_placed_variable s h) (enumerate_from 0 (zip ps people)))
+
+pub ends_names : (ls : List Locale) (m : Manner) (h : NamesNode) (around : NameOptions) (ps : Properties) (people : List Answered) → EndAll (names_pieces ls m h around ps people)
+ends_names ls m h around ps people =
+    ends_framed (names.names_frame m h people) (names.people_pieces (names.style_of ls (names.names_manner m h) h around) h ps people)
+    (ends_people (names.style_of ls (names.names_manner m h) h around) h ps people)
+
+-- what is open on the page of a state is what was on the other one's
+abbrev pub KeepsOpen : State → State → Type 0
+KeepsOpen st done = AreLevel st.page.tokens done.page.tokens
+
+pub keeps_put : (c : Context) (ps : List Piece) (st : State) → EndAll ps → KeepsOpen st (put c ps st)
+keeps_put c ps st h = h.on_page c.quotes st.page
+
+page_if : (b : Bool) (x y : State) (p : Page) → x.page ≡ p → y.page ≡ p → (if b then x else y).page ≡ p
+page_if true x y p e f = e
+page_if false x y p e f = f
+
+page_suppressing : (s : Setting) (v : Variable) (st : State) → (suppressing s v st).page ≡ st.page
+page_suppressing s v st = page_if s.stands_in (record st { suppressed = with_variable st.suppressed v }) st st.page refl refl
+
+page_using : (c : Context) (v : Variable) (st : State) → (using c v st).page ≡ st.page
+page_using c v st =
+    page_if c.is_bibliography st (record st { used = record { label = st.used.label || is_label_variable v; number = st.used.number || is_number_variable v } }) st.page refl refl
+
+page_after : (c : Context) (s : Setting) (v : Variable) (st : State) → (after_variable c s v st).page ≡ st.page
+page_after c s v st =
+    page_using c v (if is_variable v (asked_for c v) then suppressing s v st else st)
+    ∙ page_if (is_variable v (asked_for c v)) (suppressing s v st) st st.page (page_suppressing s v st) refl
+
+keeps_after : (c : Context) (s : Setting) (v : Variable) (ps : List Piece) (st : State) → EndAll ps → KeepsOpen st (after_variable c s v (put c ps st))
+keeps_after c s v ps st h = level_to st.page.tokens (put c ps st).page (after_variable c s v (put c ps st)).page (page_after c s v (put c ps st)) (keeps_put c ps st h)
+
+pub keeps_leaf : (c : Context) (s : Setting) (l : Leaf) (st : State) → KeepsOpen st (leaf_put c s l st)
+keeps_leaf c s (nodes.text (of_variable v form) look) st =
+    keeps_after c s v (text_pieces c s st.suppressed (of_variable v form) look) st (ends_text c s st.suppressed (of_variable v form) look)
+keeps_leaf c s (nodes.text (of_term name form plural) look) st =
+    keeps_put c (text_pieces c s st.suppressed (of_term name form plural) look) st (ends_text c s st.suppressed (of_term name form plural) look)
+keeps_leaf c s (nodes.text (of_value cs) look) st = keeps_put c (text_pieces c s st.suppressed (of_value cs) look) st (ends_text c s st.suppressed (of_value cs) look)
+keeps_leaf c s (nodes.number n) st = keeps_after c s n.variable (number_pieces c s st.suppressed n) st (ends_number c s st.suppressed n)
+keeps_leaf c s (nodes.label v look) st = keeps_put c (label_pieces c s v look) st (ends_label c s v look)
+keeps_leaf c s (nodes.date d) st =
+    let answer = date_answer c st.suppressed d.variable in
+    let ps = day_pieces c s st.has_date d answer in
+    level_to st.page.tokens (put c ps st).page (suppressing s (variables.Date d.variable) (put c ps st)).page
+    (page_suppressing s (variables.Date d.variable) (put c ps st)) (keeps_put c ps st (ends_day c s st.has_date d answer))

@@ -1,0 +1,4 @@
+pub mod Admission
+pub mod Content
+pub mod Named
+pub mod Laws

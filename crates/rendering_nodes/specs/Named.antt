@@ -1,0 +1,156 @@
+-- What a style names of entries, and when two entries answer alike to it.
+use Rattle.std.specs.Prelude.{◌≡◌, Bool, true, false, ◌||◌, List, [], ◌∷◌, ◌++◌, map, Contains}
+use Rattle.rendering_entries.specs.Answers.{Answers}
+use Rattle.rendering_style.specs.Nodes.{TextSource, of_variable, of_term, of_value, Test, Condition, Leaf, Node, Nodes, Branches, leaf, call, opened, names, choose, group, no_nodes, node, otherwise, branch}
+use Rattle.rendering_style.specs.Nodes as nodes
+use Rattle.rendering_nodes.specs.Admission.{is_suffix_variable}
+use Rattle.rendering_taxonomy.specs.declared.date.LongShortForm.{LongShortForm}
+use Rattle.rendering_taxonomy.specs.declared.kind.Kind.{Kind}
+use Rattle.rendering_taxonomy.specs.declared.variable.DateVariable.TheVariants as date
+use Rattle.rendering_taxonomy.specs.declared.variable.NameVariable.TheVariants as name
+use Rattle.rendering_taxonomy.specs.declared.variable.StandardVariable.TheVariants as standard
+use Rattle.rendering_taxonomy.specs.declared.variable.Variable.{Variable}
+use Rattle.rendering_taxonomy.specs.declared.variable.Variable.TheVariants as variables
+
+-- variables and kinds
+pub record Named : Type 0 where
+  pub variables : List Variable
+  pub kinds : List Kind
+
+-- no variable and no kind
+abbrev pub none_named : Named
+none_named = record { variables = []; kinds = [] }
+
+-- one variable
+abbrev pub variable_named : Variable → Named
+variable_named v = record { variables = v ∷ []; kinds = [] }
+
+-- all that two name
+abbrev pub joined_named : Named → Named → Named
+joined_named a b = record { variables = a.variables ++ b.variables; kinds = a.kinds ++ b.kinds }
+
+-- by a test
+abbrev pub named_in_test : Test → Named
+named_in_test (nodes.is_of_kind k) = record { variables = []; kinds = k ∷ [] }
+named_in_test (nodes.has_answer v) = variable_named v
+named_in_test (nodes.is_numeric v) = variable_named v
+named_in_test (nodes.is_uncertain v) = variable_named (variables.Date v)
+named_in_test t = none_named
+
+-- by all tests
+abbrev pub named_in_tests : List Test → Named
+named_in_tests [] = none_named
+named_in_tests (t ∷ ts) = joined_named (named_in_test t) (named_in_tests ts)
+
+-- by a text
+abbrev pub named_in_source : TextSource → Named
+named_in_source (of_variable v form) = variable_named v
+named_in_source (of_term name form plural) = none_named
+named_in_source (of_value cs) = none_named
+
+-- by a node without others
+abbrev pub named_in_leaf : Leaf → Named
+named_in_leaf (nodes.text source look) = named_in_source source
+named_in_leaf (nodes.number n) = variable_named n.variable
+named_in_leaf (nodes.label v look) = variable_named v
+named_in_leaf (nodes.date d) = variable_named (variables.Date d.variable)
+
+abbrev mutual
+  -- by a node
+  pub named_in : Node → Named
+  named_in (leaf l) = named_in_leaf l
+  named_in (call name look) = none_named
+  named_in (opened look xs) = named xs
+  named_in (names h xs) = joined_named (record { variables = map (λ v. variables.Name v) h.variables; kinds = [] }) (named xs)
+  named_in (choose bs) = named_in_branches bs
+  named_in (group g xs) = named xs
+
+  -- by a list of nodes
+  pub named : Nodes → Named
+  named no_nodes = none_named
+  named (node x xs) = joined_named (named_in x) (named xs)
+
+  -- by branches, those that are not taken too
+  pub named_in_branches : Branches → Named
+  named_in_branches (otherwise xs) = named xs
+  named_in_branches (branch c xs bs) = joined_named (named_in_tests c.tests) (joined_named (named xs) (named_in_branches bs))
+
+-- what is named by every style: purposes, suffixes and identifiers ask for it
+abbrev pub always_named : Named
+always_named = record {
+  variables =
+      variables.Name name.Author ∷ variables.Name name.Editor
+      ∷ variables.Date date.Issued ∷ variables.Date date.Accessed ∷ variables.Date date.AvailableDate
+      ∷ variables.Date date.EventDate ∷ variables.Date date.Submitted ∷ variables.Date date.OriginalDate
+      ∷ variables.Standard standard.CitationLabel ∷ [];
+  kinds = [];
+}
+
+-- two entries answer one variable alike, in all forms
+abbrev pub AnswerAlike : Answers → Answers → Variable → Type 0
+AnswerAlike a b (variables.Standard v) = (form : LongShortForm) → a.standard form v ≡ b.standard form v
+AnswerAlike a b (variables.Number v) = a.number v ≡ b.number v
+AnswerAlike a b variables.Page = a.pages ≡ b.pages
+AnswerAlike a b (variables.Name v) = a.people v ≡ b.people v
+AnswerAlike a b (variables.Date v) = a.date v ≡ b.date v
+
+-- two entries answer alike to all that is named
+pub record AreAlike (n : Named) (a b : Answers) : Type 0 where
+  pub variables : (v : Variable) → Contains n.variables v → AnswerAlike a b v
+  pub kinds : (k : Kind) → Contains n.kinds k → a.kind k ≡ b.kind k
+
+-- whether a leaf prints the letters after a year by themselves
+abbrev pub is_suffix_leaf : Leaf → Bool
+is_suffix_leaf (nodes.text (of_variable v form) look) = is_suffix_variable v
+is_suffix_leaf l = false
+
+abbrev mutual
+  -- whether a node holds such a leaf, in a branch that is taken or in another one
+  pub has_suffix_in : Node → Bool
+  has_suffix_in (leaf l) = is_suffix_leaf l
+  has_suffix_in (call name look) = false
+  has_suffix_in (opened look xs) = has_suffix xs
+  has_suffix_in (names h xs) = has_suffix xs
+  has_suffix_in (choose bs) = has_suffix_in_branches bs
+  has_suffix_in (group g xs) = has_suffix xs
+
+  -- whether one of them does
+  pub has_suffix : Nodes → Bool
+  has_suffix no_nodes = false
+  has_suffix (node x xs) = has_suffix_in x || has_suffix xs
+
+  -- whether one in some branch does
+  pub has_suffix_in_branches : Branches → Bool
+  has_suffix_in_branches (otherwise xs) = has_suffix xs
+  has_suffix_in_branches (branch c xs bs) = has_suffix xs || has_suffix_in_branches bs
+
+-- a text of the style's own or of the locale
+abbrev pub is_word_source : TextSource → Bool
+is_word_source (of_variable v form) = false
+is_word_source (of_term name form plural) = true
+is_word_source (of_value cs) = true
+
+-- whether a leaf prints such a text
+abbrev pub is_word_leaf : Leaf → Bool
+is_word_leaf (nodes.text source look) = is_word_source source
+is_word_leaf l = false
+
+abbrev mutual
+  -- whether a node prints words of the style or of the locale
+  pub has_words_in : Node → Bool
+  has_words_in (leaf l) = is_word_leaf l
+  has_words_in (call name look) = false
+  has_words_in (opened look xs) = has_words xs
+  has_words_in (names h xs) = has_words xs
+  has_words_in (choose bs) = has_words_in_branches bs
+  has_words_in (group g xs) = has_words xs
+
+  -- whether one of them does
+  pub has_words : Nodes → Bool
+  has_words no_nodes = false
+  has_words (node x xs) = has_words_in x || has_words xs
+
+  -- whether one in some branch does
+  pub has_words_in_branches : Branches → Bool
+  has_words_in_branches (otherwise xs) = has_words xs
+  has_words_in_branches (branch c xs bs) = has_words xs || has_words_in_branches bs
