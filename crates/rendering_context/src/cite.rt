@@ -52,6 +52,27 @@ pub struct CiteProperties<'a> {
 }
 
 impl<'a> CiteProperties<'a> {
+    /// The same cite as it stands where the one before it is of another entry.
+    ///
+    /// # Errors
+    /// Out of memory.
+    pub fn elsewhere(&self) -> Result<CiteProperties<'a>, AllocError>
+        ensures { IfOk result (λ p. cite_by p ≡ record (cite_by self.now) { ibid = IbidState.Different }) }
+    {
+        Ok(CiteProperties {
+            note_number: self.note_number,
+            first_note_number: self.first_note_number,
+            is_near_note: self.is_near_note,
+            is_first: self.is_first,
+            initial_idx: self.initial_idx,
+            locator: self.locator,
+            citation_number: self.citation_number,
+            ibid: IbidState::Different,
+            disambiguation: self.disambiguation.copied()?,
+            identifier_usage: self.identifier_usage,
+        })
+    }
+
     /// The number of its entry among all that are cited, counted from one.
     pub(crate) fn number_answer(&self, alloc: Global) -> Result<Answer<'a>, AllocError>
         ensures { IfOk result (λ a. answer_by a ≡ answering.of_count (self.now.citation_number + 1)) }
@@ -141,6 +162,23 @@ impl DisambiguateState {
                 DisambiguateState::YearSuffix(one.max(two))
             }
             (one, two) => { if two.rank() < one.rank() { one } else { two } }
+        }
+    }
+
+    /// A copy.
+    ///
+    /// # Errors
+    /// Out of memory.
+    fn copied(&self) -> Result<DisambiguateState, AllocError>
+        ensures { IfOk result (λ s. state_by s ≡ state_by self.now) }
+    {
+        match self {
+            DisambiguateState::None => Ok(DisambiguateState::None),
+            DisambiguateState::NameDisambiguation(names) => {
+                Ok(DisambiguateState::NameDisambiguation(names.clone()?))
+            }
+            DisambiguateState::Choose => Ok(DisambiguateState::Choose),
+            DisambiguateState::YearSuffix(place) => Ok(DisambiguateState::YearSuffix(*place)),
         }
     }
 

@@ -1,2 +1,4 @@
 pub mod Settings
 pub mod Values
+pub mod Views
+pub mod Parts

@@ -39,8 +39,8 @@ by_kind false n ts = refl
 
 pub prints_put : (p : Piece) (n : ℕ) (ts : List Token) → prints n (put ts p) ≡ prints_by (kind_of p) n ts
 prints_put (pieces.Text f w) n ts = prints_letters f (letters w) n ts ∙ by_kind (list_any (λ c. not (is_whitespace c)) (letters w)) n ts
-prints_put (pieces.Markup s) n ts = refl
-prints_put (pieces.Link f s url) n ts = refl
+prints_put (pieces.Markup w) n ts = refl
+prints_put (pieces.Link f w url) n ts = refl
 prints_put (pieces.Transparent f k) n ts = refl
 prints_put (pieces.Opening d m) n ts = refl
 prints_put pieces.Closing n ts = refl
@@ -67,10 +67,10 @@ before_kind false n ts = refl
 
 pub before_mark_put : (p : Piece) (n : ℕ) (ts : List Token) → before_mark n (put ts p) ≡ before_by (kind_of p) n ts
 before_mark_put (pieces.Text f w) n ts = before_mark_letters f (letters w) n ts ∙ before_kind (list_any (λ c. not (is_whitespace c)) (letters w)) n ts
-before_mark_put (pieces.Markup s) zero ts = refl
-before_mark_put (pieces.Markup s) (suc n) ts = refl
-before_mark_put (pieces.Link f s url) zero ts = refl
-before_mark_put (pieces.Link f s url) (suc n) ts = refl
+before_mark_put (pieces.Markup w) zero ts = refl
+before_mark_put (pieces.Markup w) (suc n) ts = refl
+before_mark_put (pieces.Link f w url) zero ts = refl
+before_mark_put (pieces.Link f w url) (suc n) ts = refl
 before_mark_put (pieces.Transparent f k) zero ts = refl
 before_mark_put (pieces.Transparent f k) (suc n) ts = refl
 before_mark_put (pieces.Opening d m) zero ts = refl
@@ -112,8 +112,8 @@ begun_letters f (c ∷ cs) ts = begun_still f cs (letter f c ∷ ts) refl
 
 pub begun_put : (p : Piece) (ts : List Token) → is_begun (put ts p) ≡ (is_something p || is_begun ts)
 begun_put (pieces.Text f w) ts = begun_letters f (letters w) ts
-begun_put (pieces.Markup s) ts = refl
-begun_put (pieces.Link f s url) ts = refl
+begun_put (pieces.Markup w) ts = refl
+begun_put (pieces.Link f w url) ts = refl
 begun_put (pieces.Transparent f n) ts = refl
 begun_put (pieces.Opening d m) ts = refl
 begun_put pieces.Closing ts = refl

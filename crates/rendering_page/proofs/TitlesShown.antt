@@ -1,6 +1,5 @@
 -- The characters that pieces show.
 use Rattle.std.proofs.Common.{◌≡◌, ℕ, List, [], ◌∷◌, ◌++◌, append-nil, append_assoc, refl, sym, ap, ◌∙◌}
-use Rattle.std.specs.Borrow.{Bor}
 use Rattle.std.specs.List.{flat_map, fold}
 use Rattle.std.specs.Str.{chars}
 use Rattle.std.proofs.lemmas.Str.{chars-nil}
@@ -19,8 +18,8 @@ text_letters f (c ∷ cs) ts = text_letters f cs (letter f c ∷ ts) ∙ append_
 
 text_put : (p : Piece) (ts : List Token) → page_text (put ts p) ≡ page_text ts ++ shown_of p
 text_put (pieces.Text f w) ts = text_letters f (letters w) ts
-text_put (pieces.Markup s) ts = refl
-text_put (pieces.Link f s url) ts = refl
+text_put (pieces.Markup w) ts = refl
+text_put (pieces.Link f w url) ts = refl
 text_put p ts = sym (append-nil (page_text ts))
 
 text_from : (ps : List Piece) (ts : List Token) → page_text (fold put ts ps) ≡ page_text ts ++ flat_map shown_of ps
@@ -37,11 +36,11 @@ pub all_to_come : (ps : List Piece) → to_come ps 0 (chars []) ≡ page_text (t
 all_to_come ps = ap (λ cs. cs ++ flat_map shown_of ps) chars-nil ∙ text_shown ps
 
 -- what is no text, no formula and no link shows nothing
-pub shows_nothing : (p : Piece) → ((f : Formatting) (w : Words) → p ≡ pieces.Text f w → ⊥) → ((s : Bor (List ℕ)) → p ≡ pieces.Markup s → ⊥)
-    → ((f : Formatting) (s url : Bor (List ℕ)) → p ≡ pieces.Link f s url → ⊥) → chars [] ≡ shown_of p
+pub shows_nothing : (p : Piece) → ((f : Formatting) (w : Words) → p ≡ pieces.Text f w → ⊥) → ((w : Words) → p ≡ pieces.Markup w → ⊥)
+    → ((f : Formatting) (w url : Words) → p ≡ pieces.Link f w url → ⊥) → chars [] ≡ shown_of p
 shows_nothing (pieces.Text f w) a b c = absurd (a f w refl)
-shows_nothing (pieces.Markup s) a b c = absurd (b s refl)
-shows_nothing (pieces.Link f s url) a b c = absurd (c f s url refl)
+shows_nothing (pieces.Markup w) a b c = absurd (b w refl)
+shows_nothing (pieces.Link f w url) a b c = absurd (c f w url refl)
 shows_nothing (pieces.Transparent f n) a b c = chars-nil
 shows_nothing (pieces.Opening d m) a b c = chars-nil
 shows_nothing pieces.Closing a b c = chars-nil

@@ -2,7 +2,6 @@
 use Rattle.std.specs.Prelude.{ℕ, zero, suc, Bool, true, false, not, ◌==◌, ◌&&◌, List, [], ◌∷◌, ◌++◌, drop, if◌then◌else◌, Option, Some, None}
 use Rattle.std.specs.List.{flat_map}
 use Rattle.std.specs.Char.{is_whitespace}
-use Rattle.std.specs.Str.{chars}
 use Rattle.rendering_taxonomy.specs.Formats.{looks_like}
 use Rattle.rendering_taxonomy.specs.declared.formatting.Formatting.{Formatting}
 use Rattle.rendering_tree.specs.Tokens.{Token, alike_from, last_backwards, without_letters, with_letter_before}
@@ -50,8 +49,8 @@ text_of p = []
 -- what a piece shows of itself
 abbrev pub shown_of : Piece → List ℕ
 shown_of (pieces.Text f w) = letters w
-shown_of (pieces.Markup s) = chars s.now
-shown_of (pieces.Link f s url) = chars s.now
+shown_of (pieces.Markup w) = letters w
+shown_of (pieces.Link f w url) = letters w
 shown_of p = []
 
 -- the characters of a text, and of the pieces from a place on

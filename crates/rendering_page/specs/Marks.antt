@@ -17,8 +17,8 @@ kind_by false = kinds.Other
 -- what a piece is to what began before it
 abbrev pub kind_of : Piece → Kind
 kind_of (pieces.Text f w) = kind_by (list_any (λ c. not (is_whitespace c)) (letters w))
-kind_of (pieces.Markup s) = kinds.Print
-kind_of (pieces.Link f s url) = kinds.Print
+kind_of (pieces.Markup w) = kinds.Print
+kind_of (pieces.Link f w url) = kinds.Print
 kind_of (pieces.Transparent f n) = kinds.Print
 kind_of (pieces.Opening d m) = kinds.Other
 kind_of pieces.Closing = kinds.Other

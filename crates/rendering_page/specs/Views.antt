@@ -30,8 +30,8 @@ stood_for (meanings.Made e) = meaning e
 -- a piece after what was put down
 abbrev pub put : List Token → Piece → List Token
 put ts (pieces.Text f w) = with_letters f (letters w) ts
-put ts (pieces.Markup s) = formula (chars s.now) ∷ ts
-put ts (pieces.Link f s url) = link f (chars s.now) (chars url.now) ∷ ts
+put ts (pieces.Markup w) = formula (letters w) ∷ ts
+put ts (pieces.Link f w url) = link f (letters w) (letters url) ∷ ts
 put ts (pieces.Transparent f n) = transparent f n ∷ ts
 put ts (pieces.Opening d m) = opening d (option_map stood_for m) ∷ ts
 put ts pieces.Closing = closing ∷ ts

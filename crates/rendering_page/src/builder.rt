@@ -2,7 +2,6 @@
 
 ghost use Rattle.std.specs.Prelude.{◌≡◌, ◌∷◌, [], true, List, Option, IfOk, OnOk, fold, map, reverse};
 ghost use Rattle.std.specs.Option.{option_map};
-ghost use Rattle.std.specs.Str.{chars};
 ghost use Rattle.laws.specs.Text.{characters, is_filled};
 ghost use Rattle.rendering_taxonomy.specs.Formats.{plain};
 ghost use Rattle.rendering_taxonomy.specs.declared.formatting.Display.{Display};
@@ -79,7 +78,7 @@ impl<'a> Builder<'a> {
         let alloc = *self.children.allocator();
         match piece {
             Piece::Text { formatting, words } => self.take_words(formatting, words),
-            Piece::Markup(text) => self.take_child(ElemChild::Markup(owned(alloc, text)?)),
+            Piece::Markup(text) => self.take_child(ElemChild::Markup(owned_words(alloc, text)?)),
             Piece::Link {
                 formatting,
                 text,
@@ -191,18 +190,28 @@ impl<'a> Builder<'a> {
 fn link(
     alloc: Global,
     formatting: Formatting,
-    text: &str,
-    url: &str,
+    text: Words<'_>,
+    url: Words<'_>,
 ) -> Result<ElemChild, AllocError>
-    ensures { IfOk result (λ c. child c ≡ Link formatting (chars text.now) (chars url.now)) }
+    ensures { IfOk result (λ c. child c ≡ Link formatting (letters text.entry) (letters url.entry)) }
 {
     Ok(ElemChild::Link {
         text: Formatted {
-            text: owned(alloc, text)?,
+            text: owned_words(alloc, text)?,
             formatting,
         },
-        url: owned(alloc, url)?,
+        url: owned_words(alloc, url)?,
     })
+}
+
+/// A text in memory of its own, copied where it is borrowed.
+fn owned_words(alloc: Global, words: Words<'_>) -> Result<String, AllocError>
+    ensures { IfOk result (λ s. characters s ≡ letters words.entry) }
+{
+    match words {
+        Words::Borrowed(text) => owned(alloc, text),
+        Words::Made(text) => Ok(text),
+    }
 }
 
 /// Takes out the children of the element around; there are none where nothing is around.
@@ -239,12 +248,15 @@ fn owned_meaning(meta: Option<Meaning<'_>>) -> Result<Option<ElemMeta>, AllocErr
     }
 }
 
-/// Takes out all parts of a text, and joins them.
+/// Takes out all parts of a text, and joins them. A first part that was made is not copied.
 fn join(alloc: Global, parts: &mut Vec<Words<'_>>) -> Result<String, AllocError>
     ensures text { IfOk result (λ s. characters s ≡ joined parts.old.items) }
     ensures none { OnOk result (parts.new.items ≡ []) }
 {
-    let mut text = empty_text(alloc);
+    let Some(first) = parts.pop() else {
+        return Ok(empty_text(alloc));
+    };
+    let mut text = owned_words(alloc, first)?;
     while let Some(words) = parts.pop() {
         push_text(&mut text, words.as_str())?;
     }

@@ -3,6 +3,7 @@
 
 mod backwards;
 mod builder;
+mod copies;
 mod cutting;
 mod manner;
 mod marks;

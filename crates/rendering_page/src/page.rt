@@ -3,26 +3,27 @@
 ghost use Rattle.std.specs.Prelude.{◌≡◌, ◌∷◌, ◌++◌, false, OnOk, IfOk, Some, map, if◌then◌else◌};
 ghost use Rattle.std.specs.Str.{bytes_eq, chars};
 ghost use Rattle.laws.specs.Text.{characters};
-ghost use Rattle.literature_values.specs.TextViews.{chunk as chunk_of};
+ghost use Rattle.literature_values.specs.TextViews.{chunk as chunk_of, chunks as chunks_of};
 ghost use Rattle.rendering_tree.specs.Metas.{Meta};
 ghost use Rattle.rendering_tree.specs.Tokens.{formula, link, transparent, unmark};
 ghost use Rattle.rendering_tree.specs.Trees.{tree_of};
 ghost use Rattle.rendering_tree.specs.Views.{meaning, tree};
 ghost use Rattle.rendering_page.specs.Pages.{before_mark, before_prefix, begun, empty_page, ended, normal_put, prints, quote_put, space_put, suffix_put, token_put, verbatim_put};
-ghost use Rattle.rendering_page.specs.Pieces.{all_down, chunk_piece, chunk_pieces, put_down};
+ghost use Rattle.rendering_page.specs.Pieces.{all_down, chunk_by, chunk_piece, chunk_pieces, put_down};
 ghost use Rattle.rendering_page.specs.Titles.{page_text};
 ghost use Rattle.rendering_page.specs.Views as views;
 ghost use Rattle.rendering_page.specs.Views.{letters, quotes_of};
 
 use crate::backwards::{ends_in, ends_spaced};
 use crate::builder::{build, plain};
+use crate::copies::copied_pieces;
 use crate::manner::{Frame, Manner};
 use crate::marks::{begin_of_nothing, begin_of_prefix, is_begun};
 use crate::piece::{Meaning, Piece, Words};
 use crate::putting::{append, append_after_quote, begin, first_piece, last_piece, put_words};
 use crate::shown::{push_shown, show_the_same};
 use crate::tail::is_punctuation;
-use literature_values::{ChunkKind, StringChunk};
+use literature_values::{ChunkKind, ChunkedString, StringChunk};
 use rendering_taxonomy::Formatting;
 use rendering_tree::{ElemChildren, ElemMeta};
 use std::alloc::{AllocError, Global};
@@ -37,8 +38,8 @@ use texts::{has_text, split_first};
 /// nothing, and after a formula, a link or a locator of the caller's own there is no last text. `quotes` are the close quotes
 /// inside which punctuation goes, in the order in which they are tried; none where it stays outside.
 ///
-/// Texts are borrowed until the tree is made. A text costs its own length, what it cuts, and the marks after the last text.
-/// After an error nothing is known of what stands on the page.
+/// Texts are borrowed until the tree is made; those that were made are taken over. A text costs its own length, what it cuts, and
+/// the marks after the last text. After an error nothing is known of what stands on the page.
 #[derive(Drop)]
 pub struct Page<'a> {
     pieces: Vec<Piece<'a>>,
@@ -53,6 +54,21 @@ impl<'a> Model for Page<'a> {
     ghost use Rattle.rendering_page.specs.Views.{tokens_of};
 
     ghost view = { λ p. record { tokens = tokens_of p.pieces.items; after_quote = p.after_quote } };
+}
+
+impl<'a> Clone for Page<'a> {
+    ghost is_clone = { λ p q. q ≡ p };
+
+    /// A copy of the page. Texts that were made are copied, borrowed ones are not.
+    ///
+    /// # Errors
+    /// Out of memory.
+    fn clone(&self) -> Result<Page<'a>, AllocError> {
+        Ok(Page {
+            pieces: copied_pieces(&self.pieces)?,
+            after_quote: self.after_quote,
+        })
+    }
 }
 
 impl<'a> Page<'a> {
@@ -103,11 +119,7 @@ impl<'a> Page<'a> {
     pub fn push_verbatim(&mut self, formatting: Formatting, text: &'a str) -> Result<(), AllocError>
         ensures { OnOk result (self.new ≡ verbatim_put formatting (chars text.now) self.old) }
     {
-        if has_text(text) {
-            put_words(&mut self.pieces, formatting, Words::Borrowed(text))?;
-            self.after_quote = false;
-        }
-        Ok(())
+        self.put_verbatim(formatting, Words::Borrowed(text))
     }
 
     /// Puts the close quote of a node down, an ordinary text; punctuation that is put down next goes inside. An empty one is none.
@@ -136,7 +148,7 @@ impl<'a> Page<'a> {
     pub fn push_markup(&mut self, text: &'a str) -> Result<(), AllocError>
         ensures { OnOk result (self.new ≡ token_put (formula (chars text.now)) self.old) }
     {
-        self.push(Piece::Markup(text))
+        self.push(Piece::Markup(Words::Borrowed(text)))
     }
 
     /// Puts a link from a text to an address down.
@@ -151,11 +163,22 @@ impl<'a> Page<'a> {
     ) -> Result<(), AllocError>
         ensures { OnOk result (self.new ≡ token_put (link formatting (chars text.now) (chars url.now)) self.old) }
     {
-        self.push(Piece::Link {
-            formatting,
-            text,
-            url,
-        })
+        self.put_link(formatting, Words::Borrowed(text), Words::Borrowed(url))
+    }
+
+    /// Puts a link from a text to an address down that were made.
+    ///
+    /// # Errors
+    /// Out of memory.
+    pub fn push_made_link(
+        &mut self,
+        formatting: Formatting,
+        text: String,
+        url: String,
+    ) -> Result<(), AllocError>
+        ensures { OnOk result (self.new ≡ token_put (link formatting (characters text) (characters url)) self.old) }
+    {
+        self.put_link(formatting, Words::Made(text), Words::Made(url))
     }
 
     /// Puts a locator of the caller's own down, by the place of its cite in its request, from zero.
@@ -257,6 +280,31 @@ impl<'a> Page<'a> {
         Ok(())
     }
 
+    /// Puts a text down in pieces that were made.
+    ///
+    /// # Errors
+    /// Out of memory.
+    pub fn push_made_chunks(
+        &mut self,
+        quotes: &[&str],
+        manner: Manner,
+        chunks: ChunkedString,
+    ) -> Result<(), AllocError>
+        ensures { OnOk result (self.new ≡ all_down (quotes_of quotes.now) (chunk_pieces (views.manner manner) (chunks_of chunks)) self.old) }
+    {
+        for chunk in chunks.0 {
+            self.push_made_chunk(quotes, manner, chunk)?;
+        }
+        Ok(())
+    }
+
+    /// Whether what was begun last and has not ended has printed anything but white space.
+    pub fn has_printed(&self) -> bool
+        ensures { result ≡ prints 0 self.now.tokens }
+    {
+        begin_of_nothing(&self.pieces).is_none()
+    }
+
     /// Whether two pages show the same characters, however they look and whatever element they stand in.
     pub fn has_text_of(&self, other: &Page<'_>) -> bool
         ensures { result ≡ bytes_eq (page_text self.now.tokens) (page_text other.now.tokens) }
@@ -322,12 +370,65 @@ impl<'a> Page<'a> {
     ) -> Result<(), AllocError>
         ensures { OnOk result (self.new ≡ put_down (quotes_of quotes.now) self.old (chunk_piece (views.manner manner) (chunk_of chunk.now))) }
     {
-        let text = chunk.value.as_str();
-        match chunk.kind {
-            ChunkKind::Normal => self.push_text(quotes, manner, text),
-            ChunkKind::Verbatim => self.push_verbatim(manner.formatting, text),
-            ChunkKind::Math => self.push_markup(text),
+        let words = Words::Borrowed(chunk.value.as_str());
+        self.put_chunk(quotes, manner, chunk.kind, words)
+    }
+
+    /// Puts a piece of a text down that was made.
+    fn push_made_chunk(
+        &mut self,
+        quotes: &[&str],
+        manner: Manner,
+        chunk: StringChunk,
+    ) -> Result<(), AllocError>
+        ensures { OnOk result (self.new ≡ put_down (quotes_of quotes.now) self.old (chunk_piece (views.manner manner) (chunk_of chunk))) }
+    {
+        let StringChunk { value, kind } = chunk;
+        self.put_chunk(quotes, manner, kind, Words::Made(value))
+    }
+
+    /// Puts a piece of a text down by its kind.
+    fn put_chunk(
+        &mut self,
+        quotes: &[&str],
+        manner: Manner,
+        kind: ChunkKind,
+        words: Words<'a>,
+    ) -> Result<(), AllocError>
+        ensures { OnOk result (self.new ≡ put_down (quotes_of quotes.now) self.old (chunk_by kind (views.manner manner) (letters words.entry))) }
+    {
+        match kind {
+            ChunkKind::Normal => self.put(quotes, manner, words),
+            ChunkKind::Verbatim => self.put_verbatim(manner.formatting, words),
+            ChunkKind::Math => self.push(Piece::Markup(words)),
         }
+    }
+
+    /// Puts a text down as it is.
+    fn put_verbatim(&mut self, formatting: Formatting, words: Words<'a>) -> Result<(), AllocError>
+        ensures { OnOk result (self.new ≡ verbatim_put formatting (letters words.entry) self.old) }
+    {
+        if has_text(words.as_str()) {
+            put_words(&mut self.pieces, formatting, words)?;
+            self.after_quote = false;
+        }
+        Ok(())
+    }
+
+    /// Puts a link from a text to an address down.
+    fn put_link(
+        &mut self,
+        formatting: Formatting,
+        text: Words<'a>,
+        url: Words<'a>,
+    ) -> Result<(), AllocError>
+        ensures { OnOk result (self.new ≡ token_put (link formatting (letters text.entry) (letters url.entry)) self.old) }
+    {
+        self.push(Piece::Link {
+            formatting,
+            text,
+            url,
+        })
     }
 
     /// Ends what an element contains, with its suffix. Where it has printed nothing but white space, the element goes whole.

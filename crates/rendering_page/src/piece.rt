@@ -34,12 +34,12 @@ pub(crate) enum Piece<'a> {
         words: Words<'a>,
     },
     /// A formula.
-    Markup(&'a str),
+    Markup(Words<'a>),
     /// A link from a text to an address.
     Link {
         formatting: Formatting,
-        text: &'a str,
-        url: &'a str,
+        text: Words<'a>,
+        url: Words<'a>,
     },
     /// A locator of the caller's own, by the place of its cite.
     Transparent {

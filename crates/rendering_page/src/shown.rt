@@ -35,8 +35,8 @@ fn shown_of<'p>(piece: &'p Piece<'_>) -> &'p str
 {
     match piece {
         Piece::Text { words, .. } => words.as_str(),
-        Piece::Markup(text) => text,
-        Piece::Link { text, .. } => text,
+        Piece::Markup(text) => text.as_str(),
+        Piece::Link { text, .. } => text.as_str(),
         _ => "",
     }
 }

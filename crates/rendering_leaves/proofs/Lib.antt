@@ -1,0 +1,3 @@
+pub mod PagesTexts
+pub mod DatesInside
+pub mod StatesPut

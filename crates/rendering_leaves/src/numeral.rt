@@ -1,0 +1,55 @@
+//! Numbers as texts that are made.
+
+ghost use Rattle.std.specs.Prelude.{◌≡◌, ◌++◌, [], IfOk, OnOk};
+ghost use Rattle.laws.specs.Text.{characters};
+ghost use Rattle.literature_numbers.specs.Views.{numeral as numeral_seen};
+ghost use Rattle.rendering_locale.specs.Lookup.{ordinals_of};
+ghost use Rattle.rendering_locale.specs.Views.{ordinals_seen};
+ghost use Rattle.rendering_numbers.specs.Numbers.{numeral_by};
+
+use literature_values::Numeric;
+use rendering_locale::{AskedLocales, Ordinals};
+use rendering_numbers::push_numeral;
+use rendering_taxonomy::NumberForm;
+use std::alloc::{AllocError, Global};
+use texts::empty_text;
+
+/// The text of a numeral.
+pub(crate) fn numeral_text(
+    alloc: Global,
+    locales: &AskedLocales<'_>,
+    form: NumberForm,
+    numeral: &Numeric,
+) -> Result<String, AllocError>
+    ensures { IfOk result (λ s. characters s ≡ numeral_by (ordinals_of locales.now) form (numeral_seen numeral.now)) }
+{
+    let mut text = empty_text(alloc);
+    append_numeral(alloc, &mut text, locales, form, numeral)?;
+    Ok(text)
+}
+
+/// Appends a numeral, with the endings that the locales give ordinal numbers; without any they are in digits alone.
+fn append_numeral(
+    alloc: Global,
+    out: &mut String,
+    locales: &AskedLocales<'_>,
+    form: NumberForm,
+    numeral: &Numeric,
+) -> Result<(), AllocError>
+    ensures { OnOk result (characters out.new ≡ characters out.old ++ numeral_by (ordinals_of locales.now) form (numeral_seen numeral.now)) }
+{
+    match locales.ordinals() {
+        Some(ordinals) => push_numeral(out, ordinals, form, numeral),
+        None => push_numeral(out, &no_ordinals(alloc), form, numeral),
+    }
+}
+
+/// No endings of ordinal numbers.
+pub(crate) fn no_ordinals(alloc: Global) -> Ordinals
+    ensures { ordinals_seen result ≡ record { endings = []; default = [] } }
+{
+    Ordinals {
+        endings: Vec::new(alloc),
+        default: empty_text(alloc),
+    }
+}
