@@ -4,3 +4,10 @@ pub mod LeavesFraming
 pub mod ContentsNested
 pub mod AnswersAlike
 pub mod EntriesAlike
+pub mod OpenedSteps
+pub mod SurveySteps
+pub mod ContentSteps
+pub mod SuffixSteps
+pub mod ElementsSteps
+pub mod OpenedPut
+pub mod StandingPut

@@ -2,3 +2,6 @@ pub mod Admission
 pub mod Content
 pub mod Named
 pub mod Laws
+pub mod Taken
+pub mod Turns
+pub mod Views

@@ -1,0 +1,112 @@
+-- What a node that is opened puts down, by what the functions for its kind put down.
+use Rattle.std.proofs.Common.{◌≡◌, ℕ, suc, ◌-◌, ◌≢◌, true, List, [], map, Vec, Result, Option, None, sym, ap, ◌∙◌}
+use Rattle.std.specs.Global.{Global}
+use Rattle.std.specs.Prelude.{OnOk, IfOk, String, string_bytes}
+use Rattle.std.proofs.lemmas.Result.{IfOk-weaker, on_ok_weaker}
+use Rattle.rendering_context.specs.Contexts.{Context}
+use Rattle.rendering_leaves.specs.Settings.{Setting, State, noted}
+use Rattle.rendering_leaves.specs.Values.{frame}
+use Rattle.rendering_style.specs.Nodes as nodes
+use Rattle.rendering_style.specs.Nodes.{Nodes, NamesNode}
+use Rattle.rendering_style.specs.Styles.{Macro}
+use Rattle.rendering_style.specs.Opening.{open_node, each_node, each_branch, macro_named, opened_nodes, part}
+use Rattle.rendering_style.specs.Views.{node_seen, nodes_seen, branch_seen, branches_of, text_seen, names_seen, group_seen}
+use Rattle.rendering_style.specs.declared.node.Node.{Node}
+use Rattle.rendering_style.specs.declared.node.Node.TheVariants as variants
+use Rattle.rendering_style.specs.declared.node.ChooseBranch.{ChooseBranch}
+use Rattle.rendering_style.specs.declared.node.Group.{Group}
+use Rattle.rendering_style.specs.declared.node.Names.{Names}
+use Rattle.rendering_style.specs.declared.node.TextTarget.{TextTarget}
+use Rattle.rendering_style.specs.declared.node.TextTarget.TheVariants as targets
+use Rattle.rendering_nodes.specs.Admission.{Stage, Survey, survey, surveys}
+use Rattle.rendering_nodes.specs.Content.{content, contents, entered, inside_group, left, stage}
+use Rattle.rendering_nodes.specs.Turns.{asked, is_next}
+use Rattle.rendering_nodes.proofs.OpenedSteps.{open_names, open_choose, open_group, opened_all}
+
+-- what a node puts down is what one that is the same does
+content_same : {T E : Type 0} (r : Result T E) (c : Context) (o : Option NamesNode) (s : Setting) (st new : State) (x y : nodes.Node)
+    → x ≡ y → OnOk r (new ≡ content c o s y st) → OnOk r (new ≡ content c o s x st)
+content_same r c o s st new x y same = on_ok_weaker r (λ (e : new ≡ content c o s y st). e ∙ ap (λ (z : nodes.Node). content c o s z st) (sym same))
+
+-- names, and what stands in for them, as a slice
+pub names_node_put : {T E : Type 0} (r : Result T E) (c : Context) (o : Option NamesNode) (s : Setting) (st new : State) (n : ℕ) (ms : List Macro) (x : Node) (h : Names) (xs : Vec Node Global) (ys : List Node)
+    → n ≢ 0 → x ≡ variants.Names h xs → ys ≡ xs.items
+    → OnOk r (new ≡ content c o s (nodes.names (names_seen h) (each_node (open_node (n - 1) ms) (nodes_seen ys))) st)
+    → OnOk r (new ≡ content c o s (open_node n ms (node_seen x)) st)
+names_node_put r c o s st new n ms x h xs ys some is same =
+    content_same r c o s st new (open_node n ms (node_seen x)) (nodes.names (names_seen h) (each_node (open_node (n - 1) ms) (nodes_seen ys)))
+    (ap (λ (y : Node). open_node n ms (node_seen y)) is
+    ∙ (open_names n ms h xs some ∙ ap (λ (zs : List Node). nodes.names (names_seen h) (each_node (open_node (n - 1) ms) (nodes_seen zs))) (sym same)))
+
+-- branches, and the nodes after them, as slices
+pub choose_node_put : {T E : Type 0} (r : Result T E) (c : Context) (o : Option NamesNode) (s : Setting) (st new : State) (n : ℕ) (ms : List Macro) (x : Node) (bs : Vec ChooseBranch Global) (xs : Vec Node Global) (ds : List ChooseBranch) (ys : List Node)
+    → n ≢ 0 → x ≡ variants.Choose bs xs → ds ≡ bs.items → ys ≡ xs.items
+    → OnOk r (new ≡ content c o s (nodes.choose (each_branch (open_node (n - 1) ms) (branches_of (map branch_seen ds) (nodes_seen ys)))) st)
+    → OnOk r (new ≡ content c o s (open_node n ms (node_seen x)) st)
+choose_node_put r c o s st new n ms x bs xs ds ys some is branches rest =
+    content_same r c o s st new (open_node n ms (node_seen x)) (nodes.choose (each_branch (open_node (n - 1) ms) (branches_of (map branch_seen ds) (nodes_seen ys))))
+    (ap (λ (y : Node). open_node n ms (node_seen y)) is
+    ∙ (open_choose n ms bs xs some
+    ∙ (ap (λ (es : List ChooseBranch). nodes.choose (each_branch (open_node (n - 1) ms) (branches_of (map branch_seen es) (nodes_seen xs.items)))) (sym branches)
+    ∙ ap (λ (zs : List Node). nodes.choose (each_branch (open_node (n - 1) ms) (branches_of (map branch_seen ds) (nodes_seen zs)))) (sym rest))))
+
+-- a group, and its nodes as a slice
+pub group_node_put : {T E : Type 0} (r : Result T E) (c : Context) (o : Option NamesNode) (s : Setting) (st new : State) (n : ℕ) (ms : List Macro) (x : Node) (g : Group) (xs : Vec Node Global) (ys : List Node)
+    → n ≢ 0 → x ≡ variants.Group g xs → ys ≡ xs.items
+    → OnOk r (new ≡ content c o s (nodes.group (group_seen g) (each_node (open_node (n - 1) ms) (nodes_seen ys))) st)
+    → OnOk r (new ≡ content c o s (open_node n ms (node_seen x)) st)
+group_node_put r c o s st new n ms x g xs ys some is same =
+    content_same r c o s st new (open_node n ms (node_seen x)) (nodes.group (group_seen g) (each_node (open_node (n - 1) ms) (nodes_seen ys)))
+    (ap (λ (y : Node). open_node n ms (node_seen y)) is
+    ∙ (open_group n ms g xs some ∙ ap (λ (zs : List Node). nodes.group (group_seen g) (each_node (open_node (n - 1) ms) (nodes_seen zs))) (sym same)))
+
+pub macro_put : {T E : Type 0} (r : Result T E) (c : Context) (o : Option NamesNode) (s : Setting) (st new : State) (n : ℕ) (ms : List Macro) (look : nodes.TextLook) (y : TextTarget) (w : String Global) (bs : List ℕ)
+    → y ≡ targets.Macro w → bs ≡ string_bytes w
+    → OnOk r (new ≡ content c o s (part (open_node n ms) bs look (macro_named ms bs)) st)
+    → OnOk r (new ≡ content c o s (open_node (suc n) ms (text_seen y look)) st)
+macro_put r c o s st new n ms look y w bs is same =
+    content_same r c o s st new (open_node (suc n) ms (text_seen y look)) (part (open_node n ms) bs look (macro_named ms bs))
+    (ap (λ (t : TextTarget). open_node (suc n) ms (text_seen t look)) is ∙ ap (λ (cs : List ℕ). part (open_node n ms) cs look (macro_named ms cs)) (sym same))
+
+-- a group: its element begins, its nodes follow, its element ends
+pub grouped_put : {T E : Type 0} (r : Result T E) (c : Context) (o : Option NamesNode) (s inside : Setting) (st begun done new : State) (g : nodes.GroupNode) (xs : Nodes)
+    → begun ≡ entered c (frame s.manner None g.look) [] st
+    → inside ≡ inside_group s g
+    → done ≡ contents c inside true xs begun
+    → OnOk r (new ≡ left c (frame s.manner None g.look) [] done)
+    → OnOk r (new ≡ content c o s (nodes.group g xs) st)
+grouped_put r c o s inside st begun done new g xs begins same follow =
+    let ends : State → State = left c (frame s.manner None g.look) [] in
+    on_ok_weaker r
+    (λ (e : new ≡ ends done). e ∙ ap ends (follow ∙ (ap (λ (i : Setting). contents c i true xs begun) same ∙ ap (contents c (inside_group s g) true xs) begins)))
+
+-- the survey of a node, by where a call has come and by its macros
+survey_same : (c : Context) (s : Setting) (st : State) (n : ℕ) (ms ns : List Macro) (x : Node) (here : Stage) (v : Survey)
+    → v ≡ survey here (open_node n ms (node_seen x)) → here ≡ stage c s st → ms ≡ ns → v ≡ survey (stage c s st) (open_node n ns (node_seen x))
+survey_same c s st n ms ns x here v e place same =
+    e ∙ (ap (λ (k : Stage). survey k (open_node n ms (node_seen x))) place ∙ ap (λ (ls : List Macro). survey (stage c s st) (open_node n ls (node_seen x))) same)
+
+pub admitted_by : (c : Context) (s : Setting) (st : State) (n : ℕ) (ms ns : List Macro) (x : Node) (here : Stage) (v : Survey)
+    → v ≡ survey here (open_node n ms (node_seen x)) → here ≡ stage c s st → ms ≡ ns → v.is_admitted ≡ is_next c s (open_node n ns (node_seen x)) st
+admitted_by c s st n ms ns x here v e place same = ap (λ (w : Survey). w.is_admitted) (survey_same c s st n ms ns x here v e place same)
+
+pub asked_by : (c : Context) (s : Setting) (st new : State) (n : ℕ) (ms ns : List Macro) (x : Node) (here : Stage) (v : Survey)
+    → v ≡ survey here (open_node n ms (node_seen x)) → here ≡ stage c s st → ms ≡ ns → new ≡ noted v.met st → new ≡ asked c s (open_node n ns (node_seen x)) st
+asked_by c s st new n ms ns x here v e place same notes = notes ∙ ap (λ (w : Survey). noted w.met st) (survey_same c s st n ms ns x here v e place same)
+
+-- nodes as they are printed
+pub all_surveyed : {X E : Type 0} (r : Result X E) (seen : X → Survey) (here there : Stage) (ms ns : List Macro) (xs : List Node) → here ≡ there → ms ≡ ns
+    → IfOk r (λ v. seen v ≡ surveys here (each_node (open_node 200 ms) (nodes_seen xs)))
+    → IfOk r (λ v. seen v ≡ surveys there (opened_nodes ns (map node_seen xs)))
+all_surveyed r seen here there ms ns xs place same =
+    IfOk-weaker r (λ v. seen v ≡ surveys here (each_node (open_node 200 ms) (nodes_seen xs))) (λ v. seen v ≡ surveys there (opened_nodes ns (map node_seen xs)))
+    (λ v e. e
+    ∙ (ap (λ (k : Stage). surveys k (each_node (open_node 200 ms) (nodes_seen xs))) place
+    ∙ (ap (λ (ls : List Macro). surveys there (each_node (open_node 200 ls) (nodes_seen xs))) same
+    ∙ ap (surveys there) (opened_all ns xs))))
+
+pub all_put : {T E : Type 0} (r : Result T E) (c : Context) (s : Setting) (st new : State) (ms : List Macro) (xs : List Node)
+    → OnOk r (new ≡ contents c s true (each_node (open_node 200 ms) (nodes_seen xs)) st)
+    → OnOk r (new ≡ contents c s true (opened_nodes ms (map node_seen xs)) st)
+all_put r c s st new ms xs =
+    on_ok_weaker r (λ (e : new ≡ contents c s true (each_node (open_node 200 ms) (nodes_seen xs)) st). e ∙ ap (λ (ys : Nodes). contents c s true ys st) (opened_all ms xs))

@@ -1,0 +1,61 @@
+-- Names with people, and what stands in for them, from what each call puts down.
+use Rattle.std.proofs.Common.{◌≡◌, ℕ, Bool, true, false, eqb, eqb-true, suc-ne-zero, List, [], ◌∷◌, length, sym, ap, ◌∙◌, if◌then◌else◌, Option, Some}
+use Rattle.std.proofs.lemmas.Bool.{false≢true}
+use Rattle.rendering_context.specs.Answering.{all_people}
+use Rattle.rendering_context.specs.Contexts.{Context}
+use Rattle.rendering_leaves.specs.Settings.{Setting, State}
+use Rattle.rendering_names.specs.Names.{names_frame}
+use Rattle.rendering_names.specs.Views.{all_answered}
+use Rattle.rendering_names.specs.declared.people.Answered.{Answered}
+use Rattle.rendering_style.specs.Nodes as nodes
+use Rattle.rendering_style.specs.Nodes.{NamesNode, Nodes}
+use Rattle.rendering_taxonomy.specs.declared.variable.NameVariable.{NameVariable}
+use Rattle.rendering_taxonomy.specs.declared.variable.Variable.{Variable}
+use Rattle.rendering_tree.specs.Metas as metas
+use Rattle.rendering_nodes.specs.Content.{content, entered, first_standing, inside_names, left, names_or_stand_in, people_put, taken, tried}
+use Rattle.rendering_nodes.specs.Turns.{asked, attempt, is_next, settled, standing_put, stood_in}
+
+-- the people of a names node, by variables that are the same
+people_as : (c : Context) (h : NamesNode) (sup : List Variable) (vs : List NameVariable) (people : List metas.Answered) (st : State)
+    → sup ≡ st.suppressed → vs ≡ h.variables → people ≡ all_people c sup vs → people ≡ all_people c st.suppressed h.variables
+people_as c h sup vs people st e f is = is ∙ (λ k. all_people c (e k) (f k))
+
+-- names without people
+pub names_without : (c : Context) (outer : Option NamesNode) (s : Setting) (h g : NamesNode) (xs : Nodes) (sup : List Variable) (vs : List NameVariable) (people : List Answered) (n : ℕ) (b : Bool) (st new : State)
+    → sup ≡ st.suppressed → vs ≡ h.variables → all_answered people ≡ all_people c sup vs → n ≡ length people → b ≡ eqb n 0 → b ≡ true → g ≡ taken outer h
+    → new ≡ stood_in c s g xs st → new ≡ content c outer s (nodes.names h xs) st
+names_without c outer s h g xs sup vs [] n b st new e f is count test so same put =
+    put
+    ∙ ap (λ y. stood_in c s y xs st) same
+    ∙ ap (λ ps. names_or_stand_in c s (taken outer h) (first_standing c (taken outer h) (inside_names s (taken outer h)) xs) ps st) (people_as c h sup vs (all_answered []) st e f is)
+names_without c outer s h g xs sup vs (p ∷ ps) n b st new e f is count test so same put = absurd (suc-ne-zero (length ps) (sym count ∙ eqb-true n 0 (sym test ∙ so)))
+
+-- names with people
+pub names_with : (c : Context) (outer : Option NamesNode) (s : Setting) (h g : NamesNode) (xs : Nodes) (sup : List Variable) (vs : List NameVariable) (people shown : List Answered) (n : ℕ) (b : Bool) (st new : State)
+    → sup ≡ st.suppressed → vs ≡ h.variables → all_answered people ≡ all_people c sup vs → n ≡ length people → b ≡ eqb n 0 → b ≡ false → g ≡ taken outer h → shown ≡ people
+    → new ≡ people_put c s g (all_answered shown) st → new ≡ content c outer s (nodes.names h xs) st
+names_with c outer s h g xs sup vs [] shown n b st new e f is count test so same one put = absurd (false≢true (sym so ∙ (test ∙ ap (λ (m : ℕ). eqb m 0) count)))
+names_with c outer s h g xs sup vs (p ∷ ps) shown n b st new e f is count test so same one put =
+    put
+    ∙ (λ k. people_put c s (same k) (all_answered (one k)) st)
+    ∙ ap (λ qs. names_or_stand_in c s (taken outer h) (first_standing c (taken outer h) (inside_names s (taken outer h)) xs) qs st) (people_as c h sup vs (all_answered (p ∷ ps)) st e f is)
+
+-- the element of names with what stands in for them
+pub stood_in_by : (c : Context) (s t : Setting) (h : NamesNode) (xs : Nodes) (st begun middle new : State)
+    → t ≡ inside_names s h → begun ≡ entered c (names_frame s.manner h []) [] st → middle ≡ first_standing c h t xs begun → new ≡ left c (names_frame s.manner h []) [] middle
+    → new ≡ stood_in c s h xs st
+stood_in_by c s t h xs st begun middle new same e f g = g ∙ ap (left c (names_frame s.manner h []) []) (f ∙ (λ k. first_standing c h (same k) xs (e k)))
+
+-- a node that is tried
+pub tried_by : (c : Context) (h : NamesNode) (s : Setting) (x : nodes.Node) (st copy begun new : State)
+    → copy ≡ st → begun ≡ tried c s copy → new ≡ content c (Some h) s x begun → new ≡ content c (Some h) s x (tried c s st)
+tried_by c h s x st copy begun new e f g = g ∙ ap (content c (Some h) s x) (f ∙ ap (tried c s) e)
+
+-- a node that is admitted, once it was tried
+pub standing_tried : (c : Context) (h : NamesNode) (s : Setting) (x : nodes.Node) (b : Bool) (st middle done new : State)
+    → b ≡ is_next c s x st → b ≡ true → middle ≡ asked c s x st → done ≡ content c (Some h) s x (tried c s middle) → new ≡ settled c s done middle
+    → new ≡ standing_put c h s x st
+standing_tried c h s x b st middle done new is so e f g =
+    g
+    ∙ (λ k. settled c s ((f ∙ ap (λ z. content c (Some h) s x (tried c s z)) e) k) (e k))
+    ∙ ap (λ y. if y then settled c s (attempt c h s x st) (asked c s x st) else asked c s x st) (sym so ∙ is)

@@ -1,0 +1,144 @@
+//! What is asked of nodes that contain others. A macro is opened where it is called, down to so many levels of nodes; nothing is
+//! printed of what lies deeper.
+
+ghost use Rattle.std.specs.Prelude.{◌≡◌, suc, map, IfOk};
+ghost use Rattle.rendering_nodes.specs.Admission.{survey, surveys};
+ghost use Rattle.rendering_nodes.specs.Views.{macros_of, stage_by, survey_by};
+ghost use Rattle.rendering_style.specs.Nodes as nodes;
+ghost use Rattle.rendering_style.specs.Opening.{each_branch, each_node, macro_named, open_node, part};
+ghost use Rattle.rendering_style.specs.Views.{branch_seen, branches_of, names_seen, node_seen, nodes_seen, text_seen, text_look_seen};
+
+use crate::forms::{allows_names, shuts_out};
+use crate::stage::Stage;
+use crate::survey::Survey;
+use rendering_entries::EntryLike;
+use rendering_style::{ChooseBranch, Names, Node, Text, TextTarget};
+use std::alloc::AllocError;
+
+impl<'a> Stage<'_, '_, 'a> {
+    /// Of all nodes together.
+    #[cycle(surveys)]
+    pub(crate) fn survey_all<E: EntryLike>(
+        &self,
+        entry: &'a E,
+        levels: usize,
+        nodes: &'a [Node],
+    ) -> Result<Survey, AllocError>
+        ensures { IfOk result (λ v. survey_by v ≡ surveys (stage_by (E.answers entry.now) self.now) (each_node (open_node levels (macros_of self.now.walk.now)) (nodes_seen nodes.now))) }
+    {
+        let mut found = Survey::nothing();
+        for node in nodes {
+            let next = self.survey_node(entry, levels, node)?;
+            found = found.with(next);
+        }
+        Ok(found)
+    }
+
+    /// Of a node.
+    #[cycle(surveys)]
+    pub(crate) fn survey_node<E: EntryLike>(
+        &self,
+        entry: &'a E,
+        levels: usize,
+        node: &'a Node,
+    ) -> Result<Survey, AllocError>
+        ensures { IfOk result (λ v. survey_by v ≡ survey (stage_by (E.answers entry.now) self.now) (open_node levels (macros_of self.now.walk.now) (node_seen node.now))) }
+    {
+        if levels == 0 {
+            return Ok(Survey::nothing());
+        }
+        match node {
+            Node::Text(text) => self.survey_text(entry, levels - 1, text),
+            Node::Number(number) => self.survey_number(entry, number),
+            Node::Label(label) => self.survey_label(entry, label),
+            Node::Date(date) => Ok(self.survey_date(entry, date)),
+            Node::Names(names, substitute) => self.survey_names(
+                entry,
+                levels - 1,
+                names,
+                substitute,
+            ),
+            Node::Choose(branches, otherwise) => {
+                self.survey_choose(entry, levels - 1, branches, otherwise)
+            }
+            Node::Group(_, children) => {
+                let inside = self.survey_all(entry, levels - 1, children)?;
+                Ok(inside.of_group())
+            }
+        }
+    }
+
+    /// Of a text.
+    #[cycle(surveys)]
+    fn survey_text<E: EntryLike>(
+        &self,
+        entry: &'a E,
+        levels: usize,
+        text: &'a Text,
+    ) -> Result<Survey, AllocError>
+        ensures { IfOk result (λ v. survey_by v ≡ survey (stage_by (E.answers entry.now) self.now) (open_node (suc levels) (macros_of self.now.walk.now) (text_seen text.now.target (text_look_seen text.now.look)))) }
+    {
+        match &text.target {
+            TextTarget::Variable(variable, form) => self.survey_variable(entry, *variable, *form),
+            TextTarget::Macro(name) => self.survey_macro(entry, levels, name.as_str()),
+            TextTarget::Term(term, form, plural) => Ok(self.survey_term(*term, *form, *plural)),
+            TextTarget::Value(value) => Ok(self.survey_value(value.as_str())),
+        }
+    }
+
+    /// Of the macro of that name; where there is none, of no node.
+    #[cycle(surveys)]
+    fn survey_macro<E: EntryLike>(
+        &self,
+        entry: &'a E,
+        levels: usize,
+        name: &'a str,
+    ) -> Result<Survey, AllocError>
+        ensures { IfOk result (λ v. (look : nodes.TextLook) → survey_by v ≡ survey (stage_by (E.answers entry.now) self.now) (part (open_node levels (macros_of self.now.walk.now)) name.now look (macro_named (macros_of self.now.walk.now) name.now))) }
+    {
+        match self.walk.style.macro_named(name) {
+            Some(nodes) => {
+                let inside = self.survey_all(entry, levels, nodes)?;
+                Ok(inside.of_macro())
+            }
+            None => Ok(Survey::nothing()),
+        }
+    }
+
+    /// Of names: with people they are asked themselves, without people all that stands in for them is.
+    #[cycle(surveys)]
+    fn survey_names<E: EntryLike>(
+        &self,
+        entry: &'a E,
+        levels: usize,
+        names: &'a Names,
+        substitute: &'a [Node],
+    ) -> Result<Survey, AllocError>
+        ensures { IfOk result (λ v. survey_by v ≡ survey (stage_by (E.answers entry.now) self.now) (nodes.names (names_seen names.now) (each_node (open_node levels (macros_of self.now.walk.now)) (nodes_seen substitute.now)))) }
+    {
+        if self.has_people(entry, names)? {
+            return Ok(Survey::of_variable(allows_names(self.form, names)));
+        }
+        if shuts_out(self.form, names) {
+            return Ok(Survey::of_variable(false));
+        }
+        let inside = self.survey_all(entry, levels, substitute)?;
+        Ok(inside.of_stand_ins())
+    }
+
+    /// Of the branch that is taken.
+    #[cycle(surveys)]
+    fn survey_choose<E: EntryLike>(
+        &self,
+        entry: &'a E,
+        levels: usize,
+        branches: &'a [ChooseBranch],
+        otherwise: &'a [Node],
+    ) -> Result<Survey, AllocError>
+        ensures { IfOk result (λ v. survey_by v ≡ survey (stage_by (E.answers entry.now) self.now) (nodes.choose (each_branch (open_node levels (macros_of self.now.walk.now)) (branches_of (map branch_seen branches.now) (nodes_seen otherwise.now))))) }
+    {
+        let taken = self.walk.taken(entry, branches, otherwise)?;
+        let inside = self.survey_all(entry, levels, taken.nodes)?;
+        Ok(inside.after_tests(taken.met))
+    }
+}

@@ -1,0 +1,359 @@
+//! What nodes add to a page. A macro is opened where it is called, down to so many levels of nodes; nothing is printed of what lies
+//! deeper.
+
+ghost use Rattle.std.specs.Prelude.{◌≡◌, suc, map, true, IfOk, OnOk, Option, Some};
+ghost use Rattle.std.specs.Option.{option_map};
+ghost use Rattle.rendering_entries.specs.Answers.{Answers};
+ghost use Rattle.rendering_leaves.specs.Settings.{noted};
+ghost use Rattle.rendering_leaves.specs.Views.{setting_by};
+ghost use Rattle.rendering_names.specs.Views.{node_by};
+ghost use Rattle.rendering_nodes.specs.Content.{accepted, content, contents, first_standing, tried};
+ghost use Rattle.rendering_nodes.specs.Turns.{asked, is_next, next_put, settled, standing_put, stands, stood_in};
+ghost use Rattle.rendering_nodes.specs.Views.{macros_of, walk_context};
+ghost use Rattle.rendering_page.specs.Pages.{prints};
+ghost use Rattle.rendering_style.specs.Nodes as nodes;
+ghost use Rattle.rendering_style.specs.Opening.{each_branch, each_node, macro_named, open_node, part};
+ghost use Rattle.rendering_style.specs.Views.{branch_seen, branches_of, group_seen, names_seen, node_seen, nodes_seen, text_seen, text_look_seen};
+
+use crate::inside::{inside_group, inside_macro, inside_names, taken};
+use crate::walk::Walk;
+use rendering_entries::EntryLike;
+use rendering_leaves::{
+    Setting, State, push_date, push_label, push_number, push_term, push_value, push_variable,
+};
+use rendering_names::NamesParts;
+use rendering_style::{ChooseBranch, Group, Names, Node, Text, TextLook, TextTarget};
+use std::alloc::AllocError;
+use std::mem;
+
+impl<'a> Walk<'_, 'a> {
+    /// Prints nodes one after the other, each that is admitted, with the delimiter of the group around between them.
+    #[cycle(contents)]
+    pub(crate) fn push_all<E: EntryLike>(
+        &self,
+        entry: &'a E,
+        setting: &Setting<'a>,
+        levels: usize,
+        nodes: &'a [Node],
+        state: &mut State<'a>,
+    ) -> Result<(), AllocError>
+        ensures { OnOk result (state.new ≡ contents (walk_context (E.answers entry.now) self.now) (setting_by setting.now) true (each_node (open_node levels (macros_of self.now)) (nodes_seen nodes.now)) state.old) }
+    {
+        let mut is_first = true;
+        for node in nodes {
+            let is_admitted = self.push_next(entry, setting, levels, is_first, node, state)?;
+            is_first = is_first && !is_admitted;
+        }
+        Ok(())
+    }
+
+    /// Prints a node, if it is admitted, after the delimiter of the group around. Returns whether it is.
+    #[cycle(contents)]
+    fn push_next<E: EntryLike>(
+        &self,
+        entry: &'a E,
+        setting: &Setting<'a>,
+        levels: usize,
+        is_first: bool,
+        node: &'a Node,
+        state: &mut State<'a>,
+    ) -> Result<bool, AllocError>
+        ensures admitted { IfOk result (λ b. b ≡ is_next (walk_context (E.answers entry.now) self.now) (setting_by setting.now) (open_node levels (macros_of self.now) (node_seen node.now)) state.old) }
+        ensures state { OnOk result (state.new ≡ next_put (walk_context (E.answers entry.now) self.now) (setting_by setting.now) is_first (open_node levels (macros_of self.now) (node_seen node.now)) state.old) }
+    {
+        if !self.admits(entry, setting, levels, node, state)? {
+            return Ok(false);
+        }
+        self.push_delimiter(setting, is_first, state)?;
+        self.push_node(entry, setting, levels, None, node, state)?;
+        Ok(true)
+    }
+
+    /// Whether a node is admitted. It is noted whether it was asked on the way if the cite is like others.
+    fn admits<E: EntryLike>(
+        &self,
+        entry: &'a E,
+        setting: &Setting<'a>,
+        levels: usize,
+        node: &'a Node,
+        state: &mut State<'a>,
+    ) -> Result<bool, AllocError>
+        ensures admitted { IfOk result (λ b. b ≡ is_next (walk_context (E.answers entry.now) self.now) (setting_by setting.now) (open_node levels (macros_of self.now) (node_seen node.now)) state.old) }
+        ensures state { OnOk result (state.new ≡ asked (walk_context (E.answers entry.now) self.now) (setting_by setting.now) (open_node levels (macros_of self.now) (node_seen node.now)) state.old) }
+    {
+        let stage = self.stage(setting.form, state);
+        let asked = stage.survey_node(entry, levels, node)?;
+        state.note(asked.met);
+        Ok(asked.is_admitted)
+    }
+
+    /// Prints a node. `outer` are the names for which it stands in directly.
+    #[cycle(contents)]
+    fn push_node<E: EntryLike>(
+        &self,
+        entry: &'a E,
+        setting: &Setting<'a>,
+        levels: usize,
+        outer: Option<&NamesParts<'a>>,
+        node: &'a Node,
+        state: &mut State<'a>,
+    ) -> Result<(), AllocError>
+        ensures { OnOk result (state.new ≡ content (walk_context (E.answers entry.now) self.now) (option_map (λ n. node_by n.now) outer.entry) (setting_by setting.now) (open_node levels (macros_of self.now) (node_seen node.now)) state.old) }
+    {
+        if levels == 0 {
+            return Ok(());
+        }
+        match node {
+            Node::Text(text) => self.push_text(entry, setting, levels - 1, text, state),
+            Node::Number(number) => push_number(&self.context, entry, setting, number, state),
+            Node::Label(label) => push_label(&self.context, entry, setting, label, state),
+            Node::Date(date) => push_date(&self.context, entry, setting, date, state),
+            Node::Names(names, substitute) => {
+                self.push_names(entry, setting, levels - 1, outer, names, substitute, state)
+            }
+            Node::Choose(branches, otherwise) => {
+                self.push_choose(entry, setting, levels - 1, branches, otherwise, state)
+            }
+            Node::Group(group, children) => {
+                self.push_group(entry, setting, levels - 1, group, children, state)
+            }
+        }
+    }
+
+    /// Prints a text.
+    #[cycle(contents)]
+    fn push_text<E: EntryLike>(
+        &self,
+        entry: &'a E,
+        setting: &Setting<'a>,
+        levels: usize,
+        text: &'a Text,
+        state: &mut State<'a>,
+    ) -> Result<(), AllocError>
+        ensures { (outer : Option nodes.NamesNode) → OnOk result (state.new ≡ content (walk_context (E.answers entry.now) self.now) outer (setting_by setting.now) (open_node (suc levels) (macros_of self.now) (text_seen text.now.target (text_look_seen text.now.look))) state.old) }
+    {
+        let look = &text.look;
+        match &text.target {
+            TextTarget::Variable(variable, form) => {
+                push_variable(&self.context, entry, setting, *variable, *form, look, state)
+            }
+            TextTarget::Macro(name) => {
+                self.push_macro(entry, setting, levels, name.as_str(), look, state)
+            }
+            TextTarget::Term(term, form, plural) => {
+                push_term(&self.context, setting, *term, *form, *plural, look, state)
+            }
+            TextTarget::Value(value) => {
+                push_value(&self.context, setting, value.as_str(), look, state)
+            }
+        }
+    }
+
+    /// Prints the macro of that name in an element; where there is none, nothing.
+    #[cycle(contents)]
+    fn push_macro<E: EntryLike>(
+        &self,
+        entry: &'a E,
+        setting: &Setting<'a>,
+        levels: usize,
+        name: &'a str,
+        look: &'a TextLook,
+        state: &mut State<'a>,
+    ) -> Result<(), AllocError>
+        ensures { (outer : Option nodes.NamesNode) → OnOk result (state.new ≡ content (walk_context (E.answers entry.now) self.now) outer (setting_by setting.now) (part (open_node levels (macros_of self.now)) name.now (text_look_seen look.now) (macro_named (macros_of self.now) name.now)) state.old) }
+    {
+        let Some(nodes) = self.style.macro_named(name) else {
+            return Ok(());
+        };
+        self.begin_macro(setting, look, state)?;
+        let inside = inside_macro(setting, look);
+        self.push_all(entry, &inside, levels, nodes, state)?;
+        self.end_macro(setting, look, state)
+    }
+
+    /// Prints a group in an element.
+    #[cycle(contents)]
+    fn push_group<E: EntryLike>(
+        &self,
+        entry: &'a E,
+        setting: &Setting<'a>,
+        levels: usize,
+        group: &'a Group,
+        children: &'a [Node],
+        state: &mut State<'a>,
+    ) -> Result<(), AllocError>
+        ensures { (outer : Option nodes.NamesNode) → OnOk result (state.new ≡ content (walk_context (E.answers entry.now) self.now) outer (setting_by setting.now) (nodes.group (group_seen group.now) (each_node (open_node levels (macros_of self.now)) (nodes_seen children.now))) state.old) }
+    {
+        self.begin_group(setting, group, state)?;
+        let inside = inside_group(setting, group);
+        self.push_all(entry, &inside, levels, children, state)?;
+        self.end_group(setting, group, state)
+    }
+
+    /// Prints the branch that is taken.
+    #[cycle(contents)]
+    fn push_choose<E: EntryLike>(
+        &self,
+        entry: &'a E,
+        setting: &Setting<'a>,
+        levels: usize,
+        branches: &'a [ChooseBranch],
+        otherwise: &'a [Node],
+        state: &mut State<'a>,
+    ) -> Result<(), AllocError>
+        ensures { (outer : Option nodes.NamesNode) → OnOk result (state.new ≡ content (walk_context (E.answers entry.now) self.now) outer (setting_by setting.now) (nodes.choose (each_branch (open_node levels (macros_of self.now)) (branches_of (map branch_seen branches.now) (nodes_seen otherwise.now)))) state.old) }
+    {
+        let taken = self.taken(entry, branches, otherwise)?;
+        state.note(taken.met);
+        self.push_all(entry, setting, levels, taken.nodes, state)
+    }
+
+    /// Prints names with people, or what stands in for them.
+    #[cycle(contents)]
+    fn push_names<E: EntryLike>(
+        &self,
+        entry: &'a E,
+        setting: &Setting<'a>,
+        levels: usize,
+        outer: Option<&NamesParts<'a>>,
+        names: &'a Names,
+        substitute: &'a [Node],
+        state: &mut State<'a>,
+    ) -> Result<(), AllocError>
+        ensures { OnOk result (state.new ≡ content (walk_context (E.answers entry.now) self.now) (option_map (λ n. node_by n.now) outer.entry) (setting_by setting.now) (nodes.names (names_seen names.now) (each_node (open_node levels (macros_of self.now)) (nodes_seen substitute.now))) state.old) }
+    {
+        let variables = names.variables.as_slice();
+        let people = self
+            .context
+            .people(entry, state.suppressed.as_slice(), variables)?;
+        let parts = taken(outer, names);
+        if people.is_empty() {
+            return self.push_stand_in(entry, setting, levels, &parts, substitute, state);
+        }
+        self.push_people(setting, &parts, people.as_slice(), state)
+    }
+
+    /// Prints the element of names, with what stands in for them.
+    #[cycle(contents)]
+    fn push_stand_in<E: EntryLike>(
+        &self,
+        entry: &'a E,
+        setting: &Setting<'a>,
+        levels: usize,
+        names: &NamesParts<'a>,
+        substitute: &'a [Node],
+        state: &mut State<'a>,
+    ) -> Result<(), AllocError>
+        ensures { OnOk result (state.new ≡ stood_in (walk_context (E.answers entry.now) self.now) (setting_by setting.now) (node_by names.now) (each_node (open_node levels (macros_of self.now)) (nodes_seen substitute.now)) state.old) }
+    {
+        self.begin_names(setting, names, state)?;
+        let inside = inside_names(setting, names);
+        self.push_first(entry, &inside, levels, names, substitute, state)?;
+        self.end_names(setting, names, state)
+    }
+
+    /// Prints the first node that prints something.
+    #[cycle(contents)]
+    fn push_first<E: EntryLike>(
+        &self,
+        entry: &'a E,
+        setting: &Setting<'a>,
+        levels: usize,
+        names: &NamesParts<'a>,
+        substitute: &'a [Node],
+        state: &mut State<'a>,
+    ) -> Result<(), AllocError>
+        ensures { OnOk result (state.new ≡ first_standing (walk_context (E.answers entry.now) self.now) (node_by names.now) (setting_by setting.now) (each_node (open_node levels (macros_of self.now)) (nodes_seen substitute.now)) state.old) }
+    {
+        for node in substitute {
+            if self.push_standing(entry, setting, levels, names, node, state)? {
+                return Ok(());
+            }
+        }
+        Ok(())
+    }
+
+    /// Prints a node, if it prints something, and returns whether it does. Of one that prints nothing nothing remains but that it
+    /// was asked if the cite is like others.
+    #[cycle(contents)]
+    fn push_standing<E: EntryLike>(
+        &self,
+        entry: &'a E,
+        setting: &Setting<'a>,
+        levels: usize,
+        names: &NamesParts<'a>,
+        node: &'a Node,
+        state: &mut State<'a>,
+    ) -> Result<bool, AllocError>
+        ensures printed { IfOk result (λ b. b ≡ stands (walk_context (E.answers entry.now) self.now) (node_by names.now) (setting_by setting.now) (open_node levels (macros_of self.now) (node_seen node.now)) state.old) }
+        ensures state { OnOk result (state.new ≡ standing_put (walk_context (E.answers entry.now) self.now) (node_by names.now) (setting_by setting.now) (open_node levels (macros_of self.now) (node_seen node.now)) state.old) }
+    {
+        if !self.admits(entry, setting, levels, node, state)? {
+            return Ok(false);
+        }
+        let done = self.tried(entry, setting, levels, names, node, state)?;
+        self.accept(setting, done, state)
+    }
+
+    /// What a call has printed once a node is printed that stands in for names.
+    #[cycle(contents)]
+    fn tried<E: EntryLike>(
+        &self,
+        entry: &'a E,
+        setting: &Setting<'a>,
+        levels: usize,
+        names: &NamesParts<'a>,
+        node: &'a Node,
+        state: &State<'a>,
+    ) -> Result<State<'a>, AllocError>
+        ensures { IfOk result (λ done. done ≡ content (walk_context (E.answers entry.now) self.now) (Some (node_by names.now)) (setting_by setting.now) (open_node levels (macros_of self.now) (node_seen node.now)) (tried (walk_context (E.answers entry.now) self.now) (setting_by setting.now) state.now)) }
+    {
+        let mut done = state.copied()?;
+        self.begin_bare(setting, &mut done)?;
+        self.push_node(entry, setting, levels, Some(names), node, &mut done)?;
+        Ok(done)
+    }
+
+    /// Goes on with what was tried, if that printed something, and returns whether it did; else it is only noted whether it was
+    /// asked there if the cite is like others.
+    fn accept(
+        &self,
+        setting: &Setting<'a>,
+        done: State<'a>,
+        state: &mut State<'a>,
+    ) -> Result<bool, AllocError>
+        ensures printed { IfOk result (λ b. b ≡ prints 0 done.entry.page.tokens) }
+        ensures state { (a : Answers) → OnOk result (state.new ≡ settled (walk_context a self.now) (setting_by setting.now) done.entry state.old) }
+    {
+        if !has_printed_in(&done) {
+            note_met(&done, state);
+            return Ok(false);
+        }
+        let done = self.ended(setting, done)?;
+        let _before = mem::replace(state, done);
+        Ok(true)
+    }
+
+    /// The element of what was tried ends.
+    fn ended(&self, setting: &Setting<'a>, done: State<'a>) -> Result<State<'a>, AllocError>
+        ensures { (a : Answers) → IfOk result (λ s. s ≡ accepted (walk_context a self.now) (setting_by setting.now) done.entry) }
+    {
+        let mut done = done;
+        self.end_bare(setting, &mut done)?;
+        Ok(done)
+    }
+}
+
+/// Whether something was printed in the element that was begun last.
+fn has_printed_in(state: &State<'_>) -> bool
+    ensures { result ≡ prints 0 state.now.page.tokens }
+{
+    state.page.has_printed()
+}
+
+/// Notes whether it was asked elsewhere if the cite is like others.
+fn note_met(done: &State<'_>, state: &mut State<'_>)
+    ensures { state.new ≡ noted done.now.met_disambiguate state.old }
+{
+    state.note(done.met_disambiguate);
+}

@@ -1,0 +1,151 @@
+//! What is asked of nodes that contain no others.
+
+ghost use Rattle.std.specs.Prelude.{◌≡◌, ◌&&◌, IfOk, false, not, true};
+ghost use Rattle.std.specs.Option.{option_map_or};
+ghost use Rattle.std.specs.Str.{chars};
+ghost use Rattle.rendering_context.specs.Answering.{answer_to, date_answer, is_missing};
+ghost use Rattle.rendering_entries.specs.Answers.{Answers};
+ghost use Rattle.rendering_leaves.specs.Views.{form_by};
+ghost use Rattle.rendering_nodes.specs.Admission.{allows_date, allows_variable, has_people, leaf_survey, source_survey};
+ghost use Rattle.rendering_nodes.specs.Views.{stage_by, survey_by};
+ghost use Rattle.rendering_style.specs.Nodes as nodes;
+ghost use Rattle.rendering_style.specs.Views.{date_seen, label_seen, names_seen, number_seen};
+
+use crate::forms::{allows_variable, allows_words};
+use crate::survey::Survey;
+use crate::walk::Walk;
+use rendering_entries::EntryLike;
+use rendering_leaves::Form;
+use rendering_style::{Date, Label, Names, Number};
+use rendering_taxonomy::{DateVariable, LongShortForm, Term, TermForm, Variable};
+use std::alloc::AllocError;
+use texts::has_text;
+
+/// How far a call has come.
+#[derive(Clone, Copy)]
+pub(crate) struct Stage<'t, 's, 'a> {
+    pub(crate) walk: &'t Walk<'s, 'a>,
+    /// What is printed of the layout.
+    pub(crate) form: Form,
+    /// Whether the first date was printed.
+    pub(crate) has_date: bool,
+    /// The variables that are not printed again.
+    pub(crate) suppressed: &'t [Variable],
+}
+
+impl<'a> Stage<'_, '_, 'a> {
+    /// Of a text of a variable.
+    pub(crate) fn survey_variable<E: EntryLike>(
+        &self,
+        entry: &'a E,
+        variable: Variable,
+        form: LongShortForm,
+    ) -> Result<Survey, AllocError>
+        ensures { IfOk result (λ v. survey_by v ≡ source_survey (stage_by (E.answers entry.now) self.now) (nodes.of_variable variable form)) }
+    {
+        let is_printed = self.is_printed(entry, variable, form)?;
+        Ok(Survey::of_variable(is_printed))
+    }
+
+    /// Of a text of a term.
+    pub(crate) fn survey_term(&self, term: Term, form: TermForm, plural: bool) -> Survey
+        ensures { (a : Answers) → survey_by result ≡ source_survey (stage_by a self.now) (nodes.of_term term form plural) }
+    {
+        let context = &self.walk.context;
+        let locales = context.locales;
+        let text = locales.term_text(term, form, plural);
+        Survey::of_words(has_text(text) && allows_words(self.form))
+    }
+
+    /// Of a text of the style's own.
+    pub(crate) fn survey_value(&self, value: &str) -> Survey
+        ensures { (a : Answers) → survey_by result ≡ source_survey (stage_by a self.now) (nodes.of_value (chars value.now)) }
+    {
+        Survey::of_words(has_text(value) && allows_words(self.form))
+    }
+
+    /// Of a number.
+    pub(crate) fn survey_number<E: EntryLike>(
+        &self,
+        entry: &'a E,
+        number: &Number,
+    ) -> Result<Survey, AllocError>
+        ensures { IfOk result (λ v. survey_by v ≡ leaf_survey (stage_by (E.answers entry.now) self.now) (nodes.number (number_seen number.now))) }
+    {
+        self.survey_variable(entry, number.variable, LongShortForm::Long)
+    }
+
+    /// Of a label.
+    pub(crate) fn survey_label<E: EntryLike>(
+        &self,
+        entry: &'a E,
+        label: &Label,
+    ) -> Result<Survey, AllocError>
+        ensures { IfOk result (λ v. survey_by v ≡ leaf_survey (stage_by (E.answers entry.now) self.now) (nodes.label label.now.variable (label_seen label.now.label))) }
+    {
+        let is_printed = self.is_printed(entry, label.variable, LongShortForm::Long)?;
+        Ok(Survey::of_words(is_printed))
+    }
+
+    /// Of a date.
+    pub(crate) fn survey_date<E: EntryLike>(&self, entry: &'a E, date: &Date) -> Survey
+        ensures { survey_by result ≡ leaf_survey (stage_by (E.answers entry.now) self.now) (nodes.date (date_seen date.now)) }
+    {
+        Survey::of_variable(self.has_day(entry, date.variable) && self.allows_date())
+    }
+
+    /// Whether one of the variables of the names has people.
+    ///
+    /// # Errors
+    /// Out of memory.
+    pub(crate) fn has_people<E: EntryLike>(
+        &self,
+        entry: &'a E,
+        names: &Names,
+    ) -> Result<bool, AllocError>
+        ensures { IfOk result (λ b. b ≡ has_people (stage_by (E.answers entry.now) self.now) (names_seen names.now)) }
+    {
+        let context = &self.walk.context;
+        let people = context.people(entry, self.suppressed, names.variables.as_slice())?;
+        Ok(!people.is_empty())
+    }
+
+    /// Whether the variable has something to print where the form lets it stand.
+    fn is_printed<E: EntryLike>(
+        &self,
+        entry: &'a E,
+        variable: Variable,
+        form: LongShortForm,
+    ) -> Result<bool, AllocError>
+        ensures { IfOk result (λ b. b ≡ (not (is_missing (answer_to (stage_by (E.answers entry.now) self.now).context self.now.suppressed.now form variable)) && allows_variable (form_by self.now.form) variable)) }
+    {
+        if !allows_variable(self.form, variable) {
+            return Ok(false);
+        }
+        let context = &self.walk.context;
+        let answer = context.answer(entry, self.suppressed, form, variable)?;
+        Ok(answer.is_some())
+    }
+
+    /// Whether the variable has a date to print.
+    fn has_day<E: EntryLike>(&self, entry: &'a E, variable: DateVariable) -> bool
+        ensures { result ≡ option_map_or (λ day. true) (date_answer (stage_by (E.answers entry.now) self.now).context self.now.suppressed.now variable) false }
+    {
+        self.walk
+            .context
+            .date(entry, self.suppressed, variable)
+            .is_some()
+    }
+
+    /// Whether the form lets a date stand.
+    fn allows_date(&self) -> bool
+        ensures { (a : Answers) → result ≡ allows_date (stage_by a self.now).context self.now.has_date (stage_by a self.now).form }
+    {
+        match self.form {
+            Form::Whole | Form::WithoutAuthor => true,
+            Form::AuthorOnly(_) => false,
+            Form::FirstDateOnly => !self.has_date,
+            Form::SuffixOnly => !self.has_date && !self.walk.context.has_suffix_node,
+        }
+    }
+}

@@ -1,0 +1,110 @@
+//! What is asked of nodes before they are printed.
+
+ghost use Rattle.std.specs.Prelude.{◌≡◌, true};
+ghost use Rattle.rendering_nodes.specs.Admission.{nothing, both, words_survey, variable_survey, containing, group_survey};
+ghost use Rattle.rendering_nodes.specs.Views.{survey_by};
+
+/// What is asked of nodes before they are printed.
+#[derive(Clone, Copy, Debug, PartialEq, Eq)]
+pub struct Survey {
+    /// Whether one of them is printed.
+    pub is_admitted: bool,
+    /// Whether they call a variable.
+    pub calls: bool,
+    /// Whether a variable that they call has an answer.
+    pub is_answered: bool,
+    /// Whether it was asked on the way if the cite is like others.
+    pub met: bool,
+}
+
+impl Survey {
+    /// Of no node.
+    pub(crate) fn nothing() -> Survey
+        ensures { survey_by result ≡ nothing }
+    {
+        Survey {
+            is_admitted: false,
+            calls: false,
+            is_answered: false,
+            met: false,
+        }
+    }
+
+    /// Of a node that prints words of its own.
+    pub(crate) fn of_words(is_admitted: bool) -> Survey
+        ensures { survey_by result ≡ words_survey is_admitted }
+    {
+        Survey {
+            is_admitted,
+            calls: false,
+            is_answered: false,
+            met: false,
+        }
+    }
+
+    /// Of a node that prints the answer to a variable.
+    pub(crate) fn of_variable(is_admitted: bool) -> Survey
+        ensures { survey_by result ≡ variable_survey is_admitted }
+    {
+        Survey {
+            is_admitted,
+            calls: true,
+            is_answered: is_admitted,
+            met: false,
+        }
+    }
+
+    /// Of these nodes and of others.
+    pub(crate) fn with(self, others: Survey) -> Survey
+        ensures { survey_by result ≡ both (survey_by self) (survey_by others) }
+    {
+        Survey {
+            is_admitted: self.is_admitted || others.is_admitted,
+            calls: self.calls || others.calls,
+            is_answered: self.is_answered || others.is_answered,
+            met: self.met || others.met,
+        }
+    }
+
+    /// Of the macro that these nodes are of.
+    pub(crate) fn of_macro(self) -> Survey
+        ensures { survey_by result ≡ containing self.is_admitted (survey_by self) }
+    {
+        Survey {
+            is_answered: self.is_admitted,
+            ..self
+        }
+    }
+
+    /// Of the group that these nodes are in: it prints nothing where they call variables and none has an answer.
+    pub(crate) fn of_group(self) -> Survey
+        ensures { survey_by result ≡ group_survey (survey_by self) }
+    {
+        let is_admitted = self.is_admitted && !(self.calls && !self.is_answered);
+        Survey {
+            is_admitted,
+            is_answered: is_admitted,
+            ..self
+        }
+    }
+
+    /// Of the names that these nodes stand in for.
+    pub(crate) fn of_stand_ins(self) -> Survey
+        ensures { survey_by result ≡ record (survey_by self) { calls = true } }
+    {
+        Survey {
+            calls: true,
+            ..self
+        }
+    }
+
+    /// Of these nodes in a branch, before which it was asked, or not, if the cite is like others.
+    pub(crate) fn after_tests(self, met: bool) -> Survey
+        ensures { survey_by result ≡ both (record nothing { met = met }) (survey_by self) }
+    {
+        Survey {
+            met: met || self.met,
+            ..self
+        }
+    }
+}

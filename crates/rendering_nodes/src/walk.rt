@@ -1,0 +1,78 @@
+//! Nodes of a style on a page.
+
+ghost use Rattle.std.specs.Prelude.{◌≡◌, map, true, IfOk, OnOk};
+ghost use Rattle.rendering_leaves.specs.Views.{form_by, setting_by};
+ghost use Rattle.rendering_nodes.specs.Admission.{surveys};
+ghost use Rattle.rendering_nodes.specs.Content.{contents};
+ghost use Rattle.rendering_nodes.specs.Views.{macros_of, stage_by, survey_by, walk_context};
+ghost use Rattle.rendering_style.specs.Opening.{opened_nodes};
+ghost use Rattle.rendering_style.specs.Views.{node_seen};
+ghost use Rattle.rendering_entries.specs.Answers.{Answers};
+
+use crate::stage::Stage;
+use crate::survey::Survey;
+use rendering_context::Context;
+use rendering_entries::EntryLike;
+use rendering_leaves::{Form, Setting, State};
+use rendering_style::{Node, Style};
+use std::alloc::AllocError;
+
+/// The most levels that nodes may have, macros opened. Nothing is printed of what lies deeper.
+pub(crate) const LIMIT: usize = 200;
+
+/// What nodes are printed from beside an entry, and the style whose macros they call. Calls take the entry beside it; nothing of
+/// the entry but its answers is looked at.
+#[derive(Clone, Copy)]
+pub struct Walk<'s, 'a> {
+    pub context: Context<'s, 'a>,
+    pub style: &'a Style,
+}
+
+impl<'s, 'a> Walk<'s, 'a> {
+    /// What is asked of nodes before they are printed.
+    ///
+    /// # Errors
+    /// Out of memory.
+    pub fn survey<E: EntryLike>(
+        &self,
+        entry: &'a E,
+        form: Form,
+        nodes: &'a [Node],
+        state: &State<'a>,
+    ) -> Result<Survey, AllocError>
+        ensures { IfOk result (λ v. survey_by v ≡ surveys (record { context = walk_context (E.answers entry.now) self.now; form = form_by form; has_date = state.now.has_date; suppressed = state.now.suppressed }) (opened_nodes (macros_of self.now) (map node_seen nodes.now))) }
+    {
+        let stage = self.stage(form, state);
+        stage.survey_all(entry, LIMIT, nodes)
+    }
+
+    /// Prints nodes one after the other, each that is admitted, with the delimiter of the group around between them. After an
+    /// error nothing is promised of the state.
+    ///
+    /// # Errors
+    /// Out of memory.
+    pub fn push_nodes<E: EntryLike>(
+        &self,
+        entry: &'a E,
+        setting: &Setting<'a>,
+        nodes: &'a [Node],
+        state: &mut State<'a>,
+    ) -> Result<(), AllocError>
+        ensures { OnOk result (state.new ≡ contents (walk_context (E.answers entry.now) self.now) (setting_by setting.now) true (opened_nodes (macros_of self.now) (map node_seen nodes.now)) state.old) }
+    {
+        self.push_all(entry, setting, LIMIT, nodes, state)
+    }
+
+    /// How far the call has come.
+    pub(crate) fn stage<'t>(&'t self, form: Form, state: &'t State<'a>) -> Stage<'t, 's, 'a>
+        ensures place { (a : Answers) → stage_by a result ≡ record { context = walk_context a self.now; form = form_by form; has_date = state.now.has_date; suppressed = state.now.suppressed } }
+        ensures macros { macros_of result.walk.now ≡ macros_of self.now }
+    {
+        Stage {
+            walk: self,
+            form,
+            has_date: state.has_date,
+            suppressed: state.suppressed.as_slice(),
+        }
+    }
+}
