@@ -1,1 +1,7 @@
 pub mod CitesAlike
+pub mod Texts
+pub mod Spacing
+pub mod Steps
+pub mod AuthorNodeIs
+pub mod FieldJoined
+pub mod CallsGiven

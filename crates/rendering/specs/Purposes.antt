@@ -60,7 +60,7 @@ abbrev pub layout_nodes : Style → Layout → Nodes
 layout_nodes s l = opened_nodes s.macros l.nodes
 
 -- whether a layout of the style prints the letters after a year by themselves
-abbrev pub prints_suffix : Style → Bool
+unfoldable pub prints_suffix : Style → Bool
 prints_suffix s = has_suffix (layout_nodes s s.citation.layout) || option_map_or (λ b. has_suffix (layout_nodes s b.layout)) s.bibliography false
 
 -- what a call prints from

@@ -1,0 +1,4 @@
+use Rattle.rendering.proofs.style_context.StyleContext.new.Goals as goal
+
+pub invariant_of-result : goal.invariant_of-result
+invariant_of-result c = record { suffix = c.prints_suffix.ensures }

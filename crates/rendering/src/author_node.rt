@@ -1,0 +1,67 @@
+//! The node for authors of which nothing is said.
+
+ghost use Rattle.std.specs.Prelude.{◌≡◌, ◌∷◌, [], true, map, IfOk};
+ghost use Rattle.rendering_style.specs.Nodes.{names, no_nodes};
+ghost use Rattle.rendering_style.specs.Views.{look_seen, names_seen, node_seen};
+ghost use Rattle.rendering.specs.AuthorNodes.{is_made};
+ghost use Rattle.rendering.specs.Purposes.{author_node, plain_look};
+
+use rendering_style::{Look, Names, Node};
+use rendering_taxonomy::{FormattingChanges, NameVariable};
+use std::alloc::{AllocError, Global};
+use texts::empty_text;
+
+/// A node for the authors, of which nothing is said.
+#[derive(Debug, Drop)]
+pub(crate) struct AuthorNode {
+    nodes: Vec<Node>,
+    ghost made: { is_made (map node_seen nodes.items) ≡ true },
+}
+
+impl AuthorNode {
+    /// The node.
+    ///
+    /// # Errors
+    /// Out of memory.
+    #[tactic(auto, using(crate::proofs::AuthorNodeIs::made_from))]
+    pub(crate) fn new(alloc: Global) -> Result<AuthorNode, AllocError> {
+        let names = author_names(alloc)?;
+        let nodes = Vec::from_array(alloc, [Node::Names(names, Vec::new(alloc))])?;
+        Ok(AuthorNode { nodes })
+    }
+
+    /// The node alone.
+    #[tactic(auto, using(crate::proofs::AuthorNodeIs::made_is))]
+    pub(crate) fn nodes(&self) -> &[Node]
+        ensures { map node_seen result.now ≡ names author_node no_nodes ∷ [] }
+    {
+        self.nodes.as_slice()
+    }
+}
+
+/// What is said of the names of authors: nothing.
+fn author_names(alloc: Global) -> Result<Names, AllocError>
+    ensures { IfOk result (λ n. names_seen n ≡ author_node) }
+{
+    Ok(Names {
+        variables: Vec::from_array(alloc, [NameVariable::Author])?,
+        name: None,
+        et_al: None,
+        label: None,
+        label_is_first: false,
+        delimiter: None,
+        look: plain_look(alloc),
+    })
+}
+
+/// A look of which nothing is said.
+fn plain_look(alloc: Global) -> Look
+    ensures { look_seen result ≡ plain_look }
+{
+    Look {
+        formatting: FormattingChanges::default(),
+        prefix: empty_text(alloc),
+        suffix: empty_text(alloc),
+        display: None,
+    }
+}

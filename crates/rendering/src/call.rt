@@ -1,0 +1,141 @@
+//! A call, and the layouts that it puts down.
+
+ghost use Rattle.std.specs.Prelude.{◌≡◌, true, map, IfOk, OnOk};
+ghost use Rattle.laws.specs.Text.{spelled};
+ghost use Rattle.rendering_leaves.specs.Settings.{noted};
+ghost use Rattle.rendering_leaves.specs.Views.{form_by};
+ghost use Rattle.rendering_nodes.specs.Content.{contents};
+ghost use Rattle.rendering_page.specs.Pages.{normal_put};
+ghost use Rattle.rendering_page.specs.Views.{quotes_of};
+ghost use Rattle.rendering_style.specs.Opening.{opened_nodes};
+ghost use Rattle.rendering_style.specs.Options.{open_options};
+ghost use Rattle.rendering_style.specs.Views.{bibliography_seen, layout_seen, node_seen, options_seen};
+ghost use Rattle.rendering.specs.Purposes.{bibliography_put, citation_put, citation_survey, layout_manner, layout_put, layout_survey, made_put, setting_of};
+ghost use Rattle.rendering.specs.Views.{context_in, style_of};
+
+use crate::author_node::AuthorNode;
+use crate::layout::{layout_manner, setting_of};
+use rendering_entries::EntryLike;
+use rendering_leaves::{Form, State};
+use rendering_nodes::Walk;
+use rendering_style::{Bibliography, Layout, NameOptions, Node};
+use std::alloc::AllocError;
+
+/// A call: what it prints from, and the node for authors. Its functions take the entry beside it.
+#[derive(Clone, Copy)]
+pub(crate) struct Call<'s, 'a> {
+    pub(crate) walk: Walk<'s, 'a>,
+    pub(crate) authors: &'a AuthorNode,
+}
+
+impl<'s, 'a> Call<'s, 'a> {
+    /// Puts the layout of the citation down in a form, without its affixes.
+    pub(crate) fn push_citation<E: EntryLike>(
+        &self,
+        entry: &'a E,
+        form: Form,
+        state: &mut State<'a>,
+    ) -> Result<(), AllocError>
+        ensures { OnOk result (state.new ≡ citation_put (style_of self.now) (context_in (E.answers entry.entry.now) self.now) (form_by form) state.old) }
+    {
+        let citation = &self.walk.style.parts().citation;
+        self.push_layout(entry, &citation.layout, &citation.name_options, form, state)
+    }
+
+    /// Puts the layout of the bibliography down in a form, without its affixes.
+    pub(crate) fn push_bibliography<E: EntryLike>(
+        &self,
+        entry: &'a E,
+        form: Form,
+        bibliography: &'a Bibliography,
+        state: &mut State<'a>,
+    ) -> Result<(), AllocError>
+        ensures { OnOk result (state.new ≡ bibliography_put (style_of self.now) (context_in (E.answers entry.entry.now) self.now) (form_by form) (bibliography_seen bibliography.now) state.old) }
+    {
+        let options = &bibliography.name_options;
+        self.push_layout(entry, &bibliography.layout, options, form, state)
+    }
+
+    /// Puts the node for the authors down as the layout of the citation would have it.
+    pub(crate) fn push_made<E: EntryLike>(
+        &self,
+        entry: &'a E,
+        form: Form,
+        state: &mut State<'a>,
+    ) -> Result<(), AllocError>
+        ensures { OnOk result (state.new ≡ made_put (style_of self.now) (context_in (E.answers entry.entry.now) self.now) (form_by form) state.old) }
+    {
+        let citation = &self.walk.style.parts().citation;
+        let nodes = self.authors.nodes();
+        let options = &citation.name_options;
+        self.push_nodes(entry, &citation.layout, options, nodes, form, state)
+    }
+
+    /// Puts a text of the citation's own down, which looks as its layout does.
+    pub(crate) fn push_own(&self, text: &'a str, state: &mut State<'a>) -> Result<(), AllocError>
+        ensures { OnOk result (state.new ≡ record state.old { page = normal_put (quotes_of self.now.walk.context.quotes.now) (layout_manner (style_of self.now).citation.layout) (spelled text.entry) state.old.page }) }
+    {
+        let manner = layout_manner(&self.walk.style.parts().citation.layout);
+        state.page.push_text(self.walk.context.quotes, manner, text)
+    }
+
+    /// Whether anything of the layout of the citation is admitted in a form. Remembers whether it was asked on the way if the cite is
+    /// like others.
+    pub(crate) fn admits_citation<E: EntryLike>(
+        &self,
+        entry: &'a E,
+        form: Form,
+        state: &mut State<'a>,
+    ) -> Result<bool, AllocError>
+        ensures admitted { IfOk result (λ b. b ≡ (citation_survey (style_of self.now) (context_in (E.answers entry.entry.now) self.now) (form_by form) state.old).is_admitted) }
+        ensures state { OnOk result (state.new ≡ noted (citation_survey (style_of self.now) (context_in (E.answers entry.entry.now) self.now) (form_by form) state.old).met state.old) }
+    {
+        self.admits(entry, &self.walk.style.parts().citation.layout, form, state)
+    }
+
+    /// Whether anything of a layout is admitted in a form. Remembers whether it was asked on the way if the cite is like others.
+    pub(crate) fn admits<E: EntryLike>(
+        &self,
+        entry: &'a E,
+        layout: &'a Layout,
+        form: Form,
+        state: &mut State<'a>,
+    ) -> Result<bool, AllocError>
+        ensures admitted { IfOk result (λ b. b ≡ (layout_survey (style_of self.now) (context_in (E.answers entry.entry.now) self.now) (layout_seen layout.now) open_options (form_by form) state.old).is_admitted) }
+        ensures state { OnOk result (state.new ≡ noted (layout_survey (style_of self.now) (context_in (E.answers entry.entry.now) self.now) (layout_seen layout.now) open_options (form_by form) state.old).met state.old) }
+    {
+        let asked = self.walk.survey(entry, form, &layout.nodes, state)?;
+        state.note(asked.met);
+        Ok(asked.is_admitted)
+    }
+
+    /// Puts a layout down in a form, without its affixes.
+    fn push_layout<E: EntryLike>(
+        &self,
+        entry: &'a E,
+        layout: &'a Layout,
+        options: &'a NameOptions,
+        form: Form,
+        state: &mut State<'a>,
+    ) -> Result<(), AllocError>
+        ensures { OnOk result (state.new ≡ layout_put (style_of self.now) (context_in (E.answers entry.entry.now) self.now) (layout_seen layout.now) (options_seen options.now) (form_by form) state.old) }
+    {
+        self.push_nodes(entry, layout, options, &layout.nodes, form, state)
+    }
+
+    /// Puts nodes down in a form as a layout would have them.
+    fn push_nodes<E: EntryLike>(
+        &self,
+        entry: &'a E,
+        layout: &'a Layout,
+        options: &'a NameOptions,
+        nodes: &'a [Node],
+        form: Form,
+        state: &mut State<'a>,
+    ) -> Result<(), AllocError>
+        ensures { OnOk result (state.new ≡ contents (context_in (E.answers entry.entry.now) self.now) (setting_of (style_of self.now) (layout_seen layout.now) (options_seen options.now) (form_by form)) true (opened_nodes (style_of self.now).macros (map node_seen nodes.now)) state.old) }
+    {
+        let setting = setting_of(self.walk.style.parts(), layout, options, form);
+        self.walk.push_nodes(entry, &setting, nodes, state)
+    }
+}

@@ -1,0 +1,44 @@
+//! How many calls were made.
+
+ghost use Rattle.std.specs.Prelude.{◌≡◌};
+ghost use Rattle.rendering.specs.Purposes.{counted};
+
+use std::marker::Model;
+
+/// How many calls of a style context were made, up to the last number that there is room for.
+#[derive(Debug, Drop)]
+pub struct Effort {
+    calls: u64,
+}
+
+impl Model for Effort {
+    ghost use Rattle.std.specs.Prelude.{ℕ};
+
+    ghost Value = { ℕ };
+
+    ghost view = { λ e. e.calls };
+}
+
+impl Effort {
+    /// The number of calls.
+    pub fn count(&self) -> u64
+        ensures { result ≡ self.now }
+    {
+        self.calls
+    }
+
+    /// Counts a call.
+    pub(crate) fn count_one(&mut self)
+        ensures { self.new ≡ counted self.old }
+    {
+        self.calls = self.calls.saturating_add(1);
+    }
+}
+
+impl Default for Effort {
+    ghost is_default = { λ e. e ≡ 0 };
+
+    fn default() -> Effort {
+        Effort { calls: 0 }
+    }
+}

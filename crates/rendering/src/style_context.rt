@@ -1,0 +1,218 @@
+//! Styles with the locales that they are used with.
+
+ghost use Rattle.std.specs.Prelude.{◌≡◌, false, true, IfOk};
+ghost use Rattle.std.specs.Option.{option_map};
+ghost use Rattle.laws.specs.Text.{characters};
+ghost use Rattle.rendering_locale.specs.CodeViews.{borrowed_code};
+ghost use Rattle.rendering_locale.specs.Lookup.{close_quotes};
+ghost use Rattle.rendering_page.specs.Views.{quotes_of};
+ghost use Rattle.rendering_style.specs.StyleViews.{style_seen};
+ghost use Rattle.rendering.specs.Purposes.{prints_suffix};
+
+use crate::author_node::AuthorNode;
+use crate::call::Call;
+use crate::effort::Effort;
+use crate::layout::prints_suffix;
+use crate::rendered::Rendering;
+use crate::words::{Letters, Words};
+use rendering_context::{CiteProperties, Context};
+use rendering_entries::EntryLike;
+use rendering_locale::{AskedLocales, Locale, LocaleCode, language};
+use rendering_nodes::Walk;
+use rendering_style::{Bibliography, Style};
+use rendering_taxonomy::{CitePurpose, CollapseVerdict};
+use std::alloc::{AllocError, Global};
+
+/// A style with the language that is asked for, and the files with locales.
+#[derive(Drop)]
+pub struct StyleContext<'a> {
+    alloc: Global,
+    style: &'a Style,
+    locale: Option<&'a LocaleCode>,
+    locale_files: &'a [Locale],
+    /// Whether a layout of the style prints the letters after a year by themselves.
+    has_suffix_node: bool,
+    authors: AuthorNode,
+    ghost suffix: { has_suffix_node ≡ prints_suffix (style_seen style.now) },
+}
+
+impl<'a> StyleContext<'a> {
+    ghost use Rattle.std.specs.Prelude.{map};
+    ghost use Rattle.rendering_context.specs.Cites.{letters_of};
+    ghost use Rattle.rendering_context.specs.Views.{cite_by};
+    ghost use Rattle.rendering_entries.specs.Answers.{Answers};
+    ghost use Rattle.rendering_locale.specs.Views.{locale_seen};
+    ghost use Rattle.rendering_style.specs.Views.{bibliography_seen};
+    ghost use Rattle.rendering_leaves.specs.Settings.{begun};
+    ghost use Rattle.rendering.specs.Purposes.{bibliography, citation, context_of, counted, item_put, locales_of, rendered};
+    ghost use Rattle.rendering.specs.Views.{context_in, context_seen, rendered_by, spoken, style_of};
+
+    /// A style with the language that is asked for where a call asks for none, and the files with locales.
+    ///
+    /// # Errors
+    /// Out of memory.
+    pub fn new(
+        alloc: Global,
+        style: &'a Style,
+        locale: Option<&'a LocaleCode>,
+        locale_files: &'a [Locale],
+    ) -> Result<StyleContext<'a>, AllocError>
+        ensures { IfOk result (λ x. context_seen x ≡ record { style = style_seen style.now; locale = option_map borrowed_code locale.entry; locale_files = map locale_seen locale_files.now }) }
+    {
+        let authors = AuthorNode::new(alloc)?;
+        Ok(StyleContext {
+            alloc,
+            style,
+            locale,
+            locale_files,
+            has_suffix_node: prints_suffix(style),
+            authors,
+        })
+    }
+
+    /// What the style gives of a cite, in the words of that language, by its purpose and what collapsing leaves of it. The call counts
+    /// whatever it gives.
+    ///
+    /// # Errors
+    /// Out of memory.
+    pub fn citation<'c, E: EntryLike>(
+        &'c self,
+        entry: &'c E,
+        properties: &'c CiteProperties<'c>,
+        term_locale: Option<&LocaleCode>,
+        purpose: Option<CitePurpose>,
+        verdict: Option<CollapseVerdict>,
+        effort: &mut Effort,
+    ) -> Result<Rendering, AllocError>
+        ensures cite { IfOk result (λ r. rendered_by r ≡ citation (context_seen self.now) (E.answers entry.now) (cite_by properties.now) (option_map borrowed_code term_locale.entry) purpose verdict) }
+        ensures effort { effort.new ≡ counted effort.old }
+    {
+        effort.count_one();
+        let letters = Letters::new(self.alloc, &properties.disambiguation)?;
+        self.cite(&letters, entry, properties, term_locale, purpose, verdict)
+    }
+
+    /// What the style gives of an item of the bibliography, in the words of that language, where it has a bibliography. The call
+    /// counts whatever it gives.
+    ///
+    /// # Errors
+    /// Out of memory.
+    pub fn bibliography<'c, E: EntryLike>(
+        &'c self,
+        entry: &'c E,
+        properties: &'c CiteProperties<'c>,
+        term_locale: Option<&LocaleCode>,
+        effort: &mut Effort,
+    ) -> Result<Option<Rendering>, AllocError>
+        ensures item { IfOk result (λ r. option_map rendered_by r ≡ bibliography (context_seen self.now) (E.answers entry.now) (cite_by properties.now) (option_map borrowed_code term_locale.entry)) }
+        ensures effort { effort.new ≡ counted effort.old }
+    {
+        effort.count_one();
+        match &self.style.parts().bibliography {
+            Some(bibliography) => {
+                Ok(Some(self.item(entry, properties, term_locale, bibliography)?))
+            }
+            None => Ok(None),
+        }
+    }
+
+    /// What the style gives of an item of this bibliography.
+    fn item<'c, E: EntryLike>(
+        &'c self,
+        entry: &'c E,
+        properties: &'c CiteProperties<'c>,
+        term_locale: Option<&LocaleCode>,
+        bibliography: &'c Bibliography,
+    ) -> Result<Rendering, AllocError>
+        ensures { IfOk result (λ r. rendered_by r ≡ rendered (item_put (context_seen self.now).style (context_of (context_seen self.now) (option_map borrowed_code term_locale.entry) true (E.answers entry.now) (cite_by properties.now)) (bibliography_seen bibliography.now) begun)) }
+    {
+        let letters = Letters::new(self.alloc, &properties.disambiguation)?;
+        self.listed(&letters, entry, properties, term_locale, bibliography)
+    }
+
+    /// What the style gives of a cite with these letters after a year.
+    fn cite<'c, E: EntryLike>(
+        &'c self,
+        letters: &'c Letters,
+        entry: &'c E,
+        properties: &'c CiteProperties<'c>,
+        term_locale: Option<&LocaleCode>,
+        purpose: Option<CitePurpose>,
+        verdict: Option<CollapseVerdict>,
+    ) -> Result<Rendering, AllocError>
+        requires { characters letters.now.0 ≡ letters_of (cite_by properties.now).disambiguation }
+        ensures { IfOk result (λ r. rendered_by r ≡ citation (context_seen self.now) (E.answers entry.now) (cite_by properties.now) (option_map borrowed_code term_locale.entry) purpose verdict) }
+    {
+        let words = self.words(term_locale)?;
+        let call = self.call(&words, letters, properties, false);
+        call.rendered_for(entry, verdict, purpose)
+    }
+
+    /// What the style gives of an item of this bibliography with these letters after a year.
+    fn listed<'c, E: EntryLike>(
+        &'c self,
+        letters: &'c Letters,
+        entry: &'c E,
+        properties: &'c CiteProperties<'c>,
+        term_locale: Option<&LocaleCode>,
+        bibliography: &'c Bibliography,
+    ) -> Result<Rendering, AllocError>
+        requires { characters letters.now.0 ≡ letters_of (cite_by properties.now).disambiguation }
+        ensures { IfOk result (λ r. rendered_by r ≡ rendered (item_put (context_seen self.now).style (context_of (context_seen self.now) (option_map borrowed_code term_locale.entry) true (E.answers entry.now) (cite_by properties.now)) (bibliography_seen bibliography.now) begun)) }
+    {
+        let words = self.words(term_locale)?;
+        let call = self.call(&words, letters, properties, true);
+        call.item(entry, bibliography)
+    }
+
+    /// The words of a call.
+    fn words<'c>(&'c self, term_locale: Option<&LocaleCode>) -> Result<Words<'c>, AllocError>
+        ensures locales { IfOk result (λ w. w.locales ≡ locales_of (context_seen self.now) (option_map borrowed_code term_locale.entry)) }
+        ensures quotes { IfOk result (λ w. quotes_of w.quotes.items ≡ close_quotes (locales_of (context_seen self.now) (option_map borrowed_code term_locale.entry))) }
+    {
+        let locales = self.locales(term_locale)?;
+        let quotes = locales.close_quotes(self.alloc)?;
+        Ok(Words { locales, quotes })
+    }
+
+    /// The locales that a call asks.
+    fn locales<'c>(
+        &'c self,
+        term_locale: Option<&LocaleCode>,
+    ) -> Result<AskedLocales<'c>, AllocError>
+        ensures { IfOk result (λ l. l ≡ locales_of (context_seen self.now) (option_map borrowed_code term_locale.entry)) }
+    {
+        let parts = self.style.parts();
+        let code = language(term_locale.or(self.locale), parts.default_locale.as_ref());
+        AskedLocales::new(self.alloc, code, &parts.locales, self.locale_files)
+    }
+
+    /// A call in these words.
+    fn call<'s, 'c>(
+        &'c self,
+        words: &'s Words<'c>,
+        letters: &'c Letters,
+        properties: &'s CiteProperties<'c>,
+        is_bibliography: bool,
+    ) -> Call<'s, 'c>
+        ensures style { style_of result ≡ (context_seen self.now).style }
+        ensures context { (a : Answers) → context_in a result ≡ spoken (context_seen self.now).style a (cite_by properties.now) words.now.locales (quotes_of words.now.quotes.items) (characters letters.now.0) is_bibliography }
+    {
+        let context = Context {
+            alloc: self.alloc,
+            properties,
+            locales: &words.locales,
+            quotes: words.quotes.as_slice(),
+            letters: letters.0.as_str(),
+            is_bibliography,
+            has_suffix_node: self.has_suffix_node,
+        };
+        Call {
+            walk: Walk {
+                context,
+                style: self.style,
+            },
+            authors: &self.authors,
+        }
+    }
+}
