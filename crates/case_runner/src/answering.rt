@@ -29,7 +29,8 @@ fn answer(alloc: Global, case: &Value<'_>, out: &mut Writer) -> Result<(), Refus
         || cases_styles::answer(alloc, kind, case, out)?
         || cases_rendering::answer(alloc, kind, case, out)?
         || cases_answers::answer(alloc, kind, case, out)?
-        || cases_cite::answer(alloc, kind, case, out)?;
+        || cases_cite::answer(alloc, kind, case, out)?
+        || cases_citations::answer(alloc, kind, case, out)?;
     if is_answered {
         return Ok(());
     }

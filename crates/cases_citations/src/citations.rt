@@ -1,0 +1,74 @@
+//! Cites as a style prints them.
+
+use crate::properties::properties_of;
+use crate::shown::{put_effort, put_facts};
+use cases::{Refusal, Value, Writer};
+use cases_rendering::put_written_tree;
+use cases_styles::{maybe_code, maybe_word};
+use literature::Entry;
+use rendering::{
+    CiteProperties, CitePurpose, CollapseVerdict, Effort, LocaleCode, Rendering, StyleContext,
+};
+use std::alloc::Global;
+
+const PURPOSES: &[(&str, CitePurpose)] = &[
+    ("author", CitePurpose::Author),
+    ("year", CitePurpose::Year),
+    ("full", CitePurpose::Full),
+    ("prose", CitePurpose::Prose),
+];
+
+const VERDICTS: &[(&str, CollapseVerdict)] = &[
+    ("first", CollapseVerdict::First),
+    ("year-suffix", CollapseVerdict::YearSuffix),
+];
+
+/// `citation`: a cite, and the three facts of its call.
+pub(crate) fn put_citation(
+    alloc: Global,
+    case: &Value<'_>,
+    out: &mut Writer,
+    context: &StyleContext<'_>,
+    entry: &Entry,
+) -> Result<(), Refusal> {
+    let properties = properties_of(alloc, case, context, entry)?;
+    put_known(alloc, case, out, context, entry, &properties)
+}
+
+/// Writes a cite of which that is known.
+fn put_known(
+    alloc: Global,
+    case: &Value<'_>,
+    out: &mut Writer,
+    context: &StyleContext<'_>,
+    entry: &Entry,
+    properties: &CiteProperties<'_>,
+) -> Result<(), Refusal> {
+    let code = maybe_code(alloc, case, "term_locale")?;
+    let mut effort = Effort::default();
+    let rendering = rendering_of(case, context, entry, properties, code.as_ref(), &mut effort)?;
+    put_rendering(alloc, out, &rendering)?;
+    put_effort(case, out, &effort)
+}
+
+/// What a style gives of a cite, by its purpose and what collapsing leaves of it.
+fn rendering_of(
+    case: &Value<'_>,
+    context: &StyleContext<'_>,
+    entry: &Entry,
+    properties: &CiteProperties<'_>,
+    code: Option<&LocaleCode>,
+    effort: &mut Effort,
+) -> Result<Rendering, Refusal> {
+    let purpose = maybe_word(case, "purpose", PURPOSES)?;
+    let verdict = maybe_word(case, "verdict", VERDICTS)?;
+    context
+        .citation(entry, properties, code, purpose, verdict, effort)
+        .map_err(Refusal::from)
+}
+
+/// Writes what was printed, and the facts of the call.
+fn put_rendering(alloc: Global, out: &mut Writer, rendering: &Rendering) -> Result<(), Refusal> {
+    put_written_tree(alloc, out, &rendering.tree)?;
+    put_facts(out, rendering).map_err(Refusal::from)
+}

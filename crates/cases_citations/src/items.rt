@@ -1,0 +1,58 @@
+//! Items of a bibliography as a style prints them.
+
+use crate::properties::properties_of;
+use crate::shown::put_effort;
+use cases::{Refusal, Value, Writer};
+use cases_rendering::put_written_tree;
+use cases_styles::maybe_code;
+use literature::Entry;
+use rendering::{CiteProperties, Effort, Rendering, StyleContext};
+use std::alloc::Global;
+
+/// `item`: an item, or null where the style has no bibliography.
+pub(crate) fn put_item(
+    alloc: Global,
+    case: &Value<'_>,
+    out: &mut Writer,
+    context: &StyleContext<'_>,
+    entry: &Entry,
+) -> Result<(), Refusal> {
+    let properties = properties_of(alloc, case, context, entry)?;
+    put_known(alloc, case, out, context, entry, &properties)
+}
+
+/// Writes an item of which that is known.
+fn put_known(
+    alloc: Global,
+    case: &Value<'_>,
+    out: &mut Writer,
+    context: &StyleContext<'_>,
+    entry: &Entry,
+    properties: &CiteProperties<'_>,
+) -> Result<(), Refusal> {
+    let code = maybe_code(alloc, case, "term_locale")?;
+    let mut effort = Effort::default();
+    let rendering = context.bibliography(entry, properties, code.as_ref(), &mut effort)?;
+    put_rendering(alloc, out, rendering.as_ref())?;
+    put_effort(case, out, &effort)
+}
+
+/// Writes what was printed, or null.
+fn put_rendering(
+    alloc: Global,
+    out: &mut Writer,
+    rendering: Option<&Rendering>,
+) -> Result<(), Refusal> {
+    out.key("item")?;
+    match rendering {
+        Some(rendering) => put_object(alloc, out, rendering),
+        None => out.null().map_err(Refusal::from),
+    }
+}
+
+/// Writes what was printed, as an object.
+fn put_object(alloc: Global, out: &mut Writer, rendering: &Rendering) -> Result<(), Refusal> {
+    out.begin_object()?;
+    put_written_tree(alloc, out, &rendering.tree)?;
+    out.end_object().map_err(Refusal::from)
+}
