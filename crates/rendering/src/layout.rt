@@ -9,13 +9,13 @@ ghost use Rattle.rendering_style.specs.StyleViews.{style_seen};
 ghost use Rattle.rendering_style.specs.Views.{bibliography_seen, layout_seen, options_seen, parts_seen};
 ghost use Rattle.rendering.specs.Purposes.{layout_frame, layout_manner, layout_nodes, prints_suffix, setting_of};
 
-use crate::plain::plainly;
 use crate::texts_of::text_or_empty;
 use rendering_leaves::{Form, Setting};
 use rendering_names::ResolvedNameOptions;
 use rendering_nodes::has_suffix;
 use rendering_page::{Frame, Manner};
 use rendering_style::{Bibliography, Layout, NameOptions, Style, StyleParts};
+use rendering_writing::plainly;
 
 /// How a layout's texts are put down.
 pub(crate) fn layout_manner(layout: &Layout) -> Manner

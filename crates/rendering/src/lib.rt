@@ -8,7 +8,6 @@ mod cite_laws;
 mod effort;
 mod front;
 mod layout;
-mod plain;
 mod prose;
 mod purpose;
 mod rendered;
@@ -17,32 +16,110 @@ mod texts_of;
 mod words;
 mod year;
 
-pub use cite_laws::{alike_cites_are_one, alike_items_are_one};
+pub use cite_laws::alike_cites_are_one;
+pub use cite_laws::alike_items_are_one;
 pub use effort::Effort;
 pub use rendered::Rendering;
-pub use rendering_context::{
-    CiteProperties, DisambiguateState, LocatorPayload, SpecificLocator, TransparentLocator,
-};
-pub use rendering_entries::{Alphanumerical, EntryLike, are_one_entry};
-pub use rendering_locale::{
-    DatePart, Locale, LocaleCode, LocalizedDate, LocalizedTerm, OrdinalEnding, Ordinals,
-};
+pub use rendering_context::CiteProperties;
+pub use rendering_context::DisambiguateState;
+pub use rendering_context::LocatorPayload;
+pub use rendering_context::SpecificLocator;
+pub use rendering_context::TransparentLocator;
+pub use rendering_entries::Alphanumerical;
+pub use rendering_entries::EntryLike;
+pub use rendering_entries::are_one_entry;
+pub use rendering_leaves::Form;
+pub use rendering_leaves::Setting;
+pub use rendering_locale::DatePart;
+pub use rendering_locale::Locale;
+pub use rendering_locale::LocaleCode;
+pub use rendering_locale::LocalizedDate;
+pub use rendering_locale::LocalizedTerm;
+pub use rendering_locale::OrdinalEnding;
+pub use rendering_locale::Ordinals;
 pub use rendering_names::NameDisambiguationProperties;
-pub use rendering_style::{
-    Bibliography, ChooseBranch, ChooseTest, Citation, Condition, Date, EtAl, Group, Label,
-    LabelLook, Layout, Look, Macro, Name, NameOptions, Names, Node, Number, Style, StyleError,
-    StyleParts, Text, TextLook, TextTarget,
-};
-pub use rendering_taxonomy::{
-    ChooseMatch, CitePurpose, Collapse, CollapseVerdict, DateDayForm, DateForm, DateMonthForm,
-    DatePartForm, DateParts, DateVariable, DelimiterBehavior, DisambiguatedNameForm,
-    DisambiguationRule, Display, EtAlTerm, FontStyle, FontVariant, FontWeight, Formatting,
-    FormattingChanges, IbidState, IdentifierUsage, Kind, LabelPluralize, Locator, LongShortForm,
-    NameAnd, NameAsSortOrder, NameForm, NameVariable, NumberForm, NumberVariable, OtherTerm,
-    SecondFieldAlign, StandardVariable, StyleCategory, StyleClass, SubsequentAuthorSubstituteRule,
-    Term, TermForm, TestPosition, TextDecoration, Variable, VerticalAlign,
-};
-pub use rendering_tree::{
-    BufWriteFormat, Elem, ElemChild, ElemChildren, ElemMeta, Formatted, simplify_children,
-};
+pub use rendering_names::ResolvedNameOptions;
+pub use rendering_nodes::Survey;
+pub use rendering_nodes::Walk;
+pub use rendering_page::Manner;
+pub use rendering_style::Bibliography;
+pub use rendering_style::ChooseBranch;
+pub use rendering_style::ChooseTest;
+pub use rendering_style::Citation;
+pub use rendering_style::Condition;
+pub use rendering_style::Date;
+pub use rendering_style::EtAl;
+pub use rendering_style::Group;
+pub use rendering_style::Label;
+pub use rendering_style::LabelLook;
+pub use rendering_style::Layout;
+pub use rendering_style::Look;
+pub use rendering_style::Macro;
+pub use rendering_style::Name;
+pub use rendering_style::NameOptions;
+pub use rendering_style::Names;
+pub use rendering_style::Node;
+pub use rendering_style::Number;
+pub use rendering_style::Style;
+pub use rendering_style::StyleError;
+pub use rendering_style::StyleParts;
+pub use rendering_style::Text;
+pub use rendering_style::TextLook;
+pub use rendering_style::TextTarget;
+pub use rendering_taxonomy::ChooseMatch;
+pub use rendering_taxonomy::CitePurpose;
+pub use rendering_taxonomy::Collapse;
+pub use rendering_taxonomy::CollapseVerdict;
+pub use rendering_taxonomy::DateDayForm;
+pub use rendering_taxonomy::DateForm;
+pub use rendering_taxonomy::DateMonthForm;
+pub use rendering_taxonomy::DatePartForm;
+pub use rendering_taxonomy::DateParts;
+pub use rendering_taxonomy::DateVariable;
+pub use rendering_taxonomy::DelimiterBehavior;
+pub use rendering_taxonomy::DisambiguatedNameForm;
+pub use rendering_taxonomy::DisambiguationRule;
+pub use rendering_taxonomy::Display;
+pub use rendering_taxonomy::EtAlTerm;
+pub use rendering_taxonomy::FontStyle;
+pub use rendering_taxonomy::FontVariant;
+pub use rendering_taxonomy::FontWeight;
+pub use rendering_taxonomy::Formatting;
+pub use rendering_taxonomy::FormattingChanges;
+pub use rendering_taxonomy::IbidState;
+pub use rendering_taxonomy::IdentifierUsage;
+pub use rendering_taxonomy::Kind;
+pub use rendering_taxonomy::LabelPluralize;
+pub use rendering_taxonomy::Locator;
+pub use rendering_taxonomy::LongShortForm;
+pub use rendering_taxonomy::NameAnd;
+pub use rendering_taxonomy::NameAsSortOrder;
+pub use rendering_taxonomy::NameForm;
+pub use rendering_taxonomy::NameVariable;
+pub use rendering_taxonomy::NumberForm;
+pub use rendering_taxonomy::NumberVariable;
+pub use rendering_taxonomy::OtherTerm;
+pub use rendering_taxonomy::SecondFieldAlign;
+pub use rendering_taxonomy::StandardVariable;
+pub use rendering_taxonomy::StyleCategory;
+pub use rendering_taxonomy::StyleClass;
+pub use rendering_taxonomy::SubsequentAuthorSubstituteRule;
+pub use rendering_taxonomy::Term;
+pub use rendering_taxonomy::TermForm;
+pub use rendering_taxonomy::TestPosition;
+pub use rendering_taxonomy::TextDecoration;
+pub use rendering_taxonomy::Variable;
+pub use rendering_taxonomy::VerticalAlign;
+pub use rendering_tree::BufWriteFormat;
+pub use rendering_tree::Elem;
+pub use rendering_tree::ElemChild;
+pub use rendering_tree::ElemChildren;
+pub use rendering_tree::ElemMeta;
+pub use rendering_tree::Formatted;
+pub use rendering_tree::simplify_children;
+pub use rendering_writing::Context;
+pub use rendering_writing::RenderCsl;
+pub use rendering_writing::WritingContext;
 pub use style_context::StyleContext;
+pub use words::Letters;
+pub use words::Words;

@@ -44,6 +44,7 @@ impl<'a> StyleContext<'a> {
     ghost use Rattle.rendering_locale.specs.Views.{locale_seen};
     ghost use Rattle.rendering_style.specs.Views.{bibliography_seen};
     ghost use Rattle.rendering_leaves.specs.Settings.{begun};
+    ghost use Rattle.rendering_nodes.specs.Views.{walk_context};
     ghost use Rattle.rendering.specs.Purposes.{bibliography, citation, context_of, counted, item_put, locales_of, rendered};
     ghost use Rattle.rendering.specs.Views.{context_in, context_seen, rendered_by, spoken, style_of};
 
@@ -165,8 +166,11 @@ impl<'a> StyleContext<'a> {
         call.item(entry, bibliography)
     }
 
-    /// The words of a call.
-    fn words<'c>(&'c self, term_locale: Option<&LocaleCode>) -> Result<Words<'c>, AllocError>
+    /// The words of a call in that language, or in the one of the context.
+    ///
+    /// # Errors
+    /// Out of memory.
+    pub fn words<'c>(&'c self, term_locale: Option<&LocaleCode>) -> Result<Words<'c>, AllocError>
         ensures locales { IfOk result (λ w. w.locales ≡ locales_of (context_seen self.now) (option_map borrowed_code term_locale.entry)) }
         ensures quotes { IfOk result (λ w. quotes_of w.quotes.items ≡ close_quotes (locales_of (context_seen self.now) (option_map borrowed_code term_locale.entry))) }
     {
@@ -187,6 +191,33 @@ impl<'a> StyleContext<'a> {
         AskedLocales::new(self.alloc, code, &parts.locales, self.locale_files)
     }
 
+    /// What a caller prints from by itself: as in a cite, or in an item of a bibliography, with these properties, in these words and with
+    /// these letters after a year.
+    pub fn walk<'s, 'c>(
+        &'c self,
+        words: &'s Words<'c>,
+        letters: &'c Letters,
+        properties: &'s CiteProperties<'c>,
+        is_bibliography: bool,
+    ) -> Walk<'s, 'c>
+        ensures style { style_seen result.style.now ≡ (context_seen self.now).style }
+        ensures context { (a : Answers) → walk_context a result ≡ spoken (context_seen self.now).style a (cite_by properties.now) words.now.locales (quotes_of words.now.quotes.items) (characters letters.now.0) is_bibliography }
+    {
+        let context = Context {
+            alloc: self.alloc,
+            properties,
+            locales: &words.locales,
+            quotes: words.quotes.as_slice(),
+            letters: letters.0.as_str(),
+            is_bibliography,
+            has_suffix_node: self.has_suffix_node,
+        };
+        Walk {
+            context,
+            style: self.style,
+        }
+    }
+
     /// A call in these words.
     fn call<'s, 'c>(
         &'c self,
@@ -198,20 +229,8 @@ impl<'a> StyleContext<'a> {
         ensures style { style_of result ≡ (context_seen self.now).style }
         ensures context { (a : Answers) → context_in a result ≡ spoken (context_seen self.now).style a (cite_by properties.now) words.now.locales (quotes_of words.now.quotes.items) (characters letters.now.0) is_bibliography }
     {
-        let context = Context {
-            alloc: self.alloc,
-            properties,
-            locales: &words.locales,
-            quotes: words.quotes.as_slice(),
-            letters: letters.0.as_str(),
-            is_bibliography,
-            has_suffix_node: self.has_suffix_node,
-        };
         Call {
-            walk: Walk {
-                context,
-                style: self.style,
-            },
+            walk: self.walk(words, letters, properties, is_bibliography),
             authors: &self.authors,
         }
     }

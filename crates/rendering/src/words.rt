@@ -10,25 +10,25 @@ use rendering_locale::AskedLocales;
 use std::alloc::{AllocError, Global};
 use texts::empty_text;
 
-/// The words of a call.
+/// The words of a call, which `StyleContext::words` gives.
 #[derive(Drop)]
-pub(crate) struct Words<'a> {
+pub struct Words<'a> {
     /// The locales that are asked.
-    pub(crate) locales: AskedLocales<'a>,
+    pub locales: AskedLocales<'a>,
     /// Their close quotes inside which punctuation goes.
-    pub(crate) quotes: Vec<&'a str>,
+    pub quotes: Vec<&'a str>,
 }
 
 /// The letters after a year that tell a cite apart; none where there are none.
 #[derive(Drop)]
-pub(crate) struct Letters(pub(crate) String);
+pub struct Letters(pub String);
 
 impl Letters {
     /// The letters by what tells the cite apart.
     ///
     /// # Errors
     /// Out of memory.
-    pub(crate) fn new(alloc: Global, state: &DisambiguateState) -> Result<Letters, AllocError>
+    pub fn new(alloc: Global, state: &DisambiguateState) -> Result<Letters, AllocError>
         ensures { IfOk result (λ l. characters l.0 ≡ letters_of (state_by state.now)) }
     {
         let mut letters = empty_text(alloc);

@@ -10,7 +10,6 @@ ghost use Rattle.rendering.specs.Purposes.{first_dated, year_dates, year_put};
 ghost use Rattle.rendering.specs.Views.{context_in};
 
 use crate::call::Call;
-use crate::plain::plainly;
 use crate::texts_of::no_date;
 use literature_values::Date;
 use rendering_dates::push_years;
@@ -18,6 +17,7 @@ use rendering_entries::EntryLike;
 use rendering_leaves::State;
 use rendering_locale::AskedLocales;
 use rendering_taxonomy::{DateVariable, OtherTerm, Term, TermForm};
+use rendering_writing::plainly;
 use std::alloc::{AllocError, Global};
 use std::borrow::Cow;
 use texts::empty_text;

@@ -10,7 +10,7 @@ use rendering_taxonomy::{
 };
 
 /// How texts are put down that look as they do of themselves.
-pub(crate) fn plainly() -> Manner
+pub fn plainly() -> Manner
     ensures { manner result ≡ plainly }
 {
     Manner {

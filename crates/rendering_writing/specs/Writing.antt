@@ -1,13 +1,14 @@
 -- What those who print by themselves may do to a page.
-use Rattle.std.specs.Prelude.{ℕ, true, List, [], ◌∷◌}
+use Rattle.std.specs.Prelude.{ℕ, true, false, List, [], ◌∷◌, None}
 use Rattle.literature_values.specs.TextViews.{Chunk}
-use Rattle.rendering_page.specs.Pages.{space_put}
+use Rattle.rendering_page.specs.Pages.{Page, space_put}
 use Rattle.rendering_page.specs.Pieces.{normal, linked, own_locator, chunk_pieces}
-use Rattle.rendering_style.specs.Options.{NameOptions, options_over}
-use Rattle.rendering_style.specs.Nodes.{Node, node, no_nodes}
+use Rattle.rendering_page.specs.Titles.{plainly}
+use Rattle.rendering_style.specs.Options.{NameOptions, open_options, options_over}
+use Rattle.rendering_style.specs.Nodes.{Nodes}
 use Rattle.rendering_context.specs.Contexts.{Context}
-use Rattle.rendering_leaves.specs.Settings.{Setting, State, put}
-use Rattle.rendering_nodes.specs.Admission.{Survey, survey}
+use Rattle.rendering_leaves.specs.Settings.{Setting, State, whole, put}
+use Rattle.rendering_nodes.specs.Admission.{Survey, surveys}
 use Rattle.rendering_nodes.specs.Content.{stage, contents}
 
 -- What was put down, what is handed down, and the options for names that count again when those that count now are taken back.
@@ -15,6 +16,21 @@ pub record Writing : Type 0 where
   pub state : State
   pub setting : Setting
   pub options_around : List NameOptions
+
+-- what is handed down where nothing was said
+abbrev pub setting_begun : Setting
+setting_begun = record {
+  manner = plainly;
+  inside_quotes = false;
+  delimiter = None;
+  options = open_options;
+  stands_in = false;
+  form = whole;
+}
+
+-- what was put down as it stands on a page
+abbrev pub with_page : Page → Writing → Writing
+with_page p w = record w { state = record w.state { page = p } }
 
 -- further options for names count over those that count now
 abbrev pub options_pushed : NameOptions → Writing → Writing
@@ -31,7 +47,7 @@ options_popped w = options_popped_to w.options_around w
 
 -- a space, unless nothing was put down or the last text ends in one
 abbrev pub space_ensured : Writing → Writing
-space_ensured w = record w { state = record w.state { page = space_put w.state.page } }
+space_ensured w = with_page (space_put w.state.page) w
 
 -- an ordinary text
 abbrev pub text_pushed : Context → List ℕ → Writing → Writing
@@ -45,14 +61,14 @@ chunks_pushed c cs w = record w { state = put c (chunk_pieces w.setting.manner c
 abbrev pub link_pushed : Context → List ℕ → List ℕ → Writing → Writing
 link_pushed c cs url w = record w { state = put c (linked w.setting.manner.formatting cs url ∷ []) w.state }
 
--- a locator that is kept apart, by the place of its cite
+-- a locator of the caller's own, by the place of its cite
 abbrev pub transparent_pushed : Context → ℕ → Writing → Writing
 transparent_pushed c n w = record w { state = put c (own_locator w.setting.manner.formatting n ∷ []) w.state }
 
--- what a node whose macros are opened prints there: nothing unless it is admitted
-abbrev pub node_rendered : Context → Node → Writing → Writing
-node_rendered c x w = record w { state = contents c w.setting true (node x no_nodes) w.state }
+-- what nodes whose macros are opened print there, each that is admitted
+abbrev pub nodes_rendered : Context → Nodes → Writing → Writing
+nodes_rendered c xs w = record w { state = contents c w.setting true xs w.state }
 
--- what would be asked of it first: whether it is admitted, whether it calls variables, and whether one of them has an answer
-abbrev pub node_asked : Context → Node → Writing → Survey
-node_asked c x w = survey (stage c w.setting w.state) x
+-- what is asked of them first: whether one is admitted, whether they call variables, and whether one of these has an answer
+abbrev pub nodes_asked : Context → Nodes → Writing → Survey
+nodes_asked c xs w = surveys (stage c w.setting w.state) xs

@@ -1,0 +1,13 @@
+//! What those who print by themselves may do: a page with what is handed down to what is put on it, texts and nodes of a style put
+//! down there, and what is asked of nodes before.
+#![tactic(auto)]
+
+mod context;
+mod plain;
+mod render;
+mod writing;
+
+pub use context::Context;
+pub use plain::plainly;
+pub use render::RenderCsl;
+pub use writing::WritingContext;
