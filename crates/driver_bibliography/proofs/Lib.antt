@@ -1,0 +1,7 @@
+pub mod ItemsRows
+pub mod ChangedSteps
+pub mod NamedSteps
+pub mod NamesListed
+pub mod RepeatsSteps
+pub mod FieldsParted
+pub mod EachSteps

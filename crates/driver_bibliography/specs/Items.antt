@@ -1,0 +1,31 @@
+-- The items of a bibliography from what the style gives of each.
+use Rattle.std.specs.Prelude.{ℕ, List, map, Option, Some, None}
+use Rattle.rendering_tree.specs.Trees.{Children, Element, Parted, parted, simplified}
+use Rattle.rendering_style.specs.Styles.{Bibliography}
+use Rattle.driver_bibliography.specs.Substitution.{substituted, with_names_before}
+use Rattle.rendering_taxonomy.specs.declared.style.SecondFieldAlign.{SecondFieldAlign}
+use Rattle.rendering_taxonomy.specs.declared.style.SubsequentAuthorSubstituteRule.{SubsequentAuthorSubstituteRule}
+
+-- An item: its first field, where the second one is aligned, and all else.
+pub record Fields : Type 0 where
+  pub first_field : Option Element
+  pub content : Children
+
+-- the items, with the text in place of repeated names where the style has such a text
+abbrev pub all_substituted : SubsequentAuthorSubstituteRule → Option (List ℕ) → List Children → List Children
+all_substituted rule None trees = trees
+all_substituted rule (Some text) trees = map (substituted rule text) (with_names_before None trees)
+
+-- an item without the first element that stands for something, which is its first field
+abbrev pub fields_of : Children → Parted → Fields
+fields_of tree None = record { first_field = None; content = tree }
+fields_of tree (Some (e, others)) = record { first_field = Some e; content = simplified others }
+
+-- an item in fields
+abbrev pub fields_by : Option SecondFieldAlign → Children → Fields
+fields_by None tree = record { first_field = None; content = tree }
+fields_by (Some align) tree = fields_of tree (parted tree)
+
+-- The items of a bibliography.
+abbrev pub items_of : Bibliography → List Children → List Fields
+items_of b trees = map (fields_by b.second_field_align) (all_substituted b.substitute_rule b.substitute trees)

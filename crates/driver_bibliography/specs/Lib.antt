@@ -1,0 +1,3 @@
+pub mod Substitution
+pub mod Items
+pub mod Views

@@ -1,0 +1,65 @@
+-- What the code reads and makes, as plain data.
+use Rattle.std.specs.Prelude.{◌≡◌, ℕ, Bool, List, [], ◌∷◌, map, Option, is_some}
+use Rattle.std.specs.Borrow.{Bor}
+use Rattle.std.specs.Option.{option_map, unwrap_or}
+use Rattle.laws.specs.Text.{spelled}
+use Rattle.rendering_tree.specs.Trees.{Child, Children, Elem, Element, names_element, simplified}
+use Rattle.rendering_tree.specs.Views.{element, tree}
+use Rattle.driver_bibliography.specs.Items as items
+use Rattle.driver_bibliography.specs.Substitution.{Repeated, none_of_them, all_of_them, first_of_them, with_names_before, is_some_name, names_replaced, repeated, text_alone, text_for}
+use Rattle.rendering_taxonomy.specs.declared.style.SubsequentAuthorSubstituteRule.{SubsequentAuthorSubstituteRule}
+use Rattle.rendering_tree.specs.declared.element.Elem.{Elem as ElemOf}
+use Rattle.driver_bibliography.specs.declared.fields.ItemFields.{ItemFields}
+use Rattle.driver_bibliography.specs.declared.repeats.Repetition.{Repetition}
+use Rattle.driver_bibliography.specs.declared.repeats.Repetition.TheVariants as repeats
+
+-- elements that are lent
+abbrev pub borrowed : List (Bor ElemOf) → List Element
+borrowed es = map (λ e. element e.now) es
+
+-- an element that may be lent
+abbrev pub lent : Option (Bor ElemOf) → Option Element
+lent e = option_map (λ f. element f.now) e
+
+-- a text that may be lent
+abbrev pub spelled_if : Option (Bor (List ℕ)) → Option (List ℕ)
+spelled_if t = option_map spelled t
+
+-- whether an element stands for a single name
+abbrev pub is_single : Element → Bool
+is_single e = is_some_name e.meta
+
+-- an element among children
+abbrev pub as_child : Element → Child
+as_child e = Elem e.display e.meta e.children
+
+-- what a text stands for
+abbrev pub repeated_seen : Repetition → Repeated
+repeated_seen repeats.Nothing = none_of_them
+repeated_seen repeats.All = all_of_them
+repeated_seen (repeats.First n) = first_of_them n
+
+-- an item in fields
+abbrev pub fields_seen : ItemFields → items.Fields
+fields_seen f = record { first_field = option_map (λ e. element e) f.first_field; content = tree f.content }
+
+-- what of the names of each item repeats those before them
+abbrev pub repeats_after : SubsequentAuthorSubstituteRule → Option Element → List Children → List Repeated
+repeats_after rule last trees = map (λ p. repeated rule p.0 (names_element p.1)) (with_names_before last trees)
+
+-- what names contain in which a text stands for what is repeated
+abbrev pub children_for : List ℕ → Repeated → Children → Children
+children_for text none_of_them xs = xs
+children_for text all_of_them xs = text_alone text
+children_for text (first_of_them n) xs = (names_replaced (text_alone text) xs n).0
+
+-- items in each of which a text stands for what is repeated
+abbrev pub all_changed : List ℕ → List Repeated → List Children → List Children
+all_changed text [] trees = []
+all_changed text (r ∷ rs) [] = []
+all_changed text (r ∷ rs) (tree ∷ trees) = simplified (text_for text r tree) ∷ all_changed text rs trees
+
+-- What was changed is what was wanted, where there was something to change, and all is as it was where there was not.
+pub record Changes {X : Type 0} (wanted : Option X) (old new : X) (found : Bool) : Type 0 where
+  pub as_found : found ≡ is_some wanted
+  pub as_wanted : new ≡ unwrap_or wanted old

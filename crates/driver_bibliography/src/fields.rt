@@ -1,0 +1,134 @@
+//! The items of a bibliography.
+
+ghost use Rattle.std.specs.Prelude.{◌≡◌, IfOk, Some, length, map};
+ghost use Rattle.std.specs.Str.{chars};
+ghost use Rattle.rendering_tree.specs.Trees.{parted};
+ghost use Rattle.rendering_tree.specs.Views.{tree};
+ghost use Rattle.rendering_style.specs.Views.{bibliography_seen};
+ghost use Rattle.driver_bibliography.specs.Items.{all_substituted, fields_by, fields_of, items_of};
+ghost use Rattle.driver_bibliography.specs.Views.{all_changed, fields_seen, repeated_seen, spelled_if};
+
+use crate::repeats::{Repetition, repeats};
+use crate::substitute::substitute;
+use rendering_style::Bibliography;
+use rendering_taxonomy::{SecondFieldAlign, SubsequentAuthorSubstituteRule};
+use rendering_tree::{Elem, ElemChildren, simplify_children};
+use std::alloc::{AllocError, Global};
+
+/// An item of a bibliography: its first field, where the second one is aligned, and all else.
+#[derive(Debug, PartialEq, Eq, Drop)]
+pub struct ItemFields {
+    pub first_field: Option<Elem>,
+    pub content: ElemChildren,
+}
+
+/// The items of a bibliography from what its style prints of each: a text stands for names that repeat those of the item before,
+/// and the first field is taken out where the second one is aligned, if the style says so.
+///
+/// # Errors
+/// Out of memory.
+pub fn items(
+    alloc: Global,
+    bibliography: &Bibliography,
+    trees: Vec<ElemChildren>,
+) -> Result<Vec<ItemFields>, AllocError>
+    ensures { IfOk result (λ v. map fields_seen v.items ≡ items_of (bibliography_seen bibliography.now) (map tree trees.items)) }
+{
+    let substituted = substitute_all(
+        alloc,
+        bibliography.subsequent_author_substitute_rule,
+        bibliography.subsequent_author_substitute.as_deref(),
+        trees,
+    )?;
+    fields_of_all(alloc, bibliography.second_field_align, substituted)
+}
+
+/// Items in which a text stands for repeated names, where there is such a text.
+fn substitute_all(
+    alloc: Global,
+    rule: SubsequentAuthorSubstituteRule,
+    text: Option<&str>,
+    trees: Vec<ElemChildren>,
+) -> Result<Vec<ElemChildren>, AllocError>
+    ensures { IfOk result (λ v. map tree v.items ≡ all_substituted rule (spelled_if text.entry) (map tree trees.items)) }
+{
+    match text {
+        Some(text) => substitute_repeated(alloc, rule, text, trees),
+        None => Ok(trees),
+    }
+}
+
+/// Items in which a text stands for repeated names.
+fn substitute_repeated(
+    alloc: Global,
+    rule: SubsequentAuthorSubstituteRule,
+    text: &str,
+    trees: Vec<ElemChildren>,
+) -> Result<Vec<ElemChildren>, AllocError>
+    ensures { IfOk result (λ v. map tree v.items ≡ all_substituted rule (Some (chars text.now)) (map tree trees.items)) }
+{
+    let repeats = repeats(alloc, rule, &trees)?;
+    substitute_each(alloc, text, &repeats, trees)
+}
+
+/// Items in each of which a text stands for what is repeated of its names.
+fn substitute_each(
+    alloc: Global,
+    text: &str,
+    repeats: &[Repetition],
+    trees: Vec<ElemChildren>,
+) -> Result<Vec<ElemChildren>, AllocError>
+    requires { length repeats.now ≡ length trees.items }
+    ensures { IfOk result (λ v. map tree v.items ≡ all_changed (chars text.now) (map repeated_seen repeats.now) (map tree trees.items)) }
+{
+    let mut items = Vec::with_capacity(alloc, trees.len())?;
+    for tree in trees {
+        let repeated = repeats[items.len()];
+        items.push(substitute(alloc, text, repeated, tree)?)?;
+    }
+    Ok(items)
+}
+
+/// Items in fields.
+fn fields_of_all(
+    alloc: Global,
+    align: Option<SecondFieldAlign>,
+    trees: Vec<ElemChildren>,
+) -> Result<Vec<ItemFields>, AllocError>
+    ensures { IfOk result (λ v. map fields_seen v.items ≡ map (fields_by align) (map tree trees.items)) }
+{
+    let mut items = Vec::with_capacity(alloc, trees.len())?;
+    for tree in trees {
+        items.push(fields_of(align, tree)?)?;
+    }
+    Ok(items)
+}
+
+/// An item in fields.
+fn fields_of(align: Option<SecondFieldAlign>, item: ElemChildren) -> Result<ItemFields, AllocError>
+    ensures { IfOk result (λ f. fields_seen f ≡ fields_by align (tree item)) }
+{
+    match align {
+        Some(_) => first_apart(item),
+        None => Ok(ItemFields {
+            first_field: None,
+            content: item,
+        }),
+    }
+}
+
+/// An item without the first element that stands for something, which is its first field.
+fn first_apart(mut item: ElemChildren) -> Result<ItemFields, AllocError>
+    ensures { IfOk result (λ f. fields_seen f ≡ fields_of (tree item) (parted (tree item))) }
+{
+    match item.remove_any_meta() {
+        Some(elem) => Ok(ItemFields {
+            first_field: Some(elem),
+            content: simplify_children(item)?,
+        }),
+        None => Ok(ItemFields {
+            first_field: None,
+            content: item,
+        }),
+    }
+}

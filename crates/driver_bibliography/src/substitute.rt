@@ -1,0 +1,191 @@
+//! A text in place of repeated names.
+
+ghost use Rattle.std.specs.Prelude.{◌≡◌, IfOk, OnOk};
+ghost use Rattle.std.specs.Option.{option_map_or};
+ghost use Rattle.std.specs.Str.{chars};
+ghost use Rattle.rendering_taxonomy.specs.Formats.{plain};
+ghost use Rattle.rendering_tree.specs.Trees.{simplified};
+ghost use Rattle.rendering_tree.specs.Views.{child, element, row, tree};
+ghost use Rattle.driver_bibliography.specs.Substitution.{changed, changed_in, is_some_names, names_replaced, names_replaced_in, text_alone, text_for};
+ghost use Rattle.driver_bibliography.specs.Views.{Changes, as_child, children_for, repeated_seen};
+
+use crate::repeats::{Repetition, is_name};
+use rendering_taxonomy::{
+    FontStyle, FontVariant, FontWeight, Formatting, TextDecoration, VerticalAlign,
+};
+use rendering_tree::{Elem, ElemChild, ElemChildren, ElemMeta, Formatted, simplify_children};
+use std::alloc::{AllocError, Global};
+use texts::owned;
+
+/// An item in which a text stands for what is repeated of its names, in its normal form.
+pub(crate) fn substitute(
+    alloc: Global,
+    text: &str,
+    repeated: Repetition,
+    mut item: ElemChildren,
+) -> Result<ElemChildren, AllocError>
+    ensures { IfOk result (λ t. tree t ≡ simplified (text_for (chars text.now) (repeated_seen repeated) (tree item))) }
+{
+    match repeated {
+        Repetition::Nothing => simplify_children(item),
+        _ => {
+            change_names(alloc, &mut item.0, text, repeated)?;
+            simplify_children(item)
+        }
+    }
+}
+
+/// Changes the first names in a row of children. Returns whether there are names.
+#[cycle(changing)]
+fn change_names(
+    alloc: Global,
+    parts: &mut [ElemChild],
+    text: &str,
+    repeated: Repetition,
+) -> Result<bool, AllocError>
+    ensures { IfOk result (λ found. Changes (changed (children_for (chars text.now) (repeated_seen repeated)) (row parts.old)) (row parts.old) (row parts.new) found) }
+{
+    for part in parts.iter_mut() {
+        if change_names_in(alloc, part, text, repeated)? {
+            return Ok(true);
+        }
+    }
+    Ok(false)
+}
+
+/// Changes the first names in a child. Returns whether there are names.
+#[cycle(changing)]
+fn change_names_in(
+    alloc: Global,
+    part: &mut ElemChild,
+    text: &str,
+    repeated: Repetition,
+) -> Result<bool, AllocError>
+    ensures { IfOk result (λ found. Changes (changed_in (children_for (chars text.now) (repeated_seen repeated)) (child part.old)) (child part.old) (child part.new) found) }
+{
+    match part {
+        ElemChild::Elem(elem) => change_names_of(alloc, elem, text, repeated),
+        _ => Ok(false),
+    }
+}
+
+/// Changes an element that stands for a names node, or the first names in it. Returns whether there are names.
+#[cycle(changing)]
+fn change_names_of(
+    alloc: Global,
+    elem: &mut Elem,
+    text: &str,
+    repeated: Repetition,
+) -> Result<bool, AllocError>
+    ensures { IfOk result (λ found. Changes (changed_in (children_for (chars text.now) (repeated_seen repeated)) (as_child (element elem.old))) (as_child (element elem.old)) (as_child (element elem.new)) found) }
+{
+    if is_names(elem) {
+        change_children(alloc, &mut elem.children, text, repeated)?;
+        return Ok(true);
+    }
+    change_names(alloc, &mut elem.children.0, text, repeated)
+}
+
+/// Whether an element stands for a names node.
+fn is_names(elem: &Elem) -> bool
+    ensures { result ≡ is_some_names (element elem.now).meta }
+{
+    matches!(elem.meta, Some(ElemMeta::Names(_)))
+}
+
+/// Puts a text in place of what is repeated of the children of a names node.
+fn change_children(
+    alloc: Global,
+    parts: &mut ElemChildren,
+    text: &str,
+    repeated: Repetition,
+) -> Result<(), AllocError>
+    ensures { OnOk result (tree parts.new ≡ children_for (chars text.now) (repeated_seen repeated) (tree parts.old)) }
+{
+    match repeated {
+        Repetition::Nothing => {}
+        Repetition::All => *parts = text_alone(alloc, text)?,
+        Repetition::First(count) => {
+            change_singles(alloc, &mut parts.0, text, count)?;
+        }
+    }
+    Ok(())
+}
+
+/// Puts a text in place of the first single names in a row of children, so many as are wanted. Returns how many are still wanted.
+#[cycle(singles)]
+fn change_singles(
+    alloc: Global,
+    parts: &mut [ElemChild],
+    text: &str,
+    wanted: usize,
+) -> Result<usize, AllocError>
+    ensures { IfOk result (λ left. (row parts.new, left) ≡ names_replaced (text_alone (chars text.now)) (row parts.old) wanted) }
+{
+    let mut left = wanted;
+    for part in parts.iter_mut() {
+        left = change_singles_in(alloc, part, text, left)?;
+    }
+    Ok(left)
+}
+
+/// Puts a text in place of the first single names in a child.
+#[cycle(singles)]
+fn change_singles_in(
+    alloc: Global,
+    part: &mut ElemChild,
+    text: &str,
+    wanted: usize,
+) -> Result<usize, AllocError>
+    ensures { IfOk result (λ left. (child part.new, left) ≡ names_replaced_in (text_alone (chars text.now)) (child part.old) wanted) }
+{
+    match part {
+        ElemChild::Elem(elem) => change_single(alloc, elem, text, wanted),
+        _ => Ok(wanted),
+    }
+}
+
+/// Puts a text in place of what a single name contains, or of the first single names in another element.
+#[cycle(singles)]
+fn change_single(
+    alloc: Global,
+    elem: &mut Elem,
+    text: &str,
+    wanted: usize,
+) -> Result<usize, AllocError>
+    ensures { IfOk result (λ left. (as_child (element elem.new), left) ≡ names_replaced_in (text_alone (chars text.now)) (as_child (element elem.old)) wanted) }
+{
+    if wanted == 0 {
+        return Ok(0);
+    }
+    if is_name(elem) {
+        elem.children = text_alone(alloc, text)?;
+        return Ok(wanted - 1);
+    }
+    change_singles(alloc, &mut elem.children.0, text, wanted)
+}
+
+/// A text that looks as texts do of themselves.
+fn text_alone(alloc: Global, text: &str) -> Result<ElemChildren, AllocError>
+    ensures { IfOk result (λ t. tree t ≡ text_alone (chars text.now)) }
+{
+    let mut alone = ElemChildren::new(alloc);
+    alone.push(ElemChild::Text(Formatted {
+        text: owned(alloc, text)?,
+        formatting: plain(),
+    }))?;
+    Ok(alone)
+}
+
+/// How texts look of themselves.
+fn plain() -> Formatting
+    ensures { result ≡ plain }
+{
+    Formatting {
+        font_style: FontStyle::Normal,
+        font_variant: FontVariant::Normal,
+        font_weight: FontWeight::Normal,
+        text_decoration: TextDecoration::None,
+        vertical_align: VerticalAlign::None,
+    }
+}
