@@ -1,10 +1,9 @@
 //! Cites as a style prints them.
 
-use crate::properties::properties_of;
 use crate::shown::{put_effort, put_facts};
 use cases::{Refusal, Value, Writer};
 use cases_rendering::put_written_tree;
-use cases_styles::{maybe_code, maybe_word};
+use cases_styles::maybe_word;
 use literature::Entry;
 use rendering::{
     CiteProperties, CitePurpose, CollapseVerdict, Effort, LocaleCode, Rendering, StyleContext,
@@ -30,23 +29,11 @@ pub(crate) fn put_citation(
     out: &mut Writer,
     context: &StyleContext<'_>,
     entry: &Entry,
-) -> Result<(), Refusal> {
-    let properties = properties_of(alloc, case, context, entry)?;
-    put_known(alloc, case, out, context, entry, &properties)
-}
-
-/// Writes a cite of which that is known.
-fn put_known(
-    alloc: Global,
-    case: &Value<'_>,
-    out: &mut Writer,
-    context: &StyleContext<'_>,
-    entry: &Entry,
     properties: &CiteProperties<'_>,
+    code: Option<&LocaleCode>,
 ) -> Result<(), Refusal> {
-    let code = maybe_code(alloc, case, "term_locale")?;
     let mut effort = Effort::default();
-    let rendering = rendering_of(case, context, entry, properties, code.as_ref(), &mut effort)?;
+    let rendering = rendering_of(case, context, entry, properties, code, &mut effort)?;
     put_rendering(alloc, out, &rendering)?;
     put_effort(case, out, &effort)
 }

@@ -1,38 +1,24 @@
 //! Items of a bibliography as a style prints them.
 
-use crate::properties::properties_of;
 use crate::shown::put_effort;
 use cases::{Refusal, Value, Writer};
 use cases_rendering::put_written_tree;
-use cases_styles::maybe_code;
 use literature::Entry;
-use rendering::{CiteProperties, Effort, Rendering, StyleContext};
+use rendering::{CiteProperties, Effort, LocaleCode, Rendering, StyleContext};
 use std::alloc::Global;
 
 /// `item`: an item, or null where the style has no bibliography.
 pub(crate) fn put_item(
-    alloc: Global,
-    case: &Value<'_>,
-    out: &mut Writer,
-    context: &StyleContext<'_>,
-    entry: &Entry,
-) -> Result<(), Refusal> {
-    let properties = properties_of(alloc, case, context, entry)?;
-    put_known(alloc, case, out, context, entry, &properties)
-}
-
-/// Writes an item of which that is known.
-fn put_known(
-    alloc: Global,
-    case: &Value<'_>,
-    out: &mut Writer,
     context: &StyleContext<'_>,
     entry: &Entry,
     properties: &CiteProperties<'_>,
+    code: Option<&LocaleCode>,
+    alloc: Global,
+    case: &Value<'_>,
+    out: &mut Writer,
 ) -> Result<(), Refusal> {
-    let code = maybe_code(alloc, case, "term_locale")?;
     let mut effort = Effort::default();
-    let rendering = context.bibliography(entry, properties, code.as_ref(), &mut effort)?;
+    let rendering = context.bibliography(entry, properties, code, &mut effort)?;
     put_rendering(alloc, out, rendering.as_ref())?;
     put_effort(case, out, &effort)
 }

@@ -3,6 +3,7 @@
 use crate::citations::put_citation;
 use crate::files::files;
 use crate::items::put_item;
+use crate::properties::properties_of;
 use biblatex::Bibliography;
 use cases::{Refusal, Value, Writer, only, text};
 use cases_cite::{Source, put_bridge_error, put_unknown, read_source};
@@ -10,7 +11,7 @@ use cases_entries::put_parse_error;
 use cases_styles::{maybe_code, put_style_error, style_parts};
 use interop::from_biblatex;
 use literature::{Entry, Library};
-use rendering::{LocaleCode, StyleContext};
+use rendering::{CiteProperties, LocaleCode, StyleContext};
 use rendering_locale::Locale;
 use rendering_style::Style;
 use std::alloc::Global;
@@ -154,8 +155,24 @@ fn put_wanted(
     context: &StyleContext<'_>,
     entry: &Entry,
 ) -> Result<(), Refusal> {
+    let properties = properties_of(alloc, case, context, entry)?;
+    put_known(alloc, case, out, wanted, context, entry, &properties)
+}
+
+/// Writes what is asked of a style where that is known of the cite.
+fn put_known(
+    alloc: Global,
+    case: &Value<'_>,
+    out: &mut Writer,
+    wanted: Wanted,
+    context: &StyleContext<'_>,
+    entry: &Entry,
+    properties: &CiteProperties<'_>,
+) -> Result<(), Refusal> {
+    let code = maybe_code(alloc, case, "term_locale")?;
+    let code = code.as_ref();
     match wanted {
-        Wanted::Citation => put_citation(alloc, case, out, context, entry),
-        Wanted::Item => put_item(alloc, case, out, context, entry),
+        Wanted::Citation => put_citation(alloc, case, out, context, entry, properties, code),
+        Wanted::Item => put_item(context, entry, properties, code, alloc, case, out),
     }
 }
