@@ -1,0 +1,137 @@
+-- How citations are collapsed.
+use Rattle.std.specs.Prelude.{ℕ, ◌+◌, Bool, false, true, not, ◌==◌, ◌&&◌, nat_le, nat_lt, List, [], ◌∷◌, length, map, zip, is_some, if◌then◌else◌, Option, Some, None}
+use Rattle.std.specs.List.{flat_map}
+use Rattle.std.specs.Option.{option_or, option_map_or}
+use Rattle.rendering_style.specs.Styles.{Citation}
+use Rattle.driver_requests.specs.Suffixes.{Suffix, is_origin}
+use Rattle.driver_blocks.specs.Blocks.{Gathered, blocks, inside_delimiter}
+use Rattle.driver_blocks.specs.Rows.{Arranged, rows_of, is_long, collapsed_row}
+use Rattle.rendering_taxonomy.specs.declared.cite.CollapseVerdict.{CollapseVerdict}
+use Rattle.rendering_taxonomy.specs.declared.cite.CollapseVerdict.TheVariants as verdicts
+use Rattle.rendering_taxonomy.specs.declared.style.Collapse.{Collapse}
+use Rattle.rendering_taxonomy.specs.declared.style.Collapse.TheVariants as collapses
+
+-- a cite that prints all of itself, after a delimiter
+abbrev pub uncollapsed : {X : Type 0} → Option (List ℕ) → Gathered X → Arranged X
+uncollapsed delimiter x = record { cite = x; is_shown = x.is_shown; delimiter = delimiter; verdict = None }
+
+-- a block whose cites print all: the delimiter of the layout before the first, that of blocks before the others
+abbrev pub uncollapsed_block : {X : Type 0} → Citation → List (Gathered X) → List (Arranged X)
+uncollapsed_block c [] = []
+uncollapsed_block c (x ∷ xs) = uncollapsed c.layout.delimiter x ∷ map (uncollapsed (inside_delimiter c)) xs
+
+-- the delimiter after cites that were collapsed
+abbrev pub delimiter_after_collapsed : Citation → Option (List ℕ)
+delimiter_after_collapsed c = option_or c.after_collapse_delimiter c.layout.delimiter
+
+-- each member with whether the one before it passes a test; false with the first
+abbrev pub with_previous_test : {Y : Type 0} → (Y → Bool) → List Y → List (Bool × Y)
+with_previous_test test ys = zip (false ∷ map test ys) ys
+
+-- whether a number is one more than the one before it
+abbrev pub is_next : Option ℕ → Option ℕ → Bool
+is_next (Some m) (Some n) = n == m + 1
+is_next m n = false
+
+-- the number of a cite that is shown
+abbrev pub shown_number : {X : Type 0} → Arranged X → Option ℕ
+shown_number a = if a.is_shown then a.cite.number else None
+
+-- whether a shown number is one more than the one before it
+abbrev pub is_next_number : {X : Type 0} → Arranged X → Arranged X → Bool
+is_next_number a b = is_next (shown_number a) (shown_number b)
+
+-- whether a number is shown
+abbrev pub is_numbered : {X : Type 0} → Arranged X → Bool
+is_numbered a = is_some (shown_number a)
+
+-- a row; where the row before it was collapsed and this one has numbers, the delimiter that follows what was collapsed comes before it
+abbrev pub after_row : {X : Type 0} → Citation → Bool × List (Arranged X) → List (Arranged X)
+after_row c (is_after, []) = []
+after_row c (is_after, a ∷ others) = if is_after && is_numbered a then record a { delimiter = delimiter_after_collapsed c } ∷ others else a ∷ others
+
+-- Cites whose numbers are collapsed: of three or more numbers that rise by one, those between the first and the last are hidden.
+abbrev pub numbers_collapsed : {X : Type 0} → Citation → List (Arranged X) → List (Arranged X)
+numbers_collapsed c xs = flat_map (λ r. collapsed_row (after_row c r)) (with_previous_test is_long (rows_of is_next_number xs))
+
+-- whether letters are others than the first ones
+abbrev pub is_further : Suffix → Bool
+is_further s = nat_lt 0 s.place
+
+-- what is left of a later cite where letters are collapsed: its letters alone, if they are not the first ones, else its first date
+abbrev pub suffix_verdict : Option Suffix → CollapseVerdict
+suffix_verdict suffix = if option_map_or is_further suffix false then verdicts.YearSuffix else verdicts.First
+
+-- what is left of a later cite of a block by the mode; no block is collapsed where numbers are
+abbrev pub verdict_in : Collapse → Option Suffix → CollapseVerdict
+verdict_in collapses.CitationNumber suffix = verdicts.First
+verdict_in collapses.Year suffix = verdicts.First
+verdict_in collapses.YearSuffix suffix = suffix_verdict suffix
+verdict_in collapses.YearSuffixRanged suffix = suffix_verdict suffix
+
+-- the delimiter before a cite of which so much is left
+abbrev pub verdict_delimiter : Citation → CollapseVerdict → Option (List ℕ)
+verdict_delimiter c verdicts.First = inside_delimiter c
+verdict_delimiter c verdicts.YearSuffix = option_or c.year_suffix_delimiter (inside_delimiter c)
+
+-- a later cite of a block, of which so much is left
+abbrev pub collapsed_to : {X : Type 0} → Citation → CollapseVerdict → Gathered X → Arranged X
+collapsed_to c verdict x = record { cite = x; is_shown = x.is_shown; delimiter = verdict_delimiter c verdict; verdict = Some verdict }
+
+-- a later cite of a block by the mode
+abbrev pub later : {X : Type 0} → Citation → Collapse → Gathered X → Arranged X
+later c mode x = collapsed_to c (verdict_in mode x.suffix) x
+
+-- a block whose later cites are collapsed; the flag says whether the block before it has two cites or more
+abbrev pub year_block : {X : Type 0} → Citation → Collapse → Bool × List (Gathered X) → List (Arranged X)
+year_block c mode (is_after, []) = []
+year_block c mode (is_after, x ∷ xs) = uncollapsed (if is_after then delimiter_after_collapsed c else c.layout.delimiter) x ∷ map (later c mode) xs
+
+-- whether a block has two cites or more
+abbrev pub has_later : {Y : Type 0} → List Y → Bool
+has_later ys = nat_le 2 (length ys)
+
+-- whether letters come next after others that the same class got in the same round
+abbrev pub is_next_suffix : Option Suffix → Option Suffix → Bool
+is_next_suffix (Some s) (Some t) = t.place == s.place + 1 && is_origin s.origin t.origin
+is_next_suffix s t = false
+
+-- the letters of a cite that is shown without a locator
+abbrev pub shown_suffix : {X : Type 0} → Arranged X → Option Suffix
+shown_suffix a = if a.is_shown && not a.cite.has_locator then a.cite.suffix else None
+
+-- whether its letters alone are left of a cite
+abbrev pub is_suffix_alone : Option CollapseVerdict → Bool
+is_suffix_alone (Some verdicts.YearSuffix) = true
+is_suffix_alone v = false
+
+-- whether a cite continues a row of letters: its letters alone are left, and come next after those of the cite before it
+abbrev pub continues : {X : Type 0} → Arranged X → Arranged X → Bool
+continues a b = is_suffix_alone b.verdict && is_next_suffix (shown_suffix a) (shown_suffix b)
+
+-- a block in which rows of letters are collapsed
+abbrev pub suffixes_collapsed : {X : Type 0} → List (Arranged X) → List (Arranged X)
+suffixes_collapsed xs = flat_map collapsed_row (rows_of continues xs)
+
+-- a block whose years are collapsed by the mode; no block is collapsed where numbers are
+abbrev pub block_by : {X : Type 0} → Citation → Collapse → Bool × List (Gathered X) → List (Arranged X)
+block_by c collapses.CitationNumber b = year_block c collapses.CitationNumber b
+block_by c collapses.Year b = year_block c collapses.Year b
+block_by c collapses.YearSuffix b = year_block c collapses.YearSuffix b
+block_by c collapses.YearSuffixRanged b = suffixes_collapsed (year_block c collapses.YearSuffixRanged b)
+
+-- blocks whose years are collapsed
+abbrev pub years_collapsed : {X : Type 0} → Citation → Collapse → List (List (Gathered X)) → List (Arranged X)
+years_collapsed c mode bs = flat_map (block_by c mode) (with_previous_test has_later bs)
+
+-- blocks collapsed by a mode, if there is one
+abbrev pub collapsed : {X : Type 0} → Citation → Option Collapse → List (List (Gathered X)) → List (Arranged X)
+collapsed c None bs = flat_map (uncollapsed_block c) bs
+collapsed c (Some collapses.CitationNumber) bs = numbers_collapsed c (flat_map (uncollapsed_block c) bs)
+collapsed c (Some collapses.Year) bs = years_collapsed c collapses.Year bs
+collapsed c (Some collapses.YearSuffix) bs = years_collapsed c collapses.YearSuffix bs
+collapsed c (Some collapses.YearSuffixRanged) bs = years_collapsed c collapses.YearSuffixRanged bs
+
+-- The cites of a citation in their final order. Where one of them has a purpose nothing is collapsed.
+abbrev pub arranged : {X : Type 0} → Citation → Bool → List (Gathered X) → List (Arranged X)
+arranged c some_purpose xs = collapsed c (if some_purpose then None else c.collapse) (blocks c xs)

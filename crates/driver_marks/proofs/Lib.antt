@@ -1,0 +1,2 @@
+pub mod NamesRows
+pub mod RoundsRows

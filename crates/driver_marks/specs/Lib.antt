@@ -1,0 +1,4 @@
+pub mod Marks
+pub mod Classes
+pub mod Names
+pub mod Rounds
