@@ -44,11 +44,12 @@ def peak_and_seconds(words):
     return usage.ru_maxrss * 1024, seconds
 
 
-def instructions(words, folder):
-    """The instructions of one run."""
+def instructions(words, folder, given=None, inside=None):
+    """The instructions of one run, with a file as its input; of those inside functions of a name alone, where one is said."""
     out = os.path.join(folder, "callgrind.out")
-    command = ["valgrind", "--tool=callgrind", "--callgrind-out-file=" + out] + words
-    subprocess.run(command, check=True, stdout=subprocess.DEVNULL, stderr=subprocess.DEVNULL)
+    options = [f"--toggle-collect=*{inside}*"] if inside else []
+    command = ["valgrind", "--tool=callgrind", "--callgrind-out-file=" + out] + options + words
+    subprocess.run(command, check=True, stdin=given, stdout=subprocess.DEVNULL, stderr=subprocess.DEVNULL)
     with open(out) as lines:
         for line in lines:
             if line.startswith(("summary:", "totals:")):

@@ -29,6 +29,14 @@ DEEP = """## Deep and doubled texts
 each is).
 """
 
+RENDERING = """## Cites and items
+
+    bench/rendering.py
+
+What one call of `StyleContext::citation` costs by an author-date style, over 1,000 entries with two authors, and what the item of a bibliography
+costs; then a cite that prints one text in so many nodes, one inside the other.
+"""
+
 REAL = """# Files as people have them
 
 `bench/real_files.py` gives each .bib file below a folder to `cite` with an empty document, and writes this page.
@@ -108,6 +116,25 @@ def deep_table(found):
     return "\n".join([DEEP, "| text | bytes | status | seconds | memory |", "|---|---|---|---|---|", *rows, "", measured(found), ""])
 
 
+def rendering_table(found):
+    """The part of the page about cites and items."""
+    costs = [f"| one {name} | {number(cost)} | {number(found['wanted'][name])} |" for name, cost in found["costs"].items()]
+    rows = [f"| {row['levels']} | {number(row['instructions'])} | {row['seconds']:.6f} |" for row in found["rows"]]
+    return "\n".join([
+        RENDERING,
+        "| | instructions | wanted at most |",
+        "|---|---|---|",
+        *costs,
+        "",
+        "| nodes one inside the other | instructions | seconds |",
+        "|---|---|---|",
+        *rows,
+        "",
+        measured(found),
+        "",
+    ])
+
+
 def real_page(found):
     """The page about files as people have them."""
     rows = [f"| {row['files']} | {row['answer']} | {row['example']} |" for row in found["rows"]]
@@ -129,6 +156,7 @@ def write_pages():
     found = read()
     parts = [HEAD] + [size_table(name, found[name]) for name in TABLES if name in found]
     parts += [deep_table(found["deep"])] if "deep" in found else []
+    parts += [rendering_table(found["rendering"])] if "rendering" in found else []
     with open(os.path.join(TOP, "docs", "PERFORMANCE.md"), "w", encoding="utf-8") as file:
         file.write("\n".join(parts).rstrip("\n") + "\n")
     if "real_files" in found:
