@@ -166,6 +166,9 @@ impl<'a> Builder<'a> {
         ensures read { OnOk result (nest_of self.new ≡ nest_of self.old) }
         ensures none { OnOk result (self.new.parts.items ≡ []) }
     {
+        if self.parts.is_empty() {
+            return Ok(());
+        }
         let text = join(*self.children.allocator(), &mut self.parts)?;
         if has_text(text.as_str()) {
             let formatting = self.formatting;

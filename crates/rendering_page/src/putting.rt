@@ -18,6 +18,9 @@ use rendering_taxonomy::Formatting;
 use std::alloc::AllocError;
 use texts::has_text;
 
+/// How many pieces a short page has, such as that of a cite.
+const SHORT_PAGE: usize = 32;
+
 /// Puts a text down as it is.
 pub(crate) fn put_words<'a>(
     pieces: &mut Vec<Piece<'a>>,
@@ -85,6 +88,7 @@ pub(crate) fn begin<'a>(
 ) -> Result<(), AllocError>
     ensures { OnOk result (tokens_of pieces.new.items ≡ mark ∷ with_letters frame.now.manner.formatting (chars frame.now.prefix.now) (views.put (tokens_of pieces.old.items) first.entry)) }
 {
+    reserve(pieces)?;
     pieces.push(first)?;
     put_words(
         pieces,
@@ -92,6 +96,16 @@ pub(crate) fn begin<'a>(
         Words::Borrowed(frame.prefix),
     )?;
     pieces.push(Piece::Mark)?;
+    Ok(())
+}
+
+/// Makes room for the pieces of a short page, so that its list does not grow piece by piece.
+fn reserve(pieces: &mut Vec<Piece<'_>>) -> Result<(), AllocError>
+    ensures { OnOk result (pieces.new.items ≡ pieces.old.items) }
+{
+    if pieces.capacity() < SHORT_PAGE {
+        return pieces.reserve(SHORT_PAGE);
+    }
     Ok(())
 }
 
