@@ -89,8 +89,9 @@ impl NameDisambiguationProperties {
         total_shown(self.counts.as_slice(), forms.len())
     }
 
-    /// Whether more is printed.
-    fn prints_more(&self, other: &Self) -> bool
+    /// Whether more is printed than by others: more people, or as many in greater forms, by the first place where they differ, or
+    /// else by going on where the others end.
+    pub fn prints_more(&self, other: &Self) -> bool
         ensures { result ≡ prints_more self.now other.now }
     {
         let shown = self.all_shown();
