@@ -68,7 +68,7 @@ impl<'a> CiteProperties<'a> {
             locator: self.locator,
             citation_number: self.citation_number,
             ibid: IbidState::Different,
-            disambiguation: self.disambiguation.copied()?,
+            disambiguation: self.disambiguation.clone()?,
             identifier_usage: self.identifier_usage,
         })
     }
@@ -169,7 +169,7 @@ impl DisambiguateState {
     ///
     /// # Errors
     /// Out of memory.
-    fn copied(&self) -> Result<DisambiguateState, AllocError>
+    pub fn clone(&self) -> Result<DisambiguateState, AllocError>
         ensures { IfOk result (λ s. state_by s ≡ state_by self.now) }
     {
         match self {
