@@ -1,5 +1,5 @@
 -- The code's values without where they lie in memory.
-use Rattle.std.specs.Prelude.{Option, Some, None}
+use Rattle.std.specs.Prelude.{◌≡◌, ⊥, Option, Some, None}
 use Rattle.std.specs.Option.{option_map}
 use Rattle.std.specs.Str.{chars}
 use Rattle.laws.specs.Text.{characters}
@@ -26,6 +26,13 @@ use Rattle.rendering_context.specs.declared.locator.SpecificLocator.{SpecificLoc
 abbrev pub payload_by : {P : Type 0} → LocatorPayload P → cites.Payload
 payload_by (payloads.Str s) = cites.written (chars s.now)
 payload_by (payloads.Transparent t) = cites.transparent
+
+-- whether a locator copies another: the same text, or what is a clone of what the caller prints
+abbrev pub is_copy : {P : Type 0} → (P → P → Type 0) → LocatorPayload P → LocatorPayload P → Type 0
+is_copy is_clone (payloads.Str s) (payloads.Str t) = s.now ≡ t.now
+is_copy is_clone (payloads.Str s) (payloads.Transparent q) = ⊥
+is_copy is_clone (payloads.Transparent p) (payloads.Str t) = ⊥
+is_copy is_clone (payloads.Transparent p) (payloads.Transparent q) = is_clone p.payload q.payload
 
 -- a locator
 abbrev pub locator_by : {P : Type 0} → SpecificLocator P → cites.SpecificLocator

@@ -1,12 +1,12 @@
 //! What is known of a cite beside its entry.
 
 ghost use Rattle.std.specs.Prelude.{◌≡◌, ◌+◌, ◌++◌, false, IfOk, OnOk};
-ghost use Rattle.std.specs.Option.{option_map_or};
+ghost use Rattle.std.specs.Option.{option_map, option_map_or};
 ghost use Rattle.laws.specs.Text.{characters};
 ghost use Rattle.rendering_context.specs.Cites.{letters_of, state_rank, may_change, allows_suffix, greater_state};
 ghost use Rattle.rendering_context.specs.Answering as answering;
 ghost use Rattle.rendering_context.specs.Choosing.{is_chosen};
-ghost use Rattle.rendering_context.specs.Views.{answer_by, answer_if, cite_by, state_by};
+ghost use Rattle.rendering_context.specs.Views.{answer_by, answer_if, cite_by, locator_by, state_by};
 ghost use Rattle.rendering_taxonomy.specs.Kinds.{is_locator};
 
 use crate::answer::{Answer, count, locator};
@@ -65,12 +65,22 @@ impl<'a> CiteProperties<'a> {
             is_near_note: self.is_near_note,
             is_first: self.is_first,
             initial_idx: self.initial_idx,
-            locator: self.locator,
+            locator: self.plain_locator(),
             citation_number: self.citation_number,
             ibid: IbidState::Different,
             disambiguation: self.disambiguation.clone()?,
             identifier_usage: self.identifier_usage,
         })
+    }
+
+    /// The locator, where there is one.
+    fn plain_locator(&self) -> Option<SpecificLocator<'a, ()>>
+        ensures { option_map locator_by result ≡ (cite_by self.now).locator }
+    {
+        match &self.locator {
+            Some(locator) => Some(locator.without_payload()),
+            None => None,
+        }
     }
 
     /// The number of its entry among all that are cited, counted from one.
