@@ -1,5 +1,5 @@
 -- The code's values without where they lie in memory.
-use Rattle.std.specs.Prelude.{◌≡◌, ⊥, Option, Some, None}
+use Rattle.std.specs.Prelude.{◌≡◌, Option, Some, None}
 use Rattle.std.specs.Option.{option_map}
 use Rattle.std.specs.Str.{chars}
 use Rattle.laws.specs.Text.{characters}
