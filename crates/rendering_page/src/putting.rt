@@ -88,7 +88,9 @@ pub(crate) fn begin<'a>(
 ) -> Result<(), AllocError>
     ensures { OnOk result (tokens_of pieces.new.items ≡ mark ∷ with_letters frame.now.manner.formatting (chars frame.now.prefix.now) (views.put (tokens_of pieces.old.items) first.entry)) }
 {
-    reserve(pieces)?;
+    if pieces.capacity() < SHORT_PAGE {
+        pieces.reserve(SHORT_PAGE)?;
+    }
     pieces.push(first)?;
     put_words(
         pieces,
@@ -96,16 +98,6 @@ pub(crate) fn begin<'a>(
         Words::Borrowed(frame.prefix),
     )?;
     pieces.push(Piece::Mark)?;
-    Ok(())
-}
-
-/// Makes room for the pieces of a short page, so that its list does not grow piece by piece.
-fn reserve(pieces: &mut Vec<Piece<'_>>) -> Result<(), AllocError>
-    ensures { OnOk result (pieces.new.items ≡ pieces.old.items) }
-{
-    if pieces.capacity() < SHORT_PAGE {
-        return pieces.reserve(SHORT_PAGE);
-    }
     Ok(())
 }
 
