@@ -15,6 +15,7 @@ use std::fmt;
 
 /// What an entry is printed from, the entry, and the page on which it is printed. After an error nothing is known of what stands on
 /// the page.
+#[derive(Drop)]
 pub struct Context<'w, 's, 'a, E> {
     pub walk: Walk<'s, 'a>,
     pub entry: &'a E,
