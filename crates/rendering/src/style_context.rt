@@ -1,13 +1,14 @@
 //! Styles with the locales that they are used with.
 
-ghost use Rattle.std.specs.Prelude.{◌≡◌, false, true, IfOk};
+ghost use Rattle.std.specs.Prelude.{◌≡◌, false, true, map, IfOk, None};
 ghost use Rattle.std.specs.Option.{option_map};
 ghost use Rattle.laws.specs.Text.{characters};
 ghost use Rattle.rendering_locale.specs.CodeViews.{borrowed_code};
 ghost use Rattle.rendering_locale.specs.Lookup.{close_quotes};
+ghost use Rattle.rendering_locale.specs.Views.{locale_seen};
 ghost use Rattle.rendering_page.specs.Views.{quotes_of};
 ghost use Rattle.rendering_style.specs.StyleViews.{style_seen};
-ghost use Rattle.rendering.specs.Purposes.{prints_suffix};
+ghost use Rattle.rendering.specs.Purposes.{locales_of, prints_suffix};
 
 use crate::author_node::AuthorNode;
 use crate::call::Call;
@@ -33,19 +34,21 @@ pub struct StyleContext<'a> {
     /// Whether a layout of the style prints the letters after a year by themselves.
     has_suffix_node: bool,
     authors: AuthorNode,
+    /// The words of a call that asks for no language.
+    own_words: Words<'a>,
+    ghost locales: { own_words.locales ≡ locales_of (record { style = style_seen style.now; locale = option_map borrowed_code locale; locale_files = map locale_seen locale_files.now }) None },
+    ghost quotes: { quotes_of own_words.quotes.items ≡ close_quotes (locales_of (record { style = style_seen style.now; locale = option_map borrowed_code locale; locale_files = map locale_seen locale_files.now }) None) },
     ghost suffix: { has_suffix_node ≡ prints_suffix (style_seen style.now) },
 }
 
 impl<'a> StyleContext<'a> {
-    ghost use Rattle.std.specs.Prelude.{map};
     ghost use Rattle.rendering_context.specs.Cites.{letters_of};
     ghost use Rattle.rendering_context.specs.Views.{cite_by};
     ghost use Rattle.rendering_entries.specs.Answers.{Answers};
-    ghost use Rattle.rendering_locale.specs.Views.{locale_seen};
     ghost use Rattle.rendering_style.specs.Views.{bibliography_seen};
     ghost use Rattle.rendering_leaves.specs.Settings.{begun};
     ghost use Rattle.rendering_nodes.specs.Views.{walk_context};
-    ghost use Rattle.rendering.specs.Purposes.{bibliography, citation, context_of, counted, item_put, locales_of, rendered};
+    ghost use Rattle.rendering.specs.Purposes.{bibliography, citation, context_of, counted, item_put, rendered, rendered_for};
     ghost use Rattle.rendering.specs.Views.{context_in, context_seen, rendered_by, spoken, style_of};
 
     /// A style with the language that is asked for where a call asks for none, and the files with locales.
@@ -61,6 +64,7 @@ impl<'a> StyleContext<'a> {
         ensures { IfOk result (λ x. context_seen x ≡ record { style = style_seen style.now; locale = option_map borrowed_code locale.entry; locale_files = map locale_seen locale_files.now }) }
     {
         let authors = AuthorNode::new(alloc)?;
+        let own_words = words_in(alloc, style, locale, locale_files)?;
         Ok(StyleContext {
             alloc,
             style,
@@ -68,6 +72,7 @@ impl<'a> StyleContext<'a> {
             locale_files,
             has_suffix_node: prints_suffix(style),
             authors,
+            own_words,
         })
     }
 
@@ -144,8 +149,37 @@ impl<'a> StyleContext<'a> {
         requires { characters letters.now.0 ≡ letters_of (cite_by properties.now).disambiguation }
         ensures { IfOk result (λ r. rendered_by r ≡ citation (context_seen self.now) (E.answers entry.now) (cite_by properties.now) (option_map borrowed_code term_locale.entry) purpose verdict) }
     {
-        let words = self.words(term_locale)?;
-        let call = self.call(&words, letters, properties, false);
+        match term_locale {
+            None => {
+                self.cite_in(
+                    &self.own_words,
+                    letters,
+                    entry,
+                    properties,
+                    purpose,
+                    verdict,
+                )
+            }
+            Some(_) => {
+                let words = self.words(term_locale)?;
+                self.cite_in(&words, letters, entry, properties, purpose, verdict)
+            }
+        }
+    }
+
+    /// What the style gives of a cite in these words, with these letters after a year.
+    fn cite_in<'s, 'c, E: EntryLike>(
+        &'c self,
+        words: &'s Words<'c>,
+        letters: &'c Letters,
+        entry: &'c E,
+        properties: &'s CiteProperties<'c>,
+        purpose: Option<CitePurpose>,
+        verdict: Option<CollapseVerdict>,
+    ) -> Result<Rendering, AllocError>
+        ensures { IfOk result (λ r. rendered_by r ≡ rendered_for (context_seen self.now).style (spoken (context_seen self.now).style (E.answers entry.now) (cite_by properties.now) words.now.locales (quotes_of words.now.quotes.items) (characters letters.now.0) false) verdict purpose) }
+    {
+        let call = self.call(words, letters, properties, false);
         call.rendered_for(entry, verdict, purpose)
     }
 
@@ -161,8 +195,27 @@ impl<'a> StyleContext<'a> {
         requires { characters letters.now.0 ≡ letters_of (cite_by properties.now).disambiguation }
         ensures { IfOk result (λ r. rendered_by r ≡ rendered (item_put (context_seen self.now).style (context_of (context_seen self.now) (option_map borrowed_code term_locale.entry) true (E.answers entry.now) (cite_by properties.now)) (bibliography_seen bibliography.now) begun)) }
     {
-        let words = self.words(term_locale)?;
-        let call = self.call(&words, letters, properties, true);
+        match term_locale {
+            None => self.listed_in(&self.own_words, letters, entry, properties, bibliography),
+            Some(_) => {
+                let words = self.words(term_locale)?;
+                self.listed_in(&words, letters, entry, properties, bibliography)
+            }
+        }
+    }
+
+    /// What the style gives of an item of this bibliography in these words, with these letters after a year.
+    fn listed_in<'s, 'c, E: EntryLike>(
+        &'c self,
+        words: &'s Words<'c>,
+        letters: &'c Letters,
+        entry: &'c E,
+        properties: &'s CiteProperties<'c>,
+        bibliography: &'c Bibliography,
+    ) -> Result<Rendering, AllocError>
+        ensures { IfOk result (λ r. rendered_by r ≡ rendered (item_put (context_seen self.now).style (spoken (context_seen self.now).style (E.answers entry.now) (cite_by properties.now) words.now.locales (quotes_of words.now.quotes.items) (characters letters.now.0) true) (bibliography_seen bibliography.now) begun)) }
+    {
+        let call = self.call(words, letters, properties, true);
         call.item(entry, bibliography)
     }
 
@@ -174,21 +227,8 @@ impl<'a> StyleContext<'a> {
         ensures locales { IfOk result (λ w. w.locales ≡ locales_of (context_seen self.now) (option_map borrowed_code term_locale.entry)) }
         ensures quotes { IfOk result (λ w. quotes_of w.quotes.items ≡ close_quotes (locales_of (context_seen self.now) (option_map borrowed_code term_locale.entry))) }
     {
-        let locales = self.locales(term_locale)?;
-        let quotes = locales.close_quotes(self.alloc)?;
-        Ok(Words { locales, quotes })
-    }
-
-    /// The locales that a call asks.
-    fn locales<'c>(
-        &'c self,
-        term_locale: Option<&LocaleCode>,
-    ) -> Result<AskedLocales<'c>, AllocError>
-        ensures { IfOk result (λ l. l ≡ locales_of (context_seen self.now) (option_map borrowed_code term_locale.entry)) }
-    {
-        let parts = self.style.parts();
-        let code = language(term_locale.or(self.locale), parts.default_locale.as_ref());
-        AskedLocales::new(self.alloc, code, &parts.locales, self.locale_files)
+        let code = term_locale.or(self.locale);
+        words_in(self.alloc, self.style, code, self.locale_files)
     }
 
     /// What a caller prints from by itself: as in a cite, or in an item of a bibliography, with these properties, in these words and with
@@ -234,4 +274,21 @@ impl<'a> StyleContext<'a> {
             authors: &self.authors,
         }
     }
+}
+
+/// The words of a style in that language, by the files with locales.
+fn words_in<'a>(
+    alloc: Global,
+    style: &'a Style,
+    locale: Option<&LocaleCode>,
+    locale_files: &'a [Locale],
+) -> Result<Words<'a>, AllocError>
+    ensures locales { IfOk result (λ w. w.locales ≡ locales_of (record { style = style_seen style.now; locale = option_map borrowed_code locale.entry; locale_files = map locale_seen locale_files.now }) None) }
+    ensures quotes { IfOk result (λ w. quotes_of w.quotes.items ≡ close_quotes (locales_of (record { style = style_seen style.now; locale = option_map borrowed_code locale.entry; locale_files = map locale_seen locale_files.now }) None)) }
+{
+    let parts = style.parts();
+    let code = language(locale, parts.default_locale.as_ref());
+    let locales = AskedLocales::new(alloc, code, &parts.locales, locale_files)?;
+    let quotes = locales.close_quotes(alloc)?;
+    Ok(Words { locales, quotes })
 }
