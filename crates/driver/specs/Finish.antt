@@ -6,6 +6,7 @@ use Rattle.rendering_tree.specs.Trees.{Children}
 use Rattle.rendering_style.specs.Styles.{Bibliography}
 use Rattle.rendering_context.specs.Cites.{CiteProperties}
 use Rattle.rendering.specs.Purposes.{bibliography}
+use Rattle.driver_requests.specs.Errors.{Overflow, overflow}
 use Rattle.driver_requests.specs.Requests.{Request, cites_entry}
 use Rattle.driver_requests.specs.Order.{cited, numbers_overflow}
 use Rattle.driver_marks.specs.Marks.{suffixes_overflow}
@@ -33,10 +34,6 @@ pub record RenderedBibliography : Type 0 where
 pub record Rendered : Type 0 where
   pub bibliography : Option RenderedBibliography
   pub citations : List Citation
-
--- A number is above the greatest that is printed, or letters are after the last.
-pub data Overflow : Type 0 where
-  overflow : Overflow
 
 -- a cite that is shown, by its last print
 abbrev pub shown_cite : {P : Type 0} → Final P → Shown

@@ -1,1 +1,14 @@
 pub mod OrderRows
+pub mod Once
+pub mod PlacesFound
+pub mod PlacesOnce
+pub mod PlacesRead
+pub mod OrderPut
+pub mod NumbersWritten
+pub mod StandingSteps
+pub mod StandingAfter
+pub mod NotesRead
+pub mod CitesLaw
+pub mod TextsCompared
+pub mod ItemsCopied
+pub mod IbidsSame

@@ -4,3 +4,11 @@ pub mod Cites
 pub mod Positions
 pub mod Order
 pub mod Suffixes
+pub mod Errors
+pub mod Notes
+pub mod Places
+pub mod Standing
+pub mod StandingViews
+pub mod Views
+pub mod SuffixViews
+pub mod Copies

@@ -1,3 +1,25 @@
-//! Requests with their items, the entries that they cite, the numbers of these, and how a cite repeats the one before it. The crate has
-//! definitions alone, in `specs/`.
+//! What is asked for: requests with their items, the entries that they cite, the numbers of these, and how cites stand to those before
+//! them.
 #![tactic(auto)]
+
+mod bibliography_request;
+mod cited;
+mod error;
+mod facts;
+mod item;
+mod order;
+mod position;
+mod request;
+mod standing;
+mod suffix;
+
+pub use bibliography_request::BibliographyRequest;
+pub use cited::Cited;
+pub use error::DriverError;
+pub use facts::cites;
+pub use item::CitationItem;
+pub use order::{numbers, ordered};
+pub use position::ibid_after;
+pub use request::CitationRequest;
+pub use standing::CiteFacts;
+pub use suffix::{Origin, Suffix};

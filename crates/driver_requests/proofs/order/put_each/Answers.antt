@@ -1,0 +1,10 @@
+use Rattle.std.proofs.Common.{rules}
+use Rattle.std.specs.Prelude.{length}
+use Rattle.driver_requests.proofs.OrderPut.{put_more}
+use Rattle.driver_requests.proofs.order.put_each.Goals as goal
+
+pub loop-place-preserved : goal.loop-place-preserved
+loop-place-preserved c = (
+  put_more (length c.loop-place.stands) (length c.args.stands.now) c.args.order.now.items c.args.places.now c.loop-place.order.items c.put_last.new.order.items c.loop-place.place-index c.loop-place-test.true (search rules) c.in_ok-put_last.ensures.order c.loop-place.invariant.0,
+  c.in_ok-put_last.ensures.stands,
+)

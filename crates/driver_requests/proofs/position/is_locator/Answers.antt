@@ -1,0 +1,6 @@
+use Rattle.std.proofs.Common.{◌∙◌}
+use Rattle.rendering_context.proofs.VariablesPlaces.{same_label}
+use Rattle.driver_requests.proofs.position.is_locator.Goals as goal
+
+pub returns : goal.returns
+returns c = c.eq.ensures ∙ same_label c.args.label c.args.other
