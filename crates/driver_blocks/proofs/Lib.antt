@@ -1,1 +1,5 @@
 pub mod BlocksRows
+pub mod RowsCut
+pub mod RowsSteps
+pub mod GatheredSteps
+pub mod PutSteps

@@ -1,3 +1,13 @@
-//! How the cites of one citation are gathered in blocks and collapsed: numbers, years and letters. The crate has definitions alone, in
-//! `specs/`.
+//! How the cites of one citation are gathered in blocks and collapsed: numbers, years and letters.
 #![tactic(auto)]
+
+mod arranging;
+mod blocks;
+mod cite;
+mod numbers;
+mod rows;
+mod suffixes;
+mod years;
+
+pub use arranging::arrange;
+pub use cite::{Arranged, Before, Gathered};

@@ -1,0 +1,72 @@
+-- Cites of the code as plain data.
+use Rattle.std.specs.Global.{Global}
+use Rattle.std.specs.Prelude.{◌≡◌, ℕ, ◌<◌, Bool, false, List, [], ◌∷◌, ◌++◌, map, length, slice_set, slice_index_or, if◌then◌else◌, Option, Some, None, Vec}
+use Rattle.std.specs.Borrow.{Bor}
+use Rattle.std.specs.Option.{option_map, option_or}
+use Rattle.rendering_style.specs.Styles.{Citation}
+use Rattle.rendering_tree.specs.Views.{element}
+use Rattle.driver_requests.specs.SuffixViews.{suffix_by}
+use Rattle.driver_blocks.specs.Blocks as blocks
+use Rattle.driver_blocks.specs.Blocks.{inside_delimiter}
+use Rattle.driver_blocks.specs.Rows as rows
+use Rattle.rendering_dates.specs.Dates.{dash}
+use Rattle.driver_blocks.specs.Collapsing.{delimiter_after_collapsed}
+use Rattle.rendering_tree.specs.declared.element.Elem.{Elem}
+use Rattle.driver_blocks.specs.declared.cite.Gathered.{Gathered}
+use Rattle.driver_blocks.specs.declared.cite.Arranged.{Arranged}
+use Rattle.driver_blocks.specs.declared.cite.Before.{Before}
+use Rattle.driver_blocks.specs.declared.cite.Before.TheVariants as before
+
+-- a cite as it is gathered
+abbrev pub gathered_seen : Gathered → blocks.Gathered ℕ
+gathered_seen g = record {
+  cite = g.cite;
+  names = option_map (λ (e : Bor Elem). element e.now) g.names;
+  number = g.number;
+  is_shown = g.is_shown;
+  has_locator = g.has_locator;
+  suffix = option_map suffix_by g.suffix;
+}
+
+-- blocks of cites
+abbrev pub blocks_seen : List (Vec Gathered Global) → List (List (blocks.Gathered ℕ))
+blocks_seen bs = map (λ b. map gathered_seen b.items) bs
+
+-- what stands before a cite in a style
+abbrev pub before_seen : Citation → Before → Option (List ℕ)
+before_seen c before.Layout = c.layout.delimiter
+before_seen c before.Inside = inside_delimiter c
+before_seen c before.AfterCollapse = delimiter_after_collapsed c
+before_seen c before.YearSuffix = option_or c.year_suffix_delimiter (inside_delimiter c)
+before_seen c before.Dash = Some dash
+
+-- a cite in its citation, in a style
+abbrev pub arranged_seen : Citation → Arranged → rows.Arranged ℕ
+arranged_seen c a = record { cite = gathered_seen a.cite; is_shown = a.is_shown; delimiter = before_seen c a.before; verdict = a.verdict }
+
+-- a cite in its citation, whatever stands before it
+abbrev pub undelimited : Arranged → rows.Arranged ℕ
+undelimited a = record { cite = gathered_seen a.cite; is_shown = a.is_shown; delimiter = None; verdict = a.verdict }
+
+-- a cite that is hidden
+abbrev pub hidden : {X : Type 0} → rows.Arranged X → rows.Arranged X
+hidden a = record a { is_shown = false }
+
+-- a cite after a dash
+abbrev pub after_dash : {X : Type 0} → rows.Arranged X → rows.Arranged X
+after_dash a = record a { delimiter = Some dash }
+
+-- whether a member goes with those of a group, which is asked of the first of them
+abbrev pub takes : {Y : Type 0} → (Y → Y → Bool) → List Y → Y → Bool
+takes same [] x = false
+takes same (y ∷ ys) x = same y x
+
+-- a member in the first group that takes it, or else in one of its own after them
+abbrev pub put_in : {Y : Type 0} → (Y → Y → Bool) → Y → List (List Y) → List (List Y)
+put_in same x [] = (x ∷ []) ∷ []
+put_in same x (b ∷ bs) = if takes same b x then (b ++ x ∷ []) ∷ bs else b ∷ put_in same x bs
+
+-- A member is put in the group at a place, or, without one, in one of its own after all groups.
+abbrev pub IsPut : {Y : Type 0} → (Y → Y → Bool) → Y → List (List Y) → Option ℕ → Type 0
+IsPut same x bs None = put_in same x bs ≡ bs ++ (x ∷ []) ∷ []
+IsPut same x bs (Some i) = (i < length bs) × (put_in same x bs ≡ slice_set bs i (slice_index_or bs i [] ++ x ∷ []))

@@ -1,0 +1,98 @@
+//! The order in which the cites of a citation stand, and what is left of them.
+
+ghost use Rattle.std.specs.Prelude.{◌≡◌, ◌++◌, IfOk, OnOk, None, if◌then◌else◌, map};
+ghost use Rattle.std.specs.List.{flat_map};
+ghost use Rattle.rendering_style.specs.Styles as styles;
+ghost use Rattle.rendering_style.specs.Views.{citation_seen};
+ghost use Rattle.driver_blocks.specs.Collapsing.{arranged, collapsed, uncollapsed, uncollapsed_block};
+ghost use Rattle.driver_blocks.specs.Views.{arranged_seen, before_seen, blocks_seen, gathered_seen};
+
+use crate::blocks::blocks_of;
+use crate::cite::{Arranged, Before, Gathered, uncollapsed};
+use crate::numbers::collapse_numbers;
+use crate::years::collapse_years;
+use rendering_style::Citation;
+use rendering_taxonomy::Collapse;
+use std::alloc::{AllocError, Global};
+
+/// The cites of a citation in the order in which they stand. Where one of them has a purpose nothing is collapsed.
+///
+/// # Errors
+/// Out of memory.
+pub fn arrange<'a>(
+    alloc: Global,
+    style: &Citation,
+    has_purpose: bool,
+    cites: &[Gathered<'a>],
+) -> Result<Vec<Arranged<'a>>, AllocError>
+    ensures { IfOk result (λ v. map (arranged_seen (citation_seen style.now)) v.items ≡ arranged (citation_seen style.now) has_purpose (map gathered_seen cites.now)) }
+{
+    let blocks = blocks_of(alloc, style, cites)?;
+    collapse(alloc, mode(has_purpose, style.collapse), &blocks)
+}
+
+/// The mode by which a citation is collapsed, if by one.
+fn mode(has_purpose: bool, collapse: Option<Collapse>) -> Option<Collapse>
+    ensures { result ≡ (if has_purpose then None else collapse) }
+{
+    if has_purpose { None } else { collapse }
+}
+
+/// Blocks collapsed by a mode, if by one.
+fn collapse<'a>(
+    alloc: Global,
+    mode: Option<Collapse>,
+    blocks: &[Vec<Gathered<'a>>],
+) -> Result<Vec<Arranged<'a>>, AllocError>
+    ensures { IfOk result (λ v. (c : styles.Citation) → map (arranged_seen c) v.items ≡ collapsed c mode (blocks_seen blocks.now)) }
+{
+    match mode {
+        None => uncollapsed_blocks(alloc, blocks),
+        Some(Collapse::CitationNumber) => {
+            let cites = uncollapsed_blocks(alloc, blocks)?;
+            collapse_numbers(alloc, &cites)
+        }
+        Some(mode) => collapse_years(alloc, mode, blocks),
+    }
+}
+
+/// Blocks whose cites print all.
+fn uncollapsed_blocks<'a>(
+    alloc: Global,
+    blocks: &[Vec<Gathered<'a>>],
+) -> Result<Vec<Arranged<'a>>, AllocError>
+    ensures { IfOk result (λ v. (c : styles.Citation) → map (arranged_seen c) v.items ≡ flat_map (uncollapsed_block c) (blocks_seen blocks.now)) }
+{
+    let mut all = Vec::new(alloc);
+    for block in blocks {
+        push_whole(block, &mut all)?;
+    }
+    Ok(all)
+}
+
+/// Appends a block whose cites print all.
+fn push_whole<'a>(block: &[Gathered<'a>], all: &mut Vec<Arranged<'a>>) -> Result<(), AllocError>
+    ensures { OnOk result ((c : styles.Citation) → map (arranged_seen c) all.new.items ≡ map (arranged_seen c) all.old.items ++ uncollapsed_block c (map gathered_seen block.now)) }
+{
+    match block.split_first() {
+        Some((first, others)) => {
+            all.push(uncollapsed(Before::Layout, *first))?;
+            push_each(Before::Inside, others, all)
+        }
+        None => Ok(()),
+    }
+}
+
+/// Appends cites that print all.
+fn push_each<'a>(
+    before: Before,
+    cites: &[Gathered<'a>],
+    all: &mut Vec<Arranged<'a>>,
+) -> Result<(), AllocError>
+    ensures { OnOk result ((c : styles.Citation) → map (arranged_seen c) all.new.items ≡ map (arranged_seen c) all.old.items ++ map (uncollapsed (before_seen c before)) (map gathered_seen cites.now)) }
+{
+    for cite in cites {
+        all.push(uncollapsed(before, *cite))?;
+    }
+    Ok(())
+}
