@@ -18,9 +18,6 @@ use rendering_taxonomy::Formatting;
 use std::alloc::AllocError;
 use texts::has_text;
 
-/// How many pieces a short page has, such as that of a cite.
-const SHORT_PAGE: usize = 32;
-
 /// Puts a text down as it is.
 pub(crate) fn put_words<'a>(
     pieces: &mut Vec<Piece<'a>>,
@@ -88,8 +85,10 @@ pub(crate) fn begin<'a>(
 ) -> Result<(), AllocError>
     ensures { OnOk result (tokens_of pieces.new.items ≡ mark ∷ with_letters frame.now.manner.formatting (chars frame.now.prefix.now) (views.put (tokens_of pieces.old.items) first.entry)) }
 {
-    if pieces.capacity() < SHORT_PAGE {
-        pieces.reserve(SHORT_PAGE)?;
+    // As many as a short page has, such as that of a cite.
+    let room = 32;
+    if pieces.capacity() < room {
+        pieces.reserve(room)?;
     }
     pieces.push(first)?;
     put_words(
