@@ -1,2 +1,11 @@
 pub mod NamesRows
 pub mod RoundsRows
+pub mod Lists
+pub mod Groups
+pub mod LetteringSteps
+pub mod Classing
+pub mod Gathering
+pub mod Marking
+pub mod Lettered
+pub mod NamesPeople
+pub mod NamesDistinguished

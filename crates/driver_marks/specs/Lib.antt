@@ -1,4 +1,10 @@
 pub mod Marks
 pub mod Classes
 pub mod Names
+pub mod NamesViews
 pub mod Rounds
+pub mod Views
+pub mod Grouping
+pub mod Gathered
+pub mod Joining
+pub mod Lettered

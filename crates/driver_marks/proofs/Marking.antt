@@ -1,0 +1,145 @@
+-- The marks of a round, joined one after the other, are those that each entry is given.
+use Rattle.std.proofs.Common.{arith, ◌≡◌, ℕ, ◌+◌, ◌<◌, ◌≤◌, Bool, true, false, cond, List, [], ◌∷◌, map, length, drop, get_or, set, replicate, fold, refl, sym, ap, ◌∙◌}
+use Rattle.std.specs.Prelude.{nat_eq, filter}
+use Rattle.std.specs.List.{enumerate_from, reduce}
+use Rattle.std.specs.Option.{unwrap_or}
+use Rattle.std.proofs.lemmas.Bool.{eqb-true}
+use Rattle.std.proofs.lemmas.Cmp.{nat_eq_equiv}
+use Rattle.std.proofs.lemmas.List.{at_drop_more, at_drop_all, ext_get_or, get_or-map, get_or-set_same, get_or-set_other, get_or-replicate, length-set, map-set, set-set, length-map, length-replicate}
+use Rattle.std.proofs.lemmas.List.FromFn.{get_or-enumerate_from, length-enumerate_from}
+use Rattle.rendering_context.specs.Cites.{DisambiguateState, undisturbed, greater_state}
+use Rattle.driver_marks.specs.Marks.{Given, is_given_to, joined_for, marked}
+use Rattle.driver_marks.specs.Joining.{Joined, join, joined_at, joined_with, before_giving}
+
+-- what is given to an entry, onto what it has
+abbrev onto : Bool → DisambiguateState → List DisambiguateState → DisambiguateState
+onto true m ms = fold greater_state m ms
+onto false m ms = unwrap_or (reduce greater_state ms) m
+
+onto_none : (b : Bool) (m : DisambiguateState) → m ≡ onto b m []
+onto_none true m = refl
+onto_none false m = refl
+
+onto_more : (b : Bool) (m x : DisambiguateState) (ms : List DisambiguateState) → onto true (joined_with b m x) ms ≡ onto b m (x ∷ ms)
+onto_more true m x ms = refl
+onto_more false m x ms = refl
+
+-- what is given to an entry
+abbrev marks_for : ℕ → List Given → List DisambiguateState
+marks_for e gs = map (λ g. g.mark) (filter (is_given_to e) gs)
+
+-- what an entry has after one mark more
+abbrev has : Joined → ℕ → List DisambiguateState → DisambiguateState
+has t e ms = onto (get_or t.is_given e false) (get_or t.marks e undisturbed) ms
+
+-- two places that differ
+pub differs : (x e : ℕ) → nat_eq x e ≡ false → (e ≡ x → ⊥)
+differs x e h same =
+    let one : nat_eq x e ≡ true = ap (nat_eq x) same ∙ nat_eq_equiv.refl x in
+    absurd cc
+
+step : (t : Joined) (g : Given) (e : ℕ) (ms : List DisambiguateState) → e < length t.marks → length t.is_given ≡ length t.marks → (b : Bool) → nat_eq g.entry e ≡ b
+    → has (join t g) e ms ≡ has t e (cond b (g.mark ∷ ms) ms)
+step t g e ms low long true h =
+    let same : g.entry ≡ e = eqb-true g.entry e h in
+    let x = joined_with (get_or t.is_given g.entry false) (get_or t.marks g.entry undisturbed) g.mark in
+    let flag : get_or (set t.is_given g.entry true) e false ≡ true =
+    (λ k. get_or (set t.is_given (same k) true) e false) ∙ get_or-set_same t.is_given e true false (omega (arith, low, long)) in
+    let mark : get_or (set t.marks g.entry x) e undisturbed ≡ joined_with (get_or t.is_given e false) (get_or t.marks e undisturbed) g.mark =
+    (λ k. get_or (set t.marks (same k) (joined_with (get_or t.is_given (same k) false) (get_or t.marks (same k) undisturbed) g.mark)) e undisturbed)
+    ∙ get_or-set_same t.marks e (joined_with (get_or t.is_given e false) (get_or t.marks e undisturbed) g.mark) undisturbed low in
+    (λ k. onto (flag k) (mark k) ms) ∙ onto_more (get_or t.is_given e false) (get_or t.marks e undisturbed) g.mark ms
+step t g e ms low long false h =
+    let x = joined_with (get_or t.is_given g.entry false) (get_or t.marks g.entry undisturbed) g.mark in
+    let flag : get_or (set t.is_given g.entry true) e false ≡ get_or t.is_given e false = get_or-set_other t.is_given g.entry e true false (differs g.entry e h) in
+    let mark : get_or (set t.marks g.entry x) e undisturbed ≡ get_or t.marks e undisturbed = get_or-set_other t.marks g.entry e x undisturbed (differs g.entry e h) in
+    λ k. onto (flag k) (mark k) ms
+
+cond-marks : (e : ℕ) (g : Given) (gs : List Given) (b : Bool) → cond b (g.mark ∷ marks_for e gs) (marks_for e gs) ≡ map (λ h. h.mark) (cond b (g ∷ filter (is_given_to e) gs) (filter (is_given_to e) gs))
+cond-marks e g gs true = refl
+cond-marks e g gs false = refl
+
+after : (gs : List Given) (t : Joined) (e : ℕ) → e < length t.marks → length t.is_given ≡ length t.marks → get_or (fold join t gs).marks e undisturbed ≡ has t e (marks_for e gs)
+after [] t e low long = onto_none (get_or t.is_given e false) (get_or t.marks e undisturbed)
+after (g ∷ gs) t e low long =
+    let marks_long : length (join t g).marks ≡ length t.marks =
+    length-set t.marks g.entry (joined_with (get_or t.is_given g.entry false) (get_or t.marks g.entry undisturbed) g.mark) in
+    let given_long : length (join t g).is_given ≡ length t.is_given = length-set t.is_given g.entry true in
+    after gs (join t g) e (omega (arith, low, marks_long)) (given_long ∙ long ∙ sym marks_long)
+    ∙ step t g e (marks_for e gs) low long (nat_eq g.entry e) refl
+    ∙ ap (has t e) (cond-marks e g gs (nat_eq g.entry e))
+
+long_after : (gs : List Given) (t : Joined) → length (fold join t gs).marks ≡ length t.marks
+long_after [] t = refl
+long_after (g ∷ gs) t =
+    long_after gs (join t g) ∙ length-set t.marks g.entry (joined_with (get_or t.is_given g.entry false) (get_or t.marks g.entry undisturbed) g.mark)
+
+-- both lists stay as long as they were
+pub given_long : (t : Joined) (g : Given) → length t.is_given ≡ length t.marks → length (join t g).is_given ≡ length (join t g).marks
+given_long t g long =
+    length-set t.is_given g.entry true ∙ long ∙ sym (length-set t.marks g.entry (joined_with (get_or t.is_given g.entry false) (get_or t.marks g.entry undisturbed) g.mark))
+
+at_entry : (gs : List Given) (ms : List DisambiguateState) (e : ℕ) → e < length ms → get_or (marked gs ms) e undisturbed ≡ unwrap_or (joined_for e gs) (get_or ms e undisturbed)
+at_entry gs ms e low =
+    let long : length (enumerate_from 0 ms) ≡ length ms = length-enumerate_from 0 ms in
+    let place : 0 + e ≡ e = omega arith in
+    let read : get_or (enumerate_from 0 ms) e (0, undisturbed) ≡ (e, get_or ms e undisturbed) =
+    get_or-enumerate_from 0 ms e (0, undisturbed) low ∙ (λ k. (place k, get_or ms e undisturbed)) in
+    get_or-map (λ (p : ℕ × DisambiguateState). unwrap_or (joined_for p.0 gs) p.1) (enumerate_from 0 ms) e (0, undisturbed) undisturbed (omega (arith, low, long))
+    ∙ ap (λ (p : ℕ × DisambiguateState). unwrap_or (joined_for p.0 gs) p.1) read
+
+-- the marks after a round
+pub joined_all : (gs : List Given) (ms : List DisambiguateState) → (fold join (before_giving ms) gs).marks ≡ marked gs ms
+joined_all gs ms =
+    let first = before_giving ms in
+    let long : length (fold join first gs).marks ≡ length ms = long_after gs first in
+    let all_long : length (marked gs ms) ≡ length ms = length-map (enumerate_from 0 ms) (λ (p : ℕ × DisambiguateState). unwrap_or (joined_for p.0 gs) p.1) ∙ length-enumerate_from 0 ms in
+    ext_get_or undisturbed (fold join first gs).marks (marked gs ms) (long ∙ sym all_long)
+    (λ e low.
+    let within : e < length ms = omega (arith, low, long) in
+    let flag : get_or (replicate (length ms) false) e false ≡ false = get_or-replicate (length ms) e false false within in
+    after gs first e within (length-replicate (length ms) false)
+    ∙ ap (λ b. onto b (get_or ms e undisturbed) (marks_for e gs)) flag
+    ∙ sym (at_entry gs ms e within))
+
+-- the marks so far, and what is left, make what all that was given makes of the marks from before
+pub record Joins {A : Type 0} (seen : A → DisambiguateState) (before now : List A) (is_given : List Bool) (all left : List Given) : Type 0 where
+  pub same : fold join (record { marks = map seen now; is_given = is_given }) left ≡ fold join (before_giving (map seen before)) all
+  pub long : length is_given ≡ length now
+
+pub begins : {A : Type 0} (seen : A → DisambiguateState) (ms : List A) (fs : List Bool) (all left : List Given) → fs ≡ (before_giving (map seen ms)).is_given → left ≡ all
+    → Joins seen ms ms fs all left
+begins seen ms fs all left none is = record {
+  same = λ k. fold join (record { marks = map seen ms; is_given = none k }) (is k);
+  long = ap length none ∙ length-replicate (length (map seen ms)) false ∙ length-map ms seen;
+}
+
+pub goes_on : {A B : Type 0} (seen : A → DisambiguateState) (view : B → Given) (before now new : List A) (fs hs : List Bool) (gs : List B) (i : ℕ) (x : B) (mark : DisambiguateState)
+    → i < length gs → x ≡ get_or gs i x → Joins seen before now fs (map view gs) (map view (drop i gs)) → mark ≡ (view x).mark
+    → map seen new ≡ (joined_at (record { marks = map seen now; is_given = fs }) (view x).entry mark).marks
+    → hs ≡ (joined_at (record { marks = map seen now; is_given = fs }) (view x).entry mark).is_given
+    → Joins seen before new hs (map view gs) (map view (drop (i + 1) gs))
+goes_on seen view before now new fs hs gs i x mark low is_x inv is_mark marks flags =
+    let t : Joined = record { marks = map seen now; is_given = fs } in
+    let next : map view (drop i gs) ≡ view x ∷ map view (drop (i + 1) gs) =
+    at_drop_more (map view) gs i x low ∙ ap (λ y. view y ∷ map view (drop (i + 1) gs)) (sym is_x) in
+    let joined : map seen new ≡ (join t (view x)).marks = marks ∙ ap (λ m. (joined_at t (view x).entry m).marks) is_mark in
+    record {
+      same = (λ k. fold join (record { marks = joined k; is_given = flags k }) (map view (drop (i + 1) gs))) ∙ ap (fold join t) (sym next) ∙ inv.same;
+      long = ap length flags ∙ given_long t (view x) (inv.long ∙ sym (length-map now seen)) ∙ sym (ap length joined) ∙ length-map new seen;
+    }
+
+pub ends : {A B : Type 0} (seen : A → DisambiguateState) (view : B → Given) (before now : List A) (fs : List Bool) (gs : List B) (i : ℕ) → length gs ≤ i
+    → Joins seen before now fs (map view gs) (map view (drop i gs)) → map seen now ≡ marked (map view gs) (map seen before)
+ends seen view before now fs gs i past inv =
+    ap (λ (hs : List Given). (fold join (record { marks = map seen now; is_given = fs }) hs).marks) (sym (at_drop_all (map view) gs i past))
+    ∙ ap (λ (t : Joined). t.marks) inv.same
+    ∙ joined_all (map view gs) (map seen before)
+
+-- a mark that is replaced by nothing, and then by one that it is joined with
+pub joined_set : {A : Type 0} (seen : A → DisambiguateState) (ms : List A) (i : ℕ) (empty old made : A) (b : Bool) (x : DisambiguateState) → i < length ms
+    → seen made ≡ joined_with b (seen (get_or ms i old)) x → map seen (set (set ms i empty) i made) ≡ set (map seen ms) i (joined_with b (get_or (map seen ms) i undisturbed) x)
+joined_set seen ms i empty old made b x low is_made =
+    ap (map seen) (set-set ms i empty made)
+    ∙ map-set seen ms i made
+    ∙ ap (set (map seen ms) i) (is_made ∙ ap (λ m. joined_with b m x) (sym (get_or-map seen ms i old undisturbed low)))

@@ -1,0 +1,203 @@
+-- Cites that people tell apart, as the code finds them.
+use Rattle.std.proofs.Common.{arith, ◌≡◌, ℕ, suc, ◌+◌, ◌-◌, ◌<◌, ◌≤◌, Bool, true, false, cond, not, ◌&&◌, ◌||◌, List, [], ◌∷◌, ◌++◌, map, take, drop, length, get_or, refl, sym, ap, ◌∙◌, Option, Some, None}
+use Rattle.std.specs.Prelude.{◌==◌, filter, fold, is_some, slice_set, zip}
+use Rattle.std.specs.List.{flat_map, list_any, range_with_len}
+use Rattle.std.specs.Option.{option_map, option_map_or}
+use Rattle.std.specs.Str.{bytes_eq}
+use Rattle.std.proofs.lemmas.Iterator.Adapters.{option_map_id}
+use Rattle.std.proofs.lemmas.List.{append-nil, append_assoc, drop_all, drop_more, get_or-map, get_or_at, get_or_default, length-map, length-take-le, map_more, map-set, set_at, take_all}
+use Rattle.std.proofs.lemmas.List.Folds.{list_any-append}
+use Rattle.std.proofs.lemmas.Slice.Zip.{get_or-zip, length-zip}
+use Rattle.laws.specs.Text.{is_filled}
+use Rattle.literature_values.specs.PersonViews.{Named}
+use Rattle.driver_marks.specs.Names as names
+use Rattle.driver_marks.specs.Names.{agrees_on, all_shown_up_to, distinguished_at, distinguished_by, form_against, form_wanted, initials, is_namesake, is_newly_distinguished, names_may_change, namesakes, others, raised_names, raises, rule_for, showing_up_to, with_raised}
+use Rattle.driver_marks.specs.NamesViews.{distinction, form_raised, is_alike_namesake, member_by, members_by, raised_if, shown_with, with_distinction}
+use Rattle.driver_marks.specs.declared.names_members.Distinction.{Distinction}
+use Rattle.driver_marks.specs.declared.names_members.Member.{Member}
+use Rattle.rendering_taxonomy.specs.declared.name.DisambiguatedNameForm.{DisambiguatedNameForm}
+use Rattle.rendering_taxonomy.specs.declared.name.DisambiguatedNameForm.TheVariants as forms
+
+any_cond : {X : Type 0} (t : X → Bool) (b : Bool) (x : X) (xs : List X) → list_any t (cond b (x ∷ xs) xs) ≡ ((b && t x) || list_any t xs)
+any_cond t true x xs = refl
+any_cond t false x xs = refl
+
+-- whether a test finds one of those that pass another one
+any-filter : {X : Type 0} (t p : X → Bool) (xs : List X) → list_any t (filter p xs) ≡ list_any (λ x. p x && t x) xs
+any-filter t p [] = refl
+any-filter t p (x ∷ xs) = any_cond t (p x) x (filter p xs) ∙ ap (λ b. (p x && t x) || b) (any-filter t p xs)
+
+any-flat : {X Y : Type 0} (t : Y → Bool) (h : X → List Y) (xs : List X) → list_any t (flat_map h xs) ≡ list_any (λ x. list_any t (h x)) xs
+any-flat t h [] = refl
+any-flat t h (x ∷ xs) = list_any-append t (h x) (flat_map h xs) ∙ ap (λ b. list_any t (h x) || b) (any-flat t h xs)
+
+filled_cond : {X : Type 0} (b : Bool) (x : X) (xs : List X) → is_filled (cond b (x ∷ xs) xs) ≡ (b || is_filled xs)
+filled_cond true x xs = refl
+filled_cond false x xs = refl
+
+filled-filter : {X : Type 0} (p : X → Bool) (xs : List X) → is_filled (filter p xs) ≡ list_any p xs
+filled-filter p [] = refl
+filled-filter p (x ∷ xs) = filled_cond (p x) x (filter p xs) ∙ ap (λ b. p x || b) (filled-filter p xs)
+
+any-map : {X Y : Type 0} (t : Y → Bool) (f : X → Y) (xs : List X) → list_any t (map f xs) ≡ list_any (λ x. t (f x)) xs
+any-map t f [] = refl
+any-map t f (x ∷ xs) = ap (λ b. t (f x) || b) (any-map t f xs)
+
+-- whether a test finds one of the other members
+any_of_others : (t : names.Member → Bool) (ms : List Member) (m : names.Member) → list_any t (others (members_by ms) m) ≡ list_any (λ o. not (o.place == m.place) && t (member_by o)) ms
+any_of_others t ms m =
+    any-filter t (λ o. not (o.place == m.place)) (members_by ms) ∙ any-map (λ o. not (o.place == m.place) && t o) member_by ms
+
+-- whether a test finds one of the people of the other members
+any_of_people : (t : Named → Bool) (ms : List Member) (m : names.Member)
+    → list_any t (flat_map (λ o. o.people) (others (members_by ms) m)) ≡ list_any (λ o. not (o.place == m.place) && list_any t o.people.items) ms
+any_of_people t ms m = any-flat t (λ o. o.people) (others (members_by ms) m) ∙ any_of_others (λ o. list_any t o.people) ms m
+
+-- whether the first people newly tell a cite apart that they may tell apart
+pub newly_is : (n : ℕ) (ms : List Member) (m : names.Member) (may agrees : Bool) → may ≡ (not m.is_distinguished && names_may_change m)
+    → agrees ≡ list_any (λ o. not (o.place == m.place) && agrees_on n m (member_by o)) ms → may ≡ true → not agrees ≡ is_newly_distinguished n (members_by ms) m
+newly_is n ms m may agrees is_may is_agrees may_be =
+    (λ k. (sym may_be ∙ is_may) k && not ((is_agrees ∙ sym (any_of_others (agrees_on n m) ms m)) k))
+
+-- the form by whether there are namesakes with the same initials, and whether there are any
+abbrev form_by : Bool → Bool → Option DisambiguatedNameForm
+form_by same some = cond same (Some forms.LongFull) (cond some (Some forms.LongInitialized) None)
+
+form_cases : (b : Bool) → Some (cond b forms.LongFull forms.LongInitialized) ≡ form_by b true
+form_cases true = refl
+form_cases false = refl
+
+form_against_is : (p : Named) (qs : List Named) → form_against p qs ≡ form_by (list_any (λ q. bytes_eq (initials q) (initials p)) qs) (is_filled qs)
+form_against_is p [] = refl
+form_against_is p (q ∷ qs) = form_cases (list_any (λ r. bytes_eq (initials r) (initials p)) (q ∷ qs))
+
+-- whether a person has a namesake in other cites
+abbrev pub has_namesake : List Member → names.Member → Named → Bool
+has_namesake ms m p = list_any (λ o. not (o.place == m.place) && list_any (is_namesake p) o.people.items) ms
+
+-- whether some of them has the same initials
+abbrev pub has_namesake_by_initials : List Member → names.Member → Named → Bool
+has_namesake_by_initials ms m p = list_any (λ o. not (o.place == m.place) && list_any (is_alike_namesake p) o.people.items) ms
+
+form_is : (ms : List Member) (m : names.Member) (p : Named) → form_against p (namesakes (members_by ms) m p) ≡ form_by (has_namesake_by_initials ms m p) (has_namesake ms m p)
+form_is ms m p =
+    let all : List Named = flat_map (λ o. o.people) (others (members_by ms) m) in
+    form_against_is p (namesakes (members_by ms) m p)
+    ∙ (λ k. form_by
+    ((any-filter (λ q. bytes_eq (initials q) (initials p)) (is_namesake p) all ∙ any_of_people (is_alike_namesake p) ms m) k)
+    ((filled-filter (is_namesake p) all ∙ any_of_people (is_namesake p) ms m) k))
+
+-- the form against namesakes of whom some has the same initials
+pub form_full : (ms : List Member) (m : names.Member) (p : Named) (same : Bool) → same ≡ has_namesake_by_initials ms m p → same ≡ true
+    → Some forms.LongFull ≡ form_against p (namesakes (members_by ms) m p)
+form_full ms m p same is_same so = sym (form_is ms m p ∙ ap (λ b. form_by b (has_namesake ms m p)) (sym is_same ∙ so))
+
+-- the form against others, if there are any
+pub form_less : (ms : List Member) (m : names.Member) (p : Named) (same some : Bool) → same ≡ has_namesake_by_initials ms m p → some ≡ has_namesake ms m p → same ≡ false
+    → cond some (Some forms.LongInitialized) None ≡ form_against p (namesakes (members_by ms) m p)
+form_less ms m p same some is_same is_some none = sym (form_is ms m p ∙ (λ k. form_by ((sym is_same ∙ none) k) (sym is_some k)))
+
+raised_cases : (b : Bool) (g : Option DisambiguatedNameForm) (place : ℕ) (m : names.Member)
+    → record m { names = raised_if place (cond b g None) m.names; is_distinguished = true }
+    ≡ record (cond b (record m { names = option_map (λ ps. option_map_or (λ g. raised_names place g ps) g ps) m.names }) m) { is_distinguished = true }
+raised_cases true g place m = refl
+raised_cases false g place m = ap (λ ns. record m { names = ns; is_distinguished = true }) (option_map_id m.names)
+
+distinguished_cases : (b : Bool) (g : Option DisambiguatedNameForm) (place : ℕ) (m other : names.Member) → record m { names = raised_if place g m.names; is_distinguished = true } ≡ other
+    → with_distinction place (cond b (Some (record { form = g })) None) m ≡ cond b other m
+distinguished_cases true g place m other e = e
+distinguished_cases false g place m other e = refl
+
+-- a cite with what the people up to a place tell of it
+shown_is : (ms : List names.Member) (place : ℕ) (m : names.Member) → shown_with place (distinction ms place m) m ≡ showing_up_to (place + 1) (distinguished_at ms place m)
+shown_is ms place m =
+    ap (showing_up_to (place + 1))
+    (distinguished_cases (is_newly_distinguished (place + 1) ms m) (form_raised ms place m) place m (record (with_raised ms place m) { is_distinguished = true })
+    (raised_cases (raises (rule_for m)) (form_wanted ms m place) place m))
+
+all_zipped : {X A Y : Type 0} (f : A → X → Y) (g : X → A) (h : X → Y) → ((x : X) → f (g x) x ≡ h x) → (xs : List X) → map (λ p. f p.0 p.1) (zip (map g xs) xs) ≡ map h xs
+all_zipped f g h same [] = refl
+all_zipped f g h same (x ∷ xs) = λ k. same x k ∷ all_zipped f g h same xs k
+
+some_cond : {A : Type 0} (b : Bool) (x : A) → is_some (cond b (Some x) None) ≡ b
+some_cond true x = refl
+some_cond false x = refl
+
+any_distinction : (ms : List names.Member) (place : ℕ) (ns : List names.Member)
+    → list_any (λ d. is_some d) (map (distinction ms place) ns) ≡ list_any (is_newly_distinguished (place + 1) ms) ns
+any_distinction ms place [] = refl
+any_distinction ms place (m ∷ ns) =
+    λ k. some_cond {A = Distinction} (is_newly_distinguished (place + 1) ms m) (record { form = form_raised ms place m }) k || any_distinction ms place ns k
+
+-- what the people up to a place tell of all cites
+pub distinguished_is : (ms new : List names.Member) (place : ℕ) (ds : List (Option Distinction)) → ds ≡ map (distinction ms place) ms
+    → new ≡ cond (list_any (λ d. is_some d) ds) (map (λ p. shown_with place p.0 p.1) (zip ds ms)) ms → new ≡ distinguished_by ms place
+distinguished_is ms new place ds found shown =
+    shown
+    ∙ (λ k. cond (list_any (λ d. is_some d) (found k)) (map (λ p. shown_with place p.0 p.1) (zip (found k) ms)) ms)
+    ∙ (λ k. cond (any_distinction ms place ms k)
+    (all_zipped (shown_with place) (distinction ms place) (λ m. showing_up_to (place + 1) (distinguished_at ms place m)) (shown_is ms place) ms k) ms)
+
+-- the next place of several
+pub distinguished_more : (ms new start : List names.Member) (i n : ℕ) → i < n → fold distinguished_by ms (range_with_len i (n - i)) ≡ fold distinguished_by start (range_with_len 0 n)
+    → new ≡ distinguished_by ms i → fold distinguished_by new (range_with_len (i + 1) (n - (i + 1))) ≡ fold distinguished_by start (range_with_len 0 n)
+distinguished_more ms new start i n low before is =
+    let more : n - i ≡ suc (n - (i + 1)) = omega arith in
+    ap (λ ns. fold distinguished_by ns (range_with_len (i + 1) (n - (i + 1)))) is ∙ ap (λ k. fold distinguished_by ms (range_with_len i k)) (sym more) ∙ before
+
+module _ {A X : Type 0} (f : A → X → X) (beside : List A) (xs ys : List X) (i : ℕ) (a : A) (y : X) where
+  abbrev front : List X
+  front = map (λ p. f p.0 p.1) (take i (zip beside xs))
+
+  pairs_length : length beside ≡ length xs → i < length xs → i < length (zip beside xs)
+  pairs_length same low = omega (arith, length-zip beside xs, same)
+
+  front_length : length beside ≡ length xs → i < length xs → length front ≡ i
+  front_length same low =
+      let there : i < length (zip beside xs) = pairs_length same low in
+      let le : i ≤ length (zip beside xs) = omega arith in
+      length-map (take i (zip beside xs)) (λ p. f p.0 p.1) ∙ length-take-le i (zip beside xs) le
+
+  parted : i < length xs → ys ≡ front ++ drop i xs → ys ≡ front ++ get_or xs i y ∷ drop (i + 1) xs
+  parted low is = is ∙ ap (λ zs. front ++ zs) (drop_more xs i y low)
+
+  -- the next element is as it was
+  next_is : length beside ≡ length xs → i < length xs → ys ≡ front ++ drop i xs → get_or ys i y ≡ get_or xs i y
+  next_is same low is = ap (λ zs. get_or zs i y) (parted low is) ∙ get_or_at front (get_or xs i y) (drop (i + 1) xs) y i (front_length same low)
+
+  -- it is changed by what stands beside it
+  pub changed_beside : (new : X) → length beside ≡ length xs → i < length xs → a ≡ get_or beside i a → y ≡ get_or ys i y → ys ≡ front ++ drop i xs → new ≡ f a y
+      → slice_set ys i new ≡ map (λ p. f p.0 p.1) (take (i + 1) (zip beside xs)) ++ drop (i + 1) xs
+  changed_beside new same low is_a is_y is is_new =
+      let there : i < length (zip beside xs) = pairs_length same low in
+      let lower : i < length beside = omega (arith, same) in
+      let pair : get_or (zip beside xs) i (a, y) ≡ (a, y) =
+      get_or-zip beside xs i (a, y) lower low ∙ (λ k. (sym is_a k, sym (is_y ∙ next_is same low is) k)) in
+      (λ k. slice_set (parted low is k) i (is_new k))
+      ∙ set_at front (get_or xs i y) (drop (i + 1) xs) (f a y) i (front_length same low)
+      ∙ sym (append_assoc front (f a y ∷ []) (drop (i + 1) xs))
+      ∙ ap (λ zs. zs ++ drop (i + 1) xs) (sym (map_more (λ p. f p.0 p.1) (zip beside xs) i (a, y) there ∙ ap (λ p. front ++ f p.0 p.1 ∷ []) pair))
+
+-- after all elements
+pub changed_all : {A X : Type 0} (f : A → X → X) (beside : List A) (xs ys : List X) (i : ℕ) → length beside ≡ length xs → length xs ≤ i
+    → ys ≡ map (λ p. f p.0 p.1) (take i (zip beside xs)) ++ drop i xs → ys ≡ map (λ p. f p.0 p.1) (zip beside xs)
+changed_all f beside xs ys i same past is =
+    let past_pairs : length (zip beside xs) ≤ i = omega (arith, length-zip beside xs, same) in
+    is
+    ∙ (λ k. map (λ p. f p.0 p.1) (take_all i (zip beside xs) past_pairs k) ++ drop_all i xs past k)
+    ∙ append-nil (map (λ p. f p.0 p.1) (zip beside xs))
+
+-- a cite is changed by what stands beside it
+pub changed_member : {A : Type 0} (f : A → names.Member → names.Member) (beside : List A) (start ms : List Member) (i : ℕ) (a : A) (d new : Member) → length beside ≡ length start → i < length start
+    → length ms ≡ length start → members_by ms ≡ map (λ p. f p.0 p.1) (take i (zip beside (members_by start))) ++ drop i (members_by start)
+    → member_by new ≡ f (get_or beside i a) (member_by (get_or ms i d))
+    → members_by (slice_set ms i new) ≡ map (λ p. f p.0 p.1) (take (i + 1) (zip beside (members_by start))) ++ drop (i + 1) (members_by start)
+changed_member f beside start ms i a d new same low long is is_new =
+    let many : length (members_by start) ≡ length start = length-map start member_by in
+    let same_seen : length beside ≡ length (members_by start) = same ∙ sym many in
+    let low_seen : i < length (members_by start) = omega (arith, many) in
+    let low_now : i < length ms = omega (arith, long) in
+    let low_beside : i < length beside = omega (arith, same) in
+    map-set member_by ms i new
+    ∙ changed_beside f beside (members_by start) (members_by ms) i (get_or beside i a) (member_by (get_or ms i d)) (member_by new) same_seen low_seen
+    (get_or_default beside i a (get_or beside i a) low_beside) (sym (get_or-map member_by ms i d (member_by (get_or ms i d)) low_now)) is is_new

@@ -1,0 +1,11 @@
+use Rattle.std.proofs.Common.{◌≡◌, ◌-◌}
+use Rattle.std.specs.Prelude.{fold}
+use Rattle.std.specs.List.{range_with_len}
+use Rattle.driver_marks.specs.Names.{distinguished_by}
+use Rattle.driver_marks.specs.NamesViews.{members_by}
+use Rattle.driver_marks.proofs.names.distinguish.Given as goal
+
+abbrev pub invariant-loop-place : goal.invariant-loop-place
+invariant-loop-place l =
+    fold distinguished_by (members_by l.members.items) (range_with_len l.place (l.compared - l.place))
+    ≡ fold distinguished_by (members_by l.fn.members.items) (range_with_len 0 l.compared)

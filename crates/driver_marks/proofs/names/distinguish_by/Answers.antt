@@ -1,0 +1,23 @@
+use Rattle.std.proofs.Common.{arith, ◌≡◌, length, map, ap, ◌∙◌, cond}
+use Rattle.std.specs.Prelude.{is_some, zip}
+use Rattle.std.specs.List.{list_any}
+use Rattle.std.specs.Vec.{with_items}
+use Rattle.std.proofs.lemmas.List.{with_items_is}
+use Rattle.driver_marks.specs.NamesViews.{distinction, members_by, shown_with}
+use Rattle.driver_marks.proofs.NamesDistinguished.{distinguished_is}
+use Rattle.driver_marks.proofs.names.distinguish_by.Goals as goal
+
+pub returns : goal.returns
+returns c =
+    let v = c.args.members.now in
+    let place = c.args.place in
+    let found : c.in_ok-found.found.items ≡ map (distinction (members_by v.items) place) (members_by v.items) =
+    c.in_ok-found.ensures ∙ ap (λ ms. map (distinction (members_by ms) place) (members_by ms)) c.as_slice.ensures.value in
+    let len : length c.as_mut_slice.result.now ≡ v.len = omega (arith, c.as_mut_slice.ensures.len, ap length c.as_mut_slice.ensures.value) in
+    let long : length c.show_found.new.members ≡ v.len = c.show_found.auto.members ∙ len in
+    let shown : members_by c.show_found.new.members ≡ cond (list_any (λ d. is_some d) c.in_ok-found.found.items) (map (λ p. shown_with place p.0 p.1) (zip c.in_ok-found.found.items (members_by v.items))) (members_by v.items) =
+    c.show_found.ensures
+    ∙ (λ k. let ds = c.as_slice-2.ensures.value k in let ms = members_by (c.as_mut_slice.ensures.value k) in
+    cond (list_any (λ d. is_some d) ds) (map (λ p. shown_with place p.0 p.1) (zip ds ms)) ms) in
+    distinguished_is (members_by v.items) (members_by (with_items v c.show_found.new.members).items) place c.in_ok-found.found.items found
+    (ap members_by (with_items_is v c.show_found.new.members long) ∙ shown)

@@ -1,0 +1,53 @@
+//! Names that tell the cites of a class apart.
+
+ghost use Rattle.std.specs.Prelude.{◌≡◌, ◌+◌, ◌<◌, ◌^◌, fold, IfOk, OnOk};
+ghost use Rattle.std.specs.List.{range_with_len};
+ghost use Rattle.driver_requests.specs.SuffixViews.{origin_by};
+ghost use Rattle.driver_marks.specs.Names as names;
+ghost use Rattle.driver_marks.specs.Names.{distinguished_by};
+ghost use Rattle.driver_marks.specs.NamesViews.{members_by};
+ghost use Rattle.driver_marks.specs.Views.{class_by, givens_by};
+
+use crate::given::Given;
+use crate::names_members::{Member, distinctions, marks, members, people_compared, show_found};
+use crate::printed::Printed;
+use driver_requests::Origin;
+use std::alloc::{AllocError, Global};
+
+/// What names give to the cites of a class: more people, and more of given names.
+///
+/// # Errors
+/// Out of memory.
+pub(crate) fn marks_by_names(
+    alloc: Global,
+    adds_names: bool,
+    origin: Origin,
+    class: &[&Printed],
+) -> Result<Vec<Given>, AllocError>
+    ensures { IfOk result (λ g. givens_by g.items ≡ names.marks_by_names adds_names (origin_by origin) (class_by class.now)) }
+{
+    let mut members = members(alloc, class)?;
+    let compared = people_compared(adds_names, members.as_slice());
+    distinguish(alloc, &mut members, compared)?;
+    marks(alloc, origin, members)
+}
+
+/// Compares the first people of all cites, then the first two, and so on up to so many.
+fn distinguish(alloc: Global, members: &mut Vec<Member>, compared: usize) -> Result<(), AllocError>
+    ensures { OnOk result (members_by members.new.items ≡ fold distinguished_by (members_by members.old.items) (range_with_len 0 compared)) }
+{
+    for place in 0..compared {
+        distinguish_by(alloc, members, place)?;
+    }
+    Ok(())
+}
+
+/// Where the people up to a place tell some cite newly apart, raises that cite's name at it, and shows so many names of all cites.
+fn distinguish_by(alloc: Global, members: &mut Vec<Member>, place: usize) -> Result<(), AllocError>
+    requires { place + 1 < 2 ^ 64 }
+    ensures { OnOk result (members_by members.new.items ≡ distinguished_by (members_by members.old.items) place) }
+{
+    let found = distinctions(alloc, members.as_slice(), place)?;
+    show_found(members.as_mut_slice(), place, found.as_slice());
+    Ok(())
+}

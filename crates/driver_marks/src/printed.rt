@@ -1,0 +1,158 @@
+//! Cites that are to be told apart.
+
+ghost use Rattle.std.specs.Prelude.{◌≡◌, [], ◌∷◌, ◌++◌, if◌then◌else◌, IfOk, OnOk};
+ghost use Rattle.rendering_context.specs.Views.{state_by};
+ghost use Rattle.rendering_context.specs.Cites as cites;
+ghost use Rattle.rendering_context.specs.Cites.{allows_suffix, may_change};
+ghost use Rattle.rendering_style.specs.Views.{citation_seen};
+ghost use Rattle.rendering_tree.specs.Trees.{Children};
+ghost use Rattle.rendering_tree.specs.Views as trees;
+ghost use Rattle.rendering_tree.specs.Views.{tree};
+ghost use Rattle.rendering_tree.specs.Writing.{plain_text};
+ghost use Rattle.laws.specs.Text.{characters};
+ghost use Rattle.driver_marks.specs.Classes.{printed_as};
+ghost use Rattle.driver_marks.specs.Rounds.{prints_date};
+ghost use Rattle.driver_marks.specs.Views.{class_by, printed_again, printed_as_seen, printed_seen};
+
+use rendering_context::DisambiguateState;
+use rendering_names::NameDisambiguationProperties;
+use rendering_style::Citation;
+use rendering_taxonomy::DisambiguationRule;
+use rendering_tree::{ElemChildren, ElemMeta};
+use std::alloc::{AllocError, Global};
+
+/// What is known of a cite before it is told apart from others.
+#[derive(Debug, Drop)]
+pub struct Candidate {
+    /// The place of its entry among all that are cited, from zero.
+    pub(crate) entry: usize,
+    /// Whether its entry has a date.
+    pub(crate) has_date: bool,
+    /// By which rule its style compares given names, where it adds them.
+    pub(crate) rule: Option<DisambiguationRule>,
+    /// Whether its style adds letters.
+    pub(crate) adds_suffix: bool,
+    /// Whether it met the test whether the cite is like others, when it was printed without a mark.
+    pub(crate) met_disambiguate: bool,
+    /// How much of its first names is printed without a mark.
+    pub(crate) names: Option<NameDisambiguationProperties>,
+}
+
+impl Candidate {
+    /// A cite of the entry at a place, by what it printed without a mark.
+    pub fn new(
+        entry: usize,
+        has_date: bool,
+        style: &Citation,
+        met_disambiguate: bool,
+        names: Option<NameDisambiguationProperties>,
+    ) -> Candidate
+        ensures { (printed : cites.DisambiguateState → Children) (mark : cites.DisambiguateState) (t : Children) → printed_as_seen result mark t ≡ printed_as (record { entry = entry; has_date = has_date; style = citation_seen style.now; printed = printed; met_disambiguate = met_disambiguate; names = names }) mark t }
+    {
+        let rule = if style.add_givenname {
+            Some(style.givenname_rule)
+        } else {
+            None
+        };
+        Candidate {
+            entry,
+            has_date,
+            rule,
+            adds_suffix: style.add_year_suffix,
+            met_disambiguate,
+            names,
+        }
+    }
+}
+
+/// A cite at the beginning of a round.
+#[derive(Debug, Drop)]
+pub struct Printed {
+    pub(crate) cite: Candidate,
+    pub(crate) mark: DisambiguateState,
+    /// What it prints by its mark, without its locator.
+    pub(crate) tree: ElemChildren,
+    /// The same in plain text.
+    pub(crate) text: String,
+}
+
+impl Printed {
+    /// A cite that prints a tree by its mark.
+    ///
+    /// # Errors
+    /// Out of memory.
+    pub fn new(
+        alloc: Global,
+        cite: Candidate,
+        mark: DisambiguateState,
+        printed: ElemChildren,
+    ) -> Result<Printed, AllocError>
+        ensures { IfOk result (λ s. printed_seen s ≡ printed_as_seen cite (state_by mark) (tree printed)) }
+    {
+        let text = plain_text(alloc, &printed)?;
+        Ok(Printed {
+            cite,
+            mark,
+            tree: printed,
+            text,
+        })
+    }
+
+    /// The cite, as it prints a tree by another mark.
+    ///
+    /// # Errors
+    /// Out of memory.
+    pub fn again(
+        self,
+        alloc: Global,
+        mark: DisambiguateState,
+        printed: ElemChildren,
+    ) -> Result<Printed, AllocError>
+        ensures { IfOk result (λ s. printed_seen s ≡ printed_again (printed_seen self) (state_by mark) (tree printed)) }
+    {
+        Printed::new(alloc, self.cite, mark, printed)
+    }
+
+    /// Whether letters may still be given to it.
+    pub(crate) fn allows_suffix(&self) -> bool
+        ensures { result ≡ allows_suffix (printed_seen self.now).mark }
+    {
+        self.mark.allows_suffix()
+    }
+
+    /// Whether names and branches may still change it.
+    pub(crate) fn may_change(&self) -> bool
+        ensures { result ≡ may_change (printed_seen self.now).mark }
+    {
+        self.mark.may_change()
+    }
+
+    /// Whether it prints a date, or a label that has one.
+    pub(crate) fn prints_date(&self) -> bool
+        ensures { result ≡ prints_date (printed_seen self.now) }
+    {
+        self.tree.find_meta(&ElemMeta::Date).is_some()
+            || self.cite.has_date && self.tree.find_meta(&ElemMeta::CitationLabel).is_some()
+    }
+}
+
+/// A tree in plain text.
+fn plain_text(alloc: Global, tree: &ElemChildren) -> Result<String, AllocError>
+    ensures { IfOk result (λ s. characters s ≡ plain_text (trees.tree tree.now)) }
+{
+    tree.to_string(alloc)
+}
+
+/// Appends a cite where it is wanted.
+pub(crate) fn push_where<'a>(
+    cites: &mut Vec<&'a Printed>,
+    cite: &'a Printed,
+    is_wanted: bool,
+) -> Result<(), AllocError>
+    ensures { OnOk result (class_by cites.new.items ≡ class_by cites.old.items ++ (if is_wanted then printed_seen cite.entry.now ∷ [] else [])) }
+{
+    if is_wanted {
+        cites.push(cite)?;
+    }
+    Ok(())
+}
