@@ -1,0 +1,64 @@
+-- Layouts, citations and bibliographies of which little is said.
+use Rattle.std.specs.Prelude.{ℕ, false, List, [], ◌∷◌, Option, Some, None, codes, pos}
+use Rattle.rendering_style.specs.Nodes.{Node}
+use Rattle.rendering_style.specs.Options.{open_options}
+use Rattle.rendering_style.specs.Styles.{Layout, Citation, Bibliography, Style}
+use Rattle.rendering_taxonomy.specs.Formats.{unchanged}
+use Rattle.rendering_taxonomy.specs.declared.style.DisambiguationRule.TheVariants as given_names
+use Rattle.rendering_taxonomy.specs.declared.style.StyleCategory.{StyleCategory}
+use Rattle.rendering_taxonomy.specs.declared.style.StyleClass.{StyleClass}
+use Rattle.rendering_taxonomy.specs.declared.style.SubsequentAuthorSubstituteRule.TheVariants as substitutes
+
+-- nodes with nothing round them
+abbrev pub plain_layout : List Node → Layout
+plain_layout xs = record { nodes = xs; formatting = unchanged; prefix = None; suffix = None; delimiter = None }
+
+-- nodes with a full stop after them
+abbrev pub sentence : List Node → Layout
+sentence xs = record (plain_layout xs) { suffix = Some (codes ".") }
+
+-- a node between brackets, and a text between cites
+abbrev pub bracketed : List ℕ → List ℕ → List ℕ → Node → Layout
+bracketed opening closing delimiter x = record (plain_layout (x ∷ [])) { prefix = Some opening; suffix = Some closing; delimiter = Some delimiter }
+
+-- cites that nothing tells apart and nothing collapses
+abbrev pub plain_citation : Layout → Citation
+plain_citation l = record {
+  layout = l;
+  name_options = open_options;
+  add_names = false;
+  add_givenname = false;
+  givenname_rule = given_names.ByCite;
+  add_year_suffix = false;
+  collapse = None;
+  cite_group_delimiter = None;
+  after_collapse_delimiter = None;
+  year_suffix_delimiter = None;
+  near_note_distance = 5;
+}
+
+-- items without an indent, a line apart
+abbrev pub plain_bibliography : Layout → Bibliography
+plain_bibliography l = record {
+  layout = l;
+  name_options = open_options;
+  hanging_indent = false;
+  second_field_align = None;
+  line_spacing = pos 1;
+  entry_spacing = pos 1;
+  substitute = None;
+  substitute_rule = substitutes.CompleteAll;
+}
+
+-- a style of one category, without locales and macros of its own
+abbrev pub style_of : StyleClass → StyleCategory → Citation → Option Bibliography → Style
+style_of class category citation bibliography = record {
+  class = class;
+  categories = category ∷ [];
+  default_locale = None;
+  name_options = open_options;
+  locales = [];
+  macros = [];
+  citation = citation;
+  bibliography = bibliography;
+}

@@ -1,0 +1,4 @@
+pub mod Nodes
+pub mod Layouts
+pub mod Styles
+pub mod Parts

@@ -1,0 +1,141 @@
+//! Layouts, citations and bibliographies of which little is said, and styles of them.
+
+ghost use Rattle.std.specs.Prelude.{◌≡◌, [], ◌∷◌, true, IfOk, map, None};
+ghost use Rattle.std.specs.Option.{option_map};
+ghost use Rattle.std.specs.Str.{chars};
+ghost use Rattle.rendering_style.specs.Opening.{IsAnswer};
+ghost use Rattle.rendering_style.specs.StyleViews.{style_seen};
+ghost use Rattle.rendering_style.specs.Views.{node_seen, layout_seen, citation_seen, bibliography_seen, parts_seen};
+ghost use Rattle.cite_styles.specs.Layouts.{plain_layout, sentence, bracketed, plain_citation, plain_bibliography, style_of};
+
+use rendering_style::{
+    Bibliography, Citation, Layout, NameOptions, Node, Style, StyleError, StyleParts,
+};
+use rendering_taxonomy::{
+    DisambiguationRule, FormattingChanges, StyleCategory, StyleClass,
+    SubsequentAuthorSubstituteRule,
+};
+use std::alloc::{AllocError, Global};
+use std::num::NonZeroI16;
+use texts::owned;
+
+/// Nodes with nothing round them.
+fn plain_layout(nodes: Vec<Node>) -> Layout
+    ensures { layout_seen result ≡ plain_layout (map node_seen nodes.items) }
+{
+    Layout {
+        nodes,
+        formatting: FormattingChanges::default(),
+        prefix: None,
+        suffix: None,
+        delimiter: None,
+    }
+}
+
+/// Nodes with a full stop after them.
+#[tactic(auto, using(crate::proofs::Literals::full_stop))]
+pub(crate) fn sentence(alloc: Global, nodes: Vec<Node>) -> Result<Layout, AllocError>
+    ensures { IfOk result (λ l. layout_seen l ≡ sentence (map node_seen nodes.items)) }
+{
+    let suffix = owned(alloc, ".")?;
+    Ok(Layout {
+        suffix: Some(suffix),
+        ..plain_layout(nodes)
+    })
+}
+
+/// A node between brackets, and a text between cites.
+pub(crate) fn bracketed(
+    alloc: Global,
+    opening: &str,
+    closing: &str,
+    delimiter: &str,
+    node: Node,
+) -> Result<Layout, AllocError>
+    ensures { IfOk result (λ l. layout_seen l ≡ bracketed (chars opening.now) (chars closing.now) (chars delimiter.now) (node_seen node)) }
+{
+    let nodes = vec![in alloc; node]?;
+    let prefix = owned(alloc, opening)?;
+    let suffix = owned(alloc, closing)?;
+    let delimiter = owned(alloc, delimiter)?;
+    Ok(Layout {
+        prefix: Some(prefix),
+        suffix: Some(suffix),
+        delimiter: Some(delimiter),
+        ..plain_layout(nodes)
+    })
+}
+
+/// Cites that nothing tells apart and nothing collapses.
+pub(crate) fn plain_citation(layout: Layout) -> Citation
+    ensures { citation_seen result ≡ plain_citation (layout_seen layout) }
+{
+    Citation {
+        layout,
+        name_options: NameOptions::default(),
+        add_names: false,
+        add_givenname: false,
+        givenname_rule: DisambiguationRule::ByCite,
+        add_year_suffix: false,
+        collapse: None,
+        cite_group_delimiter: None,
+        after_collapse_delimiter: None,
+        year_suffix_delimiter: None,
+        near_note_distance: 5,
+    }
+}
+
+/// Items without an indent, a line apart.
+pub(crate) fn plain_bibliography(layout: Layout) -> Bibliography
+    ensures { bibliography_seen result ≡ plain_bibliography (layout_seen layout) }
+{
+    let Some(line_spacing) = NonZeroI16::new(1) else {
+        unreachable!()
+    };
+    Bibliography {
+        layout,
+        name_options: NameOptions::default(),
+        hanging_indent: false,
+        second_field_align: None,
+        line_spacing,
+        entry_spacing: 1,
+        subsequent_author_substitute: None,
+        subsequent_author_substitute_rule: SubsequentAuthorSubstituteRule::CompleteAll,
+    }
+}
+
+/// What a style of one category is made of, without locales and macros of its own.
+pub(crate) fn style_of(
+    alloc: Global,
+    class: StyleClass,
+    category: StyleCategory,
+    citation: Citation,
+    bibliography: Option<Bibliography>,
+) -> Result<StyleParts, AllocError>
+    ensures { IfOk result (λ p. parts_seen p ≡ style_of class category (citation_seen citation) (option_map bibliography_seen bibliography)) }
+{
+    let categories = vec![in alloc; category]?;
+    Ok(StyleParts {
+        class,
+        categories,
+        default_locale: None,
+        name_options: NameOptions::default(),
+        locales: Vec::new(alloc),
+        macros: Vec::new(alloc),
+        citation,
+        bibliography,
+    })
+}
+
+/// The style of parts that are not refused.
+pub(crate) fn accepted(alloc: Global, parts: StyleParts) -> Result<Style, AllocError>
+    requires { IsAnswer (parts_seen parts) None }
+    ensures { IfOk result (λ s. style_seen s ≡ parts_seen parts) }
+{
+    match Style::new(alloc, parts) {
+        Ok(style) => Ok(style),
+        Err(StyleError::Memory) => Err(AllocError),
+        Err(StyleError::MacroRing(_)) => unreachable!(),
+        Err(StyleError::TooDeep) => unreachable!(),
+    }
+}

@@ -1,0 +1,88 @@
+//! The style of authors and years.
+
+ghost use Rattle.std.specs.Prelude.{◌≡◌, IfOk, map};
+ghost use Rattle.rendering_style.specs.StyleViews.{style_seen};
+ghost use Rattle.rendering_style.specs.Views.{node_seen, citation_seen, bibliography_seen, parts_seen};
+ghost use Rattle.cite_styles.specs.Styles.{author_year, author_date_cite, author_date_item, author_date_citation, author_date_bibliography, author_date};
+
+use crate::layouts::{accepted, bracketed, plain_bibliography, plain_citation, sentence, style_of};
+use crate::nodes::{grouped, locator};
+use crate::parts::{Part, described};
+use rendering_style::{Bibliography, Citation, Node, Style, StyleParts};
+use rendering_taxonomy::{StyleCategory, StyleClass};
+use std::alloc::{AllocError, Global};
+
+/// The authors and the year.
+#[tactic(auto, unfolding(crate::specs::Styles::author_year), using(crate::proofs::Literals::space))]
+fn author_year(alloc: Global) -> Result<Node, AllocError>
+    ensures { IfOk result (λ n. node_seen n ≡ author_year) }
+{
+    described(alloc, " ", &[Part::ShortAuthors, Part::Year])
+}
+
+/// A cite: the authors, the year, and the locator.
+#[tactic(auto, unfolding(crate::specs::Styles::author_date_cite), using(crate::proofs::Literals::comma))]
+fn cite(alloc: Global) -> Result<Node, AllocError>
+    ensures { IfOk result (λ n. node_seen n ≡ author_date_cite) }
+{
+    let nodes = vec![in alloc; author_year(alloc)?, locator(alloc)?]?;
+    grouped(alloc, ", ", nodes)
+}
+
+/// An item: who wrote it, when, what it is, and where it appeared.
+#[tactic(auto, unfolding(crate::specs::Styles::author_date_item), using(crate::proofs::Literals::full_stop_space))]
+fn item(alloc: Global) -> Result<Node, AllocError>
+    ensures { IfOk result (λ n. node_seen n ≡ author_date_item) }
+{
+    let parts = &[Part::Authors, Part::Year, Part::Title, Part::Source];
+    described(alloc, ". ", parts)
+}
+
+/// Cites in round brackets. Names, given names and letters after the year tell like ones apart.
+#[tactic(auto, unfolding(crate::specs::Styles::author_date_citation), using(crate::proofs::Literals::open_round, crate::proofs::Literals::close_round, crate::proofs::Literals::semicolon))]
+fn citation(alloc: Global) -> Result<Citation, AllocError>
+    ensures { IfOk result (λ c. citation_seen c ≡ author_date_citation) }
+{
+    let layout = bracketed(alloc, "(", ")", "; ", cite(alloc)?)?;
+    Ok(Citation {
+        add_names: true,
+        add_givenname: true,
+        add_year_suffix: true,
+        ..plain_citation(layout)
+    })
+}
+
+/// Items.
+#[tactic(auto, unfolding(crate::specs::Styles::author_date_bibliography))]
+fn bibliography(alloc: Global) -> Result<Bibliography, AllocError>
+    ensures { IfOk result (λ b. bibliography_seen b ≡ author_date_bibliography) }
+{
+    let nodes = vec![in alloc; item(alloc)?]?;
+    Ok(plain_bibliography(sentence(alloc, nodes)?))
+}
+
+/// What the style is made of.
+#[tactic(auto, unfolding(crate::specs::Styles::author_date))]
+fn parts(alloc: Global) -> Result<StyleParts, AllocError>
+    ensures { IfOk result (λ p. parts_seen p ≡ author_date) }
+{
+    let citation = citation(alloc)?;
+    let bibliography = bibliography(alloc)?;
+    style_of(
+        alloc,
+        StyleClass::InText,
+        StyleCategory::AuthorDate,
+        citation,
+        Some(bibliography),
+    )
+}
+
+/// The style of authors and years: `(Kwan 2014, p. 3)`, and items `Kevin Kwan. 2014. T.`
+///
+/// # Errors
+/// Out of memory.
+pub fn author_date(alloc: Global) -> Result<Style, AllocError>
+    ensures { IfOk result (λ s. style_seen s ≡ author_date) }
+{
+    accepted(alloc, parts(alloc)?)
+}
