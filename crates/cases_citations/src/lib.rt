@@ -1,13 +1,16 @@
-//! Cases of cites and of items of a bibliography as a style prints them.
+//! Cases of cites and of items of a bibliography as a style prints them, and of what a caller prints by itself.
 #![tactic(auto)]
 
 mod citations;
 mod files;
 mod items;
+mod nodes;
 mod properties;
 mod shown;
 mod sources;
 mod states;
+mod steps;
+mod writing;
 
 use cases::{Answered, Value, Writer};
 use sources::Wanted;
@@ -18,6 +21,7 @@ pub fn answer(alloc: Global, kind: &str, case: &Value<'_>, out: &mut Writer) -> 
     let answered = match kind {
         "citation" => sources::answer(alloc, case, out, Wanted::Citation),
         "item" => sources::answer(alloc, case, out, Wanted::Item),
+        "writing" => sources::answer(alloc, case, out, Wanted::Writing),
         _ => return Ok(false),
     };
     answered?;

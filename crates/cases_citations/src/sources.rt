@@ -4,6 +4,7 @@ use crate::citations::put_citation;
 use crate::files::files;
 use crate::items::put_item;
 use crate::properties::properties_of;
+use crate::writing::put_writing;
 use biblatex::Bibliography;
 use cases::{Refusal, Value, Writer, only, text};
 use cases_cite::{Source, put_bridge_error, put_unknown, read_source};
@@ -21,10 +22,11 @@ use std::alloc::Global;
 pub(crate) enum Wanted {
     Citation,
     Item,
+    Writing,
 }
 
-/// The members of a case.
-const MEMBERS: [&str; 14] = [
+/// The members of a case, of whichever of these kinds it is.
+const MEMBERS: [&str; 16] = [
     "case",
     "name",
     "bib",
@@ -39,9 +41,11 @@ const MEMBERS: [&str; 14] = [
     "purpose",
     "verdict",
     "effort",
+    "bibliography",
+    "steps",
 ];
 
-/// `citation`, `item`: what the style of a case gives of its entry.
+/// `citation`, `item`, `writing`: what the style of a case gives of its entry.
 pub(crate) fn answer(
     alloc: Global,
     case: &Value<'_>,
@@ -174,5 +178,6 @@ fn put_known(
     match wanted {
         Wanted::Citation => put_citation(alloc, case, out, context, entry, properties, code),
         Wanted::Item => put_item(context, entry, properties, code, alloc, case, out),
+        Wanted::Writing => put_writing(alloc, case, out, context, entry, properties, code),
     }
 }
