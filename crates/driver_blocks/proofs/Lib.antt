@@ -3,3 +3,4 @@ pub mod RowsCut
 pub mod RowsSteps
 pub mod GatheredSteps
 pub mod PutSteps
+pub mod IndexedSteps

@@ -1,39 +1,51 @@
 -- The first group that takes a member.
 use Rattle.std.specs.Global.{Global}
-use Rattle.std.proofs.Common.{◌≡◌, ℕ, ◌+◌, ◌<◌, Bool, true, false, List, [], ◌∷◌, ◌++◌, append_assoc, length, map, take, drop, get_or, set, sym, ap, ◌∙◌, arith, Some, Vec}
+use Rattle.std.proofs.Common.{◌≡◌, ℕ, suc, ◌+◌, ◌<◌, Bool, true, false, List, [], ◌∷◌, ◌++◌, length, map, get_or, set, refl, sym, ap, subst, ◌∙◌, arith, Option, Some, None, Vec}
 use Rattle.std.specs.Prelude.{if◌then◌else◌}
-use Rattle.std.proofs.lemmas.List.{drop_more, drop-set, get_or-map, length-map, map-append, map-set, take_more, take-set, take-append-drop}
+use Rattle.std.proofs.lemmas.List.{get_or-map, length-map, map-append, map-set}
 use Rattle.driver_blocks.specs.Blocks.{is_of_block}
-use Rattle.driver_blocks.specs.Views.{IsPut, blocks_seen, gathered_seen, put_in, takes}
+use Rattle.driver_blocks.specs.Views.{blocks_seen, first_taking, gathered_seen, put_in, takes}
 use Rattle.driver_blocks.specs.declared.cite.Gathered.{Gathered}
+
+-- A member is put in the group at a place, or, without one, in one of its own after all groups.
+abbrev pub IsPut : {Y : Type 0} → (Y → Y → Bool) → Y → List (List Y) → Option ℕ → Type 0
+IsPut same x bs None = put_in same x bs ≡ bs ++ (x ∷ []) ∷ []
+IsPut same x bs (Some i) = (i < length bs) × (put_in same x bs ≡ set bs i (get_or bs i [] ++ x ∷ []))
 
 module _ {Y : Type 0} (same : Y → Y → Bool) (x : Y) where
   put_at : (b : List Y) (bs : List (List Y)) (t : Bool) → takes same b x ≡ t → put_in same x (b ∷ bs) ≡ (if t then (b ++ x ∷ []) ∷ bs else b ∷ put_in same x bs)
   put_at b bs t e = ap (λ s. if s then (b ++ x ∷ []) ∷ bs else b ∷ put_in same x bs) e
 
-  module _ (bs : List (List Y)) (i : ℕ) (h : put_in same x bs ≡ take i bs ++ put_in same x (drop i bs)) where
-    from : (b : List Y) → i < length bs → b ≡ get_or bs i [] → drop i bs ≡ b ∷ drop (i + 1) bs
-    from b less is = drop_more bs i [] less ∙ ap (λ c. c ∷ drop (i + 1) bs) (sym is)
+  -- the same of groups of which the first has a number
+  abbrev IsPutFrom : ℕ → List (List Y) → Option ℕ → Type 0
+  IsPutFrom n bs None = put_in same x bs ≡ bs ++ (x ∷ []) ∷ []
+  IsPutFrom n bs (Some i) = (k : ℕ) × (i ≡ n + k) × (k < length bs) × (put_in same x bs ≡ set bs k (get_or bs k [] ++ x ∷ []))
 
-    whole : (b : List Y) → i < length bs → set bs i b ≡ take i bs ++ b ∷ drop (i + 1) bs
-    whole b less = sym (take-append-drop i (set bs i b)) ∙ (λ k. take-set bs i b k ++ drop-set bs i b less k)
+  put_here : (n : ℕ) (b : List Y) (bs : List (List Y)) → takes same b x ≡ true → IsPutFrom n (b ∷ bs) (Some n)
+  put_here n b bs t = (0, omega arith, omega arith, put_at b bs true t)
 
-    pub put_found : (b : List Y) → i < length bs → b ≡ get_or bs i [] → takes same b x ≡ true → put_in same x bs ≡ set bs i (get_or bs i [] ++ x ∷ [])
-    put_found b less is t =
-        h
-        ∙ ap (λ cs. take i bs ++ put_in same x cs) (from b less is)
-        ∙ ap (λ cs. take i bs ++ cs) (put_at b (drop (i + 1) bs) true t)
-        ∙ sym (whole (b ++ x ∷ []) less)
-        ∙ ap (λ c. set bs i (c ++ x ∷ [])) is
+  put_later : (n : ℕ) (b : List Y) (bs : List (List Y)) → takes same b x ≡ false → (r : Option ℕ) → IsPutFrom (n + 1) bs r → IsPutFrom n (b ∷ bs) r
+  put_later n b bs t None h = put_at b bs false t ∙ ap (λ cs. b ∷ cs) h
+  put_later n b bs t (Some i) (k, is, less, put) = (suc k, omega (arith, is), omega (arith, less), put_at b bs false t ∙ ap (λ cs. b ∷ cs) put)
 
-    pub put_passed : (b : List Y) → i < length bs → b ≡ get_or bs i [] → takes same b x ≡ false → put_in same x bs ≡ take (i + 1) bs ++ put_in same x (drop (i + 1) bs)
-    put_passed b less is t =
-        h
-        ∙ ap (λ cs. take i bs ++ put_in same x cs) (from b less is)
-        ∙ ap (λ cs. take i bs ++ cs) (put_at b (drop (i + 1) bs) false t)
-        ∙ sym (append_assoc (take i bs) (b ∷ []) (put_in same x (drop (i + 1) bs)))
-        ∙ ap (λ c. (take i bs ++ c ∷ []) ++ put_in same x (drop (i + 1) bs)) is
-        ∙ ap (λ cs. cs ++ put_in same x (drop (i + 1) bs)) (sym (take_more bs i [] less))
+  put_by : (n : ℕ) (b : List Y) (bs : List (List Y)) (t : Bool) → takes same b x ≡ t → IsPutFrom (n + 1) bs (first_taking same x (n + 1) bs)
+      → IsPutFrom n (b ∷ bs) (if t then Some n else first_taking same x (n + 1) bs)
+  put_by n b bs true t h = put_here n b bs t
+  put_by n b bs false t h = put_later n b bs t (first_taking same x (n + 1) bs) h
+
+  put_from : (n : ℕ) (bs : List (List Y)) → IsPutFrom n bs (first_taking same x n bs)
+  put_from n [] = refl
+  put_from n (b ∷ bs) = put_by n b bs (takes same b x) refl (put_from (n + 1) bs)
+
+  from_first : (bs : List (List Y)) (r : Option ℕ) → IsPutFrom 0 bs r → IsPut same x bs r
+  from_first bs None h = h
+  from_first bs (Some i) (k, is, less, put) =
+      let same_place : k ≡ i = omega (arith, is) in
+      subst (λ j. (j < length bs) × (put_in same x bs ≡ set bs j (get_or bs j [] ++ x ∷ []))) same_place (less, put)
+
+  -- a member is put in the first group that takes it
+  pub put_first : (bs : List (List Y)) (r : Option ℕ) → r ≡ first_taking same x 0 bs → IsPut same x bs r
+  put_first bs r is = subst (IsPut same x bs) (sym is) (from_first bs (first_taking same x 0 bs) (put_from 0 bs))
 
 -- the block at a place
 pub block_at : (bs : List (Vec Gathered Global)) (i : ℕ) (b : Vec Gathered Global) → i < length bs → b ≡ get_or bs i b → map gathered_seen b.items ≡ get_or (blocks_seen bs) i []

@@ -2,3 +2,4 @@ pub mod Blocks
 pub mod Rows
 pub mod Collapsing
 pub mod Views
+pub mod Indexed

@@ -1,6 +1,6 @@
 -- Cites of the code as plain data.
 use Rattle.std.specs.Global.{Global}
-use Rattle.std.specs.Prelude.{◌≡◌, ℕ, ◌<◌, Bool, false, List, [], ◌∷◌, ◌++◌, map, length, slice_set, slice_index_or, if◌then◌else◌, Option, Some, None, Vec}
+use Rattle.std.specs.Prelude.{ℕ, ◌+◌, Bool, false, List, [], ◌∷◌, ◌++◌, map, if◌then◌else◌, Option, Some, None, Vec}
 use Rattle.std.specs.Borrow.{Bor}
 use Rattle.std.specs.Option.{option_map, option_or}
 use Rattle.rendering_style.specs.Styles.{Citation}
@@ -66,7 +66,7 @@ abbrev pub put_in : {Y : Type 0} → (Y → Y → Bool) → Y → List (List Y) 
 put_in same x [] = (x ∷ []) ∷ []
 put_in same x (b ∷ bs) = if takes same b x then (b ++ x ∷ []) ∷ bs else b ∷ put_in same x bs
 
--- A member is put in the group at a place, or, without one, in one of its own after all groups.
-abbrev pub IsPut : {Y : Type 0} → (Y → Y → Bool) → Y → List (List Y) → Option ℕ → Type 0
-IsPut same x bs None = put_in same x bs ≡ bs ++ (x ∷ []) ∷ []
-IsPut same x bs (Some i) = (i < length bs) × (put_in same x bs ≡ slice_set bs i (slice_index_or bs i [] ++ x ∷ []))
+-- the place of the first group that takes a member, where the first group has that number
+abbrev pub first_taking : {Y : Type 0} → (Y → Y → Bool) → Y → ℕ → List (List Y) → Option ℕ
+first_taking same x n [] = None
+first_taking same x n (b ∷ bs) = if takes same b x then Some n else first_taking same x (n + 1) bs

@@ -1,14 +1,20 @@
 //! The blocks of a citation.
 
-ghost use Rattle.std.specs.Prelude.{◌≡◌, ◌∷◌, [], IfOk, OnOk, map};
+ghost use Rattle.std.specs.Prelude.{◌≡◌, ◌<◌, ◌∷◌, ◌++◌, ℕ, All, List, [], Some, IfOk, OnOk, bytes_eq, find, if◌then◌else◌, length, map, slice_index_or, string_bytes};
+ghost use Rattle.std.specs.Option.{option_map};
+ghost use Rattle.laws.specs.Text.{text};
 ghost use Rattle.rendering_style.specs.Views.{citation_seen};
+ghost use Rattle.rendering_tree.specs.Views.{element};
+ghost use Rattle.rendering_tree.specs.Writing.{plain_element_text};
 ghost use Rattle.driver_blocks.specs.Blocks.{blocks, gathered, gathers, is_of_block};
-ghost use Rattle.driver_blocks.specs.Views.{IsPut, blocks_seen, gathered_seen, put_in, takes};
+ghost use Rattle.driver_blocks.specs.Indexed.{IsIndex, names_text, under};
+ghost use Rattle.driver_blocks.specs.Views.{blocks_seen, first_taking, gathered_seen, put_in, takes};
 
 use crate::cite::Gathered;
 use rendering_style::Citation;
-use rendering_tree::are_equal_elements;
+use rendering_tree::{Elem, are_equal_elements};
 use std::alloc::{AllocError, Global};
+use std::collections::HashMap;
 
 /// The blocks of a citation: cites with the same names, or each cite by itself where they are not gathered or it has none.
 pub(crate) fn blocks_of<'a>(
@@ -56,13 +62,15 @@ fn alone<'a>(alloc: Global, cite: Gathered<'a>) -> Result<Vec<Gathered<'a>>, All
     Ok(block)
 }
 
-/// Cites gathered in order, those of the same names at the first of them.
+/// Cites gathered in order, those of the same names at the first of them. A cite is compared with those blocks alone whose names print
+/// the same text.
 fn gather<'a>(alloc: Global, cites: &[Gathered<'a>]) -> Result<Vec<Vec<Gathered<'a>>>, AllocError>
     ensures { IfOk result (λ v. blocks_seen v.items ≡ gathered is_of_block (map gathered_seen cites.now)) }
 {
+    let mut index = HashMap::new(alloc);
     let mut blocks = Vec::new(alloc);
     for cite in cites {
-        put(alloc, *cite, &mut blocks)?;
+        put(alloc, *cite, &mut index, &mut blocks)?;
     }
     Ok(blocks)
 }
@@ -71,24 +79,108 @@ fn gather<'a>(alloc: Global, cites: &[Gathered<'a>]) -> Result<Vec<Vec<Gathered<
 fn put<'a>(
     alloc: Global,
     cite: Gathered<'a>,
+    index: &mut HashMap<String, Vec<usize>>,
     blocks: &mut Vec<Vec<Gathered<'a>>>,
 ) -> Result<(), AllocError>
-    ensures { OnOk result (blocks_seen blocks.new.items ≡ put_in is_of_block (gathered_seen cite.entry) (blocks_seen blocks.old.items)) }
+    requires { IsIndex index.old (blocks_seen blocks.old.items) }
+    ensures blocks { OnOk result (blocks_seen blocks.new.items ≡ put_in is_of_block (gathered_seen cite.entry) (blocks_seen blocks.old.items)) }
+    ensures index { OnOk result (IsIndex index.new (blocks_seen blocks.new.items)) }
 {
-    match block_taking(blocks, &cite) {
+    match names_text(alloc, &cite)? {
+        Some(text) => put_named(alloc, cite, text, index, blocks),
+        None => put_alone(alloc, cite, blocks),
+    }
+}
+
+/// Puts a cite whose names print a text into the block of its names, or else after all blocks.
+fn put_named<'a>(
+    alloc: Global,
+    cite: Gathered<'a>,
+    text: String,
+    index: &mut HashMap<String, Vec<usize>>,
+    blocks: &mut Vec<Vec<Gathered<'a>>>,
+) -> Result<(), AllocError>
+    requires index { IsIndex index.old (blocks_seen blocks.old.items) }
+    requires text { names_text (gathered_seen cite) ≡ Some (string_bytes text) }
+    ensures blocks { OnOk result (blocks_seen blocks.new.items ≡ put_in is_of_block (gathered_seen cite.entry) (blocks_seen blocks.old.items)) }
+    ensures index { OnOk result (IsIndex index.new (blocks_seen blocks.new.items)) }
+{
+    match block_taking(index, text.as_str(), blocks, &cite) {
         Some(place) => blocks[place].push(cite)?,
-        None => blocks.push(alone(alloc, cite)?)?,
+        None => {
+            add(index, text, blocks.len())?;
+            put_alone(alloc, cite, blocks)?;
+        }
     }
     Ok(())
 }
 
-/// The place of the first block that takes a cite.
-fn block_taking(blocks: &[Vec<Gathered>], cite: &Gathered) -> Option<usize>
-    ensures { IsPut is_of_block (gathered_seen cite.now) (blocks_seen blocks.now) result }
+/// Puts a cite after all blocks.
+fn put_alone<'a>(
+    alloc: Global,
+    cite: Gathered<'a>,
+    blocks: &mut Vec<Vec<Gathered<'a>>>,
+) -> Result<(), AllocError>
+    ensures { OnOk result (blocks_seen blocks.new.items ≡ blocks_seen blocks.old.items ++ (gathered_seen cite.entry ∷ []) ∷ []) }
 {
-    for (place, block) in blocks.iter().enumerate() {
-        if takes(block, cite) {
-            return Some(place);
+    blocks.push(alone(alloc, cite)?)?;
+    Ok(())
+}
+
+/// What the names of a cite print, in plain text.
+fn names_text(alloc: Global, cite: &Gathered) -> Result<Option<String>, AllocError>
+    ensures { IfOk result (λ t. option_map string_bytes t ≡ names_text (gathered_seen cite.now)) }
+{
+    match cite.names {
+        Some(names) => Ok(Some(plain_text(alloc, names)?)),
+        None => Ok(None),
+    }
+}
+
+/// An element in plain text.
+fn plain_text(alloc: Global, names: &Elem) -> Result<String, AllocError>
+    ensures { IfOk result (λ t. string_bytes t ≡ text (plain_element_text (element names.now))) }
+{
+    names.to_string(alloc)
+}
+
+/// Adds the place of a block whose names print a text.
+fn add(
+    index: &mut HashMap<String, Vec<usize>>,
+    text: String,
+    place: usize,
+) -> Result<(), AllocError>
+    ensures { OnOk result ((q : List ℕ) → under index.new q ≡ under index.old q ++ (if bytes_eq q (string_bytes text) then place ∷ [] else [])) }
+{
+    index.entry(text)?.or_default().push(place)?;
+    Ok(())
+}
+
+/// The place of the first block that takes a cite whose names print a text.
+fn block_taking(
+    index: &HashMap<String, Vec<usize>>,
+    text: &str,
+    blocks: &[Vec<Gathered>],
+    cite: &Gathered,
+) -> Option<usize>
+    requires index { IsIndex index.now (blocks_seen blocks.now) }
+    requires text { names_text (gathered_seen cite.now) ≡ Some text.now }
+    ensures { result ≡ first_taking is_of_block (gathered_seen cite.now) 0 (blocks_seen blocks.now) }
+{
+    match index.get(text) {
+        Some(places) => taking_among(places, blocks, cite),
+        None => None,
+    }
+}
+
+/// The first of these places whose block takes a cite.
+fn taking_among(places: &[usize], blocks: &[Vec<Gathered>], cite: &Gathered) -> Option<usize>
+    requires { All (λ p. p < length blocks.now) places.now }
+    ensures { result ≡ find (λ p. takes is_of_block (slice_index_or (blocks_seen blocks.now) p []) (gathered_seen cite.now)) places.now }
+{
+    for place in places {
+        if takes(&blocks[*place], cite) {
+            return Some(*place);
         }
     }
     None

@@ -1,12 +1,13 @@
 -- The marks of a round, joined one after the other, are those that each entry is given.
-use Rattle.std.proofs.Common.{arith, ◌≡◌, ℕ, ◌+◌, ◌<◌, ◌≤◌, Bool, true, false, cond, List, [], ◌∷◌, map, length, drop, get_or, set, replicate, fold, refl, sym, ap, ◌∙◌}
+use Rattle.std.proofs.Common.{arith, ◌≡◌, ℕ, ◌+◌, ◌<◌, ◌≤◌, Bool, true, false, cond, ◌||◌, List, [], ◌∷◌, map, length, drop, get_or, set, replicate, fold, refl, sym, ap, ◌∙◌}
 use Rattle.std.specs.Prelude.{nat_eq, filter}
-use Rattle.std.specs.List.{enumerate_from, reduce}
+use Rattle.std.specs.List.{enumerate_from, list_any, range_with_len, reduce}
 use Rattle.std.specs.Option.{unwrap_or}
 use Rattle.std.proofs.lemmas.Bool.{eqb-true}
+use Rattle.std.proofs.Math.Bool.{or-false, or-true, or_assoc}
 use Rattle.std.proofs.lemmas.Cmp.{nat_eq_equiv}
 use Rattle.std.proofs.lemmas.List.{at_drop_more, at_drop_all, ext_get_or, get_or-map, get_or-set_same, get_or-set_other, get_or-replicate, length-set, map-set, set-set, length-map, length-replicate}
-use Rattle.std.proofs.lemmas.List.FromFn.{get_or-enumerate_from, length-enumerate_from}
+use Rattle.std.proofs.lemmas.List.FromFn.{get_or-enumerate_from, get_or-map-range_with_len, length-enumerate_from, length-map-range_with_len}
 use Rattle.rendering_context.specs.Cites.{DisambiguateState, undisturbed, greater_state}
 use Rattle.driver_marks.specs.Marks.{Given, is_given_to, joined_for, marked}
 use Rattle.driver_marks.specs.Joining.{Joined, join, joined_at, joined_with, before_giving}
@@ -102,6 +103,39 @@ joined_all gs ms =
     ∙ ap (λ b. onto b (get_or ms e undisturbed) (marks_for e gs)) flag
     ∙ sym (at_entry gs ms e within))
 
+given_now : (fs : List Bool) (g : Given) (e : ℕ) → e < length fs → (b : Bool) → nat_eq g.entry e ≡ b → get_or (set fs g.entry true) e false ≡ (get_or fs e false || b)
+given_now fs g e low true h =
+    let same : g.entry ≡ e = eqb-true g.entry e h in
+    (λ k. get_or (set fs (same k) true) e false) ∙ get_or-set_same fs e true false low ∙ sym (or-true (get_or fs e false))
+given_now fs g e low false h = get_or-set_other fs g.entry e true false (differs g.entry e h) ∙ sym (or-false (get_or fs e false))
+
+given_after : (gs : List Given) (t : Joined) (e : ℕ) → e < length t.is_given → get_or (fold join t gs).is_given e false ≡ (get_or t.is_given e false || list_any (is_given_to e) gs)
+given_after [] t e low = sym (or-false (get_or t.is_given e false))
+given_after (g ∷ gs) t e low =
+    let long : length (join t g).is_given ≡ length t.is_given = length-set t.is_given g.entry true in
+    given_after gs (join t g) e (omega (arith, low, long))
+    ∙ ap (λ b. b || list_any (is_given_to e) gs) (given_now t.is_given g e low (nat_eq g.entry e) refl)
+    ∙ or_assoc (get_or t.is_given e false) (nat_eq g.entry e) (list_any (is_given_to e) gs)
+
+flags_long : (gs : List Given) (t : Joined) → length (fold join t gs).is_given ≡ length t.is_given
+flags_long [] t = refl
+flags_long (g ∷ gs) t = flags_long gs (join t g) ∙ length-set t.is_given g.entry true
+
+-- whether the round gave each entry a mark
+given_all : (gs : List Given) (ms : List DisambiguateState) → (fold join (before_giving ms) gs).is_given ≡ map (λ e. list_any (is_given_to e) gs) (range_with_len 0 (length ms))
+given_all gs ms =
+    let first = before_giving ms in
+    let first_long : length first.is_given ≡ length ms = length-replicate (length ms) false in
+    let long : length (fold join first gs).is_given ≡ length ms = flags_long gs first ∙ first_long in
+    let all_long : length (map (λ e. list_any (is_given_to e) gs) (range_with_len 0 (length ms))) ≡ length ms = length-map-range_with_len (λ e. list_any (is_given_to e) gs) 0 (length ms) in
+    ext_get_or false (fold join first gs).is_given (map (λ e. list_any (is_given_to e) gs) (range_with_len 0 (length ms))) (long ∙ sym all_long)
+    (λ e low.
+    let within : e < length ms = omega (arith, low, long) in
+    let place : 0 + e ≡ e = omega arith in
+    given_after gs first e (omega (arith, within, first_long))
+    ∙ ap (λ b. b || list_any (is_given_to e) gs) (get_or-replicate (length ms) e false false within)
+    ∙ sym (get_or-map-range_with_len (λ e. list_any (is_given_to e) gs) 0 (length ms) e e false within place))
+
 -- the marks so far, and what is left, make what all that was given makes of the marks from before
 pub record Joins {A : Type 0} (seen : A → DisambiguateState) (before now : List A) (is_given : List Bool) (all left : List Given) : Type 0 where
   pub same : fold join (record { marks = map seen now; is_given = is_given }) left ≡ fold join (before_giving (map seen before)) all
@@ -135,6 +169,15 @@ ends seen view before now fs gs i past inv =
     ap (λ (hs : List Given). (fold join (record { marks = map seen now; is_given = fs }) hs).marks) (sym (at_drop_all (map view) gs i past))
     ∙ ap (λ (t : Joined). t.marks) inv.same
     ∙ joined_all (map view gs) (map seen before)
+
+-- whether the round gave each entry a mark, after all that was given
+pub flags_end : {A B : Type 0} (seen : A → DisambiguateState) (view : B → Given) (before now : List A) (fs : List Bool) (gs : List B) (i : ℕ) → length gs ≤ i
+    → Joins seen before now fs (map view gs) (map view (drop i gs)) → fs ≡ map (λ e. list_any (is_given_to e) (map view gs)) (range_with_len 0 (length before))
+flags_end seen view before now fs gs i past inv =
+    ap (λ (hs : List Given). (fold join (record { marks = map seen now; is_given = fs }) hs).is_given) (sym (at_drop_all (map view) gs i past))
+    ∙ ap (λ (t : Joined). t.is_given) inv.same
+    ∙ given_all (map view gs) (map seen before)
+    ∙ ap (λ n. map (λ e. list_any (is_given_to e) (map view gs)) (range_with_len 0 n)) (length-map before seen)
 
 -- a mark that is replaced by nothing, and then by one that it is joined with
 pub joined_set : {A : Type 0} (seen : A → DisambiguateState) (ms : List A) (i : ℕ) (empty old made : A) (b : Bool) (x : DisambiguateState) → i < length ms

@@ -1,9 +1,10 @@
 //! Marks of entries after a round.
 
 ghost use Rattle.std.specs.Prelude.{◌≡◌, length, map, IfOk, OnOk};
+ghost use Rattle.std.specs.List.{list_any, range_with_len};
 ghost use Rattle.driver_marks.specs.Joining as joining;
 ghost use Rattle.driver_marks.specs.Joining.{before_giving, joined_at};
-ghost use Rattle.driver_marks.specs.Marks.{marked};
+ghost use Rattle.driver_marks.specs.Marks.{is_given_to, marked};
 ghost use Rattle.driver_marks.specs.Views.{givens_by};
 ghost use Rattle.rendering_context.specs.Views.{state_by};
 
@@ -12,7 +13,8 @@ use rendering_context::DisambiguateState;
 use std::alloc::{AllocError, Global};
 use std::mem;
 
-/// Gives entries the marks of a round: what it gave to an entry, joined, in place of the mark that the entry had.
+/// Gives entries the marks of a round: what it gave to an entry, joined, in place of the mark that the entry had. Returns of each entry
+/// whether the round gave it a mark.
 ///
 /// # Errors
 /// Out of memory.
@@ -20,15 +22,16 @@ pub fn mark(
     alloc: Global,
     marks: &mut [DisambiguateState],
     given: &[Given],
-) -> Result<(), AllocError>
-    ensures { OnOk result (map state_by marks.new ≡ marked (givens_by given.now) (map state_by marks.old)) }
+) -> Result<Vec<bool>, AllocError>
+    ensures marks { OnOk result (map state_by marks.new ≡ marked (givens_by given.now) (map state_by marks.old)) }
+    ensures given { IfOk result (λ v. v.items ≡ map (λ e. list_any (is_given_to e) (givens_by given.now)) (range_with_len 0 (length marks.old))) }
 {
     let mut is_given = nothing_given(alloc, marks)?;
     for one in given {
         let mark = one.mark.clone()?;
         join(marks, &mut is_given, one.entry, mark);
     }
-    Ok(())
+    Ok(is_given)
 }
 
 /// That nothing was given, for each of the entries with these marks.

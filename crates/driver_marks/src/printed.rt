@@ -98,19 +98,37 @@ impl Printed {
         })
     }
 
-    /// The cite, as it prints a tree by another mark.
+    /// Makes it the cite that prints a tree by another mark.
     ///
     /// # Errors
     /// Out of memory.
-    pub fn again(
-        self,
+    pub fn print_by(
+        &mut self,
         alloc: Global,
         mark: DisambiguateState,
         printed: ElemChildren,
-    ) -> Result<Printed, AllocError>
-        ensures { IfOk result (λ s. printed_seen s ≡ printed_again (printed_seen self) (state_by mark) (tree printed)) }
+    ) -> Result<(), AllocError>
+        ensures { OnOk result (printed_seen self.new ≡ printed_again (printed_seen self.old) (state_by mark) (tree printed)) }
     {
-        Printed::new(alloc, self.cite, mark, printed)
+        let text = plain_text(alloc, &printed)?;
+        self.mark = mark;
+        self.tree = printed;
+        self.text = text;
+        Ok(())
+    }
+
+    /// The place of its entry among all that are cited, from zero.
+    pub fn entry(&self) -> usize
+        ensures { result ≡ (printed_seen self.now).entry }
+    {
+        self.cite.entry
+    }
+
+    /// What it prints by its mark, without its locator.
+    pub fn tree(&self) -> &ElemChildren
+        ensures { tree result.now ≡ (printed_seen self.now).tree }
+    {
+        &self.tree
     }
 
     /// Whether letters may still be given to it.

@@ -4,6 +4,7 @@ pub mod PlacesFound
 pub mod PlacesOnce
 pub mod PlacesRead
 pub mod OrderPut
+pub mod OrderCount
 pub mod NumbersWritten
 pub mod StandingSteps
 pub mod StandingAfter

@@ -1,19 +1,20 @@
 -- Entries and their places, after one more item or one more request is read.
-use Rattle.std.proofs.Common.{◌≡◌, ℕ, ◌+◌, ◌<◌, ◌≤◌, Bool, true, false, cond, ◌||◌, List, [], ◌∷◌, ◌++◌, map, length, get_or, take, refl, sym, ap, ap₂, ◌∙◌}
+use Rattle.std.proofs.Common.{◌≡◌, ℕ, ◌+◌, ◌<◌, ◌≤◌, Bool, true, false, cond, ◌||◌, List, [], ◌∷◌, ◌++◌, All, map, length, get_or, take, refl, sym, ap, ap₂, subst₂, ◌∙◌}
 use Rattle.std.specs.Prelude.{filter_map, flat_map, option_to_list, Option, Some, None}
 use Rattle.std.specs.Borrow.{Bor}
 use Rattle.std.specs.Cmp.{IsEquivalence}
 use Rattle.std.specs.List.{cons_option, list_any, position_or_len}
-use Rattle.std.proofs.lemmas.List.{take_more, take_all, map-append, append-nil}
-use Rattle.std.proofs.lemmas.List.Elements.{filter_map-append}
+use Rattle.std.proofs.lemmas.List.{take_more, take_all, map-append, append-nil, length-map}
+use Rattle.std.proofs.lemmas.List.Elements.{All-cons, All-map, All-nil, filter_map-append}
 use Rattle.std.proofs.lemmas.List.Concat.{flat_map-append}
 use Rattle.std.proofs.lemmas.List.Folds.{list_any-append}
 use Rattle.std.proofs.lemmas.List.Sums.{fold_push, fold-append}
+use Rattle.std.proofs.lemmas.Map.Views.{All-from_any}
 use Rattle.driver_requests.specs.CitedEntries.{once, place_among}
 use Rattle.driver_requests.specs.Places.{pushed, grown, places_in}
 use Rattle.driver_requests.specs.Views.{lent}
-use Rattle.driver_requests.proofs.Once.{grown_all}
-use Rattle.driver_requests.proofs.PlacesFound.{place_kept}
+use Rattle.driver_requests.proofs.Once.{grown_all, once-any}
+use Rattle.driver_requests.proofs.PlacesFound.{place_below, place_kept}
 
 pushed_step : {K : Type 0} (eq : K → K → Bool) (es : List K) (e : K) (b : Bool) → eq e e ≡ true → list_any (eq e) es ≡ b → list_any (eq e) (cond b es (es ++ e ∷ [])) ≡ true
 pushed_step eq es e true same h = h
@@ -116,3 +117,31 @@ places_step {T} place entries i x h is places more p pushes one before =
     ∙ sym (filter_map-append place (lent (take i entries)) (x.now ∷ []))
     ∙ ap (filter_map place) (sym (map-append (λ (e : Bor T). e.now) (take i entries) (x ∷ [])))
     ∙ ap (λ (es : List (Bor T)). filter_map place (lent es)) (sym (take_more entries i x h ∙ ap (λ y. take i entries ++ y ∷ []) (sym is)))
+
+among_first : (a b : Bool) → a ≡ true → (a || b) ≡ true
+among_first true b h = refl
+among_first false b h = cc
+
+among_rest : (a b : Bool) → b ≡ true → (a || b) ≡ true
+among_rest true b h = refl
+among_rest false b h = h
+
+-- places of entries among others are below how many these are
+pub rows_within : {T Request : Type 0} {eq : T → T → Bool} (laws : IsEquivalence eq) (entries : Request → List T) (all : List T) (requests : List Request)
+    → ((q : T) → list_any (eq q) (flat_map entries requests) ≡ true → list_any (eq q) all ≡ true)
+    → All (All (λ p. p < length (once eq all))) (map (λ r. map (place_among eq all) (entries r)) requests)
+rows_within {eq = eq} laws entries all [] among = All-nil (All (λ p. p < length (once eq all)))
+rows_within {eq = eq} laws entries all (r ∷ rs) among =
+    All-cons (All (λ p. p < length (once eq all))) (map (place_among eq all) (entries r)) (map (λ x. map (place_among eq all) (entries x)) rs)
+    (All-map (λ p. p < length (once eq all)) (place_among eq all) (entries r)
+    (All-from_any laws (λ e. place_among eq all e < length (once eq all)) (entries r)
+    (λ q h. place_below (eq q) (once eq all) (once-any laws q all ∙ among q (list_any-append (eq q) (entries r) (flat_map entries rs) ∙ among_first _ _ h)))))
+    (rows_within laws entries all rs (λ q h. among q (list_any-append (eq q) (entries r) (flat_map entries rs) ∙ among_rest _ _ h)))
+
+-- the places of the items of all requests are below the number of entries
+pub places_within : {T Request : Type 0} {eq : T → T → Bool} (laws : IsEquivalence eq) (entries : Request → List T) (requests : List Request) (cited : List (Bor T)) (rows : List (List ℕ))
+    → lent cited ≡ once eq (flat_map entries requests) → rows ≡ map (λ r. map (place_among eq (flat_map entries requests)) (entries r)) requests
+    → All (All (λ p. p < length cited)) rows
+places_within {T} {eq = eq} laws entries requests cited rows are is =
+    let many : length cited ≡ length (once eq (flat_map entries requests)) = sym (length-map cited (λ (e : Bor T). e.now)) ∙ ap length are in
+    subst₂ (λ n (ps : List (List ℕ)). All (All (λ p. p < n)) ps) (sym many) (sym is) (rows_within laws entries (flat_map entries requests) requests (λ q h. h))

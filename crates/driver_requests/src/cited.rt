@@ -1,6 +1,6 @@
 //! The entries that are cited, and their places among them.
 
-ghost use Rattle.std.specs.Prelude.{◌≡◌, ◌++◌, List, map, filter_map, option_to_list, position, OnOk, IfOk};
+ghost use Rattle.std.specs.Prelude.{◌≡◌, ◌<◌, ◌++◌, All, List, length, map, filter_map, option_to_list, position, OnOk, IfOk};
 ghost use Rattle.std.specs.List.{position_or_len};
 ghost use Rattle.driver_requests.specs.CitedEntries.{once, place_among};
 ghost use Rattle.driver_requests.specs.Places.{IsIndex, grown, place_in, places_in, pushed, rows};
@@ -31,6 +31,7 @@ impl<'a, T: Eq + Hash> Cited<'a, T> {
     ) -> Result<Cited<'a, T>, AllocError>
         ensures entries { IfOk result (λ c. lent c.entries.items ≡ once T.eq (entries_in requests.now)) }
         ensures rows { IfOk result (λ c. rows c.rows.items ≡ map (λ r. map (place_among T.eq (entries_in requests.now)) (entries_of r)) requests.now) }
+        ensures within { IfOk result (λ c. All (All (λ p. p < length c.entries.items)) (rows c.rows.items)) }
         ensures index { IfOk result (λ c. IsIndex T.eq c.index (lent c.entries.items)) }
     {
         let mut index = HashMap::new(alloc);

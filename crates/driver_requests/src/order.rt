@@ -26,7 +26,9 @@ pub fn ordered(
     wanted: &[usize],
     count: usize,
 ) -> Result<Vec<usize>, AllocError>
-    ensures { IfOk result (λ v. v.items ≡ ordered (style_seen style.now).bibliography wanted.now (range_with_len 0 count)) }
+    ensures order { IfOk result (λ v. v.items ≡ ordered (style_seen style.now).bibliography wanted.now (range_with_len 0 count)) }
+    ensures length { IfOk result (λ v. length v.items ≡ count) }
+    ensures within { IfOk result (λ v. All (λ p. p < count) v.items) }
 {
     match &style.parts().bibliography {
         Some(_) => wanted_first(alloc, wanted, count),

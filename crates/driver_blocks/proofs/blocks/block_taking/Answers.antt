@@ -1,18 +1,40 @@
 use Rattle.std.specs.Global.{Global}
-use Rattle.std.proofs.Common.{◌<◌, length, map, arith, Vec}
+use Rattle.std.proofs.Common.{◌≡◌, ◌<◌, ℕ, [], All, length, map, sym, ap, subst, ◌∙◌, Option, Some, None, Vec}
+use Rattle.std.specs.HashMap.{get_by_text}
+use Rattle.std.specs.Option.{option_copied, option_map_or}
+use Rattle.std.specs.Prelude.{find, slice_index_or}
 use Rattle.std.proofs.lemmas.List.{length-map}
 use Rattle.driver_blocks.specs.Blocks.{is_of_block}
-use Rattle.driver_blocks.specs.Views.{blocks_seen, gathered_seen}
+use Rattle.driver_blocks.specs.Indexed.{places_of}
+use Rattle.driver_blocks.specs.Views.{blocks_seen, gathered_seen, takes}
 use Rattle.driver_blocks.specs.declared.cite.Gathered.{Gathered}
-use Rattle.driver_blocks.proofs.PutSteps.{block_at, put_found, put_passed}
+use Rattle.driver_blocks.proofs.IndexedSteps.{found, places_within}
 use Rattle.driver_blocks.proofs.blocks.block_taking.Goals as goal
 
-pub returns-then-takes : goal.returns-then-takes
-returns-then-takes c =
-    let less : c.loop-place.place < length (blocks_seen c.args.blocks.now) = omega (arith, c.loop-place-test.true, length-map c.args.blocks.now (λ (b : Vec Gathered Global). map gathered_seen b.items)) in
-    (less, put_found is_of_block (gathered_seen c.args.cite.now) (blocks_seen c.args.blocks.now) c.loop-place.place c.loop-place.invariant _ less (block_at c.args.blocks.now c.loop-place.place _ c.loop-place-test.true c.index-blocks-place.is) (cc))
+pub taking_among-requires : goal.taking_among-requires
+taking_among-requires c =
+    let bs = c.args.blocks.now in
+    let q = c.args.text.now in
+    let value : get_by_text c.args.index.now q ≡ Some c.in-Some.places.now = sym c.get.ensures.value ∙ ap option_copied c.in-Some.is in
+    let places : c.deref.result.now ≡ places_of q 0 (blocks_seen bs) =
+    c.deref.ensures.value ∙ sym (ap (λ (o : Option (Vec ℕ Global)). option_map_or (λ (v : Vec ℕ Global). v.items) o []) value) ∙ c.requires.index q in
+    subst (All (λ p. p < length bs)) (sym places) (places_within q (blocks_seen bs) (length bs) (length-map bs (λ (b : Vec Gathered Global). map gathered_seen b.items)))
 
-pub loop-place-preserved : goal.loop-place-preserved
-loop-place-preserved c =
-    let less : c.loop-place.place < length (blocks_seen c.args.blocks.now) = omega (arith, c.loop-place-test.true, length-map c.args.blocks.now (λ (b : Vec Gathered Global). map gathered_seen b.items)) in
-    put_passed is_of_block (gathered_seen c.args.cite.now) (blocks_seen c.args.blocks.now) c.loop-place.place c.loop-place.invariant _ less (block_at c.args.blocks.now c.loop-place.place _ c.loop-place-test.true c.index-blocks-place.is) (cc)
+pub returns-in-Some : goal.returns-in-Some
+returns-in-Some c =
+    let bs = blocks_seen c.args.blocks.now in
+    let q = c.args.text.now in
+    let x = gathered_seen c.args.cite.now in
+    let value : get_by_text c.args.index.now q ≡ Some c.in-Some.places.now = sym c.get.ensures.value ∙ ap option_copied c.in-Some.is in
+    let places : c.deref.result.now ≡ places_of q 0 bs =
+    c.deref.ensures.value ∙ sym (ap (λ (o : Option (Vec ℕ Global)). option_map_or (λ (v : Vec ℕ Global). v.items) o []) value) ∙ c.requires.index q in
+    c.taking_among.ensures ∙ ap (find (λ p. takes is_of_block (slice_index_or bs p []) x)) places ∙ found x q c.requires.text bs
+
+pub returns-in-None : goal.returns-in-None
+returns-in-None c =
+    let bs = blocks_seen c.args.blocks.now in
+    let q = c.args.text.now in
+    let x = gathered_seen c.args.cite.now in
+    let value : get_by_text c.args.index.now q ≡ None = sym c.get.ensures.value ∙ ap option_copied c.in-None.is in
+    let places : [] ≡ places_of q 0 bs = sym (ap (λ (o : Option (Vec ℕ Global)). option_map_or (λ (v : Vec ℕ Global). v.items) o []) value) ∙ c.requires.index q in
+    ap (find (λ p. takes is_of_block (slice_index_or bs p []) x)) places ∙ found x q c.requires.text bs

@@ -2,7 +2,7 @@ use Rattle.std.proofs.Common.{◌≤◌, ℕ, length, arith, Vec}
 use Rattle.std.specs.Global.{Global}
 use Rattle.driver_requests.specs.Places.{rows}
 use Rattle.driver_requests.specs.Views.{entries_of, entry_of_item, lent}
-use Rattle.driver_requests.proofs.PlacesRead.{all_entries, all_entries_step, all_rows, entries_as, row_as, rows_step}
+use Rattle.driver_requests.proofs.PlacesRead.{all_entries, all_entries_step, all_rows, entries_as, places_within, row_as, rows_step}
 use Rattle.driver_requests.proofs.cited.Cited.new.Goals as goal
 
 pub loop-request-preserved : goal.loop-request-preserved
@@ -31,3 +31,7 @@ pub returns-clause-rows : goal.returns-clause-rows
 returns-clause-rows g c =
     let over : length c.args.requests.now ≤ c.loop-request.request-index = omega (arith, c.loop-request-test.false) in
     all_rows g.met.T.Eq.laws entries_of c.args.requests.now c.loop-request.request-index over (lent c.loop-request.entries.items) c.loop-request.invariant.1 (rows c.loop-request.rows.items) c.loop-request.invariant.2
+
+pub returns-clause-within : goal.returns-clause-within
+returns-clause-within g c =
+    places_within g.met.T.Eq.laws entries_of c.args.requests.now c.loop-request.entries.items (rows c.loop-request.rows.items) (returns-clause-entries g c) (returns-clause-rows g c)
