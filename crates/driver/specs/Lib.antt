@@ -5,3 +5,14 @@ pub mod Stages
 pub mod Finish
 pub mod Standalone
 pub mod Laws
+pub mod BracketViews
+pub mod Joining
+pub mod Contents
+pub mod Renaming
+pub mod Views
+pub mod Numbering
+pub mod Rounding
+pub mod RenderedViews
+pub mod Listing
+pub mod Finals
+pub mod Known

@@ -1,2 +1,24 @@
-//! From requests to citations and a bibliography. The crate has definitions alone, in `specs/`.
+//! From requests to citations and a bibliography.
 #![tactic(auto)]
+
+mod bibliography;
+mod brackets;
+mod citation;
+mod cite;
+mod contents;
+mod driver;
+mod ends;
+mod finals;
+mod first;
+mod known;
+mod listed;
+mod looks;
+mod numbered;
+mod rendered;
+mod rounds;
+mod standalone;
+
+pub use brackets::Brackets;
+pub use driver::BibliographyDriver;
+pub use rendered::{BibliographyItem, Rendered, RenderedBibliography, RenderedCitation};
+pub use standalone::standalone_citation;

@@ -1,0 +1,85 @@
+-- What a bibliography prints of entries that are listed.
+use Rattle.std.proofs.Common.{◌≡◌, ℕ, ◌+◌, ◌<◌, ◌≤◌, Bool, true, false, All, List, [], ◌∷◌, ◌++◌, append_assoc, append-nil, cond, drop, eqb-true, get_or, length, ltb-true, ltb-false, map, nat_lt, refl, sym, ap, subst, ◌∙◌, arith, zero-add, Option, Some, None}
+use Rattle.std.specs.Prelude.{filter_map, find, option_to_list, slice_index_or, IfSome}
+use Rattle.std.specs.List.{cons_option, range_with_len}
+use Rattle.std.specs.Option.{option_and_then, option_map}
+use Rattle.std.proofs.lemmas.List.{drop_all, drop_more, get_or-map}
+use Rattle.std.proofs.Math.ListN.{get_or-eq_default}
+use Rattle.std.proofs.lemmas.List.Elements.{All-head, All-tail}
+use Rattle.std.proofs.lemmas.List.FromFn.{get_or-map-range_with_len, length-map-range_with_len}
+use Rattle.rendering_context.specs.Cites.{undisturbed}
+use Rattle.rendering_context.specs.Views.{state_by}
+use Rattle.rendering_context.specs.declared.cite.DisambiguateState.{DisambiguateState as CodeState}
+use Rattle.rendering_entries.specs.Answers.{Answers}
+use Rattle.rendering.specs.Purposes.{StyleContext}
+use Rattle.driver_marks.specs.Marks.{mark_of}
+use Rattle.driver.specs.Finals.{Listed, first_listed, listed_as, listed_by}
+use Rattle.driver.specs.Finish.{is_final_of}
+use Rattle.driver.specs.Listing.{StandAtPlaces, item_at, item_first, item_listed, listed_marked, trees_listed}
+use Rattle.driver.specs.Stages.{Final, cite_of}
+use Rattle.driver.specs.declared.finals.ListedCite.{ListedCite}
+
+consed : {B : Type 0} (o : Option B) (bs cs : List B) → bs ++ cons_option o cs ≡ (bs ++ option_to_list o) ++ cs
+consed None bs cs = ap (λ ds. ds ++ cs) (sym (append-nil bs))
+consed (Some b) bs cs = sym (append_assoc bs (b ∷ []) cs)
+
+-- one more is tried
+pub tried_goes_on : {A B : Type 0} (f : A → Option B) (es : List A) (old new : List B) (n : ℕ) (e : A) (o : Option B) (all : List B) → n < length es → e ≡ get_or es n e → o ≡ f e
+    → old ++ filter_map f (drop n es) ≡ all → new ≡ old ++ option_to_list o → new ++ filter_map f (drop (n + 1) es) ≡ all
+tried_goes_on f es old new n e o all less at is h made =
+    let rest = filter_map f (drop (n + 1) es) in
+    ap (λ bs. bs ++ rest) made
+    ∙ sym (consed o old rest)
+    ∙ ap (λ p. old ++ cons_option p rest) (is ∙ ap f at)
+    ∙ ap (λ xs. old ++ filter_map f xs) (sym (drop_more es n e less))
+    ∙ h
+
+-- all were tried
+pub tried_ends : {A B : Type 0} (f : A → Option B) (es : List A) (old : List B) (n : ℕ) (all : List B) → length es ≤ n → old ++ filter_map f (drop n es) ≡ all → old ≡ all
+tried_ends f es old n all over h = sym (append-nil old) ∙ ap (λ xs. old ++ filter_map f xs) (sym (drop_all n es over)) ∙ h
+
+marked_alike : {T : Type 0} (answers : T → Answers) (marks : List CodeState) (mark : CodeState) (place : ℕ) (o : Option (ListedCite T)) → place < length marks → mark ≡ get_or marks place mark
+    → IfSome (option_map (listed_by answers (map state_by marks)) o) (λ l. l.place ≡ place) → option_map (listed_marked answers (state_by mark)) o ≡ option_map (listed_by answers (map state_by marks)) o
+marked_alike answers marks mark place None less at h = refl
+marked_alike answers marks mark place (Some l) less at h =
+    let same : state_by mark ≡ mark_of (map state_by marks) l.cite.entry =
+    ap state_by at ∙ sym (get_or-map state_by marks place mark undisturbed less) ∙ ap (λ p. get_or (map state_by marks) p undisturbed) (sym h) in
+    ap (λ m. Some (listed_marked answers m l)) same
+
+-- what is printed of the entry at a place, by its mark
+pub item_by_mark : {T : Type 0} (x : StyleContext) (answers : T → Answers) (marks : List CodeState) (listed : List (Option (ListedCite T))) (place : ℕ) (mark : CodeState) (o : Option (ListedCite T)) → place < length marks → length listed ≡ length marks
+    → mark ≡ get_or marks place mark → o ≡ get_or listed place o → StandAtPlaces (map (option_map (listed_by answers (map state_by marks))) listed)
+    → option_and_then (item_listed x) (option_map (listed_marked answers (state_by mark)) o) ≡ item_at x (map (option_map (listed_by answers (map state_by marks))) listed) place
+item_by_mark x answers marks listed place mark o less long at_mark at stand =
+    let here : get_or (map (option_map (listed_by answers (map state_by marks))) listed) place None ≡ option_map (listed_by answers (map state_by marks)) o =
+    get_or-map (option_map (listed_by answers (map state_by marks))) listed place o None (omega (arith, less, long)) ∙ ap (option_map (listed_by answers (map state_by marks))) (sym at) in
+    let own : IfSome (option_map (listed_by answers (map state_by marks)) o) (λ l. l.place ≡ place) = subst (λ (p : Option Listed). IfSome p (λ l. l.place ≡ place)) here (stand place) in
+    ap (option_and_then (item_listed x)) (marked_alike answers marks mark place o less at_mark own ∙ sym here)
+
+own_if : {P : Type 0} (place : ℕ) (f : Final P) (o : Option (Final P)) (b : Bool) → is_final_of place f ≡ b → IfSome (option_map listed_as o) (λ l. l.place ≡ place) → IfSome (option_map listed_as (cond b (Some f) o)) (λ l. l.place ≡ place)
+own_if place f o true e h = eqb-true (cite_of f).item.entry.place place e
+own_if place f o false e h = h
+
+first_own : {P : Type 0} (fs : List (Final P)) (place : ℕ) → IfSome (first_listed fs place) (λ l. l.place ≡ place)
+first_own [] place = tt
+first_own (f ∷ fs) place = own_if place f (find (is_final_of place) fs) (is_final_of place f) refl (first_own fs place)
+
+placed_if : {P : Type 0} (fs : List (Final P)) (count place : ℕ) (b : Bool) → nat_lt place count ≡ b → IfSome (get_or (map (first_listed fs) (range_with_len 0 count)) place None) (λ l. l.place ≡ place)
+placed_if fs count place true e =
+    let less : place < count = ltb-true place count e in
+    subst (λ (o : Option Listed). IfSome o (λ l. l.place ≡ place)) (sym (get_or-map-range_with_len (first_listed fs) 0 count place place None less (zero-add place))) (first_own fs place)
+placed_if {P} fs count place false e =
+    let over : length (map (first_listed fs) (range_with_len 0 count)) ≤ place = omega (arith, length-map-range_with_len (first_listed fs) 0 count, ltb-false place count e) in
+    subst (λ (o : Option Listed). IfSome o (λ l. l.place ≡ place)) (sym (get_or-eq_default (map (first_listed fs) (range_with_len 0 count)) None over)) tt
+
+-- the first cites of entries stand at the places of these
+pub firsts_stand : {P : Type 0} (fs : List (Final P)) (count : ℕ) (ls : List (Option Listed)) → ls ≡ map (first_listed fs) (range_with_len 0 count) → StandAtPlaces ls
+firsts_stand fs count ls e = λ place. subst (λ (ms : List (Option Listed)). IfSome (slice_index_or ms place None) (λ l. l.place ≡ place)) (sym e) (placed_if fs count place (nat_lt place count) refl)
+
+-- what is printed of entries by their first cites
+pub trees_are : {P : Type 0} (x : StyleContext) (fs : List (Final P)) (count : ℕ) (ls : List (Option Listed)) (order : List ℕ) → ls ≡ map (first_listed fs) (range_with_len 0 count) → All (λ p. p < count) order
+    → trees_listed x ls order ≡ filter_map (item_first x fs) order
+trees_are x fs count ls [] e within = refl
+trees_are x fs count ls (p ∷ ps) e within =
+    let here : item_at x ls p ≡ item_first x fs p = ap (λ (ms : List (Option Listed)). option_and_then (item_listed x) (slice_index_or ms p None)) e ∙ ap (option_and_then (item_listed x)) (get_or-map-range_with_len (first_listed fs) 0 count p p None (All-head (λ q. q < count) p ps within) (zero-add p)) in
+    λ k. cons_option (here k) (trees_are x fs count ls ps e (All-tail (λ q. q < count) p ps within) k)

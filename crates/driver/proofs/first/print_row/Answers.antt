@@ -1,0 +1,44 @@
+use Rattle.std.proofs.Common.{ap, sym, ◌∙◌, length, map, arith}
+use Rattle.rendering.specs.Views.{context_seen}
+use Rattle.driver_marks.specs.Views.{printed_seen}
+use Rattle.driver_requests.specs.Views.{context_of}
+use Rattle.driver.specs.Views.{unmarked, usage_of}
+use Rattle.driver.proofs.RowsSteps.{one_counted, row_counts_on, row_ends, row_goes_on}
+use Rattle.driver.proofs.first.print_row.Goals as goal
+
+pub bounds-row-index : goal.bounds-row-index
+bounds-row-index g c = omega (arith, c.requires.row, c.loop-index-test.true, ap length c.deref-item-items.ensures.value)
+
+pub print_cite-requires : goal.print_cite-requires
+print_cite-requires g c = ap (λ s. s.citation) (c.parts.ensures.style ∙ c.style.ensures) ∙ ap (λ x. x.style.citation) (sym c.requires.context)
+
+pub loop-index-preserved : goal.loop-index-preserved
+loop-index-preserved g c =
+    let answers = g.T.EntryLike.answers in
+    let x = context_of c.args.request.now in
+    let y = context_seen c.args.context.now in
+    let items = c.args.request.now.items.items in
+    let given = c.deref-item-items.result.now in
+    let row = c.args.row.now in
+    let n = c.loop-index.index in
+    let i = c.item-item.result in
+    let same = c.requires.context in
+    let list = c.deref-item-items.ensures.value in
+    let less = c.loop-index-test.true in
+    let many = c.requires.row in
+    let is = c.item-item.is in
+    record {
+      printed = row_goes_on answers x items row unmarked y given n i (map printed_seen c.loop-index.prints.printed.items) (map printed_seen c.print_cite.new.prints.printed.items) _ same list less many is c.loop-index.invariant.printed c.in_ok-print_cite.ensures.printed;
+      usages = row_goes_on answers x items row usage_of y given n i c.loop-index.prints.usages.items c.print_cite.new.prints.usages.items _ same list less many is c.loop-index.invariant.usages c.in_ok-print_cite.ensures.usages;
+      effort = row_counts_on answers x items row y given n i c.loop-index.effort c.print_cite.new.effort _ same list less many is c.loop-index.invariant.effort (one_counted c.loop-index.effort c.print_cite.new.effort c.in_ok-print_cite.ensures.effort);
+    }
+
+pub returns-clause-printed : goal.returns-clause-printed
+returns-clause-printed g c =
+    row_ends g.T.EntryLike.answers (context_of c.args.request.now) c.args.request.now.items.items c.args.row.now unmarked c.deref-item-items.result.now c.loop-index.index (map printed_seen c.loop-index.prints.printed.items) _
+    c.deref-item-items.ensures.value c.loop-index-test.false c.loop-index.invariant.printed
+
+pub returns-clause-usages : goal.returns-clause-usages
+returns-clause-usages g c =
+    row_ends g.T.EntryLike.answers (context_of c.args.request.now) c.args.request.now.items.items c.args.row.now usage_of c.deref-item-items.result.now c.loop-index.index c.loop-index.prints.usages.items _
+    c.deref-item-items.ensures.value c.loop-index-test.false c.loop-index.invariant.usages

@@ -1,0 +1,174 @@
+-- Cites in their final order, each after the one before it, and the first of each entry.
+use Rattle.std.specs.Prelude.{ℕ, ◌+◌, Bool, not, List, [], ◌∷◌, ◌++◌, map, zip, find, filter_map, fold, is_some, slice_index_or, slice_set, Option, Some, None}
+use Rattle.std.specs.List.{slice_get}
+use Rattle.std.specs.Option.{option_map, option_or}
+use Rattle.rendering_context.specs.Cites.{CiteProperties}
+use Rattle.rendering_entries.specs.Answers.{Answers}
+use Rattle.rendering_style.specs.Styles as styles
+use Rattle.rendering_tree.specs.Metas as metas
+use Rattle.rendering_tree.specs.Trees.{Children, element_with, names_element}
+use Rattle.rendering.specs.Purposes.{StyleContext}
+use Rattle.driver_requests.specs.Cites.{Numbered, properties_of}
+use Rattle.driver_requests.specs.Requests.{Item, Request}
+use Rattle.driver_requests.specs.Positions.{ibid_after, with_previous}
+use Rattle.driver_requests.specs.Suffixes.{Suffix}
+use Rattle.driver_requests.specs.Views.{item_by}
+use Rattle.driver_requests.specs.declared.item.CitationItem.{CitationItem}
+use Rattle.driver_marks.specs.Classes as marks
+use Rattle.driver_marks.specs.Marks.{Marks, mark_of}
+use Rattle.driver_marks.specs.Rounds.{Disambiguation}
+use Rattle.driver_blocks.specs.Blocks.{Gathered}
+use Rattle.driver_blocks.specs.Rows.{Arranged}
+use Rattle.driver_blocks.specs.Views.{arranged_seen}
+use Rattle.driver_blocks.specs.declared.cite.Arranged as arranged
+use Rattle.driver.specs.Citations.{Shown}
+use Rattle.driver.specs.Finish.{Citation, citation_in, is_final_of, item_properties, shown}
+use Rattle.driver.specs.Joining.{shown_seen}
+use Rattle.driver.specs.Renaming.{arranged_as}
+use Rattle.driver.specs.RenderedViews.{citation_by}
+use Rattle.driver.specs.Stages.{FirstPrint, Final, arranged_for, cite_of, counts_at_last, entry_of_first, final, first_print, first_print_of, item_arranged}
+use Rattle.driver.specs.Views.{numbered_seen, properties_with}
+use Rattle.driver.specs.declared.cite.NumberedCite.{NumberedCite}
+use Rattle.driver.specs.declared.citation.ShownCite.{ShownCite}
+use Rattle.driver.specs.declared.finals.FinalCite.{FinalCite}
+use Rattle.driver.specs.declared.finals.LastCite.{LastCite}
+use Rattle.driver.specs.declared.finals.ListedCite.{ListedCite}
+use Rattle.driver.specs.declared.rendered.RenderedCitation.{RenderedCitation}
+
+-- the first prints of cites, request by request
+abbrev pub firsts : {P : Type 0} → List (List (Numbered P)) → List (List (FirstPrint P))
+firsts nss = map (map first_print) nss
+
+-- the cites of requests as they are printed at last
+abbrev pub finals_from : {P : Type 0} → (P → P → Bool) → Disambiguation → List (Request P) → List (List (FirstPrint P)) → List (List (Final P))
+finals_from same t rs bss = map (map (final same t)) (with_previous None (map (arranged_for t) (zip rs bss)))
+
+-- An entry as the bibliography lists it: its place among all that are cited, what it answers, and what is known of the cite by which it is
+-- listed.
+pub record Listed : Type 0 where
+  pub place : ℕ
+  pub answers : Answers
+  pub properties : CiteProperties
+
+-- the entry of a cite, listed by that
+abbrev pub listed_as : {P : Type 0} → Final P → Listed
+listed_as f = record { place = (cite_of f).item.entry.place; answers = (cite_of f).item.entry.answers; properties = item_properties f }
+
+-- the entry at a place, listed by its first cite
+abbrev pub first_listed : {P : Type 0} → List (Final P) → ℕ → Option Listed
+first_listed fs place = option_map listed_as (find (is_final_of place) fs)
+
+-- an entry that is listed, with these marks of all entries
+abbrev pub listed_by : {T : Type 0} → (T → Answers) → Marks → ListedCite T → Listed
+listed_by answers marks l = record {
+  place = l.cite.entry;
+  answers = answers l.entry.now;
+  properties = properties_with l.cite (mark_of marks l.cite.entry) None l.ibid l.usage;
+}
+
+-- entries with one more, unless it is listed
+abbrev pub listed_with : List (Option Listed) → Listed → List (Option Listed)
+listed_with ls l = slice_set ls l.place (option_or (slice_index_or ls l.place None) (Some l))
+
+-- a cite as it is gathered, at a place in its request, by the tree that it prints
+abbrev pub gathered_from : ℕ → ℕ → Bool → Bool → Children → Option Suffix → Gathered ℕ
+gathered_from place number is_hidden has_locator tree suffix = record {
+  cite = place;
+  names = names_element tree;
+  number = option_map (λ e. number) (element_with metas.CitationNumber tree);
+  is_shown = not is_hidden;
+  has_locator = has_locator;
+  suffix = suffix;
+}
+
+-- the cites of items as they are gathered, from a place on, with the letters of all entries
+abbrev pub all_gathered : {T P : Type 0} → List (Option Suffix) → ℕ → List (CitationItem T P) → List NumberedCite → List marks.Printed → List (Gathered ℕ)
+all_gathered letters place [] ns ss = []
+all_gathered letters place (i ∷ is) [] ss = []
+all_gathered letters place (i ∷ is) (n ∷ ns) [] = []
+all_gathered letters place (i ∷ is) (n ∷ ns) (s ∷ ss) =
+    gathered_from place n.number i.hidden (is_some i.locator) s.tree (slice_index_or letters n.entry None) ∷ all_gathered letters (place + 1) is ns ss
+
+-- a cite in its citation, known by itself in place of its place among others
+abbrev pub arranged_at : {Y : Type 0} → List Y → Arranged ℕ → Option (Arranged Y)
+arranged_at ys a = option_map (λ y. arranged_as (λ n. y) a) (slice_get ys a.cite.cite)
+
+-- the same of cites in a row
+abbrev pub arranged_in : {Y : Type 0} → List Y → List (Arranged ℕ) → List (Arranged Y)
+arranged_in ys xs = filter_map (arranged_at ys) xs
+
+-- a cite with its final mark, after an item
+abbrev pub final_after : {P : Type 0} → (P → P → Bool) → Marks → Option (Item P) → Arranged (FirstPrint P) → Final P
+final_after same marks last a = record {
+  arranged = a;
+  properties = record (properties_of (first_print_of a).numbered (mark_of marks (entry_of_first (first_print_of a)))) { ibid = ibid_after same counts_at_last last (item_arranged a) };
+}
+
+-- cites of a request, the first of them after an item, each other one after the one before it
+abbrev pub row_finals : {P : Type 0} → (P → P → Bool) → Marks → Option (Item P) → List (Arranged (FirstPrint P)) → List (Final P)
+row_finals same marks last [] = []
+row_finals same marks last (a ∷ xs) = final_after same marks last a ∷ row_finals same marks (Some (item_arranged a)) xs
+
+-- the last item of cites, or the one before them
+abbrev pub last_arranged : {P : Type 0} → Option (Item P) → List (Arranged (FirstPrint P)) → Option (Item P)
+last_arranged last [] = last
+last_arranged last (a ∷ xs) = last_arranged (Some (item_arranged a)) xs
+
+-- the same cites request by request
+abbrev pub all_finals : {P : Type 0} → (P → P → Bool) → Marks → Option (Item P) → List (List (Arranged (FirstPrint P))) → List (List (Final P))
+all_finals same marks last [] = []
+all_finals same marks last (xs ∷ xss) = row_finals same marks last xs ∷ all_finals same marks (last_arranged last xs) xss
+
+-- What the cites of a request have come to: those that are shown, the entries that are listed, and the last item.
+pub record Placed (P : Type 0) : Type 0 where
+  pub shown : List Shown
+  pub listed : List (Option Listed)
+  pub last : Option (Item P)
+
+-- one more cite
+abbrev pub placed_final : {P : Type 0} → Placed P → Final P → Placed P
+placed_final p f = record { shown = p.shown ++ shown f; listed = listed_with p.listed (listed_as f); last = Some (cite_of f).item }
+
+-- one more cite after the last
+abbrev pub placed_with : {P : Type 0} → (P → P → Bool) → Marks → Placed P → Arranged (FirstPrint P) → Placed P
+placed_with same marks p a = placed_final p (final_after same marks p.last a)
+
+-- What requests have come to: their citations, the entries that are listed, and the last item.
+pub record Cited (P : Type 0) : Type 0 where
+  pub citations : List Citation
+  pub listed : List (Option Listed)
+  pub last : Option (Item P)
+
+-- one more request with these cites
+abbrev pub cited_with : {P : Type 0} → (P → P → Bool) → Disambiguation → Cited P → Request P × List (FirstPrint P) → Cited P
+cited_with same t c (r, bs) =
+    let xs = arranged_for t (r, bs) in
+    let fs = row_finals same t.marks c.last xs in
+    record { citations = c.citations ++ citation_in (r, fs) ∷ []; listed = fold listed_with c.listed (map listed_as fs); last = last_arranged c.last xs }
+
+-- a cite in the final order, in a style, with these marks of all entries
+abbrev pub final_seen : {T P : Type 0} → (T → Answers) → StyleContext → styles.Citation → Marks → FinalCite T P → arranged.Arranged → Final P
+final_seen answers x c marks f a = record {
+  arranged = arranged_as (λ n. first_print (numbered_seen answers x f.item.now f.cite)) (arranged_seen c a);
+  properties = record (properties_of (numbered_seen answers x f.item.now f.cite) (mark_of marks f.cite.entry)) { ibid = f.ibid };
+}
+
+-- the entry of a cite, listed by that
+abbrev pub listed_seen : {T P : Type 0} → (T → Answers) → Marks → FinalCite T P → Listed
+listed_seen answers marks f = record {
+  place = f.cite.entry;
+  answers = answers f.item.now.entry.now;
+  properties = properties_with f.cite (mark_of marks f.cite.entry) None f.ibid f.usage;
+}
+
+-- the item of the last cite
+abbrev pub last_seen : {T P : Type 0} → (T → Answers) → Option (LastCite T P) → Option (Item P)
+last_seen {T} {P} answers last = option_map (λ (l : LastCite T P). item_by (λ e. l.entry) answers l.item.now) last
+
+-- what the cites of a request have come to
+abbrev pub placed_seen : {T P : Type 0} → (T → Answers) → Marks → List ShownCite → List (Option (ListedCite T)) → Option (LastCite T P) → Placed P
+placed_seen answers marks ss listed last = record { shown = map shown_seen ss; listed = map (option_map (listed_by answers marks)) listed; last = last_seen answers last }
+
+-- what requests have come to
+abbrev pub cited_seen : {T P : Type 0} → (T → Answers) → Marks → List RenderedCitation → List (Option (ListedCite T)) → Option (LastCite T P) → Cited P
+cited_seen answers marks cs listed last = record { citations = map citation_by cs; listed = map (option_map (listed_by answers marks)) listed; last = last_seen answers last }

@@ -1,0 +1,65 @@
+-- The bibliography from what its style prints of each entry.
+use Rattle.std.specs.Prelude.{◌≡◌, ℕ, List, filter_map, map, slice_index_or, zip, IfSome, Option, None}
+use Rattle.std.specs.Borrow.{Bor}
+use Rattle.std.specs.Option.{option_and_then, option_map}
+use Rattle.rendering_context.specs.Cites.{DisambiguateState}
+use Rattle.rendering_entries.specs.Answers.{Answers}
+use Rattle.rendering_tree.specs.Trees.{Children}
+use Rattle.rendering_style.specs.Styles.{Bibliography}
+use Rattle.rendering.specs.Purposes.{StyleContext, bibliography}
+use Rattle.driver_requests.specs.Requests.{Request}
+use Rattle.driver_bibliography.specs.Items.{items_of}
+use Rattle.driver.specs.Finals.{Listed, first_listed}
+use Rattle.driver.specs.Finish.{Rendered, RenderedBibliography, citation_in}
+use Rattle.driver.specs.Stages.{Final, flattened}
+use Rattle.driver.specs.Views.{properties_with}
+use Rattle.driver.specs.declared.finals.ListedCite.{ListedCite}
+
+-- the bibliography from the trees of its items
+abbrev pub bibliography_from : Bibliography → List Children → RenderedBibliography
+bibliography_from b trees = record {
+  hanging_indent = b.hanging_indent;
+  second_field_align = b.second_field_align;
+  line_spacing = b.line_spacing;
+  entry_spacing = b.entry_spacing;
+  items = items_of b trees;
+}
+
+-- the keys of entries that are borrowed
+abbrev pub keys_of : {T : Type 0} → (T → Answers) → List (Bor T) → List (List ℕ)
+keys_of {T} answers es = map (λ (e : Bor T). (answers e.now).key) es
+
+-- an entry that the code lists, by its mark
+abbrev pub listed_marked : {T : Type 0} → (T → Answers) → DisambiguateState → ListedCite T → Listed
+listed_marked answers mark l = record {
+  place = l.cite.entry;
+  answers = answers l.entry.now;
+  properties = properties_with l.cite mark None l.ibid l.usage;
+}
+
+-- what the bibliography prints of an entry, where there is one
+abbrev pub item_listed : StyleContext → Listed → Option Children
+item_listed x l = option_map (λ r. r.tree) (bibliography x l.answers l.properties None)
+
+-- the same of the entry at a place, where it is listed
+abbrev pub item_at : StyleContext → List (Option Listed) → ℕ → Option Children
+item_at x ls place = option_and_then (item_listed x) (slice_index_or ls place None)
+
+-- what the bibliography prints of entries in that order
+abbrev pub trees_listed : StyleContext → List (Option Listed) → List ℕ → List Children
+trees_listed x ls order = filter_map (item_at x ls) order
+
+-- what is listed at a place is the entry of that place
+abbrev pub StandAtPlaces : List (Option Listed) → Type 0
+StandAtPlaces ls = (place : ℕ) → IfSome (slice_index_or ls place None) (λ l. l.place ≡ place)
+
+-- the entry at a place, in the bibliography
+abbrev pub item_first : {P : Type 0} → StyleContext → List (Final P) → ℕ → Option Children
+item_first x fs place = option_and_then (item_listed x) (first_listed fs place)
+
+-- citations and bibliography, from the cites of requests as they are printed at last
+abbrev pub rendered_of : {P : Type 0} → StyleContext → List ℕ → List (Request P) → List (List (Final P)) → Rendered
+rendered_of x order rs fss = record {
+  bibliography = option_map (λ b. bibliography_from b (filter_map (item_first x (flattened fss)) order)) x.style.bibliography;
+  citations = map citation_in (zip rs fss);
+}

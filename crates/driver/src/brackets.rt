@@ -1,0 +1,37 @@
+//! Brackets around a citation.
+
+ghost use Rattle.std.specs.Prelude.{◌≡◌};
+ghost use Rattle.driver.specs.BracketViews.{brackets_by};
+ghost use Rattle.driver.specs.Brackets as brackets;
+
+/// Brackets around a citation, for callers that print them.
+#[derive(Clone, Copy, Debug, PartialEq, Eq, Hash)]
+pub enum Brackets {
+    Round,
+    Square,
+    None,
+}
+
+impl Brackets {
+    /// The character before what they enclose.
+    pub fn left(self) -> Option<char>
+        ensures { result ≡ brackets.left (brackets_by self) }
+    {
+        match self {
+            Brackets::Round => Some('('),
+            Brackets::Square => Some('['),
+            Brackets::None => None,
+        }
+    }
+
+    /// The character after it.
+    pub fn right(self) -> Option<char>
+        ensures { result ≡ brackets.right (brackets_by self) }
+    {
+        match self {
+            Brackets::Round => Some(')'),
+            Brackets::Square => Some(']'),
+            Brackets::None => None,
+        }
+    }
+}

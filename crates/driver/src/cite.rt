@@ -1,0 +1,116 @@
+//! Cites with what is known of them from their places.
+
+ghost use Rattle.std.specs.Prelude.{◌≡◌, IfOk, is_some};
+ghost use Rattle.std.specs.Option.{option_map};
+ghost use Rattle.rendering_context.specs.Views.{cite_by, locator_by, state_by};
+ghost use Rattle.rendering.specs.Purposes.{citation, counted};
+ghost use Rattle.rendering.specs.Views.{context_seen, rendered_by};
+ghost use Rattle.driver_requests.specs.Views as requests;
+ghost use Rattle.driver_requests.specs.Requests.{plain_locator};
+ghost use Rattle.driver.specs.Stages.{has_letter_date, printed_by, purpose_at_first};
+ghost use Rattle.driver.specs.Views.{numbered_seen, properties_with};
+
+use driver_requests::{CitationItem, CiteFacts};
+use rendering::{Effort, Rendering, StyleContext};
+use rendering_context::{CiteProperties, DisambiguateState, SpecificLocator};
+use rendering_entries::EntryLike;
+use rendering_taxonomy::{CitePurpose, DateVariable, IbidState, IdentifierUsage};
+use std::alloc::AllocError;
+
+/// A cite with what is known of it from its place.
+#[derive(Clone, Copy)]
+pub(crate) struct NumberedCite {
+    /// The place of its entry among all that are cited, from zero.
+    pub(crate) entry: usize,
+    /// Its place in its request, from zero.
+    pub(crate) index: usize,
+    pub(crate) note_number: Option<usize>,
+    pub(crate) facts: CiteFacts,
+    /// The number of its entry, from zero.
+    pub(crate) number: usize,
+    /// How it stands to the cite before it, as written.
+    pub(crate) ibid: IbidState,
+}
+
+impl NumberedCite {
+    /// What is known of it with a mark.
+    pub(crate) fn properties<'c>(
+        self,
+        mark: DisambiguateState,
+        locator: Option<SpecificLocator<'c, ()>>,
+        ibid: IbidState,
+        usage: IdentifierUsage,
+    ) -> CiteProperties<'c>
+        ensures { cite_by result ≡ properties_with self (state_by mark) (option_map locator_by locator.entry) ibid usage }
+    {
+        CiteProperties {
+            note_number: self.note_number,
+            first_note_number: self.facts.first_note_number,
+            is_near_note: self.facts.is_near_note,
+            is_first: self.facts.is_first,
+            initial_idx: self.index,
+            locator,
+            citation_number: self.number,
+            ibid,
+            disambiguation: mark,
+            identifier_usage: usage,
+        }
+    }
+}
+
+/// The purpose for which a cite is printed until marks are final: a cite for its year is printed whole.
+fn purpose_at_first(purpose: Option<CitePurpose>) -> Option<CitePurpose>
+    ensures { result ≡ purpose_at_first purpose }
+{
+    match purpose {
+        Some(CitePurpose::Year) => None,
+        other => other,
+    }
+}
+
+/// What a cite prints by a mark, without its locator.
+pub(crate) fn printed_by<T: EntryLike, P>(
+    context: &StyleContext<'_>,
+    item: &CitationItem<'_, T, P>,
+    cite: NumberedCite,
+    mark: DisambiguateState,
+    effort: &mut Effort,
+) -> Result<Rendering, AllocError>
+    ensures prints { IfOk result (λ r. rendered_by r ≡ printed_by (numbered_seen T.answers (context_seen context.now) item.now cite) (state_by mark)) }
+    ensures effort { effort.new ≡ counted effort.old }
+{
+    let properties = cite.properties(mark, None, cite.ibid, IdentifierUsage::None);
+    let purpose = purpose_at_first(item.purpose);
+    context.citation(item.entry, &properties, None, purpose, None, effort)
+}
+
+/// The locator of an item, without what the caller prints by itself.
+pub(crate) fn plain_locator<'i, T, P>(
+    item: &'i CitationItem<'_, T, P>,
+) -> Option<SpecificLocator<'i, ()>>
+    ensures { option_map locator_by result ≡ option_map plain_locator (option_map requests.locator_by item.entry.now.locator) }
+{
+    match &item.locator {
+        Some(locator) => Some(locator.without_payload()),
+        None => None,
+    }
+}
+
+/// Whether an entry has a date that makes letters possible.
+pub(crate) fn has_letter_date<T: EntryLike>(entry: &T) -> bool
+    ensures { result ≡ has_letter_date (T.answers entry.now) }
+{
+    has_date(entry, DateVariable::Issued)
+        || has_date(entry, DateVariable::Accessed)
+        || has_date(entry, DateVariable::AvailableDate)
+        || has_date(entry, DateVariable::EventDate)
+        || has_date(entry, DateVariable::Submitted)
+        || has_date(entry, DateVariable::OriginalDate)
+}
+
+/// Whether an entry has that date.
+fn has_date<T: EntryLike>(entry: &T, variable: DateVariable) -> bool
+    ensures { result ≡ is_some ((T.answers entry.now).date variable) }
+{
+    entry.resolve_date_variable(variable).is_some()
+}

@@ -1,0 +1,200 @@
+//! Citations outside of any document.
+
+ghost use Rattle.std.specs.Prelude.{◌≡◌, ◌++◌, true, map, if◌then◌else◌, IfOk, OnOk};
+ghost use Rattle.std.specs.Option.{option_map, unwrap_or};
+ghost use Rattle.std.specs.Str.{chars};
+ghost use Rattle.laws.specs.Text.{characters};
+ghost use Rattle.rendering_style.specs.Views.{layout_seen};
+ghost use Rattle.rendering_tree.specs.Views.{tree};
+ghost use Rattle.driver.specs.Citations.{citation_look, followed_by_text};
+ghost use Rattle.rendering_names.specs.Persons.{comma_and_space};
+ghost use Rattle.driver.specs.Joining.{delimited_trees};
+ghost use Rattle.driver.specs.Standalone as standalone;
+ghost use Rattle.driver.specs.Standalone.{joined_alone, printed_alone, properties_alone};
+ghost use Rattle.driver.specs.Views.{all_alone, alone, with_content};
+ghost use Rattle.driver_requests.specs.Views.{item_by, request_by};
+ghost use Rattle.rendering.specs.Views.{context_seen};
+ghost use Rattle.rendering_context.specs.Views.{cite_by};
+
+use crate::citation::{affixed, append};
+use crate::cite::plain_locator;
+use crate::contents::has_content;
+use crate::looks::{citation_look, push_own};
+use driver_requests::{CitationItem, CitationRequest};
+use rendering::{Effort, StyleContext};
+use rendering_context::{CiteProperties, DisambiguateState};
+use rendering_entries::EntryLike;
+use rendering_style::Layout;
+use rendering_taxonomy::{Formatting, IbidState, IdentifierUsage};
+use rendering_tree::ElemChildren;
+use std::alloc::{AllocError, Global};
+
+/// A citation outside of any document. Hidden items are not printed. Nothing is told apart or collapsed, and no cite is the first of
+/// its entry.
+///
+/// # Errors
+/// Out of memory.
+pub fn standalone_citation<T: EntryLike, P: Drop>(
+    alloc: Global,
+    request: CitationRequest<'_, T, P>,
+) -> Result<ElemChildren, AllocError>
+    ensures { IfOk result (λ t. tree t ≡ standalone.standalone_citation (request_by (λ e. 0) T.answers request.entry)) }
+{
+    let trees = trees_alone(alloc, &request)?;
+    joined_alone(alloc, &request.style().parts().citation.layout, trees)
+}
+
+/// What the items of a request that are not hidden print, but for what is white space alone.
+fn trees_alone<T: EntryLike, P>(
+    alloc: Global,
+    request: &CitationRequest<'_, T, P>,
+) -> Result<Vec<ElemChildren>, AllocError>
+    ensures { IfOk result (λ v. map tree v.items ≡ standalone.trees_alone (request_by (λ e. 0) T.answers request.now)) }
+{
+    let context = StyleContext::new(
+        alloc,
+        request.style(),
+        request.locale.as_ref(),
+        request.locale_files,
+    )?;
+    print_items(alloc, &context, request.items.as_slice())
+}
+
+/// What items that are not hidden print, but for what is white space alone.
+fn print_items<T: EntryLike, P>(
+    alloc: Global,
+    context: &StyleContext<'_>,
+    items: &[CitationItem<'_, T, P>],
+) -> Result<Vec<ElemChildren>, AllocError>
+    ensures { IfOk result (λ v. map tree v.items ≡ all_alone (context_seen context.now) (map (item_by (λ e. 0) T.answers) items.now)) }
+{
+    let mut trees = Vec::new(alloc);
+    for item in items {
+        push_alone(context, item, &mut trees)?;
+    }
+    Ok(trees)
+}
+
+/// Appends what an item prints, if it is not hidden and more than white space.
+fn push_alone<T: EntryLike, P>(
+    context: &StyleContext<'_>,
+    item: &CitationItem<'_, T, P>,
+    trees: &mut Vec<ElemChildren>,
+) -> Result<(), AllocError>
+    ensures { OnOk result (map tree trees.new.items ≡ map tree trees.old.items ++ alone (context_seen context.now) (item_by (λ e. 0) T.answers item.now)) }
+{
+    if item.hidden {
+        return Ok(());
+    }
+    push_content(printed_alone(context, item)?, trees)
+}
+
+/// Appends a tree that is more than white space.
+fn push_content(printed: ElemChildren, trees: &mut Vec<ElemChildren>) -> Result<(), AllocError>
+    ensures { OnOk result (map tree trees.new.items ≡ map tree trees.old.items ++ with_content (tree printed)) }
+{
+    if !has_content(&printed) {
+        return Ok(());
+    }
+    trees.push(printed)?;
+    Ok(())
+}
+
+/// What an item prints.
+fn printed_alone<T: EntryLike, P>(
+    context: &StyleContext<'_>,
+    item: &CitationItem<'_, T, P>,
+) -> Result<ElemChildren, AllocError>
+    ensures { IfOk result (λ t. tree t ≡ printed_alone (context_seen context.now) (item_by (λ e. 0) T.answers item.now)) }
+{
+    let properties = properties_alone(item);
+    let mut effort = Effort::default();
+    let rendering = context.citation(
+        item.entry,
+        &properties,
+        None,
+        item.purpose,
+        None,
+        &mut effort,
+    )?;
+    Ok(rendering.tree)
+}
+
+/// What is known of an item.
+fn properties_alone<'i, T: EntryLike, P>(item: &'i CitationItem<'_, T, P>) -> CiteProperties<'i>
+    ensures { cite_by result ≡ properties_alone (item_by (λ e. 0) T.answers item.entry.now) }
+{
+    CiteProperties {
+        note_number: None,
+        first_note_number: None,
+        is_near_note: false,
+        is_first: false,
+        initial_idx: 0,
+        locator: plain_locator(item),
+        citation_number: 0,
+        ibid: IbidState::Different,
+        disambiguation: DisambiguateState::None,
+        identifier_usage: IdentifierUsage::None,
+    }
+}
+
+/// What items print, in the affixes of the layout; where there is none, nothing.
+fn joined_alone(
+    alloc: Global,
+    layout: &Layout,
+    trees: Vec<ElemChildren>,
+) -> Result<ElemChildren, AllocError>
+    ensures { IfOk result (λ t. tree t ≡ joined_alone (layout_seen layout.now) (map tree trees.items)) }
+{
+    if trees.is_empty() {
+        return Ok(ElemChildren::new(alloc));
+    }
+    let look = citation_look(layout);
+    let inside = delimited(alloc, look, delimiter(&layout.delimiter), trees)?;
+    affixed(alloc, layout, inside)
+}
+
+/// The delimiter of a layout, or else a comma and a space.
+fn delimiter(text: &Option<String>) -> &str
+    ensures { chars result.now ≡ unwrap_or (option_map characters text.now) comma_and_space }
+{
+    match text {
+        Some(text) => text.as_str(),
+        None => ", ",
+    }
+}
+
+/// Trees in a row with a text between them.
+fn delimited(
+    alloc: Global,
+    look: Formatting,
+    between: &str,
+    trees: Vec<ElemChildren>,
+) -> Result<ElemChildren, AllocError>
+    ensures { IfOk result (λ t. tree t ≡ delimited_trees look (chars between.now) true (map tree trees.items)) }
+{
+    let mut inside = ElemChildren::new(alloc);
+    let mut is_first = true;
+    for tree in trees {
+        push_between(alloc, look, between, is_first, &mut inside)?;
+        append(tree, &mut inside)?;
+        is_first = false;
+    }
+    Ok(inside)
+}
+
+/// Appends a text, but before the first tree.
+fn push_between(
+    alloc: Global,
+    look: Formatting,
+    between: &str,
+    is_first: bool,
+    inside: &mut ElemChildren,
+) -> Result<(), AllocError>
+    ensures { OnOk result (tree inside.new ≡ (if is_first then tree inside.old else followed_by_text look (chars between.now) (tree inside.old))) }
+{
+    if is_first {
+        return Ok(());
+    }
+    push_own(alloc, look, between, inside)
+}
