@@ -1,24 +1,17 @@
 -- Items of citations outside of any document, one after the other.
-use Rattle.std.proofs.Common.{◌≡◌, ℕ, ◌+◌, ◌<◌, ◌≤◌, Bool, true, false, true≢false, not, List, [], ◌∷◌, ◌++◌, append_assoc, append-nil, filter, length, map, drop, get_or, refl, sym, ap, ◌∙◌, Option, Some, None, Result, Ok, Err, IfOk, Vec, Bor}
-use Rattle.std.specs.Option.{option_map}
+use Rattle.std.proofs.Common.{◌≡◌, ℕ, ◌+◌, ◌<◌, ◌≤◌, Bool, true, false, true≢false, not, List, [], ◌∷◌, ◌++◌, append_assoc, append-nil, filter, length, map, drop, get_or, refl, sym, ap, ◌∙◌, Result, Ok, Err, IfOk, Vec}
 use Rattle.std.specs.Prelude.{if◌then◌else◌}
 use Rattle.std.proofs.lemmas.List.{drop_all, drop_more}
 use Rattle.rendering_context.specs.Views as contexts
 use Rattle.rendering_context.specs.declared.locator.LocatorPayload.{LocatorPayload}
 use Rattle.rendering_context.specs.declared.locator.LocatorPayload.TheVariants as payloads
 use Rattle.rendering_context.specs.declared.locator.SpecificLocator.{SpecificLocator}
-use Rattle.rendering_locale.specs.CodeViews.{borrowed_code, code_seen}
-use Rattle.rendering_locale.specs.Views.{locale_seen}
-use Rattle.rendering_locale.specs.declared.code.LocaleCode.{LocaleCode}
-use Rattle.rendering_style.specs.StyleViews.{style_seen}
-use Rattle.rendering_style.specs.Styles.{Style}
 use Rattle.rendering_tree.specs.Trees.{Children}
 use Rattle.rendering_tree.specs.Views.{tree}
 use Rattle.rendering_tree.specs.declared.element.ElemChildren.{ElemChildren}
 use Rattle.rendering.specs.Purposes.{StyleContext}
 use Rattle.driver_requests.specs.Requests.{Item, plain_locator, plain_payload}
-use Rattle.driver_requests.specs.Views.{context_of, locator_by, payload_by}
-use Rattle.driver_requests.specs.declared.request.CitationRequest.{CitationRequest}
+use Rattle.driver_requests.specs.Views.{locator_by, payload_by}
 use Rattle.driver.specs.Standalone.{has_content, printed_alone}
 use Rattle.driver.specs.Views.{all_alone, alone, with_content}
 
@@ -76,16 +69,7 @@ pub some_content : (t : Children) (b : Bool) (now new : List Children) → b ≡
 some_content t true now new is h e = e ∙ ap (λ b. now ++ (if b then t ∷ [] else [])) is
 some_content t false now new is h e = absurd (true≢false (sym h))
 
-borrowed_locale : (o : Option (Bor LocaleCode)) (own : Option LocaleCode) → option_map (λ (b : Bor LocaleCode). b.now) o ≡ own → option_map borrowed_code o ≡ option_map code_seen own
-borrowed_locale None own e = ap (option_map code_seen) e
-borrowed_locale (Some b) own e = ap (option_map code_seen) e
-
 -- what items print in a style is what they print in the style of their request
 pub trees_are : {P A E : Type 0} (x y : StyleContext) (is js : List (Item P)) (r : Result (Vec ElemChildren A) E) → x ≡ y → is ≡ js → IfOk r (λ v. map tree v.items ≡ all_alone x is) → IfOk r (λ v. map tree v.items ≡ all_alone y js)
 trees_are x y is js (Err e) a b h = tt
 trees_are x y is js (Ok v) a b h = h ∙ (λ k. all_alone (a k) (b k))
-
--- the style of a request with its language and files
-pub request_context : {T P : Type 0} (r : CitationRequest T P) (x : StyleContext) (style : Style) (locale : Option (Bor LocaleCode)) → style ≡ style_seen r.style.now → option_map (λ (b : Bor LocaleCode). b.now) locale ≡ r.locale
-    → x ≡ record { style = style; locale = option_map borrowed_code locale; locale_files = map locale_seen r.locale_files.now } → x ≡ context_of r
-request_context r x style locale is_style is_locale e = e ∙ (λ k. record { style = is_style k; locale = borrowed_locale locale r.locale is_locale k; locale_files = map locale_seen r.locale_files.now })

@@ -17,6 +17,7 @@ ghost use Rattle.driver.specs.Stages.{flattened};
 ghost use Rattle.driver.specs.Views.{bibliography_context_of, document_by, marked_by, rows_seen, usage_of};
 
 use crate::cite::NumberedCite;
+use crate::contexts::contexts;
 use crate::finals::{ListedCite, citations};
 use crate::first::{FirstPrints, first_prints};
 use crate::known::known_of;
@@ -131,35 +132,6 @@ fn finish_requests<'r, T: EntryLike + Hash, P: PartialEq>(
         &usages,
         &marked,
         &mut effort,
-    )
-}
-
-/// The styles of requests with the languages that are asked for.
-fn contexts<'r, T, P>(
-    alloc: Global,
-    requests: &'r [CitationRequest<'r, T, P>],
-) -> Result<Vec<StyleContext<'r>>, AllocError>
-    ensures { IfOk result (λ v. map context_seen v.items ≡ map context_of requests.now) }
-{
-    let mut contexts = Vec::with_capacity(alloc, requests.len())?;
-    for request in requests {
-        contexts.push(context_for(alloc, request)?)?;
-    }
-    Ok(contexts)
-}
-
-/// The style of a request with the language that is asked for.
-fn context_for<'r, T, P>(
-    alloc: Global,
-    request: &'r CitationRequest<'r, T, P>,
-) -> Result<StyleContext<'r>, AllocError>
-    ensures { IfOk result (λ x. context_seen x ≡ context_of request.now) }
-{
-    StyleContext::new(
-        alloc,
-        request.style(),
-        request.locale.as_ref(),
-        request.locale_files,
     )
 }
 

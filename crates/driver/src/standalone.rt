@@ -19,6 +19,7 @@ ghost use Rattle.rendering_context.specs.Views.{cite_by};
 use crate::citation::{affixed, append};
 use crate::cite::plain_locator;
 use crate::contents::has_content;
+use crate::contexts::context_for;
 use crate::looks::{citation_look, push_own};
 use driver_requests::{CitationItem, CitationRequest};
 use rendering::{Effort, StyleContext};
@@ -51,12 +52,7 @@ fn trees_alone<T: EntryLike, P>(
 ) -> Result<Vec<ElemChildren>, AllocError>
     ensures { IfOk result (λ v. map tree v.items ≡ standalone.trees_alone (request_by (λ e. 0) T.answers request.now)) }
 {
-    let context = StyleContext::new(
-        alloc,
-        request.style(),
-        request.locale.as_ref(),
-        request.locale_files,
-    )?;
+    let context = context_for(alloc, request)?;
     print_items(alloc, &context, request.items.as_slice())
 }
 

@@ -1,7 +1,7 @@
 use Rattle.rendering.specs.Views.{context_seen}
 use Rattle.driver_requests.specs.Views.{context_of}
 use Rattle.driver.proofs.ListsGrown.{read_goes_on}
-use Rattle.driver.proofs.driver.contexts.Goals as goal
+use Rattle.driver.proofs.contexts.contexts.Goals as goal
 
 pub loop-request-preserved : goal.loop-request-preserved
 loop-request-preserved g c =
