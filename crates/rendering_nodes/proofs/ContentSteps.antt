@@ -1,13 +1,20 @@
 -- What one more node adds to a page.
-use Rattle.std.proofs.Common.{◌≡◌, Bool, true, false, ◌||◌, refl, sym, ap, ◌∙◌, if◌then◌else◌}
+use Rattle.std.proofs.Common.{◌≡◌, ℕ, ◌+◌, ◌<◌, Bool, true, false, not, ◌&&◌, ◌||◌, List, length, drop, get_or, None, refl, sym, ap, ◌∙◌, if◌then◌else◌}
+use Rattle.std.proofs.lemmas.Bool.{false≢true}
 use Rattle.rendering_context.specs.Contexts.{Context}
 use Rattle.rendering_context.specs.Choosing.{is_met, asks_disambiguate}
 use Rattle.rendering_leaves.specs.Settings.{Setting, State, noted}
 use Rattle.rendering_style.specs.Nodes as nodes
-use Rattle.rendering_style.specs.Nodes.{Nodes, Branches, otherwise, branch}
+use Rattle.rendering_style.specs.Nodes.{NamesNode, Nodes, Branches, otherwise, branch}
 use Rattle.rendering_style.specs.Opening.{each_node, each_branch}
-use Rattle.rendering_nodes.specs.Content.{contents, chosen}
+use Rattle.rendering_style.specs.Views.{node_seen, nodes_seen}
+use Rattle.rendering_style.specs.declared.node.Node as seen
+use Rattle.rendering_nodes.specs.Content.{accepted, chosen, content, contents, delimited, first_standing, stage}
+use Rattle.rendering_nodes.specs.Admission.{survey}
 use Rattle.rendering_nodes.specs.Taken.{TakenNodes, taken_after, taken}
+use Rattle.rendering_nodes.specs.Turns.{asked, attempt, is_next, next_put, standing_put, stands}
+use Rattle.rendering_page.specs.Pages.{prints}
+use Rattle.rendering_nodes.proofs.FindingsSteps.{left_is}
 use Rattle.rendering_nodes.proofs.SurveySteps.{or_assoc, or_none, opened_taken}
 
 noted_twice : (a b : Bool) (st : State) → noted b (noted a st) ≡ noted (a || b) st
@@ -43,3 +50,56 @@ choose_put c s f bs xs met st middle new is m e =
     ∙ ap (λ (t : TakenNodes). contents c s true t.0 (noted t.1 st)) (sym (opened_taken c f false bs))
     ∙ sym (chosen_taken c s false (each_branch f bs) st)
     ∙ ap (chosen c s (each_branch f bs)) (noted_none st)
+
+-- a node that is not admitted
+pub next_passed : (c : Context) (s : Setting) (is_first b : Bool) (x : nodes.Node) (st new : State)
+    → b ≡ is_next c s x st → b ≡ false → new ≡ asked c s x st → new ≡ next_put c s is_first x st
+next_passed c s is_first b x st new is so put =
+    put ∙ ap (λ y. if y then content c None s x (delimited c s is_first (asked c s x st)) else asked c s x st) (sym so ∙ is)
+
+-- a node that is admitted, after the delimiter
+pub next_admitted : (c : Context) (s : Setting) (is_first b : Bool) (x : nodes.Node) (st middle before new : State)
+    → b ≡ is_next c s x st → b ≡ true → middle ≡ asked c s x st → before ≡ delimited c s is_first middle → new ≡ content c None s x before
+    → new ≡ next_put c s is_first x st
+next_admitted c s is_first b x st middle before new is so e f put =
+    put
+    ∙ ap (content c None s x) (f ∙ ap (delimited c s is_first) e)
+    ∙ ap (λ y. if y then content c None s x (delimited c s is_first (asked c s x st)) else asked c s x st) (sym so ∙ is)
+
+-- what is left of nodes, one step on
+pub contents_more : (c : Context) (s : Setting) (f : nodes.Node → nodes.Node) (xs : List seen.Node) (i : ℕ) (x : seen.Node) (is_first b w : Bool) (st new end : State)
+    → i < length xs → x ≡ get_or xs i x → b ≡ is_next c s (f (node_seen x)) st → w ≡ (is_first && not b) → new ≡ next_put c s is_first (f (node_seen x)) st
+    → contents c s is_first (each_node f (nodes_seen (drop i xs))) st ≡ end
+    → contents c s w (each_node f (nodes_seen (drop (i + 1) xs))) new ≡ end
+contents_more c s f xs i x is_first b w st new end less is admitted same put e =
+    let rest = each_node f (nodes_seen (drop (i + 1) xs)) in
+    (λ k. contents c s ((same ∙ ap (λ a. is_first && not a) admitted) k) rest (put k))
+    ∙ ap (λ (ys : Nodes). contents c s is_first ys st) (sym (left_is f xs i x less is))
+    ∙ e
+
+on_by : (a p : Bool) (c : Context) (h : NamesNode) (s : Setting) (xs : Nodes) (m d : Bool) (st done : State) → (a && p) ≡ false
+    → first_standing c h s xs (if a then (if p then done else noted d (noted m st)) else noted m st) ≡ (if a && p then done else first_standing c h s xs (noted (m || a && d) st))
+on_by true true c h s xs m d st done never = absurd (false≢true (sym never))
+on_by true false c h s xs m d st done never = ap (first_standing c h s xs) (noted_twice m d st)
+on_by false p c h s xs m d st done never = ap (λ e. first_standing c h s xs (noted e st)) (sym (or_none m))
+
+-- what is left of those that may stand in, once one does not
+pub standing_more : (c : Context) (h : NamesNode) (s : Setting) (f : nodes.Node → nodes.Node) (xs : List seen.Node) (i : ℕ) (x : seen.Node) (b : Bool) (st new end : State)
+    → i < length xs → x ≡ get_or xs i x → b ≡ stands c h s (f (node_seen x)) st → b ≡ false → new ≡ standing_put c h s (f (node_seen x)) st
+    → first_standing c h s (each_node f (nodes_seen (drop i xs))) st ≡ end
+    → first_standing c h s (each_node f (nodes_seen (drop (i + 1) xs))) new ≡ end
+standing_more c h s f xs i x b st new end less is tries fails put e =
+    let rest = each_node f (nodes_seen (drop (i + 1) xs)) in
+    let y = f (node_seen x) in
+    let done = attempt c h s y st in
+    ap (first_standing c h s rest) put
+    ∙ on_by (is_next c s y st) (prints 0 done.page.tokens) c h s rest (survey (stage c s st) y).met done.met_disambiguate st (accepted c s done) (sym tries ∙ fails)
+    ∙ ap (λ (ys : Nodes). first_standing c h s ys st) (sym (left_is f xs i x less is))
+    ∙ e
+
+-- whether both of two hold is what the second says where the first does, and else what the first says
+pub and_then : (a b w : Bool) → a ≡ true → w ≡ b → w ≡ (a && b)
+and_then a b w so e = e ∙ ap (λ x. x && b) (sym so)
+
+pub and_else : (a b w : Bool) → a ≡ false → w ≡ a → w ≡ (a && b)
+and_else a b w so e = e ∙ so ∙ ap (λ x. x && b) (sym so)

@@ -11,3 +11,6 @@ pub mod SuffixSteps
 pub mod ElementsSteps
 pub mod OpenedPut
 pub mod StandingPut
+pub mod FindingsKnown
+pub mod FindingsSteps
+pub mod FindingsPut

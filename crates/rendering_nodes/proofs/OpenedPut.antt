@@ -4,7 +4,7 @@ use Rattle.std.specs.Global.{Global}
 use Rattle.std.specs.Prelude.{OnOk, IfOk, String, string_bytes}
 use Rattle.std.proofs.lemmas.Result.{IfOk-weaker, on_ok_weaker}
 use Rattle.rendering_context.specs.Contexts.{Context}
-use Rattle.rendering_leaves.specs.Settings.{Setting, State, noted}
+use Rattle.rendering_leaves.specs.Settings.{Setting, State}
 use Rattle.rendering_leaves.specs.Values.{frame}
 use Rattle.rendering_style.specs.Nodes as nodes
 use Rattle.rendering_style.specs.Nodes.{Nodes, NamesNode}
@@ -18,9 +18,10 @@ use Rattle.rendering_style.specs.declared.node.Group.{Group}
 use Rattle.rendering_style.specs.declared.node.Names.{Names}
 use Rattle.rendering_style.specs.declared.node.TextTarget.{TextTarget}
 use Rattle.rendering_style.specs.declared.node.TextTarget.TheVariants as targets
-use Rattle.rendering_nodes.specs.Admission.{Stage, Survey, survey, surveys}
-use Rattle.rendering_nodes.specs.Content.{content, contents, entered, inside_group, left, stage}
-use Rattle.rendering_nodes.specs.Turns.{asked, is_next}
+use Rattle.rendering_nodes.specs.Admission.{Stage, Survey, surveys}
+use Rattle.rendering_nodes.specs.Content.{content, contents, entered, inside_group, left}
+use Rattle.rendering_nodes.specs.Findings.{Asked, all_asked}
+use Rattle.rendering_nodes.specs.declared.finding.Finding.{Finding}
 use Rattle.rendering_nodes.proofs.OpenedSteps.{open_names, open_choose, open_group, opened_all}
 
 -- what a node puts down is what one that is the same does
@@ -80,27 +81,13 @@ grouped_put r c o s inside st begun done new g xs begins same follow =
     on_ok_weaker r
     (λ (e : new ≡ ends done). e ∙ ap ends (follow ∙ (ap (λ (i : Setting). contents c i true xs begun) same ∙ ap (contents c (inside_group s g) true xs) begins)))
 
--- the survey of a node, by where a call has come and by its macros
-survey_same : (c : Context) (s : Setting) (st : State) (n : ℕ) (ms ns : List Macro) (x : Node) (here : Stage) (v : Survey)
-    → v ≡ survey here (open_node n ms (node_seen x)) → here ≡ stage c s st → ms ≡ ns → v ≡ survey (stage c s st) (open_node n ns (node_seen x))
-survey_same c s st n ms ns x here v e place same =
-    e ∙ (ap (λ (k : Stage). survey k (open_node n ms (node_seen x))) place ∙ ap (λ (ls : List Macro). survey (stage c s st) (open_node n ls (node_seen x))) same)
-
-pub admitted_by : (c : Context) (s : Setting) (st : State) (n : ℕ) (ms ns : List Macro) (x : Node) (here : Stage) (v : Survey)
-    → v ≡ survey here (open_node n ms (node_seen x)) → here ≡ stage c s st → ms ≡ ns → v.is_admitted ≡ is_next c s (open_node n ns (node_seen x)) st
-admitted_by c s st n ms ns x here v e place same = ap (λ (w : Survey). w.is_admitted) (survey_same c s st n ms ns x here v e place same)
-
-pub asked_by : (c : Context) (s : Setting) (st new : State) (n : ℕ) (ms ns : List Macro) (x : Node) (here : Stage) (v : Survey)
-    → v ≡ survey here (open_node n ms (node_seen x)) → here ≡ stage c s st → ms ≡ ns → new ≡ noted v.met st → new ≡ asked c s (open_node n ns (node_seen x)) st
-asked_by c s st new n ms ns x here v e place same notes = notes ∙ ap (λ (w : Survey). noted w.met st) (survey_same c s st n ms ns x here v e place same)
-
 -- nodes as they are printed
-pub all_surveyed : {X E : Type 0} (r : Result X E) (seen : X → Survey) (here there : Stage) (ms ns : List Macro) (xs : List Node) → here ≡ there → ms ≡ ns
-    → IfOk r (λ v. seen v ≡ surveys here (each_node (open_node 200 ms) (nodes_seen xs)))
+pub all_surveyed : {X E : Type 0} (r : Result X E) (seen : X → Survey) (before after : List Finding) (here there : Stage) (ms ns : List Macro) (xs : List Node) → here ≡ there → ms ≡ ns
+    → IfOk r (λ v. (seen v, after) ≡ all_asked here before (each_node (open_node 200 ms) (nodes_seen xs)))
     → IfOk r (λ v. seen v ≡ surveys there (opened_nodes ns (map node_seen xs)))
-all_surveyed r seen here there ms ns xs place same =
-    IfOk-weaker r (λ v. seen v ≡ surveys here (each_node (open_node 200 ms) (nodes_seen xs))) (λ v. seen v ≡ surveys there (opened_nodes ns (map node_seen xs)))
-    (λ v e. e
+all_surveyed r seen before after here there ms ns xs place same =
+    IfOk-weaker r (λ v. (seen v, after) ≡ all_asked here before (each_node (open_node 200 ms) (nodes_seen xs))) (λ v. seen v ≡ surveys there (opened_nodes ns (map node_seen xs)))
+    (λ v e. ap (λ (a : Asked). a.0) e
     ∙ (ap (λ (k : Stage). surveys k (each_node (open_node 200 ms) (nodes_seen xs))) place
     ∙ (ap (λ (ls : List Macro). surveys there (each_node (open_node 200 ls) (nodes_seen xs))) same
     ∙ ap (surveys there) (opened_all ns xs))))

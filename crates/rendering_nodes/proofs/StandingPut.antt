@@ -1,5 +1,5 @@
 -- Names with people, and what stands in for them, from what each call puts down.
-use Rattle.std.proofs.Common.{◌≡◌, ℕ, Bool, true, false, eqb, eqb-true, suc-ne-zero, List, [], ◌∷◌, length, sym, ap, ◌∙◌, if◌then◌else◌, Option, Some}
+use Rattle.std.proofs.Common.{◌≡◌, ℕ, Bool, true, false, ◌&&◌, eqb, eqb-true, suc-ne-zero, List, [], ◌∷◌, length, sym, ap, ◌∙◌, if◌then◌else◌, Option, Some}
 use Rattle.std.proofs.lemmas.Bool.{false≢true}
 use Rattle.rendering_context.specs.Answering.{all_people}
 use Rattle.rendering_context.specs.Contexts.{Context}
@@ -7,13 +7,14 @@ use Rattle.rendering_leaves.specs.Settings.{Setting, State}
 use Rattle.rendering_names.specs.Names.{names_frame}
 use Rattle.rendering_names.specs.Views.{all_answered}
 use Rattle.rendering_names.specs.declared.people.Answered.{Answered}
+use Rattle.rendering_page.specs.Pages.{prints}
 use Rattle.rendering_style.specs.Nodes as nodes
 use Rattle.rendering_style.specs.Nodes.{NamesNode, Nodes}
 use Rattle.rendering_taxonomy.specs.declared.variable.NameVariable.{NameVariable}
 use Rattle.rendering_taxonomy.specs.declared.variable.Variable.{Variable}
 use Rattle.rendering_tree.specs.Metas as metas
 use Rattle.rendering_nodes.specs.Content.{content, entered, first_standing, inside_names, left, names_or_stand_in, people_put, taken, tried}
-use Rattle.rendering_nodes.specs.Turns.{asked, attempt, is_next, settled, standing_put, stood_in}
+use Rattle.rendering_nodes.specs.Turns.{asked, attempt, is_next, settled, standing_put, stands, stood_in}
 
 -- the people of a names node, by variables that are the same
 people_as : (c : Context) (h : NamesNode) (sup : List Variable) (vs : List NameVariable) (people : List metas.Answered) (st : State)
@@ -59,3 +60,21 @@ standing_tried c h s x b st middle done new is so e f g =
     g
     ∙ (λ k. settled c s ((f ∙ ap (λ z. content c (Some h) s x (tried c s z)) e) k) (e k))
     ∙ ap (λ y. if y then settled c s (attempt c h s x st) (asked c s x st) else asked c s x st) (sym so ∙ is)
+
+-- whether it stands in
+pub stands_tried : (c : Context) (h : NamesNode) (s : Setting) (x : nodes.Node) (b printed : Bool) (st middle done : State)
+    → b ≡ is_next c s x st → b ≡ true → middle ≡ asked c s x st → done ≡ content c (Some h) s x (tried c s middle) → printed ≡ prints 0 done.page.tokens
+    → printed ≡ stands c h s x st
+stands_tried c h s x b printed st middle done is so e f shows =
+    shows
+    ∙ ap (λ (z : State). prints 0 z.page.tokens) (f ∙ ap (λ z. content c (Some h) s x (tried c s z)) e)
+    ∙ ap (λ y. y && prints 0 (attempt c h s x st).page.tokens) (sym so ∙ is)
+
+-- a node that is not admitted does not
+pub stands_passed : (c : Context) (h : NamesNode) (s : Setting) (x : nodes.Node) (b : Bool) (st : State) → b ≡ is_next c s x st → b ≡ false → false ≡ stands c h s x st
+stands_passed c h s x b st is so = ap (λ y. y && prints 0 (attempt c h s x st).page.tokens) (sym so ∙ is)
+
+pub standing_passed : (c : Context) (h : NamesNode) (s : Setting) (x : nodes.Node) (b : Bool) (st new : State)
+    → b ≡ is_next c s x st → b ≡ false → new ≡ asked c s x st → new ≡ standing_put c h s x st
+standing_passed c h s x b st new is so put =
+    put ∙ ap (λ y. if y then settled c s (attempt c h s x st) (asked c s x st) else asked c s x st) (sym so ∙ is)

@@ -1,5 +1,6 @@
 pub mod Admission
 pub mod Content
+pub mod Findings
 pub mod Named
 pub mod Laws
 pub mod Taken

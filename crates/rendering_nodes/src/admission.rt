@@ -2,12 +2,13 @@
 //! printed of what lies deeper.
 
 ghost use Rattle.std.specs.Prelude.{◌≡◌, suc, map, IfOk};
-ghost use Rattle.rendering_nodes.specs.Admission.{survey, surveys};
+ghost use Rattle.rendering_nodes.specs.Findings.{all_asked, next_asked, node_asked};
 ghost use Rattle.rendering_nodes.specs.Views.{macros_of, stage_by, survey_by};
 ghost use Rattle.rendering_style.specs.Nodes as nodes;
 ghost use Rattle.rendering_style.specs.Opening.{each_branch, each_node, macro_named, open_node, part};
 ghost use Rattle.rendering_style.specs.Views.{branch_seen, branches_of, names_seen, node_seen, nodes_seen, text_seen, text_look_seen};
 
+use crate::finding::{Finding, nothing_found, put_finding};
 use crate::forms::{allows_names, shuts_out};
 use crate::stage::Stage;
 use crate::survey::Survey;
@@ -16,39 +17,59 @@ use rendering_style::{ChooseBranch, Names, Node, Text, TextTarget};
 use std::alloc::AllocError;
 
 impl<'a> Stage<'_, '_, 'a> {
-    /// Of all nodes together.
+    /// Of all nodes together. What is found of each is added to the findings.
     #[cycle(surveys)]
     pub(crate) fn survey_all<E: EntryLike>(
         &self,
         entry: &'a E,
         levels: usize,
         nodes: &'a [Node],
+        findings: &mut Vec<Finding>,
     ) -> Result<Survey, AllocError>
-        ensures { IfOk result (λ v. survey_by v ≡ surveys (stage_by (E.answers entry.now) self.now) (each_node (open_node levels (macros_of self.now.walk.now)) (nodes_seen nodes.now))) }
+        ensures { IfOk result (λ v. (survey_by v, findings.new.items) ≡ all_asked (stage_by (E.answers entry.now) self.now) findings.old.items (each_node (open_node levels (macros_of self.now.walk.now)) (nodes_seen nodes.now))) }
     {
         let mut found = Survey::nothing();
         for node in nodes {
-            let next = self.survey_node(entry, levels, node)?;
+            let next = self.survey_next(entry, levels, node, findings)?;
             found = found.with(next);
         }
         Ok(found)
     }
 
-    /// Of a node.
+    /// Of a node among several. What is found of it stands before what is found of those inside it.
+    #[cycle(surveys)]
+    fn survey_next<E: EntryLike>(
+        &self,
+        entry: &'a E,
+        levels: usize,
+        node: &'a Node,
+        findings: &mut Vec<Finding>,
+    ) -> Result<Survey, AllocError>
+        ensures { IfOk result (λ v. (survey_by v, findings.new.items) ≡ next_asked (stage_by (E.answers entry.now) self.now) findings.old.items (open_node levels (macros_of self.now.walk.now) (node_seen node.now))) }
+    {
+        let place = findings.len();
+        findings.push(nothing_found())?;
+        let survey = self.survey_node(entry, levels, node, findings)?;
+        put_finding(findings, place, survey);
+        Ok(survey)
+    }
+
+    /// Of a node. What is found of those inside it is added to the findings.
     #[cycle(surveys)]
     pub(crate) fn survey_node<E: EntryLike>(
         &self,
         entry: &'a E,
         levels: usize,
         node: &'a Node,
+        findings: &mut Vec<Finding>,
     ) -> Result<Survey, AllocError>
-        ensures { IfOk result (λ v. survey_by v ≡ survey (stage_by (E.answers entry.now) self.now) (open_node levels (macros_of self.now.walk.now) (node_seen node.now))) }
+        ensures { IfOk result (λ v. (survey_by v, findings.new.items) ≡ node_asked (stage_by (E.answers entry.now) self.now) findings.old.items (open_node levels (macros_of self.now.walk.now) (node_seen node.now))) }
     {
         if levels == 0 {
             return Ok(Survey::nothing());
         }
         match node {
-            Node::Text(text) => self.survey_text(entry, levels - 1, text),
+            Node::Text(text) => self.survey_text(entry, levels - 1, text, findings),
             Node::Number(number) => self.survey_number(entry, number),
             Node::Label(label) => self.survey_label(entry, label),
             Node::Date(date) => Ok(self.survey_date(entry, date)),
@@ -57,12 +78,13 @@ impl<'a> Stage<'_, '_, 'a> {
                 levels - 1,
                 names,
                 substitute,
+                findings,
             ),
             Node::Choose(branches, otherwise) => {
-                self.survey_choose(entry, levels - 1, branches, otherwise)
+                self.survey_choose(entry, levels - 1, branches, otherwise, findings)
             }
             Node::Group(_, children) => {
-                let inside = self.survey_all(entry, levels - 1, children)?;
+                let inside = self.survey_all(entry, levels - 1, children, findings)?;
                 Ok(inside.of_group())
             }
         }
@@ -75,12 +97,13 @@ impl<'a> Stage<'_, '_, 'a> {
         entry: &'a E,
         levels: usize,
         text: &'a Text,
+        findings: &mut Vec<Finding>,
     ) -> Result<Survey, AllocError>
-        ensures { IfOk result (λ v. survey_by v ≡ survey (stage_by (E.answers entry.now) self.now) (open_node (suc levels) (macros_of self.now.walk.now) (text_seen text.now.target (text_look_seen text.now.look)))) }
+        ensures { IfOk result (λ v. (survey_by v, findings.new.items) ≡ node_asked (stage_by (E.answers entry.now) self.now) findings.old.items (open_node (suc levels) (macros_of self.now.walk.now) (text_seen text.now.target (text_look_seen text.now.look)))) }
     {
         match &text.target {
             TextTarget::Variable(variable, form) => self.survey_variable(entry, *variable, *form),
-            TextTarget::Macro(name) => self.survey_macro(entry, levels, name.as_str()),
+            TextTarget::Macro(name) => self.survey_macro(entry, levels, name.as_str(), findings),
             TextTarget::Term(term, form, plural) => Ok(self.survey_term(*term, *form, *plural)),
             TextTarget::Value(value) => Ok(self.survey_value(value.as_str())),
         }
@@ -93,12 +116,13 @@ impl<'a> Stage<'_, '_, 'a> {
         entry: &'a E,
         levels: usize,
         name: &'a str,
+        findings: &mut Vec<Finding>,
     ) -> Result<Survey, AllocError>
-        ensures { IfOk result (λ v. (look : nodes.TextLook) → survey_by v ≡ survey (stage_by (E.answers entry.now) self.now) (part (open_node levels (macros_of self.now.walk.now)) name.now look (macro_named (macros_of self.now.walk.now) name.now))) }
+        ensures { IfOk result (λ v. (look : nodes.TextLook) → (survey_by v, findings.new.items) ≡ node_asked (stage_by (E.answers entry.now) self.now) findings.old.items (part (open_node levels (macros_of self.now.walk.now)) name.now look (macro_named (macros_of self.now.walk.now) name.now))) }
     {
         match self.walk.style.macro_named(name) {
             Some(nodes) => {
-                let inside = self.survey_all(entry, levels, nodes)?;
+                let inside = self.survey_all(entry, levels, nodes, findings)?;
                 Ok(inside.of_macro())
             }
             None => Ok(Survey::nothing()),
@@ -113,8 +137,9 @@ impl<'a> Stage<'_, '_, 'a> {
         levels: usize,
         names: &'a Names,
         substitute: &'a [Node],
+        findings: &mut Vec<Finding>,
     ) -> Result<Survey, AllocError>
-        ensures { IfOk result (λ v. survey_by v ≡ survey (stage_by (E.answers entry.now) self.now) (nodes.names (names_seen names.now) (each_node (open_node levels (macros_of self.now.walk.now)) (nodes_seen substitute.now)))) }
+        ensures { IfOk result (λ v. (survey_by v, findings.new.items) ≡ node_asked (stage_by (E.answers entry.now) self.now) findings.old.items (nodes.names (names_seen names.now) (each_node (open_node levels (macros_of self.now.walk.now)) (nodes_seen substitute.now)))) }
     {
         if self.has_people(entry, names)? {
             return Ok(Survey::of_variable(allows_names(self.form, names)));
@@ -122,7 +147,7 @@ impl<'a> Stage<'_, '_, 'a> {
         if shuts_out(self.form, names) {
             return Ok(Survey::of_variable(false));
         }
-        let inside = self.survey_all(entry, levels, substitute)?;
+        let inside = self.survey_all(entry, levels, substitute, findings)?;
         Ok(inside.of_stand_ins())
     }
 
@@ -134,11 +159,12 @@ impl<'a> Stage<'_, '_, 'a> {
         levels: usize,
         branches: &'a [ChooseBranch],
         otherwise: &'a [Node],
+        findings: &mut Vec<Finding>,
     ) -> Result<Survey, AllocError>
-        ensures { IfOk result (λ v. survey_by v ≡ survey (stage_by (E.answers entry.now) self.now) (nodes.choose (each_branch (open_node levels (macros_of self.now.walk.now)) (branches_of (map branch_seen branches.now) (nodes_seen otherwise.now))))) }
+        ensures { IfOk result (λ v. (survey_by v, findings.new.items) ≡ node_asked (stage_by (E.answers entry.now) self.now) findings.old.items (nodes.choose (each_branch (open_node levels (macros_of self.now.walk.now)) (branches_of (map branch_seen branches.now) (nodes_seen otherwise.now))))) }
     {
         let taken = self.walk.taken(entry, branches, otherwise)?;
-        let inside = self.survey_all(entry, levels, taken.nodes)?;
+        let inside = self.survey_all(entry, levels, taken.nodes, findings)?;
         Ok(inside.after_tests(taken.met))
     }
 }

@@ -1,20 +1,22 @@
 //! What nodes add to a page. A macro is opened where it is called, down to so many levels of nodes; nothing is printed of what lies
 //! deeper.
 
-ghost use Rattle.std.specs.Prelude.{◌≡◌, suc, map, true, IfOk, OnOk, Option, Some};
+ghost use Rattle.std.specs.Prelude.{◌≡◌, suc, map, true, IfOk, IfSome, OnOk, Option, Some};
 ghost use Rattle.std.specs.Option.{option_map};
 ghost use Rattle.rendering_entries.specs.Answers.{Answers};
 ghost use Rattle.rendering_leaves.specs.Settings.{noted};
 ghost use Rattle.rendering_leaves.specs.Views.{setting_by};
 ghost use Rattle.rendering_names.specs.Views.{node_by};
 ghost use Rattle.rendering_nodes.specs.Content.{accepted, content, contents, first_standing, tried};
-ghost use Rattle.rendering_nodes.specs.Turns.{asked, is_next, next_put, settled, standing_put, stands, stood_in};
+ghost use Rattle.rendering_nodes.specs.Findings.{AreFound, AreFoundInside, IsFound, IsSurveyed};
+ghost use Rattle.rendering_nodes.specs.Turns.{is_next, next_put, settled, standing_put, stands, stood_in};
 ghost use Rattle.rendering_nodes.specs.Views.{macros_of, walk_context};
 ghost use Rattle.rendering_page.specs.Pages.{prints};
 ghost use Rattle.rendering_style.specs.Nodes as nodes;
 ghost use Rattle.rendering_style.specs.Opening.{each_branch, each_node, macro_named, open_node, part};
 ghost use Rattle.rendering_style.specs.Views.{branch_seen, branches_of, group_seen, names_seen, node_seen, nodes_seen, text_seen, text_look_seen};
 
+use crate::finding::{Findings, NodeFinding, Surveyed};
 use crate::inside::{inside_group, inside_macro, inside_names, taken};
 use crate::walk::Walk;
 use rendering_entries::EntryLike;
@@ -27,9 +29,9 @@ use std::alloc::AllocError;
 use std::mem;
 
 impl<'a> Walk<'_, 'a> {
-    /// Prints nodes one after the other, each that is admitted, with the delimiter of the group around between them.
-    #[cycle(contents)]
-    pub(crate) fn push_all<E: EntryLike>(
+    /// Prints nodes one after the other of which nothing is known, each that is admitted, with the delimiter of the group around
+    /// between them.
+    pub(crate) fn push_unsurveyed<E: EntryLike>(
         &self,
         entry: &'a E,
         setting: &Setting<'a>,
@@ -39,15 +41,38 @@ impl<'a> Walk<'_, 'a> {
     ) -> Result<(), AllocError>
         ensures { OnOk result (state.new ≡ contents (walk_context (E.answers entry.now) self.now) (setting_by setting.now) true (each_node (open_node levels (macros_of self.now)) (nodes_seen nodes.now)) state.old) }
     {
+        self.push_all(entry, setting, levels, nodes, Findings::nothing(), state)
+    }
+
+    /// Prints nodes one after the other, each that is admitted, with the delimiter of the group around between them.
+    #[cycle(contents)]
+    fn push_all<E: EntryLike>(
+        &self,
+        entry: &'a E,
+        setting: &Setting<'a>,
+        levels: usize,
+        nodes: &'a [Node],
+        findings: Findings<'_>,
+        state: &mut State<'a>,
+    ) -> Result<(), AllocError>
+        requires { AreFound (walk_context (E.answers entry.now) self.now) (setting_by setting.now).form findings (each_node (open_node levels (macros_of self.now)) (nodes_seen nodes.now)) }
+        ensures { OnOk result (state.new ≡ contents (walk_context (E.answers entry.now) self.now) (setting_by setting.now) true (each_node (open_node levels (macros_of self.now)) (nodes_seen nodes.now)) state.old) }
+    {
         let mut is_first = true;
+        let mut rest = findings;
         for node in nodes {
-            let is_admitted = self.push_next(entry, setting, levels, is_first, node, state)?;
+            let finding = rest.first(state);
+            let is_admitted = self.push_next(
+                entry, setting, levels, is_first, node, finding, state,
+            )?;
             is_first = is_first && !is_admitted;
+            rest = rest.others();
         }
         Ok(())
     }
 
-    /// Prints a node, if it is admitted, after the delimiter of the group around. Returns whether it is.
+    /// Prints a node, if it is admitted, after the delimiter of the group around. It is asked where nothing is known of it. Returns
+    /// whether it is admitted.
     #[cycle(contents)]
     fn push_next<E: EntryLike>(
         &self,
@@ -56,35 +81,70 @@ impl<'a> Walk<'_, 'a> {
         levels: usize,
         is_first: bool,
         node: &'a Node,
+        finding: Option<NodeFinding<'_>>,
         state: &mut State<'a>,
     ) -> Result<bool, AllocError>
+        requires { IfSome finding (λ n. IsFound (walk_context (E.answers entry.now) self.now) (setting_by setting.now) state.old n (open_node levels (macros_of self.now) (node_seen node.now))) }
         ensures admitted { IfOk result (λ b. b ≡ is_next (walk_context (E.answers entry.now) self.now) (setting_by setting.now) (open_node levels (macros_of self.now) (node_seen node.now)) state.old) }
         ensures state { OnOk result (state.new ≡ next_put (walk_context (E.answers entry.now) self.now) (setting_by setting.now) is_first (open_node levels (macros_of self.now) (node_seen node.now)) state.old) }
     {
-        if !self.admits(entry, setting, levels, node, state)? {
+        match finding {
+            Some(finding) => {
+                self.push_found(entry, setting, levels, is_first, node, finding, state)
+            }
+            None => {
+                let surveyed = self.surveyed(entry, setting, levels, node, state)?;
+                let finding = surveyed.finding();
+                self.push_found(entry, setting, levels, is_first, node, finding, state)
+            }
+        }
+    }
+
+    /// Prints a node of which that is known, if it is admitted, after the delimiter of the group around. Returns whether it is.
+    #[cycle(contents)]
+    fn push_found<E: EntryLike>(
+        &self,
+        entry: &'a E,
+        setting: &Setting<'a>,
+        levels: usize,
+        is_first: bool,
+        node: &'a Node,
+        finding: NodeFinding<'_>,
+        state: &mut State<'a>,
+    ) -> Result<bool, AllocError>
+        requires { IsFound (walk_context (E.answers entry.now) self.now) (setting_by setting.now) state.old finding (open_node levels (macros_of self.now) (node_seen node.now)) }
+        ensures admitted { IfOk result (λ b. b ≡ is_next (walk_context (E.answers entry.now) self.now) (setting_by setting.now) (open_node levels (macros_of self.now) (node_seen node.now)) state.old) }
+        ensures state { OnOk result (state.new ≡ next_put (walk_context (E.answers entry.now) self.now) (setting_by setting.now) is_first (open_node levels (macros_of self.now) (node_seen node.now)) state.old) }
+    {
+        if !finding.admits(state) {
             return Ok(false);
         }
         self.push_delimiter(setting, is_first, state)?;
-        self.push_node(entry, setting, levels, None, node, state)?;
+        self.push_node(entry, setting, levels, None, node, finding.inside, state)?;
         Ok(true)
     }
 
-    /// Whether a node is admitted. It is noted whether it was asked on the way if the cite is like others.
-    fn admits<E: EntryLike>(
+    /// What a survey finds of a node.
+    fn surveyed<E: EntryLike>(
         &self,
         entry: &'a E,
         setting: &Setting<'a>,
         levels: usize,
         node: &'a Node,
-        state: &mut State<'a>,
-    ) -> Result<bool, AllocError>
-        ensures admitted { IfOk result (λ b. b ≡ is_next (walk_context (E.answers entry.now) self.now) (setting_by setting.now) (open_node levels (macros_of self.now) (node_seen node.now)) state.old) }
-        ensures state { OnOk result (state.new ≡ asked (walk_context (E.answers entry.now) self.now) (setting_by setting.now) (open_node levels (macros_of self.now) (node_seen node.now)) state.old) }
+        state: &State<'a>,
+    ) -> Result<Surveyed, AllocError>
+        ensures { IfOk result (λ n. IsSurveyed (walk_context (E.answers entry.now) self.now) (setting_by setting.now) state.now n (open_node levels (macros_of self.now) (node_seen node.now))) }
     {
+        let mut inside = Vec::new(self.context.alloc);
         let stage = self.stage(setting.form, state);
-        let asked = stage.survey_node(entry, levels, node)?;
-        state.note(asked.met);
-        Ok(asked.is_admitted)
+        let found = stage.survey_node(entry, levels, node, &mut inside)?;
+        Ok(Surveyed {
+            is_admitted: found.is_admitted,
+            met: found.met,
+            has_date: state.has_date,
+            suppressed: state.suppressed.clone()?,
+            inside,
+        })
     }
 
     /// Prints a node. `outer` are the names for which it stands in directly.
@@ -96,26 +156,45 @@ impl<'a> Walk<'_, 'a> {
         levels: usize,
         outer: Option<&NamesParts<'a>>,
         node: &'a Node,
+        findings: Findings<'_>,
         state: &mut State<'a>,
     ) -> Result<(), AllocError>
+        requires { AreFoundInside (walk_context (E.answers entry.now) self.now) (setting_by setting.now).form findings (open_node levels (macros_of self.now) (node_seen node.now)) }
         ensures { OnOk result (state.new ≡ content (walk_context (E.answers entry.now) self.now) (option_map (λ n. node_by n.now) outer.entry) (setting_by setting.now) (open_node levels (macros_of self.now) (node_seen node.now)) state.old) }
     {
         if levels == 0 {
             return Ok(());
         }
         match node {
-            Node::Text(text) => self.push_text(entry, setting, levels - 1, text, state),
+            Node::Text(text) => self.push_text(entry, setting, levels - 1, text, findings, state),
             Node::Number(number) => push_number(&self.context, entry, setting, number, state),
             Node::Label(label) => push_label(&self.context, entry, setting, label, state),
             Node::Date(date) => push_date(&self.context, entry, setting, date, state),
             Node::Names(names, substitute) => {
-                self.push_names(entry, setting, levels - 1, outer, names, substitute, state)
+                self.push_names(
+                    entry,
+                    setting,
+                    levels - 1,
+                    outer,
+                    names,
+                    substitute,
+                    findings,
+                    state,
+                )
             }
             Node::Choose(branches, otherwise) => {
-                self.push_choose(entry, setting, levels - 1, branches, otherwise, state)
+                self.push_choose(
+                    entry,
+                    setting,
+                    levels - 1,
+                    branches,
+                    otherwise,
+                    findings,
+                    state,
+                )
             }
             Node::Group(group, children) => {
-                self.push_group(entry, setting, levels - 1, group, children, state)
+                self.push_group(entry, setting, levels - 1, group, children, findings, state)
             }
         }
     }
@@ -128,8 +207,10 @@ impl<'a> Walk<'_, 'a> {
         setting: &Setting<'a>,
         levels: usize,
         text: &'a Text,
+        findings: Findings<'_>,
         state: &mut State<'a>,
     ) -> Result<(), AllocError>
+        requires { AreFoundInside (walk_context (E.answers entry.now) self.now) (setting_by setting.now).form findings (open_node (suc levels) (macros_of self.now) (text_seen text.now.target (text_look_seen text.now.look))) }
         ensures { (outer : Option nodes.NamesNode) → OnOk result (state.new ≡ content (walk_context (E.answers entry.now) self.now) outer (setting_by setting.now) (open_node (suc levels) (macros_of self.now) (text_seen text.now.target (text_look_seen text.now.look))) state.old) }
     {
         let look = &text.look;
@@ -138,7 +219,7 @@ impl<'a> Walk<'_, 'a> {
                 push_variable(&self.context, entry, setting, *variable, *form, look, state)
             }
             TextTarget::Macro(name) => {
-                self.push_macro(entry, setting, levels, name.as_str(), look, state)
+                self.push_macro(entry, setting, levels, name.as_str(), look, findings, state)
             }
             TextTarget::Term(term, form, plural) => {
                 push_term(&self.context, setting, *term, *form, *plural, look, state)
@@ -158,8 +239,10 @@ impl<'a> Walk<'_, 'a> {
         levels: usize,
         name: &'a str,
         look: &'a TextLook,
+        findings: Findings<'_>,
         state: &mut State<'a>,
     ) -> Result<(), AllocError>
+        requires { AreFoundInside (walk_context (E.answers entry.now) self.now) (setting_by setting.now).form findings (part (open_node levels (macros_of self.now)) name.now (text_look_seen look.now) (macro_named (macros_of self.now) name.now)) }
         ensures { (outer : Option nodes.NamesNode) → OnOk result (state.new ≡ content (walk_context (E.answers entry.now) self.now) outer (setting_by setting.now) (part (open_node levels (macros_of self.now)) name.now (text_look_seen look.now) (macro_named (macros_of self.now) name.now)) state.old) }
     {
         let Some(nodes) = self.style.macro_named(name) else {
@@ -167,7 +250,7 @@ impl<'a> Walk<'_, 'a> {
         };
         self.begin_macro(setting, look, state)?;
         let inside = inside_macro(setting, look);
-        self.push_all(entry, &inside, levels, nodes, state)?;
+        self.push_all(entry, &inside, levels, nodes, findings, state)?;
         self.end_macro(setting, look, state)
     }
 
@@ -180,13 +263,15 @@ impl<'a> Walk<'_, 'a> {
         levels: usize,
         group: &'a Group,
         children: &'a [Node],
+        findings: Findings<'_>,
         state: &mut State<'a>,
     ) -> Result<(), AllocError>
+        requires { AreFound (walk_context (E.answers entry.now) self.now) (setting_by setting.now).form findings (each_node (open_node levels (macros_of self.now)) (nodes_seen children.now)) }
         ensures { (outer : Option nodes.NamesNode) → OnOk result (state.new ≡ content (walk_context (E.answers entry.now) self.now) outer (setting_by setting.now) (nodes.group (group_seen group.now) (each_node (open_node levels (macros_of self.now)) (nodes_seen children.now))) state.old) }
     {
         self.begin_group(setting, group, state)?;
         let inside = inside_group(setting, group);
-        self.push_all(entry, &inside, levels, children, state)?;
+        self.push_all(entry, &inside, levels, children, findings, state)?;
         self.end_group(setting, group, state)
     }
 
@@ -199,13 +284,15 @@ impl<'a> Walk<'_, 'a> {
         levels: usize,
         branches: &'a [ChooseBranch],
         otherwise: &'a [Node],
+        findings: Findings<'_>,
         state: &mut State<'a>,
     ) -> Result<(), AllocError>
+        requires { AreFoundInside (walk_context (E.answers entry.now) self.now) (setting_by setting.now).form findings (nodes.choose (each_branch (open_node levels (macros_of self.now)) (branches_of (map branch_seen branches.now) (nodes_seen otherwise.now)))) }
         ensures { (outer : Option nodes.NamesNode) → OnOk result (state.new ≡ content (walk_context (E.answers entry.now) self.now) outer (setting_by setting.now) (nodes.choose (each_branch (open_node levels (macros_of self.now)) (branches_of (map branch_seen branches.now) (nodes_seen otherwise.now)))) state.old) }
     {
         let taken = self.taken(entry, branches, otherwise)?;
         state.note(taken.met);
-        self.push_all(entry, setting, levels, taken.nodes, state)
+        self.push_all(entry, setting, levels, taken.nodes, findings, state)
     }
 
     /// Prints names with people, or what stands in for them.
@@ -218,8 +305,10 @@ impl<'a> Walk<'_, 'a> {
         outer: Option<&NamesParts<'a>>,
         names: &'a Names,
         substitute: &'a [Node],
+        findings: Findings<'_>,
         state: &mut State<'a>,
     ) -> Result<(), AllocError>
+        requires { AreFound (walk_context (E.answers entry.now) self.now) (setting_by setting.now).form findings (each_node (open_node levels (macros_of self.now)) (nodes_seen substitute.now)) }
         ensures { OnOk result (state.new ≡ content (walk_context (E.answers entry.now) self.now) (option_map (λ n. node_by n.now) outer.entry) (setting_by setting.now) (nodes.names (names_seen names.now) (each_node (open_node levels (macros_of self.now)) (nodes_seen substitute.now))) state.old) }
     {
         let variables = names.variables.as_slice();
@@ -228,7 +317,7 @@ impl<'a> Walk<'_, 'a> {
             .people(entry, state.suppressed.as_slice(), variables)?;
         let parts = taken(outer, names);
         if people.is_empty() {
-            return self.push_stand_in(entry, setting, levels, &parts, substitute, state);
+            return self.push_stand_in(entry, setting, levels, &parts, substitute, findings, state);
         }
         self.push_people(setting, &parts, people.as_slice(), state)
     }
@@ -242,13 +331,15 @@ impl<'a> Walk<'_, 'a> {
         levels: usize,
         names: &NamesParts<'a>,
         substitute: &'a [Node],
+        findings: Findings<'_>,
         state: &mut State<'a>,
     ) -> Result<(), AllocError>
+        requires { AreFound (walk_context (E.answers entry.now) self.now) (setting_by setting.now).form findings (each_node (open_node levels (macros_of self.now)) (nodes_seen substitute.now)) }
         ensures { OnOk result (state.new ≡ stood_in (walk_context (E.answers entry.now) self.now) (setting_by setting.now) (node_by names.now) (each_node (open_node levels (macros_of self.now)) (nodes_seen substitute.now)) state.old) }
     {
         self.begin_names(setting, names, state)?;
         let inside = inside_names(setting, names);
-        self.push_first(entry, &inside, levels, names, substitute, state)?;
+        self.push_first(entry, &inside, levels, names, substitute, findings, state)?;
         self.end_names(setting, names, state)
     }
 
@@ -261,20 +352,25 @@ impl<'a> Walk<'_, 'a> {
         levels: usize,
         names: &NamesParts<'a>,
         substitute: &'a [Node],
+        findings: Findings<'_>,
         state: &mut State<'a>,
     ) -> Result<(), AllocError>
+        requires { AreFound (walk_context (E.answers entry.now) self.now) (setting_by setting.now).form findings (each_node (open_node levels (macros_of self.now)) (nodes_seen substitute.now)) }
         ensures { OnOk result (state.new ≡ first_standing (walk_context (E.answers entry.now) self.now) (node_by names.now) (setting_by setting.now) (each_node (open_node levels (macros_of self.now)) (nodes_seen substitute.now)) state.old) }
     {
+        let mut rest = findings;
         for node in substitute {
-            if self.push_standing(entry, setting, levels, names, node, state)? {
+            let finding = rest.first(state);
+            if self.push_standing(entry, setting, levels, names, node, finding, state)? {
                 return Ok(());
             }
+            rest = rest.others();
         }
         Ok(())
     }
 
-    /// Prints a node, if it prints something, and returns whether it does. Of one that prints nothing nothing remains but that it
-    /// was asked if the cite is like others.
+    /// Prints a node, if it prints something, and returns whether it does. It is asked where nothing is known of it. Of one that prints
+    /// nothing nothing remains but that it was asked if the cite is like others.
     #[cycle(contents)]
     fn push_standing<E: EntryLike>(
         &self,
@@ -283,15 +379,45 @@ impl<'a> Walk<'_, 'a> {
         levels: usize,
         names: &NamesParts<'a>,
         node: &'a Node,
+        finding: Option<NodeFinding<'_>>,
         state: &mut State<'a>,
     ) -> Result<bool, AllocError>
+        requires { IfSome finding (λ n. IsFound (walk_context (E.answers entry.now) self.now) (setting_by setting.now) state.old n (open_node levels (macros_of self.now) (node_seen node.now))) }
         ensures printed { IfOk result (λ b. b ≡ stands (walk_context (E.answers entry.now) self.now) (node_by names.now) (setting_by setting.now) (open_node levels (macros_of self.now) (node_seen node.now)) state.old) }
         ensures state { OnOk result (state.new ≡ standing_put (walk_context (E.answers entry.now) self.now) (node_by names.now) (setting_by setting.now) (open_node levels (macros_of self.now) (node_seen node.now)) state.old) }
     {
-        if !self.admits(entry, setting, levels, node, state)? {
+        match finding {
+            Some(finding) => {
+                self.push_tried(entry, setting, levels, names, node, finding, state)
+            }
+            None => {
+                let surveyed = self.surveyed(entry, setting, levels, node, state)?;
+                let finding = surveyed.finding();
+                self.push_tried(entry, setting, levels, names, node, finding, state)
+            }
+        }
+    }
+
+    /// Prints a node of which that is known, if it prints something, and returns whether it does.
+    #[cycle(contents)]
+    fn push_tried<E: EntryLike>(
+        &self,
+        entry: &'a E,
+        setting: &Setting<'a>,
+        levels: usize,
+        names: &NamesParts<'a>,
+        node: &'a Node,
+        finding: NodeFinding<'_>,
+        state: &mut State<'a>,
+    ) -> Result<bool, AllocError>
+        requires { IsFound (walk_context (E.answers entry.now) self.now) (setting_by setting.now) state.old finding (open_node levels (macros_of self.now) (node_seen node.now)) }
+        ensures printed { IfOk result (λ b. b ≡ stands (walk_context (E.answers entry.now) self.now) (node_by names.now) (setting_by setting.now) (open_node levels (macros_of self.now) (node_seen node.now)) state.old) }
+        ensures state { OnOk result (state.new ≡ standing_put (walk_context (E.answers entry.now) self.now) (node_by names.now) (setting_by setting.now) (open_node levels (macros_of self.now) (node_seen node.now)) state.old) }
+    {
+        if !finding.admits(state) {
             return Ok(false);
         }
-        let done = self.tried(entry, setting, levels, names, node, state)?;
+        let done = self.tried(entry, setting, levels, names, node, finding.inside, state)?;
         self.accept(setting, done, state)
     }
 
@@ -304,13 +430,23 @@ impl<'a> Walk<'_, 'a> {
         levels: usize,
         names: &NamesParts<'a>,
         node: &'a Node,
+        findings: Findings<'_>,
         state: &State<'a>,
     ) -> Result<State<'a>, AllocError>
+        requires { AreFoundInside (walk_context (E.answers entry.now) self.now) (setting_by setting.now).form findings (open_node levels (macros_of self.now) (node_seen node.now)) }
         ensures { IfOk result (λ done. done ≡ content (walk_context (E.answers entry.now) self.now) (Some (node_by names.now)) (setting_by setting.now) (open_node levels (macros_of self.now) (node_seen node.now)) (tried (walk_context (E.answers entry.now) self.now) (setting_by setting.now) state.now)) }
     {
         let mut done = state.copied()?;
         self.begin_bare(setting, &mut done)?;
-        self.push_node(entry, setting, levels, Some(names), node, &mut done)?;
+        self.push_node(
+            entry,
+            setting,
+            levels,
+            Some(names),
+            node,
+            findings,
+            &mut done,
+        )?;
         Ok(done)
     }
 

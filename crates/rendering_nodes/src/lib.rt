@@ -5,6 +5,7 @@ mod admission;
 mod choice;
 mod content;
 mod elements;
+mod finding;
 mod forms;
 mod inside;
 mod node_laws;

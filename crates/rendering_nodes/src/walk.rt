@@ -43,7 +43,8 @@ impl<'s, 'a> Walk<'s, 'a> {
         ensures { IfOk result (λ v. survey_by v ≡ surveys (record { context = walk_context (E.answers entry.now) self.now; form = form_by form; has_date = state.now.has_date; suppressed = state.now.suppressed }) (opened_nodes (macros_of self.now) (map node_seen nodes.now))) }
     {
         let stage = self.stage(form, state);
-        stage.survey_all(entry, LIMIT, nodes)
+        let mut findings = Vec::new(self.context.alloc);
+        stage.survey_all(entry, LIMIT, nodes, &mut findings)
     }
 
     /// Prints nodes one after the other, each that is admitted, with the delimiter of the group around between them. After an
@@ -60,7 +61,7 @@ impl<'s, 'a> Walk<'s, 'a> {
     ) -> Result<(), AllocError>
         ensures { OnOk result (state.new ≡ contents (walk_context (E.answers entry.now) self.now) (setting_by setting.now) true (opened_nodes (macros_of self.now) (map node_seen nodes.now)) state.old) }
     {
-        self.push_all(entry, setting, LIMIT, nodes, state)
+        self.push_unsurveyed(entry, setting, LIMIT, nodes, state)
     }
 
     /// How far the call has come.

@@ -1,15 +1,23 @@
-use Rattle.std.proofs.Common.{map, ap, ◌∙◌}
+use Rattle.std.proofs.Common.{◌≡◌, ℕ, ◌+◌, ◌-◌, suc, not, ◌&&◌, map, drop, List, sym, ap, ◌∙◌, rules}
 use Rattle.std.specs.Option.{option_map}
-use Rattle.std.proofs.lemmas.Result.{on_ok_weaker}
-use Rattle.rendering_leaves.specs.Settings.{State}
+use Rattle.std.proofs.lemmas.Result.{IfOk-weaker, on_ok_weaker}
+use Rattle.rendering_leaves.specs.Settings.{Setting, State}
 use Rattle.rendering_leaves.specs.Views.{setting_by}
 use Rattle.rendering_names.specs.Views.{node_by}
+use Rattle.rendering_nodes.specs.Findings.{AreFoundInside}
 use Rattle.rendering_nodes.specs.Views.{macros_of, walk_context}
-use Rattle.rendering_style.specs.Opening.{each_node, open_node}
-use Rattle.rendering_style.specs.Views.{branch_seen, branches_of, group_seen, names_seen, node_seen, nodes_seen, text_look_seen}
-use Rattle.rendering_nodes.proofs.ContentSteps.{choose_put}
+use Rattle.rendering_style.specs.Nodes as nodes
+use Rattle.rendering_style.specs.Opening.{each_branch, each_node, macro_named, open_node, part}
+use Rattle.rendering_style.specs.Views.{branch_seen, branches_of, group_seen, names_seen, node_seen, nodes_seen, text_seen, text_look_seen}
+use Rattle.rendering_style.specs.declared.node.ChooseBranch.{ChooseBranch}
+use Rattle.rendering_style.specs.declared.node.Node.{Node}
+use Rattle.rendering_style.specs.declared.node.TextTarget.{TextTarget}
+use Rattle.rendering_nodes.proofs.ContentSteps.{and_else, and_then, choose_put, contents_more, next_admitted, next_passed, standing_more}
+use Rattle.rendering_nodes.proofs.FindingsPut.{form_as, inside_as, known_more, macro_as, macro_some, some_found, stand_ins_as, taken_as}
+use Rattle.rendering_nodes.proofs.OpenedSteps.{open_text, open_names, open_choose, open_group}
 use Rattle.rendering_nodes.proofs.OpenedPut.{names_node_put, choose_node_put, group_node_put, macro_put, grouped_put}
-use Rattle.rendering_nodes.proofs.StandingPut.{names_without, names_with, stood_in_by, tried_by, standing_tried}
+use Rattle.rendering_nodes.proofs.StandingPut.{names_without, names_with, standing_passed, standing_tried, stands_passed, stands_tried, stood_in_by, tried_by}
+use Rattle.rendering_nodes.proofs.walk.Walk.+contents.Goals.{push_all-then-is_first, push_all-else-is_first}
 use Rattle.rendering_nodes.proofs.walk.Walk.+contents.Goals as goal
 
 pub push_node-returns-in-Names : goal.push_node-returns-in-Names
@@ -84,14 +92,99 @@ push_stand_in-returns g t c =
     c.inside_names-inside.ensures (c.in_ok-begin_names.ensures a) c.in_ok-push_first.ensures)
     (c.end_names.ensures a)
 
-pub push_standing-returns-clause-state : goal.push_standing-returns-clause-state
-push_standing-returns-clause-state g t c =
+pub push_tried-returns-clause-state : goal.push_tried-returns-clause-state
+push_tried-returns-clause-state g t c =
     let a = g.E.EntryLike.answers c.args.entry.now in
+    let k = walk_context a c.args.self.now in
+    let s = setting_by c.args.setting.now in
+    let x = open_node c.args.levels (macros_of c.args.self.now) (node_seen c.args.node.now) in
     on_ok_weaker c.accept.result
-    (standing_tried (walk_context a c.args.self.now) (node_by c.args.names.now) (setting_by c.args.setting.now) (open_node c.args.levels (macros_of c.args.self.now) (node_seen c.args.node.now))
-    c.in_ok-admits.field-0 c.args.state.now c.admits.new.state c.in_ok-done.done c.accept.new.state
-    c.in_ok-admits.ensures.admitted c.if-not-branch.false c.in_ok-admits.ensures.state c.in_ok-done.ensures)
+    (standing_tried k (node_by c.args.names.now) s x c.admits.result c.args.state.now c.admits.new.state c.in_ok-done.done c.accept.new.state
+    (c.admits.ensures.admitted k s x c.requires) c.if-not-admits.false (c.admits.ensures.state k s x c.requires) c.in_ok-done.ensures)
     (c.accept.ensures.state a)
+
+-- what is known of the nodes that are printed
+pub push_node-push_text-requires : goal.push_node-push_text-requires
+push_node-push_text-requires g t c =
+    let ms = macros_of c.args.self.now in
+    let known = inside_as (walk_context (g.E.EntryLike.answers c.args.entry.now) c.args.self.now) (setting_by c.args.setting.now).form c.args.findings (open_node c.args.levels ms (node_seen c.args.node.now))
+    (open_node (suc (c.args.levels - 1)) ms (text_seen c.in-Text.text.target (text_look_seen c.in-Text.text.look)))
+    (ap (λ (y : Node). open_node c.args.levels ms (node_seen y)) c.in-Text.is ∙ open_text c.args.levels ms c.in-Text.text c.if-levels-eq0.false)
+    c.requires in
+    search rules
+
+pub push_node-push_names-requires : goal.push_node-push_names-requires
+push_node-push_names-requires g t c =
+    let ms = macros_of c.args.self.now in
+    let f = open_node (c.args.levels - 1) ms in
+    let known = stand_ins_as (walk_context (g.E.EntryLike.answers c.args.entry.now) c.args.self.now) (setting_by c.args.setting.now).form c.args.findings (names_seen c.in-Names.names) (each_node f (nodes_seen c.deref.result.now))
+    (open_node c.args.levels ms (node_seen c.args.node.now))
+    (ap (λ (y : Node). open_node c.args.levels ms (node_seen y)) c.in-Names.is ∙ open_names c.args.levels ms c.in-Names.names c.in-Names.substitute c.if-levels-eq0.false
+    ∙ ap (λ (xs : List Node). nodes.names (names_seen c.in-Names.names) (each_node f (nodes_seen xs))) (sym c.deref.ensures.value))
+    c.requires in
+    search rules
+
+pub push_node-push_choose-requires : goal.push_node-push_choose-requires
+push_node-push_choose-requires g t c =
+    let ms = macros_of c.args.self.now in
+    let f = open_node (c.args.levels - 1) ms in
+    let known = inside_as (walk_context (g.E.EntryLike.answers c.args.entry.now) c.args.self.now) (setting_by c.args.setting.now).form c.args.findings (open_node c.args.levels ms (node_seen c.args.node.now))
+    (nodes.choose (each_branch f (branches_of (map branch_seen c.deref-in-Choose.result.now) (nodes_seen c.deref-in-Choose-2.result.now))))
+    (ap (λ (y : Node). open_node c.args.levels ms (node_seen y)) c.in-Choose.is ∙ open_choose c.args.levels ms c.in-Choose.branches c.in-Choose.otherwise c.if-levels-eq0.false
+    ∙ ap (λ (bs : List ChooseBranch). nodes.choose (each_branch f (branches_of (map branch_seen bs) (nodes_seen c.in-Choose.otherwise.items)))) (sym c.deref-in-Choose.ensures.value)
+    ∙ ap (λ (xs : List Node). nodes.choose (each_branch f (branches_of (map branch_seen c.deref-in-Choose.result.now) (nodes_seen xs)))) (sym c.deref-in-Choose-2.ensures.value))
+    c.requires in
+    search rules
+
+pub push_node-push_group-requires : goal.push_node-push_group-requires
+push_node-push_group-requires g t c =
+    let ms = macros_of c.args.self.now in
+    let f = open_node (c.args.levels - 1) ms in
+    let known = inside_as (walk_context (g.E.EntryLike.answers c.args.entry.now) c.args.self.now) (setting_by c.args.setting.now).form c.args.findings (open_node c.args.levels ms (node_seen c.args.node.now))
+    (nodes.group (group_seen c.in-Group.group) (each_node f (nodes_seen c.deref-in-Group.result.now)))
+    (ap (λ (y : Node). open_node c.args.levels ms (node_seen y)) c.in-Group.is ∙ open_group c.args.levels ms c.in-Group.group c.in-Group.children c.if-levels-eq0.false
+    ∙ ap (λ (xs : List Node). nodes.group (group_seen c.in-Group.group) (each_node f (nodes_seen xs))) (sym c.deref-in-Group.ensures.value))
+    c.requires in
+    search rules
+
+pub push_text-push_macro-requires : goal.push_text-push_macro-requires
+push_text-push_macro-requires g t c =
+    let ms = macros_of c.args.self.now in
+    let look = text_look_seen c.args.text.now.look in
+    let known = inside_as (walk_context (g.E.EntryLike.answers c.args.entry.now) c.args.self.now) (setting_by c.args.setting.now).form c.args.findings (open_node (suc c.args.levels) ms (text_seen c.args.text.now.target look))
+    (part (open_node c.args.levels ms) c.as_str.result.now look (macro_named ms c.as_str.result.now))
+    (ap (λ (y : TextTarget). open_node (suc c.args.levels) ms (text_seen y look)) c.in-Macro.is
+    ∙ ap (λ (name : List ℕ). part (open_node c.args.levels ms) name look (macro_named ms name)) (sym c.as_str.ensures.value))
+    c.requires in
+    search rules
+
+pub push_macro-push_all-requires : goal.push_macro-push_all-requires
+push_macro-push_all-requires g t c =
+    let ms = macros_of c.args.self.now in
+    let given : AreFoundInside (walk_context (g.E.EntryLike.answers c.args.entry.now) c.args.self.now) (setting_by c.args.setting.now).form c.args.findings (part (open_node c.args.levels ms) c.args.name.now (text_look_seen c.args.look.now) (macro_named ms c.args.name.now)) = search rules in
+    let known = macro_as (walk_context (g.E.EntryLike.answers c.args.entry.now) c.args.self.now) (setting_by c.args.setting.now) (setting_by c.inside_macro-inside.result) c.args.findings
+    (open_node c.args.levels ms) c.args.name.now (text_look_seen c.args.look.now) (macro_named ms c.args.name.now) (nodes_seen c.in-Some.nodes.now)
+    (ap (λ (i : Setting). i.form) c.inside_macro-inside.ensures)
+    (macro_some _ c.macro_named.result c.in-Some.nodes (macro_named ms c.args.name.now) c.macro_named.ensures c.in-Some.is) given in
+    search rules
+
+pub push_group-push_all-requires : goal.push_group-push_all-requires
+push_group-push_all-requires g t c =
+    let known = form_as (walk_context (g.E.EntryLike.answers c.args.entry.now) c.args.self.now) (setting_by c.args.setting.now) (setting_by c.inside_group-inside.result) c.args.findings
+    (each_node (open_node c.args.levels (macros_of c.args.self.now)) (nodes_seen c.args.children.now)) (ap (λ (i : Setting). i.form) c.inside_group-inside.ensures) c.requires in
+    search rules
+
+pub push_stand_in-push_first-requires : goal.push_stand_in-push_first-requires
+push_stand_in-push_first-requires g t c =
+    let known = form_as (walk_context (g.E.EntryLike.answers c.args.entry.now) c.args.self.now) (setting_by c.args.setting.now) (setting_by c.inside_names-inside.result) c.args.findings
+    (each_node (open_node c.args.levels (macros_of c.args.self.now)) (nodes_seen c.args.substitute.now)) (ap (λ (i : Setting). i.form) c.inside_names-inside.ensures) c.requires in
+    search rules
+
+pub push_choose-push_all-requires : goal.push_choose-push_all-requires
+push_choose-push_all-requires g t c =
+    let known = taken_as (walk_context (g.E.EntryLike.answers c.args.entry.now) c.args.self.now) (setting_by c.args.setting.now).form c.args.findings (open_node c.args.levels (macros_of c.args.self.now))
+    (branches_of (map branch_seen c.args.branches.now) (nodes_seen c.args.otherwise.now)) (nodes_seen c.in_ok-taken.taken.nodes.now) c.in_ok-taken.taken.met c.in_ok-taken.ensures c.requires in
+    search rules
 
 pub tried-returns : goal.tried-returns
 tried-returns g t c =
@@ -99,3 +192,143 @@ tried-returns g t c =
     tried_by (walk_context a c.args.self.now) (node_by c.args.names.now) (setting_by c.args.setting.now) (open_node c.args.levels (macros_of c.args.self.now) (node_seen c.args.node.now))
     c.args.state.now c.in_ok-done.done c.begin_bare.new.state c.push_node.new.state
     c.in_ok-done.ensures (c.in_ok-begin_bare.ensures a) c.in_ok-push_node.ensures
+
+pub push_all-push_next-requires : goal.push_all-push_next-requires
+push_all-push_next-requires g t c =
+    let k = walk_context (g.E.EntryLike.answers c.args.entry.now) c.args.self.now in
+    let s = setting_by c.args.setting.now in
+    let f = open_node c.args.levels (macros_of c.args.self.now) in
+    let known = c.first-finding.ensures k s (f (node_seen c.node-item.result)) (each_node f (nodes_seen (drop (c.loop-node.node-index + 1) c.args.nodes.now)))
+    (known_more k s.form c.loop-node.rest f c.args.nodes.now c.loop-node.node-index c.node-item.result c.loop-node-test.true c.node-item.is c.loop-node.invariant.1) in
+    search rules
+
+pub push_all-loop-node-preserved : goal.push_all-loop-node-preserved
+push_all-loop-node-preserved g t c =
+    let k = walk_context (g.E.EntryLike.answers c.args.entry.now) c.args.self.now in
+    let s = setting_by c.args.setting.now in
+    let next : c.if-is_first.is_first ≡ (c.loop-node.is_first && not c.in_ok-is_admitted.is_admitted) = elim c.if-is_first.branch [
+      | push_all-then-is_first w ↦ and_then c.loop-node.is_first (not c.in_ok-is_admitted.is_admitted) c.if-is_first.is_first w.if-is_first.true w.is_first-is
+      | push_all-else-is_first w ↦ and_else c.loop-node.is_first (not c.in_ok-is_admitted.is_admitted) c.if-is_first.is_first w.if-is_first.false w.is_first-is
+    ] in
+    let f = open_node c.args.levels (macros_of c.args.self.now) in (
+      contents_more k s f c.args.nodes.now c.loop-node.node-index c.node-item.result c.loop-node.is_first c.in_ok-is_admitted.is_admitted c.if-is_first.is_first c.loop-node.state c.push_next.new.state _
+          c.loop-node-test.true c.node-item.is c.in_ok-is_admitted.ensures.admitted next c.in_ok-is_admitted.ensures.state c.loop-node.invariant.0,
+      c.others-rest.ensures k s (f (node_seen c.node-item.result)) (each_node f (nodes_seen (drop (c.loop-node.node-index + 1) c.args.nodes.now)))
+          (known_more k s.form c.loop-node.rest f c.args.nodes.now c.loop-node.node-index c.node-item.result c.loop-node-test.true c.node-item.is c.loop-node.invariant.1),
+    )
+
+pub push_first-push_standing-requires : goal.push_first-push_standing-requires
+push_first-push_standing-requires g t c =
+    let k = walk_context (g.E.EntryLike.answers c.args.entry.now) c.args.self.now in
+    let s = setting_by c.args.setting.now in
+    let f = open_node c.args.levels (macros_of c.args.self.now) in
+    let known = c.first-finding.ensures k s (f (node_seen c.node-item.result)) (each_node f (nodes_seen (drop (c.loop-node.node-index + 1) c.args.substitute.now)))
+    (known_more k s.form c.loop-node.rest f c.args.substitute.now c.loop-node.node-index c.node-item.result c.loop-node-test.true c.node-item.is c.loop-node.invariant.1) in
+    search rules
+
+pub push_first-loop-node-preserved : goal.push_first-loop-node-preserved
+push_first-loop-node-preserved g t c =
+    let k = walk_context (g.E.EntryLike.answers c.args.entry.now) c.args.self.now in
+    let s = setting_by c.args.setting.now in
+    let f = open_node c.args.levels (macros_of c.args.self.now) in (
+      standing_more k (node_by c.args.names.now) s f c.args.substitute.now c.loop-node.node-index c.node-item.result c.in_ok-push_standing.field-0 c.loop-node.state c.push_standing.new.state _
+          c.loop-node-test.true c.node-item.is c.in_ok-push_standing.ensures.printed c.if-branch.false c.in_ok-push_standing.ensures.state c.loop-node.invariant.0,
+      c.others-rest.ensures k s (f (node_seen c.node-item.result)) (each_node f (nodes_seen (drop (c.loop-node.node-index + 1) c.args.substitute.now)))
+          (known_more k s.form c.loop-node.rest f c.args.substitute.now c.loop-node.node-index c.node-item.result c.loop-node-test.true c.node-item.is c.loop-node.invariant.1),
+    )
+
+pub push_next-push_found-requires : goal.push_next-push_found-requires
+push_next-push_found-requires g t c =
+    let k = walk_context (g.E.EntryLike.answers c.args.entry.now) c.args.self.now in
+    let s = setting_by c.args.setting.now in
+    let x = open_node c.args.levels (macros_of c.args.self.now) (node_seen c.args.node.now) in
+    let known = some_found k s c.args.state.now c.args.finding c.in-Some.finding x c.in-Some.is c.requires in
+    search rules
+
+pub push_next-push_found-requires-in-None : goal.push_next-push_found-requires-in-None
+push_next-push_found-requires-in-None g t c =
+    let k = walk_context (g.E.EntryLike.answers c.args.entry.now) c.args.self.now in
+    let s = setting_by c.args.setting.now in
+    let x = open_node c.args.levels (macros_of c.args.self.now) (node_seen c.args.node.now) in
+    let known = c.finding-finding.ensures k s c.args.state.now x c.in_ok-surveyed-in-None.ensures in
+    search rules
+
+pub push_standing-push_tried-requires : goal.push_standing-push_tried-requires
+push_standing-push_tried-requires g t c =
+    let k = walk_context (g.E.EntryLike.answers c.args.entry.now) c.args.self.now in
+    let s = setting_by c.args.setting.now in
+    let x = open_node c.args.levels (macros_of c.args.self.now) (node_seen c.args.node.now) in
+    let known = some_found k s c.args.state.now c.args.finding c.in-Some.finding x c.in-Some.is c.requires in
+    search rules
+
+pub push_standing-push_tried-requires-in-None : goal.push_standing-push_tried-requires-in-None
+push_standing-push_tried-requires-in-None g t c =
+    let k = walk_context (g.E.EntryLike.answers c.args.entry.now) c.args.self.now in
+    let s = setting_by c.args.setting.now in
+    let x = open_node c.args.levels (macros_of c.args.self.now) (node_seen c.args.node.now) in
+    let known = c.finding-finding.ensures k s c.args.state.now x c.in_ok-surveyed-in-None.ensures in
+    search rules
+
+pub push_found-returns-then-not-admits-clause-admitted : goal.push_found-returns-then-not-admits-clause-admitted
+push_found-returns-then-not-admits-clause-admitted g t c =
+    let k = walk_context (g.E.EntryLike.answers c.args.entry.now) c.args.self.now in
+    let s = setting_by c.args.setting.now in
+    let x = open_node c.args.levels (macros_of c.args.self.now) (node_seen c.args.node.now) in
+    sym c.if-not-admits.true ∙ c.admits.ensures.admitted k s x c.requires
+
+pub push_found-returns-then-not-admits-clause-state : goal.push_found-returns-then-not-admits-clause-state
+push_found-returns-then-not-admits-clause-state g t c =
+    let k = walk_context (g.E.EntryLike.answers c.args.entry.now) c.args.self.now in
+    let s = setting_by c.args.setting.now in
+    let x = open_node c.args.levels (macros_of c.args.self.now) (node_seen c.args.node.now) in
+    next_passed k s c.args.is_first c.admits.result x c.args.state.now c.admits.new.state (c.admits.ensures.admitted k s x c.requires) c.if-not-admits.true (c.admits.ensures.state k s x c.requires)
+
+pub push_found-push_node-requires : goal.push_found-push_node-requires
+push_found-push_node-requires g t c =
+    let known = c.requires.inside in
+    search rules
+
+pub push_found-returns-clause-admitted : goal.push_found-returns-clause-admitted
+push_found-returns-clause-admitted g t c =
+    let k = walk_context (g.E.EntryLike.answers c.args.entry.now) c.args.self.now in
+    let s = setting_by c.args.setting.now in
+    let x = open_node c.args.levels (macros_of c.args.self.now) (node_seen c.args.node.now) in
+    sym c.if-not-admits.false ∙ c.admits.ensures.admitted k s x c.requires
+
+pub push_found-returns-clause-state : goal.push_found-returns-clause-state
+push_found-returns-clause-state g t c =
+    let a = g.E.EntryLike.answers c.args.entry.now in
+    let k = walk_context (g.E.EntryLike.answers c.args.entry.now) c.args.self.now in
+    let s = setting_by c.args.setting.now in
+    let x = open_node c.args.levels (macros_of c.args.self.now) (node_seen c.args.node.now) in
+    next_admitted k s c.args.is_first c.admits.result x c.args.state.now c.admits.new.state c.push_delimiter.new.state c.push_node.new.state
+    (c.admits.ensures.admitted k s x c.requires) c.if-not-admits.false (c.admits.ensures.state k s x c.requires) (c.in_ok-push_delimiter.ensures a) c.in_ok-push_node.ensures
+
+pub push_tried-returns-then-not-admits-clause-printed : goal.push_tried-returns-then-not-admits-clause-printed
+push_tried-returns-then-not-admits-clause-printed g t c =
+    let k = walk_context (g.E.EntryLike.answers c.args.entry.now) c.args.self.now in
+    let s = setting_by c.args.setting.now in
+    let x = open_node c.args.levels (macros_of c.args.self.now) (node_seen c.args.node.now) in
+    stands_passed k (node_by c.args.names.now) s x c.admits.result c.args.state.now (c.admits.ensures.admitted k s x c.requires) c.if-not-admits.true
+
+pub push_tried-returns-then-not-admits-clause-state : goal.push_tried-returns-then-not-admits-clause-state
+push_tried-returns-then-not-admits-clause-state g t c =
+    let k = walk_context (g.E.EntryLike.answers c.args.entry.now) c.args.self.now in
+    let s = setting_by c.args.setting.now in
+    let x = open_node c.args.levels (macros_of c.args.self.now) (node_seen c.args.node.now) in
+    standing_passed k (node_by c.args.names.now) s x c.admits.result c.args.state.now c.admits.new.state (c.admits.ensures.admitted k s x c.requires) c.if-not-admits.true (c.admits.ensures.state k s x c.requires)
+
+pub push_tried-tried-requires : goal.push_tried-tried-requires
+push_tried-tried-requires g t c =
+    let known = c.requires.inside in
+    search rules
+
+pub push_tried-returns-clause-printed : goal.push_tried-returns-clause-printed
+push_tried-returns-clause-printed g t c =
+    let k = walk_context (g.E.EntryLike.answers c.args.entry.now) c.args.self.now in
+    let s = setting_by c.args.setting.now in
+    let x = open_node c.args.levels (macros_of c.args.self.now) (node_seen c.args.node.now) in
+    IfOk-weaker c.accept.result _ _
+    (λ b e. stands_tried k (node_by c.args.names.now) s x c.admits.result b c.args.state.now c.admits.new.state c.in_ok-done.done (c.admits.ensures.admitted k s x c.requires) c.if-not-admits.false
+    (c.admits.ensures.state k s x c.requires) c.in_ok-done.ensures e)
+    c.accept.ensures.printed

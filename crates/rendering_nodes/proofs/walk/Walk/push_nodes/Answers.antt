@@ -5,5 +5,5 @@ use Rattle.rendering_nodes.proofs.walk.Walk.push_nodes.Goals as goal
 
 pub returns : goal.returns
 returns g c =
-    all_put c.push_all.result (walk_context (g.E.EntryLike.answers c.args.entry.now) c.args.self.now) (setting_by c.args.setting.now) c.args.state.now c.push_all.new.state
-    (macros_of c.args.self.now) c.args.nodes.now c.push_all.ensures
+    all_put c.push_unsurveyed.result (walk_context (g.E.EntryLike.answers c.args.entry.now) c.args.self.now) (setting_by c.args.setting.now) c.args.state.now c.push_unsurveyed.new.state
+    (macros_of c.args.self.now) c.args.nodes.now c.push_unsurveyed.ensures

@@ -1,0 +1,174 @@
+//! What surveys find of nodes, so that no node is asked twice.
+
+ghost use Rattle.std.specs.Prelude.{◌≡◌, ◌∷◌, ◌++◌, ◌<◌, [], true, drop, length, take, List, IfSome};
+ghost use Rattle.rendering_context.specs.Contexts.{Context};
+ghost use Rattle.rendering_leaves.specs.Settings as settings;
+ghost use Rattle.rendering_nodes.specs.Content.{stage};
+ghost use Rattle.rendering_nodes.specs.Findings.{AreFound, IsFound, IsSurveyed, stage_then, with_finding};
+ghost use Rattle.rendering_nodes.specs.Turns.{asked, is_next};
+ghost use Rattle.rendering_nodes.specs.Views.{survey_by};
+ghost use Rattle.rendering_style.specs.Nodes.{Node, Nodes, node};
+
+use crate::survey::Survey;
+use rendering_leaves::State;
+use rendering_taxonomy::Variable;
+
+/// What a survey found of a node.
+#[derive(Clone, Copy)]
+pub(crate) struct Finding {
+    pub(crate) is_admitted: bool,
+    /// Whether it was asked on the way if the cite is like others.
+    pub(crate) met: bool,
+    /// How many findings after this one are of nodes inside the node.
+    pub(crate) inside: usize,
+}
+
+/// What a survey found of nodes, each before those inside it, and how far the call had come; nothing is known where there are none.
+#[derive(Clone, Copy)]
+pub(crate) struct Findings<'t> {
+    /// Whether the first date was printed.
+    pub(crate) has_date: bool,
+    /// The variables that were not to be printed again.
+    pub(crate) suppressed: &'t [Variable],
+    pub(crate) nodes: &'t [Finding],
+}
+
+/// What is known of a node, and of the nodes inside it.
+#[derive(Clone, Copy)]
+pub(crate) struct NodeFinding<'t> {
+    pub(crate) is_admitted: bool,
+    /// Whether it is asked on the way if the cite is like others.
+    pub(crate) met: bool,
+    pub(crate) inside: Findings<'t>,
+}
+
+/// A node that was surveyed, and how far the call had come.
+#[derive(Drop)]
+pub(crate) struct Surveyed {
+    pub(crate) is_admitted: bool,
+    /// Whether it was asked on the way if the cite is like others.
+    pub(crate) met: bool,
+    /// Whether the first date was printed.
+    pub(crate) has_date: bool,
+    /// The variables that were not to be printed again.
+    pub(crate) suppressed: Vec<Variable>,
+    /// What was found of the nodes inside it.
+    pub(crate) inside: Vec<Finding>,
+}
+
+impl Surveyed {
+    /// What is known of the node.
+    pub(crate) fn finding(&self) -> NodeFinding<'_>
+        ensures { (c : Context) (s : settings.Setting) (st : settings.State) (x : Node) → IsSurveyed c s st self.now x → IsFound c s st result x }
+    {
+        NodeFinding {
+            is_admitted: self.is_admitted,
+            met: self.met,
+            inside: Findings {
+                has_date: self.has_date,
+                suppressed: self.suppressed.as_slice(),
+                nodes: self.inside.as_slice(),
+            },
+        }
+    }
+}
+
+impl NodeFinding<'_> {
+    /// Whether the node is admitted. It is noted whether it was asked on the way if the cite is like others.
+    pub(crate) fn admits(&self, state: &mut State<'_>) -> bool
+        ensures admitted { (c : Context) (s : settings.Setting) (x : Node) → IsFound c s state.old self.now x → result ≡ is_next c s x state.old }
+        ensures state { (c : Context) (s : settings.Setting) (x : Node) → IsFound c s state.old self.now x → state.new ≡ asked c s x state.old }
+    {
+        state.note(self.met);
+        self.is_admitted
+    }
+}
+
+impl<'t> Findings<'t> {
+    /// Nothing.
+    pub(crate) fn nothing() -> Findings<'t>
+        ensures { result.nodes.now ≡ [] }
+    {
+        Findings {
+            has_date: false,
+            suppressed: &[],
+            nodes: &[],
+        }
+    }
+
+    /// What is known of the first node, unless the call has come further.
+    pub(crate) fn first(&self, state: &State<'_>) -> Option<NodeFinding<'t>>
+        ensures { (c : Context) (s : settings.Setting) (x : Node) (xs : Nodes) → AreFound c s.form self.now (node x xs) → IfSome result (λ n. IsFound c s state.now n x) }
+    {
+        if !self.hold(state) {
+            return None;
+        }
+        let (first, others) = self.nodes.split_first()?;
+        let (inside, _) = split(others, first.inside);
+        Some(NodeFinding {
+            is_admitted: first.is_admitted,
+            met: first.met,
+            inside: Findings {
+                nodes: inside,
+                ..*self
+            },
+        })
+    }
+
+    /// What is known of the nodes after the first.
+    pub(crate) fn others(&self) -> Findings<'t>
+        ensures { (c : Context) (s : settings.Setting) (x : Node) (xs : Nodes) → AreFound c s.form self.now (node x xs) → AreFound c s.form result xs }
+    {
+        match self.nodes.split_first() {
+            Some((first, others)) => Findings {
+                nodes: split(others, first.inside).1,
+                ..*self
+            },
+            None => *self,
+        }
+    }
+
+    /// Whether the call has come no further.
+    fn hold(&self, state: &State<'_>) -> bool
+        ensures { (c : Context) (s : settings.Setting) → result ≡ true → stage_then c s.form self.now ≡ stage c s state.now }
+    {
+        self.has_date == state.has_date && are_same(self.suppressed, state.suppressed.as_slice())
+    }
+}
+
+/// Whether variables are the same, in the same order.
+fn are_same(some: &[Variable], others: &[Variable]) -> bool
+    ensures { result ≡ true → some.now ≡ others.now }
+{
+    some == others
+}
+
+/// What stands where a survey has not yet found anything.
+pub(crate) fn nothing_found() -> Finding {
+    Finding {
+        is_admitted: false,
+        met: false,
+        inside: 0,
+    }
+}
+
+/// So many findings, and those after them.
+fn split(findings: &[Finding], count: usize) -> (&[Finding], &[Finding])
+    ensures first { result.0.now ≡ take count findings.now }
+    ensures others { result.1.now ≡ drop count findings.now }
+{
+    findings.split_at(count.min(findings.len()))
+}
+
+/// Writes what a survey found of a node at its place, which is followed by what was found of those inside it.
+pub(crate) fn put_finding(findings: &mut Vec<Finding>, place: usize, survey: Survey)
+    requires { place < length findings.old.items }
+    ensures { (before : List Finding) (f : Finding) (inside : List Finding) → place ≡ length before → findings.old.items ≡ before ++ f ∷ inside → findings.new.items ≡ before ++ with_finding (survey_by survey) inside }
+{
+    let inside = findings.len() - place - 1;
+    findings[place] = Finding {
+        is_admitted: survey.is_admitted,
+        met: survey.met,
+        inside,
+    };
+}
