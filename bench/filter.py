@@ -1,21 +1,42 @@
 #!/usr/bin/env python3
-"""Measures the filter on N mixed entries and a document with a marker for each ten of them.
+"""Measures the filter in each style and each format on N mixed entries and a document with a marker for each of them.
 
-    bench/filter.py [PROGRAM]
+    bench/filter.py [PROGRAM] [N ..]
 
-The entries are those of bench/reader.py; the document has N / 10 markers with keys drawn evenly, one for each 60 bytes. Both come of a
-fixed seed. For N = 1,000, 10,000 and 100,000 it prints the bytes of input, the instructions (by `valgrind --tool=callgrind`, for the
-smaller two), the seconds, and the peak memory less that of a run on two empty files. Then, from the smaller two: the instructions for
-each byte of input (the difference over the difference) and the growth exponent of the instructions.
+The entries are those of bench/reader.py; the document has N markers with keys drawn evenly, one for each 60 bytes. Both come of a fixed
+seed. For N = 1,000, 10,000 and 100,000, or the sizes that are said, it prints the bytes of input, the instructions (by `valgrind
+--tool=callgrind`, for sizes below 100,000), the seconds, and the peak memory less that of a run on two empty files. Then, from the smaller
+two: the instructions for each byte of input (the difference over the difference) and the growth exponent of the instructions. What was
+found is written down where no sizes are said.
 """
+import sys
+import tempfile
+
 import mixed
-from measuring import measure_filter
+import results
+from measuring import SIZES, FilterRuns
+
+STYLES, FORMATS = ("numeric", "author-date", "note"), ("plain", "html")
+WANTED = {"rate": 450, "exponent": 1.05, "memory": 30}
 
 
 def draw_keys(chance, count):
-    """A key for each ten entries."""
-    for _ in range(count // 10):
+    """A key for each entry."""
+    for _ in range(count):
         yield f"{chance.choice('abcd')}{4 * chance.randrange(count // 4)}"
 
 
-measure_filter("filter", {"rate": 350, "exponent": 1.05, "memory": 30}, mixed.write, draw_keys)
+def main():
+    sizes = [int(word) for word in sys.argv[2:]] or SIZES
+    found = {}
+    with tempfile.TemporaryDirectory() as folder:
+        runs = FilterRuns(folder)
+        for style in STYLES:
+            for kind in FORMATS:
+                print(style, kind)
+                found[f"{style}, {kind}"] = runs.measured(style, kind, sizes, mixed.write, draw_keys)
+    if sizes is SIZES:
+        results.record("filter", {"script": "filter.py", "runs": found, "wanted": WANTED})
+
+
+main()

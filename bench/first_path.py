@@ -1,5 +1,5 @@
 #!/usr/bin/env python3
-"""Measures the program on N books and a document of N citations.
+"""Measures the program by numbers on N books and a document of N citations.
 
     bench/first_path.py [PROGRAM]
 

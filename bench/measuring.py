@@ -9,6 +9,7 @@ import time
 
 import results
 
+SIZES = (1_000, 10_000, 100_000)
 WORDS = "of the art light field winter river letters house memory early stone public measure sea on time form".split()
 
 
@@ -34,14 +35,13 @@ def document(chance, keys):
 
 
 def peak_and_seconds(words):
-    """The peak memory in bytes and the seconds of one run."""
+    """The peak memory in bytes and the seconds of one run. GNU time starts it, since what is started from here begins with the memory of Python."""
     started = time.perf_counter()
-    running = subprocess.Popen(words, stdout=subprocess.DEVNULL)
-    _, status, usage = os.wait4(running.pid, 0)
+    ran = subprocess.run(["/usr/bin/time", "-f", "%M", *words], stdin=subprocess.DEVNULL, stdout=subprocess.DEVNULL, stderr=subprocess.PIPE, text=True)
     seconds = time.perf_counter() - started
-    if status != 0:
-        sys.exit(f"{words} ended with status {status}")
-    return usage.ru_maxrss * 1024, seconds
+    if ran.returncode != 0:
+        sys.exit(f"{words} ended with status {ran.returncode}: {ran.stderr}")
+    return int(ran.stderr.split()[-1]) * 1024, seconds
 
 
 def instructions(words, folder, given=None, inside=None):
@@ -65,23 +65,29 @@ class Table:
         self.empty, _ = peak_and_seconds(words)
         print(f"{'N':>7} {'bytes':>10} {'instructions':>14} {'seconds':>8} {'memory':>11} {'times input':>11}")
 
-    def line(self, count, size):
-        """One size: the instructions of the smaller ones, the seconds, and the memory less that of the empty run."""
+    def line(self, count, size, is_counted=None):
+        """One size: the instructions, where they are counted, as those of the smaller sizes are; the seconds, and the memory less that of the
+        empty run."""
         peak, seconds = peak_and_seconds(self.words)
-        ran = instructions(self.words, self.folder) if count < 100_000 else None
+        is_counted = count < 100_000 if is_counted is None else is_counted
+        ran = instructions(self.words, self.folder) if is_counted else None
         more = peak - self.empty
         self.rows.append({"N": count, "bytes": size, "instructions": ran, "seconds": round(seconds, 2), "memory": more})
         print(f"{count:>7} {size:>10} {ran or '-':>14} {seconds:>8.3f} {more:>11} {more / size:>11.2f}")
 
-    def finish(self, name, wanted):
-        """Prints the instructions for each byte and the growth exponent, and writes all down with the figures that are wanted."""
+    def found(self):
+        """The rows with the instructions for each byte and the growth exponent, which are printed."""
         small, large = [row for row in self.rows if row["instructions"]]
         few, many = small["instructions"], large["instructions"]
         rate = (many - few) / (large["bytes"] - small["bytes"])
         exponent = math.log(many / few) / math.log(large["bytes"] / small["bytes"])
         print(f"instructions a byte: {rate:.1f}")
         print(f"growth exponent: {exponent:.3f}")
-        results.record(name, {"script": os.path.basename(sys.argv[0]), "rows": self.rows, "rate": round(rate), "exponent": round(exponent, 2), "wanted": wanted})
+        return {"rows": self.rows, "rate": round(rate), "exponent": round(exponent, 2)}
+
+    def finish(self, name, wanted):
+        """Writes down what was found, with the figures that are wanted."""
+        results.record(name, {"script": os.path.basename(sys.argv[0]), **self.found(), "wanted": wanted})
 
 
 def built(name):
@@ -90,18 +96,42 @@ def built(name):
     return os.path.abspath(sys.argv[1] if len(sys.argv) > 1 else os.path.join(here, f"../crates/{name}/out/{name}"))
 
 
-def measure_filter(name, wanted, write_bib, draw_keys):
-    """Measures the filter over files of three sizes: `write_bib` writes so many entries to a path, and `draw_keys` draws the keys
-    that a document of that size cites."""
-    with tempfile.TemporaryDirectory() as folder:
-        bib, text = os.path.join(folder, "b.bib"), os.path.join(folder, "d.txt")
-        for path in (bib, text):
+class FilterRuns:
+    """Runs of the filter over a bib file and a document in a folder of its own."""
+
+    def __init__(self, folder):
+        self.program, self.folder = built("cite_program"), folder
+        self.bib, self.text = os.path.join(folder, "b.bib"), os.path.join(folder, "d.txt")
+
+    def words(self, style, kind):
+        """The program's words for a style and a format."""
+        return [self.program, style, kind, self.bib, self.text]
+
+    def table(self, style, kind):
+        """A table whose empty run has empty files."""
+        for path in (self.bib, self.text):
             open(path, "w").close()
-        table = Table([built("cite_program"), "num", "plain", bib, text], folder)
-        for count in (1_000, 10_000, 100_000):
-            chance = random.Random(count)
-            write_bib(bib, chance, count)
-            with open(text, "w") as out:
-                out.write(document(chance, draw_keys(chance, count)))
-            table.line(count, os.path.getsize(bib) + os.path.getsize(text))
-        table.finish(name, wanted)
+        return Table(self.words(style, kind), self.folder)
+
+    def write(self, count, write_bib, draw_keys):
+        """Writes a bib file of so many entries, and a document with a marker for each key that is drawn; gives the bytes of both."""
+        chance = random.Random(count)
+        write_bib(self.bib, chance, count)
+        with open(self.text, "w") as out:
+            out.write(document(chance, draw_keys(chance, count)))
+        return os.path.getsize(self.bib) + os.path.getsize(self.text)
+
+    def measured(self, style, kind, sizes, write_bib, draw_keys):
+        """What is found at sizes."""
+        table = self.table(style, kind)
+        for count in sizes:
+            table.line(count, self.write(count, write_bib, draw_keys))
+        return table.found()
+
+
+def measure_filter(name, wanted, write_bib, draw_keys):
+    """Measures the filter by numbers in plain text over files of three sizes: `write_bib` writes so many entries to a path, and `draw_keys`
+    draws the keys that a document of that size cites."""
+    with tempfile.TemporaryDirectory() as folder:
+        found = FilterRuns(folder).measured("numeric", "plain", SIZES, write_bib, draw_keys)
+    results.record(name, {"script": os.path.basename(sys.argv[0]), **found, "wanted": wanted})

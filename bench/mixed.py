@@ -11,13 +11,13 @@ def people(chance):
     return " and ".join(chance.choice(ACCENTED) + ", " + chance.choice(WORDS).title() + " " + chance.choice("ABCDEFGH") + "." for _ in range(2))
 
 
-def article(chance, key):
-    """An article in one of the journals."""
+def article(chance, key, authors=None, year=None):
+    """An article in one of the journals, by authors and of a year that are drawn where none are said."""
     return f"""@article{{{key},
-  author = {{{people(chance)}}},
+  author = {{{authors or people(chance)}}},
   title = {{{title(chance)} in the {{US}} -- a {{\\em short}} survey}},
   journaltitle = journal{chance.randrange(JOURNALS)} # {{ (new series)}},
-  date = {{{chance.randint(1900, 2025)}-{chance.randint(1, 12):02}}}, volume = {chance.randint(1, 99)},
+  date = {{{year or chance.randint(1900, 2025)}-{chance.randint(1, 12):02}}}, volume = {chance.randint(1, 99)},
   pages = {{{chance.randint(1, 99)}--{chance.randint(100, 400)}}},
   doi = {{10.1000/{key}_{chance.randrange(10**6)}}},
 }}

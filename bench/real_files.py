@@ -29,7 +29,7 @@ def files_below(folders):
 
 def answer(path):
     """What the program says of a file, without the names in it."""
-    ran = subprocess.run([PROGRAM, "num", "plain", path, os.devnull], capture_output=True, timeout=60)
+    ran = subprocess.run([PROGRAM, "numeric", "plain", path, os.devnull], capture_output=True, timeout=60)
     if ran.returncode == 0:
         return "read"
     line = ran.stderr.decode(errors="replace").split("\n")[0]

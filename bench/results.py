@@ -15,10 +15,31 @@ by `valgrind --tool=callgrind`; memory is the peak of the process less that of a
 and the growth exponent are those between the smaller two sizes. Seconds tell of the machine and of what else it did.
 """
 
+FILTER = """## The filter
+
+    bench/filter.py
+
+`cite` on a BibLaTeX file of N mixed entries, 335 bytes each, and a document with N markers, one for each 60 bytes, whose keys are drawn evenly.
+Of four entries two are articles in journals that have abbreviations, one is a book, and one a chapter that refers to it; with accents, groups,
+verbatim addresses and math.
+"""
+
+FEW = """## A large file of which little is cited
+
+    bench/few_markers.py
+
+`cite` in plain text on 100,000 of the same entries and a document with 1,000 markers.
+"""
+
+ALIKE = """## Cites that print alike
+
+    bench/alike.py
+
+`cite author-date plain` on articles of one year that are cited once each, in markers of their own: all by other authors; in groups of 100 by one
+author, which letters tell apart; in pairs, of which every other one needs letters and the others names.
+"""
+
 TABLES = {
-    "filter": ("The filter", """`cite` on a BibLaTeX file of N mixed entries, 335 bytes each, and a document with a marker for each ten entries. Of four entries two are
-articles in journals that have abbreviations, one is a book, and one a chapter that refers to it; with accents, groups, verbatim addresses and
-math."""),
     "books": ("Plain books", """`cite` on books of five lines of 130 to 150 bytes in all, and a document with a marker for each 60 bytes, keys drawn evenly."""),
     "reader": ("The reader", """`bib_show` on the file of mixed entries."""),
 }
@@ -110,6 +131,75 @@ def size_table(name, found):
     ])
 
 
+def per_byte(row):
+    """The instructions for each byte of a size, and its memory in times of the input."""
+    return f"{row['instructions'] / row['bytes']:.0f}", f"{row['memory'] / row['bytes']:.1f}"
+
+
+def filter_table(found):
+    """The part of the page about the filter in each style and format."""
+    rows = []
+    for name, run in found["runs"].items():
+        for row in run["rows"]:
+            rows.append(f"| {name} | {number(row['N'])} | {number(row['bytes'])} | {number(row['instructions'])} | {row['seconds']} | {number(row['memory'])} "
+                        f"| {row['memory'] / row['bytes']:.1f} |")
+    rates = [f"| {name} | {run['rate']} | {run['exponent']} |" for name, run in found["runs"].items()]
+    wanted = found["wanted"]
+    return "\n".join([
+        FILTER,
+        "| style, format | N | bytes of input | instructions | seconds | memory | times the input |",
+        "|---|---|---|---|---|---|---|",
+        *rows,
+        "",
+        "| style, format | instructions for each byte of input | growth exponent |",
+        "|---|---|---|",
+        *rates,
+        "",
+        f"Wanted: at most {wanted['rate']}, at most {wanted['exponent']}, and memory at most {wanted['memory']} times the input. {measured(found)}",
+        "",
+    ])
+
+
+def few_table(found):
+    """The part of the page about a large file of which little is cited."""
+    rows = []
+    for name, row in found["rows"].items():
+        rate, times = per_byte(row)
+        rows.append(f"| {name} | {number(row['bytes'])} | {number(row['instructions'])} | {rate} | {row['seconds']} | {number(row['memory'])} | {times} |")
+    wanted = found["wanted"]
+    return "\n".join([
+        FEW,
+        "| style | bytes of input | instructions | for each byte | seconds | memory | times the input |",
+        "|---|---|---|---|---|---|---|",
+        *rows,
+        "",
+        f"Wanted: at most {wanted['rate']} instructions for each byte, and memory at most {wanted['memory']} times the input. {measured(found)}",
+        "",
+    ])
+
+
+def alike_table(found):
+    """The part of the page about cites that print alike."""
+    first = next(iter(found["rows"].values()))
+    rows = []
+    for name, row in found["rows"].items():
+        rate, times = per_byte(row)
+        rows.append(f"| {name} | {number(row['N'])} | {number(row['bytes'])} | {number(row['instructions'])} | {rate} "
+                    f"| {row['instructions'] / first['instructions']:.2f} | {row['seconds']} | {times} |")
+    return "\n".join([
+        ALIKE,
+        "| articles | N | bytes of input | instructions | for each byte | times the first | seconds | memory, times the input |",
+        "|---|---|---|---|---|---|---|---|",
+        *rows,
+        "",
+        f"Wanted: at most {found['wanted']} times the first. {measured(found)}",
+        "",
+    ])
+
+
+PARTS = {"filter": filter_table, "few_markers": few_table, "alike": alike_table}
+
+
 def deep_table(found):
     """The part of the page about deep texts."""
     rows = [f"| {row['text']} | {number(row['bytes'])} | {row['status']} | {row['seconds']} | {number(row['memory'])} |" for row in found["rows"]]
@@ -154,7 +244,8 @@ def real_page(found):
 def write_pages():
     """Writes the pages."""
     found = read()
-    parts = [HEAD] + [size_table(name, found[name]) for name in TABLES if name in found]
+    parts = [HEAD] + [part(found[name]) for name, part in PARTS.items() if name in found]
+    parts += [size_table(name, found[name]) for name in TABLES if name in found]
     parts += [deep_table(found["deep"])] if "deep" in found else []
     parts += [rendering_table(found["rendering"])] if "rendering" in found else []
     with open(os.path.join(TOP, "docs", "PERFORMANCE.md"), "w", encoding="utf-8") as file:

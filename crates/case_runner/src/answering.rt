@@ -1,6 +1,6 @@
 //! One line, and its answer.
 
-use cases::{Refusal, Value, Writer, maybe_text, put_maybe_text, put_text, text};
+use cases::{Refusal, Value, Writer, maybe_text, put_maybe_text, put_text};
 use cases_values::all_written;
 use json::{Reader, Scratch};
 use std::alloc::{AllocError, Global};
@@ -21,7 +21,7 @@ fn parse<'a>(alloc: Global, line: &'a str, scratch: &'a mut Scratch) -> Result<V
 /// Writes the members of the answer to a case.
 fn answer(alloc: Global, case: &Value<'_>, out: &mut Writer) -> Result<(), Refusal> {
     put_maybe_text(out, "name", maybe_text(case, "name")?)?;
-    let kind = text(case, "case")?;
+    let kind = maybe_text(case, "case")?.unwrap_or("finish");
     let is_answered = cases_text::answer(alloc, kind, case, out)?
         || cases_values::answer(alloc, kind, case, out)?
         || cases_entries::answer(alloc, kind, case, out)?
@@ -30,7 +30,8 @@ fn answer(alloc: Global, case: &Value<'_>, out: &mut Writer) -> Result<(), Refus
         || cases_rendering::answer(alloc, kind, case, out)?
         || cases_answers::answer(alloc, kind, case, out)?
         || cases_cite::answer(alloc, kind, case, out)?
-        || cases_citations::answer(alloc, kind, case, out)?;
+        || cases_citations::answer(alloc, kind, case, out)?
+        || cases_driver::answer(alloc, kind, case, out)?;
     if is_answered {
         return Ok(());
     }

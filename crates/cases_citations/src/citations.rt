@@ -2,20 +2,12 @@
 
 use crate::shown::{put_effort, put_facts};
 use cases::{Refusal, Value, Writer};
+use cases_cite::PURPOSES;
 use cases_rendering::put_written_tree;
 use cases_styles::maybe_word;
 use literature::Entry;
-use rendering::{
-    CiteProperties, CitePurpose, CollapseVerdict, Effort, LocaleCode, Rendering, StyleContext,
-};
+use rendering::{CiteProperties, CollapseVerdict, Effort, LocaleCode, Rendering, StyleContext};
 use std::alloc::Global;
-
-const PURPOSES: &[(&str, CitePurpose)] = &[
-    ("author", CitePurpose::Author),
-    ("year", CitePurpose::Year),
-    ("full", CitePurpose::Full),
-    ("prose", CitePurpose::Prose),
-];
 
 const VERDICTS: &[(&str, CollapseVerdict)] = &[
     ("first", CollapseVerdict::First),
@@ -35,7 +27,7 @@ pub(crate) fn put_citation(
     let mut effort = Effort::default();
     let rendering = rendering_of(case, context, entry, properties, code, &mut effort)?;
     put_rendering(alloc, out, &rendering)?;
-    put_effort(case, out, &effort)
+    put_effort(case, out, effort.count())
 }
 
 /// What a style gives of a cite, by its purpose and what collapsing leaves of it.

@@ -1,13 +1,13 @@
 //! The files with locales of a case.
 
 use cases::{Refusal, Value, items};
-use cases_styles::locale;
+use cases_cite::locale_given;
 use rendering_english::english;
 use rendering_locale::Locale;
 use std::alloc::Global;
 
 /// The files with locales; that of English alone where the case does not say them.
-pub(crate) fn files(alloc: Global, case: &Value<'_>) -> Result<Vec<Locale>, Refusal> {
+pub fn locale_files(alloc: Global, case: &Value<'_>) -> Result<Vec<Locale>, Refusal> {
     match items(case, "locale_files")? {
         Some(items) => files_in(alloc, items),
         None => english_alone(alloc),
@@ -32,11 +32,8 @@ fn english_alone(alloc: Global) -> Result<Vec<Locale>, Refusal> {
 
 /// A file: that of English by its name, or a locale as data.
 fn file(alloc: Global, item: &Value<'_>) -> Result<Locale, Refusal> {
-    match item.as_str() {
-        Some("english") => english(alloc).map_err(Refusal::from),
-        Some(_) => {
-            Err(Refusal::Wanted("locale_files", "a list of locales, or of the word english"))
-        }
-        None => locale(alloc, item),
+    match locale_given(alloc, item)? {
+        Some(file) => Ok(file),
+        None => Err(Refusal::Wanted("locale_files", "a list of locales, or of the word english")),
     }
 }

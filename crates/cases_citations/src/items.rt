@@ -20,7 +20,7 @@ pub(crate) fn put_item(
     let mut effort = Effort::default();
     let rendering = context.bibliography(entry, properties, code, &mut effort)?;
     put_rendering(alloc, out, rendering.as_ref())?;
-    put_effort(case, out, &effort)
+    put_effort(case, out, effort.count())
 }
 
 /// Writes what was printed, or null.

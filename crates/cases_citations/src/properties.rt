@@ -98,7 +98,7 @@ fn properties<'a>(alloc: Global, given: &Value<'a>) -> Result<CiteProperties<'a>
 }
 
 /// A number that counts from 0, where it is not left out.
-fn maybe_count(object: &Value<'_>, name: &'static str) -> Result<Option<usize>, Refusal> {
+pub fn maybe_count(object: &Value<'_>, name: &'static str) -> Result<Option<usize>, Refusal> {
     match member(object, name) {
         Some(_) => Ok(Some(count(object, name)?)),
         None => Ok(None),
@@ -106,7 +106,7 @@ fn maybe_count(object: &Value<'_>, name: &'static str) -> Result<Option<usize>, 
 }
 
 /// A number that counts from 0; one that is left out is 0.
-fn place(object: &Value<'_>, name: &'static str) -> Result<usize, Refusal> {
+pub fn place(object: &Value<'_>, name: &'static str) -> Result<usize, Refusal> {
     match member(object, name) {
         Some(_) => count(object, name),
         None => Ok(0),
@@ -119,25 +119,29 @@ fn maybe_locator<'a>(
     given: &Value<'a>,
 ) -> Result<Option<SpecificLocator<'a, ()>>, Refusal> {
     match member(given, "locator") {
-        Some(given) => Ok(Some(read_locator(alloc, given)?)),
+        Some(given) => Ok(Some(locator(alloc, given, ())?)),
         None => Ok(None),
     }
 }
 
-/// A locator.
-fn read_locator<'a>(alloc: Global, given: &Value<'a>) -> Result<SpecificLocator<'a, ()>, Refusal> {
+/// A locator, with what the caller prints it from where it has no text.
+pub fn locator<'a, P: Drop>(
+    alloc: Global,
+    given: &Value<'a>,
+    own: P,
+) -> Result<SpecificLocator<'a, P>, Refusal> {
     only(alloc, given, &["label", "text", "transparent"])?;
     let Some(label) = maybe_word(given, "label", LOCATORS)? else {
         return Err(Refusal::Wanted("label", "the label of a locator"));
     };
-    let payload = payload(given)?;
+    let payload = payload(given, own)?;
     Ok(SpecificLocator { label, payload })
 }
 
-/// What a locator says: its text, or else that the caller prints it.
-fn payload<'a>(given: &Value<'a>) -> Result<LocatorPayload<'a, ()>, Refusal> {
+/// What a locator says: its text, or else what the caller prints it from.
+fn payload<'a, P: Drop>(given: &Value<'a>, own: P) -> Result<LocatorPayload<'a, P>, Refusal> {
     match maybe_text(given, "text")? {
         Some(text) => Ok(LocatorPayload::Str(text)),
-        None => Ok(LocatorPayload::Transparent(TransparentLocator { payload: () })),
+        None => Ok(LocatorPayload::Transparent(TransparentLocator { payload: own })),
     }
 }

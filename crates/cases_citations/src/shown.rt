@@ -5,7 +5,7 @@ use cases::{Refusal, Value, Writer, is_set, put_bool, put_text};
 use cases_rendering::NAME_FORMS;
 use cases_styles::word_of;
 use cases_values::all_written;
-use rendering::{DisambiguatedNameForm, Effort, NameDisambiguationProperties, Rendering};
+use rendering::{DisambiguatedNameForm, NameDisambiguationProperties, Rendering};
 use std::alloc::AllocError;
 
 /// Writes the three facts of a call.
@@ -43,13 +43,9 @@ fn put_forms(out: &mut Writer, forms: &[DisambiguatedNameForm]) -> Result<(), Al
 }
 
 /// Writes how many calls were made, where the case asks for it.
-pub(crate) fn put_effort(
-    case: &Value<'_>,
-    out: &mut Writer,
-    effort: &Effort,
-) -> Result<(), Refusal> {
+pub fn put_effort(case: &Value<'_>, out: &mut Writer, calls: u64) -> Result<(), Refusal> {
     if !is_set(case, "effort")? {
         return Ok(());
     }
-    all_written(&[out.key("effort"), out.u64(effort.count())]).map_err(Refusal::from)
+    all_written(&[out.key("effort"), out.u64(calls)]).map_err(Refusal::from)
 }

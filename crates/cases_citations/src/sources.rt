@@ -1,14 +1,14 @@
 //! The style and the entry of a case.
 
 use crate::citations::put_citation;
-use crate::files::files;
+use crate::files::locale_files;
 use crate::items::put_item;
 use crate::properties::properties_of;
 use crate::writing::put_writing;
 use biblatex::Bibliography;
 use cases::{Refusal, Value, Writer, only, text};
-use cases_cite::{Source, put_bridge_error, put_unknown, read_source};
-use cases_entries::put_parse_error;
+use cases_cite::{Source, put_bridge_error, put_unknown_name, read_source};
+use cases_entries::put_parse_reason;
 use cases_styles::{maybe_code, put_style_error, style_parts};
 use interop::from_biblatex;
 use literature::{Entry, Library};
@@ -67,7 +67,7 @@ fn put_by_style(
     wanted: Wanted,
     style: &Style,
 ) -> Result<(), Refusal> {
-    let files = files(alloc, case)?;
+    let files = locale_files(alloc, case)?;
     put_over_files(alloc, case, out, wanted, style, files.as_slice())
 }
 
@@ -108,7 +108,7 @@ fn put_by_context(
 ) -> Result<(), Refusal> {
     match read_source(alloc, case)? {
         Source::Entries(bibliography) => put_read(alloc, case, out, wanted, context, &bibliography),
-        Source::Refused(error) => put_parse_error(alloc, case, out, &error),
+        Source::Refused(error) => put_parse_reason(alloc, case, out, &error),
     }
 }
 
@@ -140,12 +140,16 @@ fn put_named(
     let name = text(case, "entry")?;
     match named(bibliography, library, name) {
         Some(entry) => put_wanted(alloc, case, out, wanted, context, entry),
-        None => put_unknown(out, name).map_err(Refusal::from),
+        None => put_unknown_name(out, name).map_err(Refusal::from),
     }
 }
 
 /// The entry of a library that a name means in the file that the library is of.
-fn named<'l>(bibliography: &Bibliography, library: &'l Library, name: &str) -> Option<&'l Entry> {
+pub fn named<'l>(
+    bibliography: &Bibliography,
+    library: &'l Library,
+    name: &str,
+) -> Option<&'l Entry> {
     let read = bibliography.get(name)?;
     library.get(read.key.as_str())
 }

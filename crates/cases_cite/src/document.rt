@@ -1,147 +1,125 @@
-//! Documents with their citations.
+//! Documents as their texts and markers.
 
-use crate::bytes::{bytes, put_taken};
-use crate::limits::read_taker;
-use crate::refusals::put_cite_error;
-use crate::taker::Taker;
-use cases::{Refusal, Value, Writer, maybe_text, only, texts};
-use cite::{BufWriteFormat, CiteError, Style, Tap, cite, english, num};
-use std::alloc::Global;
+use cases::{
+    Refusal, Value, Writer, only, put_bool, put_count, put_maybe_text, put_refused, put_text, text,
+};
+use cases_entries::put_message;
+use cases_styles::{LOCATORS, word_of};
+use cases_values::all_written;
+use cite::{Cite, CiteLocator, Document, DocumentError, Piece};
+use rendering_taxonomy::CitePurpose;
+use std::alloc::{AllocError, Global};
 
 /// The members of a case.
-const MEMBERS: [&str; 9] = [
-    "case", "name", "bib", "document", "style", "format", "sections", "sink", "message",
+const MEMBERS: [&str; 4] = ["case", "name", "document", "message"];
+
+/// The words of what a cite is for.
+pub const PURPOSES: &[(&str, CitePurpose)] = &[
+    ("author", CitePurpose::Author),
+    ("year", CitePurpose::Year),
+    ("full", CitePurpose::Full),
+    ("prose", CitePurpose::Prose),
 ];
 
-/// Writes the output of a document, or why it was refused.
+/// `document`: the pieces of a document, or why it was refused.
 pub(crate) fn answer_document(
     alloc: Global,
     case: &Value<'_>,
     out: &mut Writer,
 ) -> Result<(), Refusal> {
     only(alloc, case, &MEMBERS)?;
-    let mut taker = read_taker(alloc, case, "sink")?;
-    answer_into(alloc, case, &mut taker, out)
+    match Document::parse(alloc, text(case, "document")?) {
+        Ok(document) => put_pieces(out, &document).map_err(Refusal::from),
+        Err(error) => put_error(alloc, case, out, &error),
+    }
 }
 
-/// How a document is to be cited.
-#[derive(Clone, Copy)]
-struct Asked<'c> {
-    style: &'c Style,
-    sections: &'c [&'c str],
-    format: BufWriteFormat,
-}
-
-/// Cites the document of a case into a writer, and writes what came of it.
-fn answer_into(
+/// Writes why a document was refused.
+fn put_error(
     alloc: Global,
     case: &Value<'_>,
-    taker: &mut Taker,
     out: &mut Writer,
+    error: &DocumentError,
 ) -> Result<(), Refusal> {
-    let style = style(case)?;
-    let format = format(case)?;
-    let sections = texts(alloc, case, "sections")?;
-    let asked = Asked {
-        style: &style,
-        sections: &sections,
-        format,
-    };
-    cite_bib(alloc, case, asked, taker, out)
-}
-
-/// Cites the document of a case as is asked, and writes what came of it.
-fn cite_bib(
-    alloc: Global,
-    case: &Value<'_>,
-    asked: Asked<'_>,
-    taker: &mut Taker,
-    out: &mut Writer,
-) -> Result<(), Refusal> {
-    let bib = bytes(alloc, case, "bib")?;
-    cite_document(alloc, case, asked, &bib, taker, out)
-}
-
-/// Cites the document of a case with the entries of a bib text, and writes what came of it.
-fn cite_document(
-    alloc: Global,
-    case: &Value<'_>,
-    asked: Asked<'_>,
-    bib: &[u8],
-    taker: &mut Taker,
-    out: &mut Writer,
-) -> Result<(), Refusal> {
-    let document = bytes(alloc, case, "document")?;
-    let outcome = cite_into(alloc, asked, bib, &document, taker);
-    put_outcome(alloc, case, outcome, taker, out)
-}
-
-/// Cites a document with the entries of a bib text into a writer.
-fn cite_into(
-    alloc: Global,
-    asked: Asked<'_>,
-    bib: &[u8],
-    document: &[u8],
-    taker: &mut Taker,
-) -> Result<(), CiteError> {
-    cite(
-        alloc,
-        bib,
-        document,
-        asked.style,
-        &english(),
-        asked.sections,
-        asked.format,
-        &mut Tap::new(taker),
-    )
-}
-
-/// Writes what came of a document.
-fn put_outcome(
-    alloc: Global,
-    case: &Value<'_>,
-    outcome: Result<(), CiteError>,
-    taker: &Taker,
-    out: &mut Writer,
-) -> Result<(), Refusal> {
-    if taker.lacks_memory {
+    let DocumentError::Marker { offset } = error else {
         return Err(Refusal::Memory);
+    };
+    put_marker_error(out, *offset)?;
+    put_message(alloc, case, out, error)
+}
+
+/// Writes at which byte an opening stands that no marker follows.
+pub(crate) fn put_marker_error(out: &mut Writer, offset: usize) -> Result<(), AllocError> {
+    all_written(&[put_refused(out, "Marker"), put_count(out, "offset", offset)])
+}
+
+/// Writes the pieces of a document.
+fn put_pieces(out: &mut Writer, document: &Document<'_>) -> Result<(), AllocError> {
+    all_written(&[out.key("pieces"), out.begin_array()])?;
+    for piece in &document.pieces {
+        put_piece(out, piece)?;
     }
-    match outcome {
-        Ok(()) => put_taken(out, "output", taker).map_err(Refusal::from),
-        Err(error) => put_failure(alloc, case, &error, taker, out),
+    out.end_array()
+}
+
+/// Writes a piece, as an object.
+fn put_piece(out: &mut Writer, piece: &Piece<'_>) -> Result<(), AllocError> {
+    out.begin_object()?;
+    match piece {
+        Piece::Text(text) => put_text(out, "text", text)?,
+        Piece::Marker(cites) => put_cites(out, cites)?,
+    }
+    out.end_object()
+}
+
+/// Writes the cites of a marker.
+fn put_cites(out: &mut Writer, cites: &[Cite<'_>]) -> Result<(), AllocError> {
+    all_written(&[out.key("marker"), out.begin_array()])?;
+    for cite in cites {
+        put_cite(out, cite)?;
+    }
+    out.end_array()
+}
+
+/// Writes a cite, as an object without the members that are not set.
+fn put_cite(out: &mut Writer, cite: &Cite<'_>) -> Result<(), AllocError> {
+    all_written(&[
+        out.begin_object(),
+        put_text(out, "entry", cite.name),
+        put_locator(out, &cite.locator),
+        put_hidden(out, cite.hidden),
+        put_maybe_text(out, "purpose", purpose_word(cite.purpose)),
+        out.end_object(),
+    ])
+}
+
+/// The word of what a cite is for, where it is no ordinary one.
+fn purpose_word(purpose: Option<CitePurpose>) -> Option<&'static str> {
+    match purpose {
+        Some(purpose) => Some(word_of(PURPOSES, purpose)),
+        None => None,
     }
 }
 
-/// Writes why a document was refused, and what the writer took where it was the one that failed.
-fn put_failure(
-    alloc: Global,
-    case: &Value<'_>,
-    error: &CiteError,
-    taker: &Taker,
-    out: &mut Writer,
-) -> Result<(), Refusal> {
-    put_cite_error(alloc, case, out, error)?;
-    match error {
-        CiteError::Write(_) => put_taken(out, "taken", taker).map_err(Refusal::from),
-        _ => Ok(()),
+/// Writes that a cite is hidden, where it is.
+fn put_hidden(out: &mut Writer, hidden: bool) -> Result<(), AllocError> {
+    if hidden {
+        put_bool(out, "hidden", true)
+    } else {
+        Ok(())
     }
 }
 
-/// The style of a case.
-fn style(case: &Value<'_>) -> Result<Style, Refusal> {
-    match maybe_text(case, "style")? {
-        None | Some("num") => Ok(num()),
-        Some(_) => Err(Refusal::Wanted("style", "num")),
-    }
-}
-
-/// The format of a case.
-fn format(case: &Value<'_>) -> Result<BufWriteFormat, Refusal> {
-    match maybe_text(case, "format")? {
-        None => Ok(BufWriteFormat::default()),
-        Some("plain") => Ok(BufWriteFormat::Plain),
-        Some("html") => Ok(BufWriteFormat::Html),
-        Some(_) => Err(Refusal::Wanted("format", "plain or html")),
+/// Writes the locator of a cite, where it has one.
+fn put_locator(out: &mut Writer, locator: &Option<CiteLocator<'_>>) -> Result<(), AllocError> {
+    match locator {
+        Some(locator) => all_written(&[
+            out.key("locator"),
+            out.begin_object(),
+            put_text(out, "label", word_of(LOCATORS, locator.label)),
+            put_text(out, "text", locator.value),
+            out.end_object(),
+        ]),
+        None => Ok(()),
     }
 }

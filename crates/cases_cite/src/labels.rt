@@ -1,11 +1,11 @@
 //! Labels of the entries of BibLaTeX files.
 
 use crate::bridge::put_bridge_error;
-use crate::refusals::put_unknown;
+use crate::refusals::put_unknown_name;
 use crate::source::{Source, read_source};
 use biblatex::{Bibliography, Entry};
 use cases::{Refusal, Value, Writer, count, member, only, put_text, text};
-use cases_entries::put_parse_error;
+use cases_entries::put_parse_reason;
 use cases_literature::boxed;
 use interop::entry;
 use rendering_entries::Alphanumerical;
@@ -25,7 +25,7 @@ pub(crate) fn answer_label(
     only(alloc, case, &MEMBERS)?;
     match read_source(alloc, case)? {
         Source::Entries(bibliography) => put_named(alloc, case, out, &bibliography),
-        Source::Refused(error) => put_parse_error(alloc, case, out, &error),
+        Source::Refused(error) => put_parse_reason(alloc, case, out, &error),
     }
 }
 
@@ -39,7 +39,7 @@ fn put_named(
     let name = text(case, "entry")?;
     match bibliography.get(name) {
         Some(read) => put_read(alloc, case, out, read),
-        None => put_unknown(out, name).map_err(Refusal::from),
+        None => put_unknown_name(out, name).map_err(Refusal::from),
     }
 }
 

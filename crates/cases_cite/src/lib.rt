@@ -1,21 +1,25 @@
-//! Cases of the bridge from BibLaTeX files to libraries, of labels and documents with their citations, and of the programs.
+//! Cases of the bridge from BibLaTeX files to libraries, of labels, of documents and their citations, and of the programs.
 #![tactic(auto)]
 
 mod bridge;
 mod bytes;
+mod citing;
 mod document;
 mod files;
 mod labels;
 mod limits;
 mod program;
 mod refusals;
+mod setting;
 mod show;
 mod source;
 mod taker;
 
 pub use bridge::put_bridge_error;
 use cases::{Answered, Value, Writer};
-pub use refusals::put_unknown;
+pub use document::PURPOSES;
+pub use refusals::put_unknown_name;
+pub use setting::locale_given;
 pub use source::{Source, read_source};
 use std::alloc::Global;
 
@@ -24,6 +28,7 @@ pub fn answer(alloc: Global, kind: &str, case: &Value<'_>, out: &mut Writer) -> 
     let answered = match kind {
         "bridge" => bridge::answer_bridge(alloc, case, out),
         "citation_label" => labels::answer_label(alloc, case, out),
+        "cite" => citing::answer_cite(alloc, case, out),
         "document" => document::answer_document(alloc, case, out),
         "program" => program::answer_program(alloc, case, out),
         "show" => show::answer_show(alloc, case, out),

@@ -1,14 +1,20 @@
 //! Why entries are not bridged and documents not cited, as members of an answer. Out of memory has no answer.
 
+use crate::document::put_marker_error;
 use cases::{Refusal, Value, Writer, put_count, put_refused, put_text};
 use cases_entries::{put_message, put_parse_error};
 use cases_values::{all_written, type_error_name};
-use cite::{BibTextError, CiteError, DocumentTextError, FieldFault, SinkFault};
+use cite::{BibTextError, CiteError, DocumentTextError, FieldFault, SelectorError, SinkFault};
 use std::alloc::{AllocError, Global};
 
 /// Writes a name that means no entry.
-pub fn put_unknown(out: &mut Writer, name: &str) -> Result<(), AllocError> {
+pub(crate) fn put_unknown(out: &mut Writer, name: &str) -> Result<(), AllocError> {
     all_written(&[put_refused(out, "Name"), put_text(out, "entry", name)])
+}
+
+/// The same, with the name as a member `name`.
+pub fn put_unknown_name(out: &mut Writer, name: &str) -> Result<(), AllocError> {
+    all_written(&[put_refused(out, "Name"), put_text(out, "name", name)])
 }
 
 /// Writes the fields that cannot be read.
@@ -54,9 +60,9 @@ fn put_reason(alloc: Global, out: &mut Writer, error: &CiteError) -> Result<(), 
         CiteError::Fields(faults) => put_faults(out, faults),
         CiteError::Document(error) => put_document_error(out, error),
         CiteError::Name(name) => put_unknown(out, name.as_str()),
+        CiteError::Selector { index, error } => return put_section_error(alloc, out, *index, error),
         CiteError::Overflow => put_refused(out, "Overflow"),
         CiteError::Write(fault) => put_write_error(out, *fault),
-        CiteError::NotYet => put_refused(out, "NotYet"),
     };
     written.map_err(Refusal::from)
 }
@@ -74,12 +80,20 @@ fn put_bib_error(alloc: Global, out: &mut Writer, error: &BibTextError) -> Resul
 fn put_document_error(out: &mut Writer, error: &DocumentTextError) -> Result<(), AllocError> {
     let refused = match error {
         DocumentTextError::Utf8 => put_refused(out, "Utf8"),
-        DocumentTextError::Marker { offset } => all_written(&[
-            put_refused(out, "Marker"),
-            put_count(out, "offset", *offset),
-        ]),
+        DocumentTextError::Marker { offset } => put_marker_error(out, *offset),
     };
     all_written(&[refused, put_text(out, "stage", "Document")])
+}
+
+/// Writes which section was refused, by its place from zero, and what is said of it.
+fn put_section_error(
+    alloc: Global,
+    out: &mut Writer,
+    index: usize,
+    error: &SelectorError,
+) -> Result<(), Refusal> {
+    all_written(&[put_refused(out, "Selector"), put_count(out, "index", index)])?;
+    put_text(out, "error", error.to_string(alloc)?.as_str()).map_err(Refusal::from)
 }
 
 /// Writes what a sink did that did not take all.

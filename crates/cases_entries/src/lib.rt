@@ -16,7 +16,7 @@ use cases::{Answered, Value, Writer};
 pub use data::read_entry;
 use entries::answer_entry;
 use entry_types::answer_entry_type;
-pub use refusals::{put_message, put_parse_error};
+pub use refusals::{put_message, put_parse_error, put_parse_reason};
 use std::alloc::Global;
 use values::{answer_abbreviations, answer_field};
 

@@ -30,7 +30,21 @@ pub fn put_parse_error(
     let ParseError::Refused { kind, span } = error else {
         return Err(Refusal::Memory);
     };
-    all_written(&[put_kind(out, kind), put_span(out, span)])?;
+    all_written(&[put_kind(out, kind, "abbreviation"), put_span(out, span)])?;
+    put_message(alloc, case, out, error)
+}
+
+/// The same without its place. The name of an abbreviation is a member `name`.
+pub fn put_parse_reason(
+    alloc: Global,
+    case: &Value<'_>,
+    out: &mut Writer,
+    error: &ParseError,
+) -> Result<(), Refusal> {
+    let ParseError::Refused { kind, span: _ } = error else {
+        return Err(Refusal::Memory);
+    };
+    put_kind(out, kind, "name")?;
     put_message(alloc, case, out, error)
 }
 
@@ -73,8 +87,8 @@ fn put_refused_for(out: &mut Writer, word: &str, name: &str, text: &str) -> Resu
     put_text(out, name, text)
 }
 
-/// Writes why a text was not read.
-fn put_kind(out: &mut Writer, kind: &ParseErrorKind) -> Result<(), AllocError> {
+/// Writes why a text was not read. The name of an abbreviation is the member of that name.
+fn put_kind(out: &mut Writer, kind: &ParseErrorKind, abbreviation: &str) -> Result<(), AllocError> {
     match kind {
         ParseErrorKind::UnexpectedEof => put_refused(out, "UnexpectedEof"),
         ParseErrorKind::Unexpected(token) => {
@@ -84,10 +98,10 @@ fn put_kind(out: &mut Writer, kind: &ParseErrorKind) -> Result<(), AllocError> {
             put_refused_for(out, "Expected", "token", token_name(*token))
         }
         ParseErrorKind::UnknownAbbreviation(name) => {
-            put_refused_for(out, "UnknownAbbreviation", "abbreviation", name.as_str())
+            put_refused_for(out, "UnknownAbbreviation", abbreviation, name.as_str())
         }
         ParseErrorKind::AbbreviationCycle(name) => {
-            put_refused_for(out, "AbbreviationCycle", "abbreviation", name.as_str())
+            put_refused_for(out, "AbbreviationCycle", abbreviation, name.as_str())
         }
         ParseErrorKind::MalformedCommand => put_refused(out, "MalformedCommand"),
         ParseErrorKind::DuplicateKey(key) => {

@@ -14,7 +14,7 @@ mod written_trees;
 use cases::{Answered, Refusal, Value, Writer};
 pub use name_forms::NAME_FORMS;
 use std::alloc::Global;
-pub use tree_calls::put_written_tree;
+pub use tree_calls::{put_written, put_written_tree};
 
 /// That the kind is known, where its members were written.
 fn told(written: Result<(), Refusal>) -> Answered {

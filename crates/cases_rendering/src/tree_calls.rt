@@ -28,14 +28,19 @@ fn put_simple(out: &mut Writer, tree: &ElemChildren) -> Result<(), AllocError> {
     put_tree(out, "tree", &simplify_children(tree.clone()?)?)
 }
 
+/// Writes what is written of a tree.
+pub fn put_written(alloc: Global, out: &mut Writer, tree: &ElemChildren) -> Result<(), AllocError> {
+    put_plain(alloc, out, tree)?;
+    put_html(alloc, out, tree)
+}
+
 /// Writes what is written of a tree, and its normal form.
 pub fn put_written_tree(
     alloc: Global,
     out: &mut Writer,
     tree: &ElemChildren,
 ) -> Result<(), Refusal> {
-    put_plain(alloc, out, tree)?;
-    put_html(alloc, out, tree)?;
+    put_written(alloc, out, tree)?;
     Ok(put_simple(out, tree)?)
 }
 

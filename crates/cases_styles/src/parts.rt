@@ -35,7 +35,8 @@ const COLLAPSES: &[(&str, Collapse)] = &[
     ("year-suffix-ranged", Collapse::YearSuffixRanged),
 ];
 
-const ALIGNS: &[(&str, SecondFieldAlign)] = &[
+/// The words of where the second field of an item stands.
+pub const ALIGNS: &[(&str, SecondFieldAlign)] = &[
     ("margin", SecondFieldAlign::Margin),
     ("flush", SecondFieldAlign::Flush),
 ];

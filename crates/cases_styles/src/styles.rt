@@ -95,7 +95,7 @@ fn set_all(alloc: Global, style: &Value<'_>, parts: &mut StyleParts) -> Result<(
 }
 
 /// What a style is made of.
-fn parts_of(alloc: Global, style: &Value<'_>) -> Result<StyleParts, Refusal> {
+pub fn parts_of(alloc: Global, style: &Value<'_>) -> Result<StyleParts, Refusal> {
     let mut parts = empty_parts(alloc);
     set_all(alloc, style, &mut parts)?;
     Ok(parts)

@@ -1,37 +1,45 @@
 -- What is said of a refusal goes on one line.
-use Rattle.std.proofs.Common.{ℕ, Bool, true, false, cond, not, eqb, ltb, All, List, [], ◌∷◌, ◌++◌, find, length, is_some, Option, Some, None, Result, Ok, Err, codes, decimal, refl, sym, subst}
-use Rattle.std.specs.Prelude.{IfOk, IfErr, IfSome, MatchResult}
+use Rattle.std.proofs.Common.{ℕ, Bool, true, false, cond, All, List, [], ◌∷◌, ◌++◌, Option, Some, None, Result, Ok, Err, codes, decimal, refl, sym, subst}
+use Rattle.std.specs.List.{enumerate_from}
+use Rattle.std.specs.Prelude.{IfErr, IfOk, MatchResult}
 use Rattle.std.specs.Str.{chars, is_utf8}
-use Rattle.std.proofs.lemmas.List.Elements.{All-nil, All-head, All-tail, All-map, All-weaker}
-use Rattle.laws.specs.Runs.{AllPassTest, front_of, after}
+use Rattle.std.proofs.lemmas.List.Elements.{All-nil, All-weaker}
+use Rattle.laws.specs.Results.{◌>>=◌}
 use Rattle.laws.specs.Text.{text}
-use Rattle.laws.proofs.Runs.{all-front}
-use Rattle.laws.proofs.Throughout.{bind_match, each-gives}
+use Rattle.laws.proofs.Throughout.{bind_match}
 use Rattle.biblatex.specs.Lines.{HasNoLineFeed}
 use Rattle.biblatex.specs.Bibliographies.{Listed}
 use Rattle.biblatex.specs.Entries.{Source}
 use Rattle.biblatex.specs.Reading as reading
 use Rattle.biblatex.specs.Errors.{reason_text}
-use Rattle.biblatex.proofs.Lines.{append, passing, spelled, of_number}
+use Rattle.biblatex.proofs.Lines.{append, of_number}
 use Rattle.biblatex.proofs.OneLine.{IsSaidInLine, HasPlainKey, FilePlain, text-plain}
 use Rattle.literature_entries.specs.Wholes.{Whole}
+use Rattle.literature_selectors.specs.Reading.{Fault as SelectorFault, selector_of}
+use Rattle.literature_selectors.specs.Trees.{Tree}
 use Rattle.interop.specs.Bridge.{Fault}
 use Rattle.interop.specs.Shelf.{library_of}
 use Rattle.interop.specs.DateFields.{field_name}
 use Rattle.interop.specs.declared.error.DateField.{DateField}
 use Rattle.interop.specs.declared.error.DateField.TheVariants as dates
 use Rattle.interop.proofs.FaultNames.{HoldsOfFaults, library_faults}
-use Rattle.cite.specs.Marker.{Citation, is_name, cut_at_opening, closed, name_at, cited_by, marked, citation_at, citations_of}
-use Rattle.cite.specs.Works.{Works, meaning}
-use Rattle.cite.specs.Order.{names_of, first_unknown, cited, order_of}
-use Rattle.cite.specs.Output.{output}
-use Rattle.cite.specs.Verdict.{Refusal, document_not_utf8, overflow, asks_too_much, refused_as, IsReadIf, IsRead, shelved, library_stage, IsShelved, offset_of, marker_stage, document_stage, without_unknown, name_stage, numbers_fit, output_stage, verdict, IsVerdictIf}
-use Rattle.cite.specs.Refusals.{marker_text}
-use Rattle.cite.specs.Program.{fault_said}
+use Rattle.rendering.specs.Purposes.{StyleContext}
+use Rattle.cite_markers.specs.Document.{Piece, document_of}
+use Rattle.cite_markers.specs.Marker.{Cite}
+use Rattle.driver.specs.Finish.{Rendered, finish}
+use Rattle.cite.specs.Markers.{CitedWork, cited_work, cited_works, markers_of, with_work}
 use Rattle.cite.specs.OneLine.{IsSaidInLines, RefusalsAreSaidInLines}
-
-abbrev Whatever : {A : Type 0} → A → Type 0
-Whatever x = Unit {0}
+use Rattle.cite.specs.Program.{fault_said}
+use Rattle.cite.specs.Refusals.{marker_text, selector_text}
+use Rattle.cite.specs.Requests.{is_same_own}
+use Rattle.cite.specs.Sections.{SectionFault, chosen, selector_in, selector_or_fault, selectors_of}
+use Rattle.cite.specs.Stages.{Refusal, bib_refused, document_not_utf8, no_marker, overflow, section_refused, unknown_name, refused_as, IsReadIf, IsRead, works_from, library_stage, IsShelved, document_stage, name_stage, section_stage}
+use Rattle.cite.specs.Steps.{all_ok}
+use Rattle.cite.specs.Verdict.{Task, driver_document, driver_stage, rendered_stage, verdict, IsVerdict}
+use Rattle.cite.specs.Works.{Works, meaning}
+use Rattle.cite.proofs.MarkersPlain.{DocumentPlain, HasPlainName, MarkerPlain, document_plain, markers_plain}
+use Rattle.cite.proofs.SelectorsPlain.{FaultPlain, selector_plain}
+use Rattle.cite.proofs.StepsRefused.{Whatever, all_refuse, each_refuses, whatever}
 
 abbrev IsSaidPlain : Fault → Type 0
 IsSaidPlain f = HasNoLineFeed (fault_said f)
@@ -40,76 +48,21 @@ IsSaidPlain f = HasNoLineFeed (fault_said f)
 abbrev RefusesInLines : {A : Type 0} → Result A Refusal → Type 0
 RefusesInLines r = IfErr r IsSaidInLines
 
--- ---- names in a document
-
-abbrev HasPlainName : Citation → Type 0
-HasPlainName c = AllPassTest is_name c.name
-
-abbrev NamePlain : List ℕ × List ℕ → Type 0
-NamePlain p = AllPassTest is_name p.0
-
-abbrev StepPlain : Option Citation × List ℕ → Type 0
-StepPlain p = IfSome p.0 HasPlainName
-
-abbrev ReadPlain : List Citation × List ℕ → Type 0
-ReadPlain p = All HasPlainName p.0
-
-closed-plain : (name rest : List ℕ) → AllPassTest is_name name → IfSome (closed name rest) NamePlain
-closed-plain name [] all = tt
-closed-plain name (c ∷ rest) all = by_test (eqb c 93)
-  where
-    by_test : (b : Bool) → IfSome (cond b (Some (name, rest)) None) NamePlain
-    by_test true = all
-    by_test false = tt
-
-name_at-plain : (cs : List ℕ) → IfSome (name_at cs) NamePlain
-name_at-plain [] = tt
-name_at-plain (c ∷ cs) = by_test (is_name c)
-  where
-    by_test : (b : Bool) → IfSome (cond b (closed (front_of is_name (c ∷ cs)) (after is_name (c ∷ cs))) None) NamePlain
-    by_test true = closed-plain (front_of is_name (c ∷ cs)) (after is_name (c ∷ cs)) (all-front is_name (c ∷ cs))
-    by_test false = tt
-
-cited_by-plain : (before opened : List ℕ) (o : Option (List ℕ × List ℕ)) → IfSome o NamePlain → IfOk (cited_by before opened o) StepPlain
-cited_by-plain before opened None all = tt
-cited_by-plain before opened (Some p) all = all
-
-citation_at-plain : (cs : List ℕ) → IfOk (citation_at cs) StepPlain
-unfolding citation_at
-citation_at-plain cs = by_cut (cut_at_opening cs)
-  where
-    by_cut : (o : Option (List ℕ × List ℕ)) → IfOk (marked cs o) StepPlain
-    by_cut None = tt
-    by_cut (Some p) = cited_by-plain p.0 p.1 (name_at p.1) (name_at-plain p.1)
-
-citations-plain : (cs : List ℕ) → IfOk (citations_of cs) ReadPlain
-unfolding citations_of
-citations-plain cs = each-gives HasPlainName citation_at citation_at-plain cs
-
-names-plain : (cs : List Citation) → All HasPlainName cs → All HasNoLineFeed (names_of cs)
-names-plain cs all =
-    All-map HasNoLineFeed (λ (c : Citation). text c.name) cs
-    (All-weaker HasPlainName (λ (c : Citation). HasNoLineFeed (text c.name)) (λ c is. spelled c.name (passing is_name c.name refl is)) cs all)
-
-found-plain : (test : List ℕ → Bool) (names : List (List ℕ)) → All HasNoLineFeed names → IfSome (find test names) HasNoLineFeed
-found-plain test [] all = tt
-found-plain test (n ∷ names) all = by_test (found-plain test names (All-tail HasNoLineFeed n names all)) (test n)
-  where
-    by_test : IfSome (find test names) HasNoLineFeed → (b : Bool) → IfSome (cond b (Some n) (find test names)) HasNoLineFeed
-    by_test more true = All-head HasNoLineFeed n names all
-    by_test more false = more
+refused_plain : {F X : Type 0} (P : X → Type 0) (Q : F → Type 0) (refusal : F → Refusal) → ((f : F) → Q f → IsSaidInLines (refusal f)) → (r : Result X F) → MatchResult r P Q → MatchResult (refused_as refusal r) P IsSaidInLines
+refused_plain P Q refusal said (Ok x) is = is
+refused_plain P Q refusal said (Err f) is = said f is
 
 -- ---- the bib text
-
-refused_as-plain : (meaning : Result Listed reading.Refusal) → MatchResult meaning FilePlain IsSaidInLine → MatchResult (refused_as meaning) FilePlain IsSaidInLines
-refused_as-plain (Ok file) plain = plain
-refused_as-plain (Err refusal) plain = record { text = append (codes "bib: ") (reason_text refusal.reason) refl plain; faults = All-nil IsSaidPlain }
 
 read-plain : (bib : List ℕ) (read : Result Listed Refusal) → IsRead bib read → MatchResult read FilePlain IsSaidInLines
 read-plain bib read is = by_utf8 (is_utf8 bib) is
   where
+    said : (refusal : reading.Refusal) → IsSaidInLine refusal → IsSaidInLines (bib_refused refusal)
+    said refusal plain = record { text = append (codes "bib: ") (reason_text refusal.reason) refl plain; faults = All-nil IsSaidPlain }
+
     by_utf8 : (b : Bool) → IsReadIf b bib read → MatchResult read FilePlain IsSaidInLines
-    by_utf8 true (meaning, means, same) = subst (λ (r : Result Listed Refusal). MatchResult r FilePlain IsSaidInLines) (sym same) (refused_as-plain meaning (text-plain (chars bib) meaning means))
+    by_utf8 true (meaning, means, same) =
+        subst (λ (r : Result Listed Refusal). MatchResult r FilePlain IsSaidInLines) (sym same) (refused_plain FilePlain IsSaidInLine bib_refused said meaning (text-plain (chars bib) meaning means))
     by_utf8 false same = subst (λ (r : Result Listed Refusal). MatchResult r FilePlain IsSaidInLines) (sym same) (record { text = refl; faults = All-nil IsSaidPlain })
 
 field-plain : (field : DateField) → HasNoLineFeed (field_name field)
@@ -122,13 +75,13 @@ fault-plain : (key : List ℕ) → HasNoLineFeed key → HoldsOfFaults IsSaidPla
 fault-plain key plain field kind =
     append (codes "fields: ") (key ++ (codes ": " ++ field_name field)) refl (append key (codes ": " ++ field_name field) plain (append (codes ": ") (field_name field) refl (field-plain field)))
 
-shelved-plain : (file : Listed) (r : Result (List Whole) (List Fault)) → IfErr r (All IsSaidPlain) → RefusesInLines (shelved file r)
-shelved-plain file (Ok library) all = tt
-shelved-plain file (Err faults) all = record { text = refl; faults = all }
+works-plain : (file : Listed) (r : Result (List Whole) (List Fault)) → IfErr r (All IsSaidPlain) → RefusesInLines (works_from file r)
+works-plain file (Ok library) all = tt
+works-plain file (Err faults) all = record { text = refl; faults = all }
 
 library-plain : (file : Listed) → FilePlain file → RefusesInLines (library_stage file)
 library-plain file plain =
-    shelved-plain file (library_of file.entries)
+    works-plain file (library_of file.entries)
     (library_faults IsSaidPlain file.entries (All-weaker HasPlainKey (λ (e : Source). HoldsOfFaults IsSaidPlain e.key) (λ e is. fault-plain e.key is) file.entries plain))
 
 shelf-plain : (bib : List ℕ) (works : Result Works Refusal) → IsShelved bib works → RefusesInLines works
@@ -137,48 +90,74 @@ shelf-plain bib works (read, is, comes) =
 
 -- ---- the document and its names
 
-marker-plain : (document : List ℕ) (r : Result (List Citation × List ℕ) (List ℕ)) → IfOk r ReadPlain → MatchResult (marker_stage document r) ReadPlain IsSaidInLines
-marker-plain document (Ok p) plain = plain
-marker-plain document (Err opened) plain =
-    let place = offset_of document opened in
+place-plain : (place : ℕ) → IsSaidInLines (no_marker place)
+place-plain place =
     record { text = append (codes "document: ") (marker_text place) refl (append (codes "marker at byte ") (decimal place) refl (of_number place)); faults = All-nil IsSaidPlain }
 
-document-plain : (document : List ℕ) → MatchResult (document_stage document) ReadPlain IsSaidInLines
+pieces-plain : (r : Result (List Piece) ℕ) → IfOk r DocumentPlain → MatchResult (refused_as no_marker r) DocumentPlain IsSaidInLines
+pieces-plain (Ok pieces) plain = plain
+pieces-plain (Err place) plain = place-plain place
+
+document-plain : (document : List ℕ) → MatchResult (document_stage document) DocumentPlain IsSaidInLines
 document-plain document = by_utf8 (is_utf8 document)
   where
-    by_utf8 : (b : Bool) → MatchResult (cond b (marker_stage document (citations_of (chars document))) (Err document_not_utf8)) ReadPlain IsSaidInLines
-    by_utf8 true = marker-plain document (citations_of (chars document)) (citations-plain (chars document))
+    by_utf8 : (b : Bool) → MatchResult (cond b (refused_as no_marker (document_of (chars document))) (Err document_not_utf8)) DocumentPlain IsSaidInLines
+    by_utf8 true = pieces-plain (document_of (chars document)) (document_plain (chars document))
     by_utf8 false = record { text = refl; faults = All-nil IsSaidPlain }
 
-unknown-plain : (names : List (List ℕ)) (o : Option (List ℕ)) → IfSome o HasNoLineFeed → RefusesInLines (without_unknown names o)
-unknown-plain names None plain = tt
-unknown-plain names (Some name) plain = record { text = append (codes "unknown name ") name refl plain; faults = All-nil IsSaidPlain }
+cite-plain : (works : Works) (c : Cite) → HasPlainName c → IfErr (cited_work works c) HasNoLineFeed
+cite-plain works c plain = by_work (meaning (text c.name) works)
+  where
+    by_work : (o : Option Whole) → IfErr (with_work c o) HasNoLineFeed
+    by_work None = plain
+    by_work (Some w) = tt
 
-numbers-plain : {A : Type 0} (b : Bool) (x : A) → RefusesInLines (cond b (Err overflow) (Ok x))
-numbers-plain true x = record { text = refl; faults = All-nil IsSaidPlain }
-numbers-plain false x = tt
+names-plain : (works : Works) (pieces : List Piece) → DocumentPlain pieces → RefusesInLines (name_stage works pieces)
+names-plain works pieces plain =
+    refused_plain Whatever HasNoLineFeed unknown_name (λ name is. record { text = append (codes "unknown name ") name refl is; faults = All-nil IsSaidPlain }) (cited_works works pieces)
+    (all_refuse MarkerPlain HasNoLineFeed (all_ok (cited_work works)) (λ cites all. all_refuse HasPlainName HasNoLineFeed (cited_work works) (cite-plain works) cites all) (markers_of pieces) (markers_plain pieces plain))
 
-output-plain : (works : Works) (citations : List Citation) (tail : List ℕ) → All HasPlainName citations → RefusesInLines (output_stage works citations tail)
-unfolding output_stage
-output-plain works citations tail plain =
-    let names = names_of citations in
-    bind_match Whatever Whatever IsSaidInLines (name_stage works names) (λ known. numbers_fit works (order_of (cited works known)) citations tail)
-    (unknown-plain names (first_unknown works names) (found-plain (λ n. not (is_some (meaning n works))) names (names-plain citations plain)))
-    (λ known _. numbers-plain (ltb 2147483647 (length (order_of (cited works known)))) (output works (order_of (cited works known)) citations tail))
+-- ---- the sections
+
+abbrev SectionPlain : SectionFault → Type 0
+SectionPlain s = FaultPlain s.fault
+
+section-plain : (s : SectionFault) → SectionPlain s → IsSaidInLines (section_refused s)
+section-plain s plain = record {
+  text = append (codes "section ") (decimal s.index ++ (codes ": " ++ selector_text s.fault)) refl (append (decimal s.index) (codes ": " ++ selector_text s.fault) (of_number s.index) (append (codes ": ") (selector_text s.fault) refl plain));
+  faults = All-nil IsSaidPlain;
+}
+
+selector-plain : (p : ℕ × List ℕ) → IfErr (selector_in p) SectionPlain
+selector-plain (index, section) = by_selector (selector_of section) (selector_plain section)
+  where
+    by_selector : (r : Result Tree SelectorFault) → IfErr r FaultPlain → IfErr (selector_or_fault index r) SectionPlain
+    by_selector (Ok x) plain = tt
+    by_selector (Err f) plain = plain
+
+sections-plain : (sections : List (List ℕ)) → RefusesInLines (section_stage sections)
+sections-plain sections =
+    refused_plain Whatever SectionPlain section_refused section-plain (selectors_of sections) (each_refuses SectionPlain selector_in selector-plain (enumerate_from 0 sections))
 
 -- ---- all stages
 
-verdict-plain : (works : Result Works Refusal) (document : List ℕ) → RefusesInLines works → RefusesInLines (verdict works document)
-unfolding verdict
-verdict-plain works document plain =
-    bind_match Whatever Whatever IsSaidInLines works _ plain (λ shelf _.
-    bind_match ReadPlain Whatever IsSaidInLines (document_stage document) (λ read. output_stage shelf read.0 read.1) (document-plain document) (λ read named.
-    output-plain shelf read.0 read.1 named))
+driver-plain : (x : StyleContext) (wanted : List Whole) (markers : List (List CitedWork)) → RefusesInLines (driver_stage x wanted markers)
+driver-plain x wanted markers =
+    refused_plain Whatever Whatever (λ _. overflow) (λ o _. record { text = refl; faults = All-nil IsSaidPlain }) (finish is_same_own (driver_document x wanted markers)) (whatever (finish is_same_own (driver_document x wanted markers)))
 
-answer-plain : (too_much : Bool) (bib document : List ℕ) (answer : Result (List ℕ) Refusal) → IsVerdictIf too_much bib document answer → RefusesInLines answer
-answer-plain true bib document answer is = subst (λ (r : Result (List ℕ) Refusal). RefusesInLines r) (sym is) (record { text = refl; faults = All-nil IsSaidPlain })
-answer-plain false bib document answer (works, is, comes) =
-    subst (λ (r : Result (List ℕ) Refusal). RefusesInLines r) (sym comes) (verdict-plain works document (shelf-plain bib works is))
+rendered-plain : (works : Works) (x : StyleContext) (sections : List (List ℕ)) (pieces : List Piece) → DocumentPlain pieces → RefusesInLines (rendered_stage works x sections pieces)
+unfolding rendered_stage
+rendered-plain works x sections pieces plain =
+    bind_match Whatever Whatever IsSaidInLines (name_stage works pieces) _ (names-plain works pieces plain) (λ markers _.
+    bind_match Whatever Whatever IsSaidInLines (section_stage sections) _ (sections-plain sections) (λ selectors _.
+    driver-plain x (chosen selectors works.library) markers))
+
+verdict-plain : (works : Result Works Refusal) (task : Task) → RefusesInLines works → RefusesInLines (verdict works task)
+unfolding verdict
+verdict-plain works task plain =
+    bind_match Whatever Whatever IsSaidInLines works _ plain (λ shelf _.
+    bind_match DocumentPlain Whatever IsSaidInLines (document_stage task.document) _ (document-plain task.document) (λ pieces named.
+    bind_match Whatever Whatever IsSaidInLines (rendered_stage shelf task.context task.sections pieces) _ (rendered-plain shelf task.context task.sections pieces named) (λ rendered _. tt)))
 
 pub said_in_lines : RefusalsAreSaidInLines
-said_in_lines bib document sections format refusal is = answer-plain (asks_too_much sections format) bib document (Err refusal) is
+said_in_lines bib task refusal (works, is, comes) = subst (λ (r : Result (List ℕ) Refusal). RefusesInLines r) (sym comes) (verdict-plain works task (shelf-plain bib works is))

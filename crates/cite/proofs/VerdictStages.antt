@@ -1,58 +1,45 @@
--- What is answered once it is known what a bib text comes to.
-use Rattle.std.proofs.Common.{◌≡◌, ℕ, Bool, true, false, eqb, List, Option, Some, None, Result, Ok, Err, refl, sym, subst}
-use Rattle.cite.specs.Answers.{Wanted, IsBibRefusal, IsRefusal, Answers}
-use Rattle.cite.specs.Formats.{is_html}
-use Rattle.cite.specs.Marker.{Citation}
+-- What a call comes to, stage by stage.
+use Rattle.std.proofs.Common.{◌≡◌, ℕ, List, Result, Ok, Err, refl, sym}
+use Rattle.laws.specs.Text.{text}
+use Rattle.driver.specs.Finish.{Rendered}
+use Rattle.cite_markers.specs.Document.{Piece}
+use Rattle.cite.specs.Output.{output_text}
+use Rattle.cite.specs.Stages.{Refusal, IsShelved, document_stage}
+use Rattle.cite.specs.Verdict.{Task, rendered_stage, verdict, IsVerdict}
 use Rattle.cite.specs.Works.{Works}
-use Rattle.cite.specs.Verdict.{Refusal, asks_too_much, IsShelved, document_stage, output_stage, verdict, IsVerdictIf, IsVerdict}
-use Rattle.cite.specs.declared.format.BufWriteFormat.{BufWriteFormat}
-use Rattle.cite.specs.declared.error.CiteError.{CiteError}
-use Rattle.cite.specs.declared.error.CiteError.TheVariants as errors
-use Rattle.cite.specs.declared.error.BibTextError.TheVariants as bib
-use Rattle.cite.specs.declared.error.DocumentTextError.TheVariants as document
-use Rattle.biblatex.specs.Reading as reading
-use Rattle.biblatex.specs.Errors.{refusal_of}
-
-bib_weaker : {X Y : Type 0} (o : Option reading.Refusal) (P : Wanted X) (Q : Wanted Y) → ((r : Refusal) → P (Err r) → Q (Err r)) → IsBibRefusal o P → IsBibRefusal o Q
-bib_weaker None P Q f h = h
-bib_weaker (Some r) P Q f h = f _ h
-
--- a refusal that is wanted here is wanted there
-pub refused_weaker : {X Y : Type 0} (e : CiteError) (P : Wanted X) (Q : Wanted Y) → ((r : Refusal) → P (Err r) → Q (Err r)) → IsRefusal e P → IsRefusal e Q
-refused_weaker errors.Memory P Q f h = tt
-refused_weaker (errors.BibText bib.Utf8) P Q f h = f _ h
-refused_weaker (errors.BibText (bib.Parse error)) P Q f h = bib_weaker (refusal_of error) P Q f h
-refused_weaker (errors.Fields faults) P Q f h = f _ h
-refused_weaker (errors.Document document.Utf8) P Q f h = f _ h
-refused_weaker (errors.Document (document.Marker offset)) P Q f h = f _ h
-refused_weaker (errors.Name name) P Q f h = f _ h
-refused_weaker errors.Overflow P Q f h = f _ h
-refused_weaker (errors.Write fault) P Q f h = h
-refused_weaker errors.NotYet P Q f h = f _ h
-
--- an answer that is wanted here is wanted there
-pub answers_weaker : {X Y : Type 0} (view : X → Y) (r : Result X CiteError) (P Q : Wanted Y) → ((a : Result Y Refusal) → P a → Q a) → Answers view r P → Answers view r Q
-answers_weaker view (Ok x) P Q f h = f _ h
-answers_weaker view (Err e) P Q f h = refused_weaker e P Q (λ r. f (Err r)) h
-
--- a plain call without sections comes to the stages
-pub comes_to : (bib document : List ℕ) (sections : ℕ) (format : BufWriteFormat) → is_html format ≡ false → eqb sections 0 ≡ true
-    → (a : Result (List ℕ) Refusal) (works : Result Works Refusal) → IsShelved bib works → verdict works document ≡ a → IsVerdict bib document sections format a
-comes_to bib document sections format plain none a works shelved is =
-    let stages : asks_too_much sections format ≡ false = rw (plain, none) refl in
-    subst (λ (b : Bool). IsVerdictIf b bib document a) (sym stages) (works, shelved, sym is)
 
 -- the stages of the bib text stop
-pub works_stop : (r : Refusal) (document : List ℕ) → verdict (Err r) document ≡ Err r
+stopped : (r : Refusal) (task : Task) → verdict (Err r) task ≡ Err r
 unfolding verdict
-works_stop r document = refl
+stopped r task = refl
+
+pub works_stop : (bib : List ℕ) (task : Task) (r : Refusal) → IsShelved bib (Err r) → IsVerdict bib task (Err r)
+works_stop bib task r h = (Err r, h, sym (stopped r task))
 
 -- the stage of the document stops
-pub document_stops : (works : Works) (r : Refusal) (document : List ℕ) → document_stage document ≡ Err r → verdict (Ok works) document ≡ Err r
+no_document : (works : Works) (task : Task) (r : Refusal) → document_stage task.document ≡ Err r → verdict (Ok works) task ≡ Err r
 unfolding verdict
-document_stops works r document is = rw is refl
+no_document works task r is = rw is refl
 
--- both are known
-pub goes_on : (works : Works) (document : List ℕ) (p : List Citation × List ℕ) → document_stage document ≡ Ok p → verdict (Ok works) document ≡ output_stage works p.0 p.1
+pub document_stops : (bib : List ℕ) (works : Works) (task : Task) (r : Refusal) → IsShelved bib (Ok works) → document_stage task.document ≡ Err r → IsVerdict bib task (Err r)
+document_stops bib works task r h is = (Ok works, h, sym (no_document works task r is))
+
+-- a later stage stops
+not_rendered : (works : Works) (task : Task) (pieces : List Piece) (r : Refusal) → document_stage task.document ≡ Ok pieces
+    → rendered_stage works task.context task.sections pieces ≡ Err r → verdict (Ok works) task ≡ Err r
 unfolding verdict
-goes_on works document p is = rw is refl
+not_rendered works task pieces r read is = rw (read, is) refl
+
+pub rendering_stops : (bib : List ℕ) (works : Works) (task : Task) (pieces : List Piece) (r : Refusal) → IsShelved bib (Ok works) → document_stage task.document ≡ Ok pieces
+    → rendered_stage works task.context task.sections pieces ≡ Err r → IsVerdict bib task (Err r)
+rendering_stops bib works task pieces r h read is = (Ok works, h, sym (not_rendered works task pieces r read is))
+
+-- no stage stops
+all_pass : (works : Works) (task : Task) (pieces : List Piece) (rendered : Rendered) → document_stage task.document ≡ Ok pieces
+    → rendered_stage works task.context task.sections pieces ≡ Ok rendered → verdict (Ok works) task ≡ Ok (text (output_text task.format pieces rendered))
+unfolding verdict
+all_pass works task pieces rendered read is = rw (read, is) refl
+
+pub ends : (bib : List ℕ) (works : Works) (task : Task) (pieces : List Piece) (rendered : Rendered) → IsShelved bib (Ok works) → document_stage task.document ≡ Ok pieces
+    → rendered_stage works task.context task.sections pieces ≡ Ok rendered → IsVerdict bib task (Ok (text (output_text task.format pieces rendered)))
+ends bib works task pieces rendered h read is = (Ok works, h, sym (all_pass works task pieces rendered read is))

@@ -1,9 +1,11 @@
 -- What a call returns where its definition gives a value or a refusal.
-use Rattle.std.specs.Prelude.{◌≡◌, map, Option, Some, None, Result, Ok, Err, string_bytes}
+use Rattle.std.specs.Prelude.{◌≡◌, ℕ, map, Option, Some, None, Result, Ok, Err, string_bytes}
 use Rattle.biblatex.specs.Reading as reading
 use Rattle.biblatex.specs.Errors.{refusal_of}
 use Rattle.interop.specs.Views.{fault}
-use Rattle.cite.specs.Verdict.{Refusal, not_yet, bib_not_utf8, bib_refused, fields_refused, document_not_utf8, no_marker, unknown_name, overflow}
+use Rattle.literature_selectors.specs.Reading.{Fault}
+use Rattle.literature_selectors.specs.Views as selectors
+use Rattle.cite.specs.Stages.{Refusal, bib_not_utf8, bib_refused, fields_refused, document_not_utf8, no_marker, unknown_name, section_refused, overflow}
 use Rattle.sinks.specs.declared.sink.SinkFault.{SinkFault}
 use Rattle.cite.specs.declared.error.CiteError.{CiteError}
 use Rattle.cite.specs.declared.error.CiteError.TheVariants as errors
@@ -19,6 +21,11 @@ abbrev pub IsBibRefusal : {Y : Type 0} → Option reading.Refusal → Wanted Y �
 IsBibRefusal None wanted = ⊥
 IsBibRefusal (Some refusal) wanted = wanted (Err (bib_refused refusal))
 
+-- the refusal of the section at a place; out of memory is none
+abbrev pub IsSectionRefusal : {Y : Type 0} → ℕ → Option Fault → Wanted Y → Type 0
+IsSectionRefusal index None wanted = ⊥
+IsSectionRefusal index (Some fault) wanted = wanted (Err (section_refused (record { index = index; fault = fault })))
+
 -- The error is a refusal that is wanted. Memory may stand in place of any answer; a failed write is no refusal.
 abbrev pub IsRefusal : {Y : Type 0} → CiteError → Wanted Y → Type 0
 IsRefusal errors.Memory wanted = Unit {0}
@@ -28,9 +35,9 @@ IsRefusal (errors.Fields faults) wanted = wanted (Err (fields_refused (map fault
 IsRefusal (errors.Document document.Utf8) wanted = wanted (Err document_not_utf8)
 IsRefusal (errors.Document (document.Marker offset)) wanted = wanted (Err (no_marker offset))
 IsRefusal (errors.Name name) wanted = wanted (Err (unknown_name (string_bytes name)))
+IsRefusal (errors.Selector index error) wanted = IsSectionRefusal index (selectors.fault error) wanted
 IsRefusal errors.Overflow wanted = wanted (Err overflow)
 IsRefusal (errors.Write fault) wanted = ⊥
-IsRefusal errors.NotYet wanted = wanted (Err not_yet)
 
 -- What was returned, seen by view, is wanted, unless memory ran out.
 abbrev pub Answers : {X Y : Type 0} → (X → Y) → Result X CiteError → Wanted Y → Type 0

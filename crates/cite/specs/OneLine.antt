@@ -2,10 +2,10 @@
 use Rattle.std.specs.Prelude.{ℕ, All, List, [], Err}
 use Rattle.biblatex.specs.Lines.{HasNoLineFeed}
 use Rattle.interop.specs.Bridge.{Fault}
-use Rattle.cite.specs.Verdict.{Refusal, fields_refused, IsVerdict}
+use Rattle.cite.specs.Stages.{Refusal, fields_refused}
+use Rattle.cite.specs.Verdict.{Task, IsVerdict}
 use Rattle.cite.specs.Refusals.{refusal_text}
 use Rattle.cite.specs.Program.{fault_said}
-use Rattle.cite.specs.declared.format.BufWriteFormat.{BufWriteFormat}
 
 -- the fields that a refusal tells of
 abbrev pub faults_in : Refusal → List Fault
@@ -19,5 +19,4 @@ pub record IsSaidInLines (refusal : Refusal) : Type 0 where
 
 -- the same of every refusal that a call comes to
 abbrev pub RefusalsAreSaidInLines : Type 0
-RefusalsAreSaidInLines =
-    (bib document : List ℕ) (sections : ℕ) (format : BufWriteFormat) (refusal : Refusal) → IsVerdict bib document sections format (Err refusal) → IsSaidInLines refusal
+RefusalsAreSaidInLines = (bib : List ℕ) (task : Task) (refusal : Refusal) → IsVerdict bib task (Err refusal) → IsSaidInLines refusal

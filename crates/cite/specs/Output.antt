@@ -1,35 +1,49 @@
--- The document with numbers for its markers, and the bibliography, as bytes.
-use Rattle.std.specs.Prelude.{ℕ, List, [], ◌∷◌, ◌++◌, Option, Some, None}
+-- The output, as characters: the document with a citation in place of each marker, and the bibliography.
+use Rattle.std.specs.Prelude.{ℕ, List, [], ◌∷◌, ◌++◌, Option, Some, None, codes}
 use Rattle.std.specs.List.{flat_map}
-use Rattle.std.specs.Fmt.{decimal}
-use Rattle.laws.specs.Text.{text}
-use Rattle.literature_entries.specs.Wholes.{Whole, Holding}
-use Rattle.rendering_page.specs.Titles.{title_text}
-use Rattle.cite.specs.Marker.{Citation}
-use Rattle.cite.specs.Works.{Works, meaning}
-use Rattle.cite.specs.Order.{number_in}
+use Rattle.std.specs.Option.{option_map_or}
+use Rattle.rendering_output.specs.Writing.{divided, tag_text}
+use Rattle.rendering_output.specs.declared.writing.BufWriteFormat.{BufWriteFormat}
+use Rattle.rendering_output.specs.declared.writing.BufWriteFormat.TheVariants as formats
+use Rattle.rendering_tree.specs.Trees.{Children, Element}
+use Rattle.rendering_tree.specs.Writing.{tags}
+use Rattle.driver_bibliography.specs.Items.{Fields}
+use Rattle.driver.specs.Finish.{Citation, Rendered, RenderedBibliography}
+use Rattle.cite_markers.specs.Document.{Piece, Text, Marker}
 
--- [ , the number, ]
-abbrev pub numbered : ℕ → List ℕ
-numbered n = 91 ∷ (decimal n ++ 93 ∷ [])
+-- a tree as a format writes it
+abbrev pub tree_text : BufWriteFormat → Children → List ℕ
+tree_text format tree = flat_map (tag_text format) (tags tree)
 
--- the number of the work that a name means (a name that means none is refused before)
-abbrev pub citation_text : List Whole → Option Whole → List ℕ
-citation_text order None = []
-citation_text order (Some w) = numbered (number_in order w)
+-- the same of a first field, where there is one
+abbrev pub field_text : BufWriteFormat → Option Element → List ℕ
+field_text format None = []
+field_text format (Some e) = flat_map (tag_text format) (divided e.display (tags e.children))
 
--- each citation's text before it and its number, and what follows the last one
-abbrev pub body : Works → List Whole → List Citation → List ℕ → List ℕ
-body works order cs tail = flat_map (λ c. text c.before ++ citation_text order (meaning (text c.name) works)) cs ++ text tail
+-- the texts of a document as they are, and citations in place of markers, one for each
+abbrev pub document_text : BufWriteFormat → List Piece → List Citation → List ℕ
+document_text format [] citations = []
+document_text format (Text t ∷ pieces) citations = t ++ document_text format pieces citations
+document_text format (Marker cites ∷ pieces) [] = document_text format pieces []
+document_text format (Marker cites ∷ pieces) (c ∷ citations) = tree_text format c.tree ++ document_text format pieces citations
 
--- the title of a work, in a line of its own
-abbrev pub title_line : Whole → List ℕ
-title_line (Holding key fs parents) = title_text fs.title ++ 10 ∷ []
+-- what stands before an item and after it
+abbrev pub item_opening : BufWriteFormat → List ℕ
+item_opening formats.Plain = []
+item_opening formats.Html = codes "<p>"
 
--- a line for each work
-abbrev pub bibliography : List Whole → List ℕ
-bibliography order = flat_map title_line order
+abbrev pub item_end : BufWriteFormat → List ℕ
+item_end formats.Plain = 10 ∷ []
+item_end formats.Html = codes "</p>" ++ 10 ∷ []
 
--- the document, a line feed, the bibliography
-abbrev pub output : Works → List Whole → List Citation → List ℕ → List ℕ
-output works order cs tail = body works order cs tail ++ 10 ∷ bibliography order
+-- an item, in a line
+abbrev pub item_text : BufWriteFormat → Fields → List ℕ
+item_text format f = item_opening format ++ (field_text format f.first_field ++ (tree_text format f.content ++ item_end format))
+
+-- a line feed and the items
+abbrev pub bibliography_text : BufWriteFormat → RenderedBibliography → List ℕ
+bibliography_text format b = 10 ∷ flat_map (item_text format) b.items
+
+-- the document with its citations, and the bibliography where the style has one
+abbrev pub output_text : BufWriteFormat → List Piece → Rendered → List ℕ
+output_text format pieces r = document_text format pieces r.citations ++ option_map_or (bibliography_text format) r.bibliography []

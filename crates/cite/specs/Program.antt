@@ -1,18 +1,26 @@
 -- What the program serves and says.
-use Rattle.std.specs.Prelude.{◌≡◌, ℕ, Bool, true, false, ◌&&◌, List, [], ◌∷◌, ◌++◌, map, length, Option, Some, None, is_some, Ok, Err, codes, if◌then◌else◌}
+use Rattle.std.specs.Prelude.{◌≡◌, ℕ, Bool, true, false, List, [], ◌∷◌, ◌++◌, map, Option, Some, None, is_ok, Result, Ok, Err, codes, if◌then◌else◌}
 use Rattle.std.specs.List.{flat_map}
+use Rattle.std.specs.Option.{ok_or}
 use Rattle.std.specs.Str.{bytes_eq}
 use Rattle.std.specs.Borrow.{Bor}
+use Rattle.laws.specs.Results.{◌>>=◌}
+use Rattle.laws.specs.Text.{spelled}
 use Rattle.sinks.specs.Files.{Outcome}
 use Rattle.sinks.specs.Programs as programs
 use Rattle.sinks.specs.declared.files.ReadFault.TheVariants.{Memory, Unreadable}
 use Rattle.interop.specs.Bridge.{Fault}
 use Rattle.interop.specs.Views.{fault}
-use Rattle.cite.specs.Verdict.{Refusal, fields_refused, IsVerdict}
+use Rattle.rendering_output.specs.declared.writing.BufWriteFormat.{BufWriteFormat}
+use Rattle.rendering_output.specs.declared.writing.BufWriteFormat.TheVariants.{Plain, Html}
+use Rattle.rendering_english.specs.English.{english}
+use Rattle.rendering_style.specs.Styles.{Style}
+use Rattle.cite_styles.specs.Styles.{numeric, author_date, note}
 use Rattle.cite.specs.Answers.{Writes}
 use Rattle.cite.specs.Refusals.{refusal_text, error_text}
-use Rattle.cite.specs.declared.format.BufWriteFormat.{BufWriteFormat}
-use Rattle.cite.specs.declared.format.BufWriteFormat.TheVariants.{Plain, Html}
+use Rattle.cite.specs.Requests.{context_of}
+use Rattle.cite.specs.Stages.{Refusal, fields_refused}
+use Rattle.cite.specs.Verdict.{Task, IsVerdict}
 use Rattle.cite.specs.declared.error.CiteError.{CiteError}
 use Rattle.cite.specs.declared.error.CiteError.TheVariants as errors
 use Rattle.cite.specs.declared.program.RunFault.{RunFault}
@@ -22,14 +30,51 @@ use Rattle.cite.specs.declared.program.RunFault.TheVariants as faults
 abbrev pub Reads : Type 0
 Reads = List ℕ → Outcome
 
--- the name of the style, and the format of a name
-abbrev pub is_style : List ℕ → Bool
-is_style name = bytes_eq name (codes "num")
+-- the style of a name, and the format of a name
+abbrev pub style_named : List ℕ → Option Style
+style_named name =
+    if bytes_eq name (codes "numeric") then Some numeric
+    else (if bytes_eq name (codes "author-date") then Some author_date
+    else (if bytes_eq name (codes "note") then Some note
+    else None))
 
-abbrev pub format_of : List ℕ → Option BufWriteFormat
-format_of name = if bytes_eq name (codes "plain") then Some Plain else (if bytes_eq name (codes "html") then Some Html else None)
+abbrev pub format_named : List ℕ → Option BufWriteFormat
+format_named name = if bytes_eq name (codes "plain") then Some Plain else (if bytes_eq name (codes "html") then Some Html else None)
 
--- the paths of the files that words ask for: they are the style, the name of a format, two paths and sections
+-- what words ask for: a style and a format, the paths of a bib text and of a document, and sections as characters
+pub record Job : Type 0 where
+  pub style : Style
+  pub format : BufWriteFormat
+  pub bib : List ℕ
+  pub document : List ℕ
+  pub sections : List (List ℕ)
+
+-- what is said of words that ask for nothing
+abbrev pub usage_text : List ℕ
+usage_text = codes "usage: cite STYLE FORMAT BIB DOC [SECTION ..]"
+
+abbrev pub style_text : List ℕ → List ℕ
+style_text name = codes "unknown style " ++ name
+
+abbrev pub format_text : List ℕ → List ℕ
+format_text name = codes "unknown format " ++ name
+
+-- what four words and further ones ask for; an unknown style is said before an unknown format
+abbrev pub job_with : List ℕ → List ℕ → List ℕ → List ℕ → List (List ℕ) → Result Job (List ℕ)
+job_with style format bib document sections = do
+  s ← ok_or (style_named style) (style_text style)
+  f ← ok_or (format_named format) (format_text format)
+  Ok (record { style = s; format = f; bib = bib; document = document; sections = sections })
+
+-- what words ask for, or what is said where they ask for nothing
+abbrev pub job_of : List (Bor (List ℕ)) → Result Job (List ℕ)
+job_of [] = Err usage_text
+job_of (style ∷ []) = Err usage_text
+job_of (style ∷ format ∷ []) = Err usage_text
+job_of (style ∷ format ∷ bib ∷ []) = Err usage_text
+job_of (style ∷ format ∷ bib ∷ document ∷ sections) = job_with style.now format.now bib.now document.now (map spelled sections)
+
+-- the paths of the files that words ask for
 abbrev pub asked_if : Bool → Bor (List ℕ) → Bor (List ℕ) → List (Bor (List ℕ))
 asked_if true bib document = bib ∷ document ∷ []
 asked_if false bib document = []
@@ -39,29 +84,26 @@ asked [] = []
 asked (style ∷ []) = []
 asked (style ∷ format ∷ []) = []
 asked (style ∷ format ∷ bib ∷ []) = []
-asked (style ∷ format ∷ bib ∷ document ∷ sections) = asked_if (is_style style.now && is_some (format_of format.now)) bib document
+asked (style ∷ format ∷ bib ∷ document ∷ sections) = asked_if (is_ok (job_of (style ∷ format ∷ bib ∷ document ∷ sections))) bib document
+
+-- the task of a job with the bytes of its document
+abbrev pub task_in : Job → List ℕ → Task
+task_in job document = record { document = document; context = context_of job.style english; sections = job.sections; format = job.format }
 
 -- both files were read, and there is an output to be written of their bytes, of which this holds
-abbrev pub ServesBytes : Outcome → Outcome → ℕ → BufWriteFormat → (List ℕ → Type 0) → Type 0
-ServesBytes (Ok bib) (Ok document) sections format P = Writes (IsVerdict bib document sections format) P
-ServesBytes (Ok bib) (Err fault) sections format P = ⊥
-ServesBytes (Err fault) document sections format P = ⊥
+abbrev pub ServesBytes : Job → Outcome → Outcome → (List ℕ → Type 0) → Type 0
+ServesBytes job (Ok bib) (Ok document) P = Writes (IsVerdict bib (task_in job document)) P
+ServesBytes job (Ok bib) (Err fault) P = ⊥
+ServesBytes job (Err fault) document P = ⊥
 
-abbrev pub ServesFiles : Reads → List ℕ → List ℕ → ℕ → BufWriteFormat → (List ℕ → Type 0) → Type 0
-ServesFiles read bib document sections format P = ServesBytes (read bib) (read document) sections format P
+-- the same of a job, where words ask for one
+abbrev pub ServesJob : Reads → Result Job (List ℕ) → (List ℕ → Type 0) → Type 0
+ServesJob read (Ok job) P = ServesBytes job (read job.bib) (read job.document) P
+ServesJob read (Err said) P = ⊥
 
--- the same, where the format has that name
-abbrev pub ServesAs : Reads → Option BufWriteFormat → List ℕ → List ℕ → ℕ → (List ℕ → Type 0) → Type 0
-ServesAs read None bib document sections P = ⊥
-ServesAs read (Some format) bib document sections P = ServesFiles read bib document sections format P
-
--- The words are the style, the name of a format, two paths and sections, and there is an output of the files, of which this holds.
+-- Words ask for a job, and there is an output of its files, of which this holds.
 abbrev pub Serves : Reads → List (Bor (List ℕ)) → (List ℕ → Type 0) → Type 0
-Serves read [] P = ⊥
-Serves read (style ∷ []) P = ⊥
-Serves read (style ∷ format ∷ []) P = ⊥
-Serves read (style ∷ format ∷ bib ∷ []) P = ⊥
-Serves read (style ∷ format ∷ bib ∷ document ∷ sections) P = (is_style style.now ≡ true) × ServesAs read (format_of format.now) bib.now document.now (length sections) P
+Serves read words P = ServesJob read (job_of words) P
 
 -- a line: `cite: `, what is said, a line feed
 abbrev pub line : List ℕ → List ℕ
@@ -79,54 +121,40 @@ abbrev pub told : Refusal → List ℕ
 told (fields_refused faults) = fault_lines faults
 told other = line (refusal_text other)
 
+-- what is said of a file that cannot be read
+abbrev pub path_text : List ℕ → List ℕ
+path_text path = codes "cannot read " ++ path
+
 -- Why a file is not served, and what is said of it: it cannot be read. Where memory ran out, that is said.
 abbrev pub CannotRead : Outcome → List ℕ → List ℕ → Type 0
 CannotRead (Ok bytes) path said = ⊥
 CannotRead (Err Memory) path said = ⊥
-CannotRead (Err Unreadable) path said = said ≡ line (codes "cannot read " ++ path)
+CannotRead (Err Unreadable) path said = said ≡ line (path_text path)
 
 -- Why bytes are not served: their verdict is a refusal.
-abbrev pub IsRefused : List ℕ → List ℕ → ℕ → BufWriteFormat → List ℕ → Type 0
-IsRefused bib document sections format said = (refusal : Refusal) × IsVerdict bib document sections format (Err refusal) × (said ≡ told refusal)
+abbrev pub IsRefused : List ℕ → Task → List ℕ → Type 0
+IsRefused bib task said = (refusal : Refusal) × IsVerdict bib task (Err refusal) × (said ≡ told refusal)
 
--- Why two files are not served: the first cannot be read; or it was read, and the second cannot be; or both were, and are refused.
-abbrev pub IsBytesFault : List ℕ → List ℕ → Outcome → Outcome → ℕ → BufWriteFormat → List ℕ → Type 0
-IsBytesFault bib document (Err fault) d sections format said = CannotRead (Err fault) bib said
-IsBytesFault bib document (Ok b) (Err fault) sections format said = CannotRead (Err fault) document said
-IsBytesFault bib document (Ok b) (Ok d) sections format said = IsRefused b d sections format said
+-- Why a job is not served: the first file cannot be read; or it was read, and the second cannot be; or both were, and are refused.
+abbrev pub IsBytesFault : Job → Outcome → Outcome → List ℕ → Type 0
+IsBytesFault job (Err fault) d said = CannotRead (Err fault) job.bib said
+IsBytesFault job (Ok b) (Err fault) said = CannotRead (Err fault) job.document said
+IsBytesFault job (Ok b) (Ok d) said = IsRefused b (task_in job d) said
 
-abbrev pub IsFileFault : Reads → List ℕ → List ℕ → ℕ → BufWriteFormat → List ℕ → Type 0
-IsFileFault read bib document sections format said = IsBytesFault bib document (read bib) (read document) sections format said
-
--- Why words are not served, and what is said of it: there are too few, or the style, or then the format, is unknown, or then
--- the files are not served.
-abbrev pub usage_text : List ℕ
-usage_text = codes "usage: cite STYLE FORMAT BIB DOC [SECTION ..]"
-
-abbrev pub usage : List ℕ
-usage = line usage_text
-
-abbrev pub IsFormatFault : Reads → Option BufWriteFormat → List ℕ → List ℕ → List ℕ → ℕ → List ℕ → Type 0
-IsFormatFault read None format bib document sections said = said ≡ line (codes "unknown format " ++ format)
-IsFormatFault read (Some known) format bib document sections said = IsFileFault read bib document sections known said
-
-abbrev pub IsStyleFault : Reads → Bool → List ℕ → List ℕ → List ℕ → List ℕ → ℕ → List ℕ → Type 0
-IsStyleFault read false style format bib document sections said = said ≡ line (codes "unknown style " ++ style)
-IsStyleFault read true style format bib document sections said = IsFormatFault read (format_of format) format bib document sections said
+-- Why words are not served, and what is said of it: they ask for no job, or it is not served.
+abbrev pub IsJobFault : Reads → Result Job (List ℕ) → List ℕ → Type 0
+IsJobFault read (Ok job) said = IsBytesFault job (read job.bib) (read job.document) said
+IsJobFault read (Err text) said = said ≡ line text
 
 abbrev pub IsFault : Reads → List (Bor (List ℕ)) → List ℕ → Type 0
-IsFault read [] said = said ≡ usage
-IsFault read (style ∷ []) said = said ≡ usage
-IsFault read (style ∷ format ∷ []) said = said ≡ usage
-IsFault read (style ∷ format ∷ bib ∷ []) said = said ≡ usage
-IsFault read (style ∷ format ∷ bib ∷ document ∷ sections) said = IsStyleFault read (is_style style.now) style.now format.now bib.now document.now (length sections) said
+IsFault read words said = IsJobFault read (job_of words) said
 
 -- the text of a fault in the program
 abbrev pub fault_text : RunFault → List ℕ
 fault_text faults.Usage = usage_text
-fault_text (faults.Style style) = codes "unknown style " ++ style.now
-fault_text (faults.Format format) = codes "unknown format " ++ format.now
-fault_text (faults.Path path) = codes "cannot read " ++ path.now
+fault_text (faults.Style style) = style_text style.now
+fault_text (faults.Format format) = format_text format.now
+fault_text (faults.Path path) = path_text path.now
 fault_text faults.Memory = codes "out of memory"
 fault_text faults.Write = codes "write failed"
 fault_text (faults.Fields found) = codes "fields that cannot be read"

@@ -1,5 +1,6 @@
 -- The entries of a file and the works that they are, and what the names of a document mean.
-use Rattle.std.specs.Prelude.{ℕ, List, Option, None, if◌then◌else◌, option_and_then}
+use Rattle.std.specs.Prelude.{ℕ, Bool, List, Option, None, if◌then◌else◌, option_and_then}
+use Rattle.std.specs.Str.{bytes_eq}
 use Rattle.biblatex.specs.Bibliographies.{Listed, entry_named}
 use Rattle.biblatex.specs.Entries.{Source}
 use Rattle.biblatex.specs.TypeNames.{written_type}
@@ -19,3 +20,7 @@ work_of library e = if is_xdata (written_type e.entry_type) then None else with_
 -- the work that a name means
 abbrev pub meaning : List ℕ → Works → Option Whole
 meaning name works = option_and_then (work_of works.library) (entry_named name works.file)
+
+-- keys tell the works of a library apart
+abbrev pub is_same : Whole → Whole → Bool
+is_same v w = bytes_eq (key_of v) (key_of w)

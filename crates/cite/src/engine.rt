@@ -1,80 +1,155 @@
 //! The filter: all is known before anything is written.
 
-ghost use Rattle.std.specs.Prelude.{◌≡◌, length, IfErr, OnOk, string_bytes};
+ghost use Rattle.std.specs.Prelude.{◌≡◌, map, IfErr, IfOk, OnOk, string_bytes};
+ghost use Rattle.laws.specs.Text.{spelled};
+ghost use Rattle.rendering_locale.specs.Views.{locale_seen};
+ghost use Rattle.rendering_style.specs.StyleViews.{style_seen};
+ghost use Rattle.driver_requests.specs.Views.{lent};
+ghost use Rattle.cite.specs.Finished.{finished};
+ghost use Rattle.cite.specs.Requests.{context_of};
 ghost use Rattle.std.specs.Io.KnownBytes.{Appends};
 ghost use Rattle.sinks.specs.Sinks.{next_count, HasFailed, AppendsFront};
-ghost use Rattle.cite.specs.Verdict.{document_stage, output_stage, IsVerdict};
-ghost use Rattle.cite.specs.Views.{parsed, works_in};
+ghost use Rattle.cite_markers.specs.Views.{pieces_of};
+ghost use Rattle.driver.specs.RenderedViews.{rendered_by};
+ghost use Rattle.cite.specs.Stages.{document_stage};
+ghost use Rattle.cite.specs.Verdict.{IsVerdict, rendered_stage};
+ghost use Rattle.cite.specs.Pieces.{output_of};
+ghost use Rattle.cite.specs.Views.{task_of, works_in};
 ghost use Rattle.cite.specs.Answers.{Answers, Gives, Writes, IsRefusalUnlessWrite, UnlessWrite, OnWrite, IsLastFault};
 
 use crate::bytes::utf8_text;
-use crate::document::Document;
 use crate::error::{CiteError, DocumentTextError};
-use crate::format::BufWriteFormat;
-use crate::numbers::numbered_document;
-use crate::style::{Locale, Style};
+use crate::output::output_of;
+use crate::pieces::Output;
+use crate::requests::{MarkerRequest, Setting, language, requests};
+use crate::sections::{chosen, selectors};
 use crate::works::Works;
-use sinks::{Sink, write_all};
-use std::alloc::Global;
+use cite_markers::{Document, DocumentError};
+use driver::{BibliographyDriver, Rendered};
+use driver_requests::{BibliographyRequest, DriverError};
+use literature_entries::Entry;
+use rendering_locale::Locale;
+use rendering_output::BufWriteFormat;
+use rendering_style::Style;
+use sinks::Sink;
+use std::alloc::{AllocError, Global};
+use std::slice;
 
-/// The greatest number of an entry.
-const GREATEST_NUMBER: usize = 2_147_483_647;
-
-/// The citations of a document.
+/// The pieces of a document.
 fn read_document<'s>(alloc: Global, document: &'s [u8]) -> Result<Document<'s>, CiteError>
-    ensures { Gives parsed result (document_stage document.now) }
+    ensures { Gives pieces_of result (document_stage document.now) }
 {
     let Some(text) = utf8_text(document) else {
         return Err(CiteError::Document(DocumentTextError::Utf8));
     };
-    Document::parse(alloc, text)
+    match Document::parse(alloc, text) {
+        Ok(document) => Ok(document),
+        Err(DocumentError::Memory) => Err(CiteError::Memory),
+        Err(DocumentError::Marker { offset }) => {
+            Err(CiteError::Document(DocumentTextError::Marker { offset }))
+        }
+    }
 }
 
-/// The output: the document with numbers for its citations, and the bibliography.
-#[tactic(auto, unfolding(crate::specs::Verdict::output_stage))]
-fn write_output(alloc: Global, works: &Works, document: &Document<'_>) -> Result<String, CiteError>
-    ensures { Gives (λ s. string_bytes s) result (output_stage (works_in works.now) (parsed document.now).0 (parsed document.now).1) }
+/// Citations and bibliography of a document.
+fn render<'x>(
+    alloc: Global,
+    setting: Setting<'x>,
+    document: &Document<'x>,
+    sections: &[&str],
+) -> Result<Rendered, CiteError>
+    ensures { Gives rendered_by result (rendered_stage (works_in setting.entry.works.now) (context_of (style_seen setting.entry.style.now) (locale_seen setting.entry.locale.now)) (map spelled sections.now) (pieces_of document.now)) }
 {
-    let (mut output, order) = numbered_document(alloc, works, document)?;
-    if order.len() > GREATEST_NUMBER {
-        return Err(CiteError::Overflow);
+    let requests = requests(alloc, setting, document)?;
+    let selectors = selectors(alloc, sections)?;
+    let chosen = chosen(alloc, &selectors, setting.works.library())?;
+    finish(alloc, requests, setting.style, setting.locale, &chosen)
+}
+
+/// Citations and bibliography of requests, in the order in which entries are chosen.
+fn finish<'x>(
+    alloc: Global,
+    requests: Vec<MarkerRequest<'x>>,
+    style: &'x Style,
+    locale: &'x Locale,
+    chosen: &'x [&'x Entry],
+) -> Result<Rendered, CiteError>
+    ensures { Gives rendered_by result (finished ⟦<Entry as PartialEq>⟧.eq (context_of (style_seen style.now) (locale_seen locale.now)) requests.entry.items (lent chosen.now)) }
+{
+    let driver = driver_of(alloc, requests)?;
+    let request = BibliographyRequest::new(style, language(locale)?, slice::from_ref(locale));
+    match driver.finish(request.with_order(chosen)) {
+        Ok(rendered) => Ok(rendered),
+        Err(DriverError::Memory) => Err(CiteError::Memory),
+        Err(DriverError::Overflow) => Err(CiteError::Overflow),
     }
-    output.push('\n')?;
-    order.write_bibliography(alloc, &mut output)?;
-    Ok(output)
+}
+
+/// A driver with requests.
+fn driver_of<'x>(
+    alloc: Global,
+    requests: Vec<MarkerRequest<'x>>,
+) -> Result<BibliographyDriver<'x, Entry, ()>, AllocError>
+    ensures requests { IfOk result (λ d. d.citations.items ≡ requests.entry.items) }
+    ensures offset { IfOk result (λ d. d.offset ≡ 0) }
+{
+    let mut driver = BibliographyDriver::new(alloc);
+    for request in requests {
+        driver.citation(request)?;
+    }
+    Ok(driver)
+}
+
+/// The output of a call, before any of it is written.
+fn compose<'d>(
+    alloc: Global,
+    bib: &[u8],
+    document: &'d [u8],
+    style: &Style,
+    locale: &Locale,
+    sections: &[&str],
+    format: BufWriteFormat,
+) -> Result<Output<'d>, CiteError>
+    ensures { Answers output_of result (IsVerdict bib.now (task_of document.now style.now locale.now sections.now format)) }
+{
+    let works = Works::read(alloc, bib)?;
+    let document = read_document(alloc, document)?;
+    let setting = Setting {
+        works: &works,
+        style,
+        locale,
+    };
+    let rendered = render(alloc, setting, &document, sections)?;
+    Ok(output_of(alloc, &document, &rendered, format)?)
 }
 
 /// The output of `cite` as a text: the document with its markers replaced, and the bibliography of the cited entries after it.
 ///
-/// `bib` is a BibLaTeX file, `document` a text with markers `[@name]`; both are UTF-8. A name is the key of an entry or an alias in its
-/// `ids`. The style is plain numbers, the format plain text, and no section may be given.
+/// `bib` is a BibLaTeX file, `document` a text with markers such as `[@name]` and `[-@one; prose @two page 3]`; both are UTF-8. A name is
+/// the key of an entry or an alias in its `ids`. Each section is a selector: the entries that it chooses come first in the bibliography, so
+/// far as they are cited, section by section and in the order of the file.
 ///
 /// # Errors
-/// The first refusal in this order: `NotYet`; `BibText`; `Fields`; `Document`; `Name`; `Overflow`. `Memory` may stand in place of any
+/// The first refusal in this order: `BibText`; `Fields`; `Document`; `Name`; `Selector`; `Overflow`. `Memory` may stand in place of any
 /// answer.
-#[tactic(auto, unfolding(crate::specs::Verdict::verdict))]
 pub fn cite_to_string(
     alloc: Global,
     bib: &[u8],
     document: &[u8],
-    _style: &Style,
-    _locale: &Locale,
+    style: &Style,
+    locale: &Locale,
     sections: &[&str],
     format: BufWriteFormat,
 ) -> Result<String, CiteError>
     // The text is exactly the output; an error is the first refusal, with its fault.
-    ensures { Answers (λ s. string_bytes s) result (IsVerdict bib.now document.now (length sections.now) format) }
+    ensures { Answers (λ s. string_bytes s) result (IsVerdict bib.now (task_of document.now style.now locale.now sections.now format)) }
 {
-    if format.is_html() || !sections.is_empty() {
-        return Err(CiteError::NotYet);
-    }
-    let works = Works::read(alloc, bib)?;
-    let document = read_document(alloc, document)?;
-    write_output(alloc, &works, &document)
+    let output = compose(alloc, bib, document, style, locale, sections, format)?;
+    Ok(output.to_text(alloc)?)
 }
 
 /// Replaces each marker of the document by its citation and writes the bibliography of the cited entries after it: writes what
-/// `cite_to_string` returns, once all of it is known.
+/// `cite_to_string` returns, piece by piece, once all of it is known. Nothing that takes memory is done after the first piece.
 ///
 /// # Errors
 /// Those of `cite_to_string`, after which nothing was written. `Write` where a call of the sink's `write` failed or took nothing: the sink then
@@ -90,13 +165,13 @@ pub fn cite<W: Sink>(
     sink: &mut W,
 ) -> Result<(), CiteError>
     // The sink has taken exactly the output.
-    ensures written { OnOk result (Writes (IsVerdict bib.now document.now (length sections.now) format) (λ output. Appends (W.contents sink.old) (W.contents sink.new) output)) }
+    ensures written { OnOk result (Writes (IsVerdict bib.now (task_of document.now style.now locale.now sections.now format)) (λ output. Appends (W.contents sink.old) (W.contents sink.new) output)) }
     // A refusal is the first one, with its fault.
-    ensures refused { IfErr result (λ e. IsRefusalUnlessWrite e (IsVerdict bib.now document.now (length sections.now) format)) }
+    ensures refused { IfErr result (λ e. IsRefusalUnlessWrite e (IsVerdict bib.now (task_of document.now style.now locale.now sections.now format))) }
     // Nothing is written after any refusal but a failed write.
     ensures untouched { IfErr result (λ e. UnlessWrite e (sink.new ≡ sink.old)) }
     // After a failed write a beginning of the output stands, and some call of `write` failed or took nothing.
-    ensures cut_short { IfErr result (λ e. OnWrite e (Writes (IsVerdict bib.now document.now (length sections.now) format) (λ output. AppendsFront (W.contents sink.old) (W.contents sink.new) output))) }
+    ensures cut_short { IfErr result (λ e. OnWrite e (Writes (IsVerdict bib.now (task_of document.now style.now locale.now sections.now format)) (λ output. AppendsFront (W.contents sink.old) (W.contents sink.new) output))) }
     ensures cause { IfErr result (λ e. OnWrite e (HasFailed (W.failures sink.old) (W.failures sink.new))) }
     // No call of `write` failed before Ok, and none was tried after one that did.
     ensures quiet { OnOk result (W.failures sink.new ≡ W.failures sink.old) }
@@ -104,8 +179,8 @@ pub fn cite<W: Sink>(
     // The fault of a failed write is what that call did.
     ensures fault { IfErr result (λ e. IsLastFault e (W.last_fault sink.new)) }
 {
-    let output = cite_to_string(alloc, bib, document, style, locale, sections, format)?;
-    match write_all(sink, output.as_bytes()) {
+    let output = compose(alloc, bib, document, style, locale, sections, format)?;
+    match output.write_to(sink) {
         Ok(()) => Ok(()),
         Err(fault) => Err(CiteError::Write(fault)),
     }

@@ -1,11 +1,12 @@
 //! Why a call of `cite` refused.
 
 ghost use Rattle.std.specs.Prelude.{◌≡◌, Some};
-ghost use Rattle.cite.specs.Refusals.{bib_text, document_text, error_text};
+ghost use Rattle.cite.specs.Refusals.{bib_text, document_text, error_text, selector_error_text};
 ghost use Rattle.cite.specs.declared.error.CiteError.TheVariants.{Memory};
 
 use biblatex::ParseError;
 use interop::FieldFault;
+use literature_selectors::SelectorError;
 use sinks::SinkFault;
 use std::alloc::{AllocError, AllocFailed};
 use std::error::Error;
@@ -68,14 +69,34 @@ pub enum CiteError {
     Document(DocumentTextError),
     /// The first name in the document that means no entry, or one of type `xdata`, which only lends its fields.
     Name(String),
+    /// The first section that is no selector, by its place from zero, and why.
+    Selector { index: usize, error: SelectorError },
     /// A request for memory was refused.
     Memory,
-    /// More than 2147483647 entries are cited.
+    /// More than 2147483647 entries are cited, or more than 256 that only letters tell apart.
     Overflow,
     /// The sink did not take all of the output; it holds a beginning of it.
     Write(SinkFault),
-    /// A section was given, or the format is HTML.
-    NotYet,
+}
+
+/// What is said of a text that is no selector.
+#[derive(Clone, Copy)]
+struct SelectorText<'e>(&'e SelectorError);
+
+impl fmt::Display for SelectorText<'_> {
+    ghost output = { λ text. Some (selector_error_text text.0.now) };
+
+    fn fmt<W: fmt::Write>(&self, f: &mut fmt::Formatter<W>) -> fmt::Result {
+        match self.0 {
+            SelectorError::MissingValue => f.write_str("missing value"),
+            SelectorError::MalformedAttribute => f.write_str("malformed attribute"),
+            SelectorError::MissingComma => f.write_str("missing comma"),
+            SelectorError::UnbalancedParens => f.write_str("unbalanced parentheses"),
+            SelectorError::UnknownEntryType(name) => write!(f, "unknown entry type {name}"),
+            SelectorError::TooDeep => f.write_str("too deep"),
+            SelectorError::Memory => f.write_str("out of memory"),
+        }
+    }
 }
 
 /// Why the call refused, in a line.
@@ -88,10 +109,12 @@ impl fmt::Display for CiteError {
             CiteError::Fields(_) => f.write_str("fields that cannot be read"),
             CiteError::Document(error) => write!(f, "document: {error}"),
             CiteError::Name(name) => write!(f, "unknown name {name}"),
+            CiteError::Selector { index, error } => {
+                write!(f, "section {index}: {}", SelectorText(error))
+            }
             CiteError::Memory => f.write_str("out of memory"),
             CiteError::Overflow => f.write_str("number too large"),
             CiteError::Write(_) => f.write_str("write failed"),
-            CiteError::NotYet => f.write_str("not supported yet"),
         }
     }
 }

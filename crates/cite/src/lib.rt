@@ -3,23 +3,27 @@
 #![tactic(auto)]
 
 mod bytes;
-mod document;
 mod engine;
 mod error;
-mod format;
-mod numbers;
 mod one_line;
-mod order;
 mod output;
+mod output_laws;
+mod pieces;
 mod program;
-mod style;
+mod requests;
+mod sections;
 mod works;
 
+pub use cite_markers::{Cite, CiteLocator, Document, DocumentError, Piece};
+pub use cite_styles::{author_date, english, note, numeric};
 pub use engine::{cite, cite_to_string};
 pub use error::{BibTextError, CiteError, DocumentTextError};
-pub use format::BufWriteFormat;
 pub use interop::{DateField, FieldFault};
+pub use literature_selectors::SelectorError;
 pub use one_line::refusals_are_said_in_lines;
+pub use output_laws::{citations_depend_on_markers_alone, texts_come_out_unchanged};
 pub use program::{paths, run};
+pub use rendering_locale::Locale;
+pub use rendering_output::BufWriteFormat;
+pub use rendering_style::Style;
 pub use sinks::{FileRead, ReadFault, Sink, SinkFault, Tap};
-pub use style::{Locale, Style, english, num};

@@ -1,18 +1,23 @@
 //! The program over files that were read and any writers: words in, output and fault lines out.
 
-ghost use Rattle.std.specs.Prelude.{◌≡◌, ◌≤◌, ◌++◌, Some, Ok, length, IfOk, IfErr, OnOk, OnErr, is_some, map, string_bytes, ◌⊎◌};
+ghost use Rattle.std.specs.Prelude.{◌≡◌, ◌≤◌, ◌++◌, Some, Ok, IfOk, IfErr, OnOk, OnErr, is_some, map, string_bytes, ◌⊎◌};
 ghost use Rattle.std.specs.Io.KnownBytes.{Appends};
 ghost use lib.Chars.{codes};
+ghost use Rattle.cite.specs.Jobs.{IsJob, job_seen};
+ghost use Rattle.cite.specs.declared.program.RunFault.TheVariants as faults;
 ghost use Rattle.sinks.specs.Files.{read_at};
 ghost use Rattle.sinks.specs.Programs.{IsUntouched, Says, no_memory};
 ghost use Rattle.interop.specs.Views.{fault};
-ghost use Rattle.cite.specs.Program.{is_style, asked, Serves, ServesFiles, CannotRead, IsFileFault, IsFault, IsReason, line, fault_said, fault_lines, fault_text, said_of, fault_of, format_of};
+ghost use Rattle.std.specs.Option.{option_map};
+ghost use Rattle.rendering_style.specs.StyleViews.{style_seen};
+ghost use Rattle.cite.specs.Program.{asked, job_of, ServesJob, IsJobFault, Serves, CannotRead, IsFault, IsReason, line, fault_said, fault_lines, fault_text, said_of, fault_of, format_named, style_named};
 
 use crate::engine::cite;
 use crate::error::CiteError;
-use crate::format::BufWriteFormat;
-use crate::style::{Style, english, num};
+use cite_styles::{author_date, english, note, numeric};
 use interop::FieldFault;
+use rendering_output::BufWriteFormat;
+use rendering_style::Style;
 use sinks::{FileRead, ReadFault, Sink, bytes_at};
 use std::alloc::{AllocError, Global};
 use std::fmt;
@@ -31,6 +36,14 @@ enum RunFault<'w> {
     Write,
     Fields(Vec<FieldFault>),
     Refused(CiteError),
+}
+
+impl From<AllocError> for RunFault<'_> {
+    ghost from_gives = { λ _ f. f ≡ faults.Memory };
+
+    fn from(_error: AllocError) -> Self {
+        RunFault::Memory
+    }
 }
 
 /// What the program's line says.
@@ -56,13 +69,13 @@ pub fn paths<'s, 'w>(words: &'s [&'w str]) -> &'s [&'w str]
     ensures { result.now ≡ asked words.now }
 {
     match words {
-        [style, format, _bib, _document, ..]
-            if style_named(style).is_some() && format_named(format).is_some() => { &words[2..4] }
+        [style, format, _bib, _document, ..] if is_style(style) && format_named(format).is_some() =>
+            { &words[2..4] }
         _ => &[],
     }
 }
 
-/// Runs the program: `STYLE FORMAT BIB DOC [SECTION ..]`, where STYLE is `num` and FORMAT is `plain` or `html`. The output
+/// Runs the program: `STYLE FORMAT BIB DOC [SECTION ..]`, where STYLE is `numeric`, `author-date` or `note`, and FORMAT is `plain` or `html`. The output
 /// goes to `out`, and the status is 0; or a line that begins `cite: ` and says why not goes to `err`, and the status is 1.
 /// `files` are what was read of the paths that `paths` names; one that is missing cannot be read. Words, style and format are
 /// looked at first, then the bib text's file, the document's, and then `cite` is called. A fault of `err` is passed over.
@@ -150,6 +163,38 @@ fn line_of(alloc: Global, fault: &RunFault<'_>) -> Result<String, AllocError>
     sinks::line_of(alloc, "cite", text.as_str(), "")
 }
 
+/// What words ask for.
+#[derive(Drop)]
+struct Job<'w, 's> {
+    style: Style,
+    format: BufWriteFormat,
+    bib: &'w str,
+    document: &'w str,
+    sections: &'s [&'w str],
+}
+
+/// What the words ask for, or why they ask for nothing.
+fn read_words<'w, 's>(alloc: Global, words: &'s [&'w str]) -> Result<Job<'w, 's>, RunFault<'w>>
+    ensures { IsJob result (job_of words.now) }
+{
+    let [style, format, bib, document, sections @ ..] = words else {
+        return Err(RunFault::Usage);
+    };
+    let Some(known) = style_named(alloc, style)? else {
+        return Err(RunFault::Style(style));
+    };
+    let Some(format) = format_named(format) else {
+        return Err(RunFault::Format(format));
+    };
+    Ok(Job {
+        style: known,
+        format,
+        bib,
+        document,
+        sections,
+    })
+}
+
 /// Writes the output, or says why not.
 fn serve<'w, O: Sink>(
     alloc: Global,
@@ -161,43 +206,32 @@ fn serve<'w, O: Sink>(
     ensures untouched { OnErr result (IsUntouched (Serves (read_at files.now) words.now) out.old out.new (O.contents out.old) (O.contents out.new) (O.failures out.old) (O.failures out.new)) }
     ensures fault { IfErr result (λ f. IsReason (IsFault (read_at files.now) words.now) (Serves (read_at files.now) words.now) (O.failures out.old) (O.failures out.new) (said_of f)) }
 {
-    let [style, format, bib, document, sections @ ..] = words else {
-        return Err(RunFault::Usage);
-    };
-    let Some(known) = style_named(style) else {
-        return Err(RunFault::Style(style));
-    };
-    let Some(format) = format_named(format) else {
-        return Err(RunFault::Format(format));
-    };
-    cite_files(alloc, &known, format, files, bib, document, sections, out)
+    let job = read_words(alloc, words)?;
+    cite_files(alloc, &job, files, out)
 }
 
-/// Writes the output of both files.
+/// Writes the output of the files of a job.
 fn cite_files<'w, O: Sink>(
     alloc: Global,
-    style: &Style,
-    format: BufWriteFormat,
+    job: &Job<'w, '_>,
     files: &[FileRead<'_>],
-    bib: &'w str,
-    document: &'w str,
-    sections: &[&str],
     out: &mut O,
 ) -> Result<(), RunFault<'w>>
-    ensures served { OnOk result (ServesFiles (read_at files.now) bib.now document.now (length sections.now) format (λ output. Appends (O.contents out.old) (O.contents out.new) output)) }
-    ensures untouched { OnErr result (IsUntouched (ServesFiles (read_at files.now) bib.now document.now (length sections.now) format) out.old out.new (O.contents out.old) (O.contents out.new) (O.failures out.old) (O.failures out.new)) }
-    ensures fault { IfErr result (λ f. IsReason (IsFileFault (read_at files.now) bib.now document.now (length sections.now) format) (ServesFiles (read_at files.now) bib.now document.now (length sections.now) format) (O.failures out.old) (O.failures out.new) (said_of f)) }
+    ensures served { OnOk result (ServesJob (read_at files.now) (Ok (job_seen job.now)) (λ output. Appends (O.contents out.old) (O.contents out.new) output)) }
+    ensures untouched { OnErr result (IsUntouched (ServesJob (read_at files.now) (Ok (job_seen job.now))) out.old out.new (O.contents out.old) (O.contents out.new) (O.failures out.old) (O.failures out.new)) }
+    ensures fault { IfErr result (λ f. IsReason (IsJobFault (read_at files.now) (Ok (job_seen job.now))) (ServesJob (read_at files.now) (Ok (job_seen job.now))) (O.failures out.old) (O.failures out.new) (said_of f)) }
 {
-    let bib = read(files, bib)?;
-    let document = read(files, document)?;
+    let bib = read(files, job.bib)?;
+    let document = read(files, job.document)?;
+    let locale = english(alloc)?;
     match cite(
         alloc,
         bib,
         document,
-        style,
-        &english(),
-        sections,
-        format,
+        &job.style,
+        &locale,
+        job.sections,
+        job.format,
         out,
     ) {
         Ok(()) => Ok(()),
@@ -217,16 +251,28 @@ fn fault_of<'w>(error: CiteError) -> RunFault<'w>
     }
 }
 
-/// The style of that name.
-fn style_named(name: &str) -> Option<Style>
-    ensures { is_some result ≡ is_style name.now }
+/// Whether a style has that name.
+fn is_style(name: &str) -> bool
+    ensures { result ≡ is_some (style_named name.now) }
 {
-    if name == "num" { Some(num()) } else { None }
+    matches!(name, "numeric" | "author-date" | "note")
+}
+
+/// The style of that name.
+fn style_named(alloc: Global, name: &str) -> Result<Option<Style>, AllocError>
+    ensures { IfOk result (λ s. option_map style_seen s ≡ style_named name.now) }
+{
+    match name {
+        "numeric" => Ok(Some(numeric(alloc)?)),
+        "author-date" => Ok(Some(author_date(alloc)?)),
+        "note" => Ok(Some(note(alloc)?)),
+        _ => Ok(None),
+    }
 }
 
 /// The format of that name.
 fn format_named(name: &str) -> Option<BufWriteFormat>
-    ensures { result ≡ format_of name.now }
+    ensures { result ≡ format_named name.now }
 {
     match name {
         "plain" => Some(BufWriteFormat::Plain),

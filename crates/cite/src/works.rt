@@ -10,7 +10,7 @@ ghost use Rattle.literature_entries.specs.Wholes.{whole};
 ghost use Rattle.literature.specs.Entries.{entries};
 ghost use Rattle.interop.specs.Views.{shelf};
 ghost use Rattle.cite.specs.Works.{meaning, work_of};
-ghost use Rattle.cite.specs.Verdict.{IsRead, IsShelved, library_stage, refused_as};
+ghost use Rattle.cite.specs.Stages.{IsRead, IsShelved, library_stage, refused_as};
 ghost use Rattle.cite.specs.Views.{works_in};
 ghost use Rattle.cite.specs.Answers.{Answers, Gives};
 
@@ -47,6 +47,13 @@ impl Works {
             Err(BridgeError::Fields(faults)) => Err(CiteError::Fields(faults)),
             Err(BridgeError::Memory) => Err(CiteError::Memory),
         }
+    }
+
+    /// The library.
+    pub(crate) fn library(&self) -> &Library
+        ensures { shelf result.now ≡ (works_in self.now).library }
+    {
+        &self.library
     }
 
     /// The work that a name means, by its key or an alias. Entries of type `xdata`, which only lend their fields, are none.

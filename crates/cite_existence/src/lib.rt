@@ -1,10 +1,16 @@
-//! The law that each call of `cite` has a verdict, so that its contract always allows another answer than out of memory. The function
-//! does nothing, and carries the law as its contract.
+//! Laws of `cite`: each call has a verdict, and each run of the program an end, so that their contracts always allow another answer than
+//! out of memory. The functions do nothing, and carry the laws as their contracts.
 #![tactic(auto)]
 
+ghost use Rattle.cite_existence.specs.Ends.{EachRunHasOneEnd};
 ghost use Rattle.cite_existence.specs.Verdicts.{EachCallHasOneVerdict};
 
-/// Bytes of a bib text and a document, a number of sections and a format have a verdict, and only one of all.
+/// Bytes of a bib text have a verdict with each document, style, locale, sections and format, and only one.
 pub fn each_call_has_one_verdict()
     ensures { EachCallHasOneVerdict }
+{}
+
+/// Words have an end over files for which memory did not run out, and only one: an output is served, or a fault is said.
+pub fn each_run_has_one_end()
+    ensures { EachRunHasOneEnd }
 {}

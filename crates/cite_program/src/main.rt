@@ -9,7 +9,7 @@ use std::io::{ErrorKind, Write};
 use std::process::ExitCode;
 
 /// The words of the stored run.
-const STORED_WORDS: [&str; 4] = ["num", "plain", "a.bib", "a.txt"];
+const STORED_WORDS: [&str; 4] = ["numeric", "plain", "a.bib", "a.txt"];
 
 /// Its two files.
 fn stored_files(rt: &HostRuntime) -> Result<Vec<FileRead<'static>>, AllocError> {

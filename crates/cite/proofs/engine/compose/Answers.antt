@@ -1,0 +1,39 @@
+use Rattle.std.proofs.Common.{◌≡◌, Result, Err, rules, sym, subst}
+use Rattle.driver.specs.RenderedViews.{rendered_by}
+use Rattle.cite_markers.specs.Views.{pieces_of}
+use Rattle.cite.specs.Answers.{Answers}
+use Rattle.cite.specs.Pieces.{output_of}
+use Rattle.cite.specs.Verdict.{IsVerdict}
+use Rattle.cite.specs.Views.{task_of, works_in}
+use Rattle.cite.specs.declared.error.CiteError.{CiteError}
+use Rattle.cite.specs.declared.pieces.Output.{Output}
+use Rattle.cite.proofs.AnswersWeaker.{refused_weaker}
+use Rattle.cite.proofs.VerdictStages.{works_stop, document_stops, rendering_stops, ends}
+use Rattle.cite.proofs.engine.compose.Goals as goal
+
+pub returns-in_err-works : goal.returns-in_err-works
+returns-in_err-works c =
+    let task = task_of c.args.document.now c.args.style.now c.args.locale.now c.args.sections.now c.args.format in
+    let is : c.from_residual.result ≡ Err c.in_err-works.field-0.0 = search rules in
+    subst (λ (r : Result Output CiteError). Answers output_of r (IsVerdict c.args.bib.now task)) (sym is)
+    (refused_weaker c.in_err-works.field-0.0 _ (IsVerdict c.args.bib.now task) (λ r h. works_stop c.args.bib.now task r h) c.in_err-works.ensures)
+
+pub returns-in_err-document : goal.returns-in_err-document
+returns-in_err-document c =
+    let task = task_of c.args.document.now c.args.style.now c.args.locale.now c.args.sections.now c.args.format in
+    let is : c.from_residual-in_err-document.result ≡ Err c.in_err-document.field-0.0 = search rules in
+    subst (λ (r : Result Output CiteError). Answers output_of r (IsVerdict c.args.bib.now task)) (sym is)
+    (refused_weaker c.in_err-document.field-0.0 _ (IsVerdict c.args.bib.now task) (λ r h. document_stops c.args.bib.now (works_in c.in_ok-works.works) task r c.in_ok-works.ensures h) c.in_err-document.ensures)
+
+pub returns-in_err-rendered : goal.returns-in_err-rendered
+returns-in_err-rendered c =
+    let task = task_of c.args.document.now c.args.style.now c.args.locale.now c.args.sections.now c.args.format in
+    let is : c.from_residual-in_err-rendered.result ≡ Err c.in_err-rendered.field-0.0 = search rules in
+    subst (λ (r : Result Output CiteError). Answers output_of r (IsVerdict c.args.bib.now task)) (sym is)
+    (refused_weaker c.in_err-rendered.field-0.0 _ (IsVerdict c.args.bib.now task)
+    (λ r h. rendering_stops c.args.bib.now (works_in c.in_ok-works.works) task (pieces_of c.in_ok-document.document) r c.in_ok-works.ensures c.in_ok-document.ensures h) c.in_err-rendered.ensures)
+
+pub returns : goal.returns
+returns c =
+    let task = task_of c.args.document.now c.args.style.now c.args.locale.now c.args.sections.now c.args.format in
+    rw c.in_ok-output_of.ensures (ends c.args.bib.now (works_in c.in_ok-works.works) task (pieces_of c.in_ok-document.document) (rendered_by c.in_ok-rendered.rendered) c.in_ok-works.ensures c.in_ok-document.ensures c.in_ok-rendered.ensures)

@@ -1,0 +1,26 @@
+-- What a driver gives of requests of the code.
+use Rattle.std.specs.Prelude.{Bool, List, map, Result}
+use Rattle.literature_entries.specs.Wholes.{whole}
+use Rattle.literature_entries.specs.declared.entry.Entry.{Entry}
+use Rattle.rendering_entries.specs.Library.{answers_of}
+use Rattle.rendering.specs.Purposes.{StyleContext}
+use Rattle.driver_requests.specs.CitedEntries.{place_among, places_among}
+use Rattle.driver_requests.specs.Views.{entries_in, request_by}
+use Rattle.driver_requests.specs.declared.request.CitationRequest.{CitationRequest}
+use Rattle.driver.specs.Documents.{Document}
+use Rattle.driver.specs.Finish.{Rendered, finish}
+use Rattle.cite.specs.Requests.{OwnLocator, is_same_own}
+use Rattle.cite.specs.Stages.{Refusal, overflow, refused_as}
+
+-- the document of requests and of entries that are wanted first, where entries are the same by this
+abbrev pub document_asked : (Entry → Entry → Bool) → StyleContext → List (CitationRequest Entry OwnLocator) → List Entry → Document OwnLocator
+document_asked same context requests chosen = record {
+  requests = map (request_by (place_among same (entries_in requests)) (λ e. answers_of (whole e))) requests;
+  bibliography_context = context;
+  wanted = places_among same (entries_in requests) chosen;
+  offset = 0;
+}
+
+-- citations and bibliography
+abbrev pub finished : (Entry → Entry → Bool) → StyleContext → List (CitationRequest Entry OwnLocator) → List Entry → Result Rendered Refusal
+finished same context requests chosen = refused_as (λ _. overflow) (finish is_same_own (document_asked same context requests chosen))

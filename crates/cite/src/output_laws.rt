@@ -1,0 +1,14 @@
+//! What holds of the outputs of all documents.
+
+ghost use Rattle.cite.specs.Replaced.{CitationsDependOnMarkersAlone, TextsComeOutUnchanged};
+
+/// An output is the document with a citation in place of each marker, and a bibliography after it: each text of the document comes out
+/// as it stands there, in order, but for one backslash directly before an opening.
+pub fn texts_come_out_unchanged()
+    ensures { TextsComeOutUnchanged }
+{}
+
+/// Citations and bibliography depend on the markers of the document alone, not on the texts around them.
+pub fn citations_depend_on_markers_alone()
+    ensures { CitationsDependOnMarkersAlone }
+{}

@@ -1,0 +1,73 @@
+//! Sections: the selectors that choose entries of a library.
+
+ghost use Rattle.std.specs.Prelude.{◌≡◌, ◌++◌, filter, map, IfOk, OnOk};
+ghost use Rattle.std.specs.Str.{chars};
+ghost use Rattle.laws.specs.Text.{spelled};
+ghost use Rattle.literature_entries.specs.Wholes.{whole};
+ghost use Rattle.literature.specs.Entries.{entries};
+ghost use Rattle.cite.specs.Holding.{holds_at};
+ghost use Rattle.literature_selectors.specs.Views.{meant};
+ghost use Rattle.interop.specs.Views.{shelf};
+ghost use Rattle.cite.specs.Answers.{Gives};
+ghost use Rattle.cite.specs.Sections.{chosen, selector_in};
+ghost use Rattle.cite.specs.Stages.{refused_as, section_refused, section_stage};
+ghost use Rattle.cite.specs.Views.{lent_works};
+
+use crate::error::CiteError;
+use literature::Library;
+use literature_entries::Entry;
+use literature_selectors::{Selector, SelectorError};
+use std::alloc::{AllocError, Global};
+
+/// The selectors of sections, or the first section that is none.
+pub(crate) fn selectors(alloc: Global, sections: &[&str]) -> Result<Vec<Selector>, CiteError>
+    ensures { Gives (λ v. map meant v.items) result (section_stage (map spelled sections.now)) }
+{
+    let mut selectors = Vec::with_capacity(alloc, sections.len())?;
+    for (index, section) in sections.iter().enumerate() {
+        selectors.push(selector(alloc, index, section)?)?;
+    }
+    Ok(selectors)
+}
+
+/// The selector of the section at a place.
+fn selector(alloc: Global, index: usize, section: &str) -> Result<Selector, CiteError>
+    ensures { Gives meant result (refused_as section_refused (selector_in (index, chars section.now))) }
+{
+    match Selector::parse(alloc, section) {
+        Ok(selector) => Ok(selector),
+        Err(SelectorError::Memory) => Err(CiteError::Memory),
+        Err(error) => Err(CiteError::Selector { index, error }),
+    }
+}
+
+/// The entries that the selectors choose: for each selector those at which it holds, in the order of the library.
+pub(crate) fn chosen<'l>(
+    alloc: Global,
+    selectors: &[Selector],
+    library: &'l Library,
+) -> Result<Vec<&'l Entry>, AllocError>
+    ensures { IfOk result (λ v. lent_works v.items ≡ chosen (map meant selectors.now) (shelf library.now)) }
+{
+    let mut found = Vec::new(alloc);
+    for selector in selectors {
+        push_chosen(selector, library, &mut found)?;
+    }
+    Ok(found)
+}
+
+/// Adds the entries at which the selector holds.
+fn push_chosen<'l>(
+    selector: &Selector,
+    library: &'l Library,
+    found: &mut Vec<&'l Entry>,
+) -> Result<(), AllocError>
+    ensures { OnOk result (lent_works found.new.items ≡ lent_works found.old.items ++ filter (holds_at (meant selector.now)) (shelf library.now)) }
+{
+    for entry in library.iter() {
+        if selector.matches(entry) {
+            found.push(entry)?;
+        }
+    }
+    Ok(())
+}
