@@ -2,7 +2,8 @@
 
 use crate::metas::maybe_meta;
 use cases::{Refusal, Value, count, items, member, only, owned_text};
-use cases_styles::{DISPLAYS, formatting, maybe_word, plain};
+use cases_styles::{DISPLAYS, formatting, maybe_word};
+use rendering_taxonomy::Formatting;
 use rendering_tree::{Elem, ElemChild, ElemChildren, Formatted};
 use std::alloc::Global;
 
@@ -66,7 +67,7 @@ fn leaf(alloc: Global, object: &Value<'_>) -> Result<ElemChild, Refusal> {
 fn plain_text(alloc: Global, text: &str) -> Result<ElemChild, Refusal> {
     Ok(ElemChild::Text(Formatted {
         text: String::from_str(alloc, text)?,
-        formatting: plain(),
+        formatting: Formatting::plain(),
     }))
 }
 

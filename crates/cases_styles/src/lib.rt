@@ -25,7 +25,7 @@ pub use date_words::PARTS;
 pub use dates::date_parts;
 pub use given_locales::{locale, locales, maybe_code, maybe_ordinals};
 pub use leaves::NUMBER_FORMS;
-pub use looks::{DISPLAYS, formatting, is_plain, plain, put_formatting};
+pub use looks::{DISPLAYS, formatting, is_plain, put_formatting};
 pub use parts::ALIGNS;
 use std::alloc::Global;
 pub use styles::{parts_of, put_style_error, style_parts};

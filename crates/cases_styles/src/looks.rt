@@ -81,20 +81,9 @@ pub(crate) fn changes(alloc: Global, object: &Value<'_>) -> Result<FormattingCha
     }
 }
 
-/// How characters look of which this is said; what is left open is plain.
-fn settled(changes: FormattingChanges) -> Formatting {
-    Formatting {
-        font_style: changes.font_style.unwrap_or(FontStyle::Normal),
-        font_variant: changes.font_variant.unwrap_or(FontVariant::Normal),
-        font_weight: changes.font_weight.unwrap_or(FontWeight::Normal),
-        text_decoration: changes.text_decoration.unwrap_or(TextDecoration::None),
-        vertical_align: changes.vertical_align.unwrap_or(VerticalAlign::None),
-    }
-}
-
 /// How the member `formatting` says that characters look; what is left out is plain.
 pub fn formatting(alloc: Global, object: &Value<'_>) -> Result<Formatting, Refusal> {
-    Ok(settled(changes(alloc, object)?))
+    Ok(changes(alloc, object)?.over(Formatting::plain()))
 }
 
 /// How a node looks.
@@ -111,14 +100,9 @@ pub(crate) fn look(alloc: Global, node: &Value<'_>) -> Result<Look, Refusal> {
     })
 }
 
-/// How characters look of which nothing is said.
-pub fn plain() -> Formatting {
-    settled(FormattingChanges::default())
-}
-
 /// Whether characters look as they do of themselves.
 pub fn is_plain(formatting: Formatting) -> bool {
-    formatting == plain()
+    formatting == Formatting::plain()
 }
 
 /// Writes the word of an attribute, unless it is the one that characters have of themselves.

@@ -1,3 +1,5 @@
+pub mod TargetsTaken
 pub mod WritingCalls
 pub mod WritingDeclared
+pub mod WritingEscaped
 pub mod WritingTags

@@ -1,10 +1,9 @@
 -- What calls of a writer wrote, one after the other.
-use Rattle.std.proofs.Common.{◌≡◌, ℕ, true, List, [], ◌∷◌, ◌++◌, Result, Ok, Err, IsOk, OnOk, refl, sym, subst}
-use Rattle.std.specs.Char.{is_ascii, encode_utf8}
+use Rattle.std.proofs.Common.{◌≡◌, ℕ, true, List, [], ◌∷◌, ◌++◌, refl, sym, subst}
+use Rattle.std.specs.Char.{is_ascii}
 use Rattle.std.specs.Fmt.{WritesInCalls}
 use Rattle.std.specs.List.{list_all}
 use Rattle.std.specs.Str.{chars, IsUtf8, IsAscii}
-use Rattle.std.specs.declared.fmt.Error.{Error}
 use Rattle.std.proofs.Output.{writes_in_calls_nil, writes_in_calls_single, writes_in_calls_append}
 use Rattle.std.proofs.lemmas.Bool.{and_parts, ltb-true}
 use Rattle.std.proofs.lemmas.List.{append-nil}
@@ -41,23 +40,10 @@ module _ {W : Type 0} (took : W → List ℕ → W → Type 0) where
   pub writes_text : (w : W) (bs : List ℕ) (v : W) → IsUtf8 bs → took w bs v → WritesCharacters took w (chars bs) v
   writes_text w bs v u t = subst (λ (x : List ℕ). WritesInCalls took w x v) (sym (text_of_chars bs u)) (writes_in_calls_single took w bs v t)
 
-  -- a call wrote a character
-  pub writes_character : (w : W) (c : ℕ) (v : W) → took w (encode_utf8 c) v → WritesCharacters took w (c ∷ []) v
-  writes_character w c v t = subst (λ (x : List ℕ). WritesInCalls took w x v) (sym (append-nil (encode_utf8 c))) (writes_in_calls_single took w (encode_utf8 c) v t)
+  -- a call wrote a text, as the tags of plain text say it
+  pub writes_words : (w : W) (bs : List ℕ) (v : W) → IsUtf8 bs → took w bs v → WritesCharacters took w (chars bs ++ []) v
+  writes_words w bs v u t = subst (λ (cs : List ℕ). WritesCharacters took w cs v) (sym (append-nil (chars bs))) (writes_text w bs v u t)
 
   -- more was written after it
   pub writes_more : (w : W) (cs : List ℕ) (v : W) (ds : List ℕ) (u : W) → WritesCharacters took w cs v → WritesCharacters took v ds u → WritesCharacters took w (cs ++ ds) u
   writes_more w cs v ds u p q = subst (λ (x : List ℕ). WritesInCalls took w x u) (sym (text-append cs ds)) (writes_in_calls_append took w (text cs) v (text ds) u p q)
-
-  -- the same where the call may have failed
-  pub ascii_on_ok : (r : Result (Unit {0}) Error) (w : W) (cs : List ℕ) (v : W) → list_all is_ascii cs ≡ true → (IsOk r → took w cs v) → OnOk r (WritesCharacters took w cs v)
-  ascii_on_ok (Ok x) w cs v e t = writes_ascii w cs v e (t refl)
-  ascii_on_ok (Err x) w cs v e t = tt
-
-  pub text_on_ok : (r : Result (Unit {0}) Error) (w : W) (bs : List ℕ) (v : W) → IsUtf8 bs → (IsOk r → took w bs v) → OnOk r (WritesCharacters took w (chars bs ++ []) v)
-  text_on_ok (Ok x) w bs v u t = subst (λ (cs : List ℕ). WritesCharacters took w cs v) (sym (append-nil (chars bs))) (writes_text w bs v u (t refl))
-  text_on_ok (Err x) w bs v u t = tt
-
-  pub character_on_ok : (r : Result (Unit {0}) Error) (w : W) (c : ℕ) (v : W) → OnOk r (took w (encode_utf8 c) v) → OnOk r (WritesCharacters took w (c ∷ []) v)
-  character_on_ok (Ok x) w c v t = writes_character w c v t
-  character_on_ok (Err x) w c v t = tt

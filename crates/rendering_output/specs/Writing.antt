@@ -1,5 +1,5 @@
 -- How what is printed is written: as a list of tags and texts, properly nested, and each of these in plain text or in HTML.
-use Rattle.std.specs.Prelude.{ℕ, Bool, true, false, ◌==◌, List, [], ◌∷◌, ◌++◌, if◌then◌else◌, Option, Some, None, codes}
+use Rattle.std.specs.Prelude.{ℕ, Bool, true, false, not, ◌==◌, ◌||◌, List, [], ◌∷◌, ◌++◌, if◌then◌else◌, Option, Some, None, codes}
 use Rattle.std.specs.Borrow.{Bor}
 use Rattle.std.specs.Fmt.{WritesInCalls}
 use Rattle.std.specs.List.{flat_map}
@@ -70,6 +70,13 @@ plain_tag t = []
 abbrev pub escaped_character : ℕ → List ℕ
 escaped_character c =
     if c == 38 then codes "&amp;" else (if c == 60 then codes "&lt;" else (if c == 62 then codes "&gt;" else (if c == 34 then codes "&quot;" else c ∷ [])))
+
+-- the characters that have such a name, and those that are written as they are
+abbrev pub has_name : ℕ → Bool
+has_name c = c == 38 || c == 60 || c == 62 || c == 34
+
+abbrev pub stands_as_it_is : ℕ → Bool
+stands_as_it_is c = not (has_name c)
 
 -- a text with these characters by their names
 abbrev pub escaped : List ℕ → List ℕ
@@ -146,6 +153,10 @@ tag_text formats.Html = html_tag
 -- some calls of `write_str` took the writer from w to v, and wrote the characters together
 abbrev pub WritesCharacters : {W : Type 0} → (W → List ℕ → W → Type 0) → W → List ℕ → W → Type 0
 WritesCharacters took w cs v = WritesInCalls took w (text cs) v
+
+-- what is written of the characters ds after v is, with what took the writer from w to v, written of cs
+abbrev pub LeavesEscaped : {W : Type 0} → (W → List ℕ → W → Type 0) → W → List ℕ → W → List ℕ → Type 0
+LeavesEscaped took w cs v ds = (u : _) → WritesCharacters took v (escaped ds) u → WritesCharacters took w (escaped cs) u
 
 -- the same of what the format makes of the tags
 abbrev pub WritesTags : {W : Type 0} → (W → List ℕ → W → Type 0) → BufWriteFormat → W → List Tag → W → Type 0

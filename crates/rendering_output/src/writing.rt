@@ -1,15 +1,17 @@
 //! Tags and texts in plain text and in HTML, written one after the other.
 
-ghost use Rattle.std.specs.Prelude.{◌≡◌, ◌∷◌, [], ◌||◌, if◌then◌else◌, OnOk, IfOk};
+ghost use Rattle.std.specs.Prelude.{◌≡◌, ◌∷◌, [], ◌||◌, true, if◌then◌else◌};
 ghost use Rattle.std.specs.Str.{chars};
+ghost use Rattle.laws.specs.Runs.{after};
 ghost use Rattle.laws.specs.Text.{is_filled};
 ghost use Rattle.rendering_taxonomy.specs.Formats.{plain, looks_like};
-ghost use Rattle.rendering_output.specs.Writing.{words, span, end_span, anchor, end_anchor, spanned, linked, begun, ended, line_break, escaped_character, escaped, declared, style_declared, variant_declared, weight_declared, decoration_declared, align_declared, declarations, spaced, spaced_after, html_tag, WritesCharacters, WritesTags};
+ghost use Rattle.rendering_output.specs.Writing.{words, span, end_span, anchor, end_anchor, spanned, linked, begun, ended, line_break, has_name, stands_as_it_is, escaped_character, escaped, declared, style_declared, variant_declared, weight_declared, decoration_declared, align_declared, declarations, spaced, spaced_after, html_tag, WritesCharacters, WritesTags, LeavesEscaped};
 
+use crate::TextTarget;
 use rendering_taxonomy::{
     Display, FontStyle, FontVariant, FontWeight, Formatting, TextDecoration, VerticalAlign,
 };
-use std::fmt;
+use texts::{CharacterClass, split_first, split_run};
 
 /// A format that can be written.
 #[derive(Clone, Copy, Debug, Default, PartialEq, Eq, Hash)]
@@ -22,124 +24,102 @@ pub enum BufWriteFormat {
 }
 
 impl BufWriteFormat {
-    /// Writes a text that looks so.
-    ///
-    /// # Errors
-    /// An error of the writer, after which some of the text may have been written.
-    pub fn write_text<W: fmt::Write>(
-        self,
-        w: &mut W,
-        formatting: Formatting,
-        text: &str,
-    ) -> fmt::Result
-        ensures { OnOk result (WritesTags W.write_str_gives self w.old (spanned formatting (chars text.now)) w.new) }
+    /// Hands a text that looks so to the target.
+    pub fn push_text<T: TextTarget>(self, target: &mut T, formatting: Formatting, text: &str)
+        ensures { WritesTags T.takes self target.old (spanned formatting (chars text.now)) target.new }
     {
         if is_plain(formatting) {
-            return self.write_markup(w, text);
+            return self.push_markup(target, text);
         }
-        self.start_span(w, formatting)?;
-        self.write_markup(w, text)?;
-        self.end_span(w)?;
-        Ok(())
+        self.push_span(target, formatting);
+        self.push_markup(target, text);
+        self.push_span_end(target);
     }
 
-    /// Writes a text or a formula without looks.
-    ///
-    /// # Errors
-    /// An error of the writer, after which some of the text may have been written.
-    pub fn write_markup<W: fmt::Write>(self, w: &mut W, text: &str) -> fmt::Result
-        ensures { OnOk result (WritesTags W.write_str_gives self w.old (words (chars text.now) ∷ []) w.new) }
+    /// Hands a text or a formula without looks to the target.
+    pub fn push_markup<T: TextTarget>(self, target: &mut T, text: &str)
+        ensures { WritesTags T.takes self target.old (words (chars text.now) ∷ []) target.new }
     {
         match self {
-            BufWriteFormat::Plain => w.write_str(text),
-            BufWriteFormat::Html => write_escaped(w, text),
+            BufWriteFormat::Plain => target.push_str(text),
+            BufWriteFormat::Html => push_escaped(target, text),
         }
     }
 
-    /// Writes a text that looks so and leads to an address.
-    ///
-    /// # Errors
-    /// An error of the writer, after which some of the text may have been written.
-    pub fn write_link<W: fmt::Write>(
+    /// Hands a text that looks so and leads to an address to the target.
+    pub fn push_link<T: TextTarget>(
         self,
-        w: &mut W,
+        target: &mut T,
         formatting: Formatting,
         text: &str,
         url: &str,
-    ) -> fmt::Result
-        ensures { OnOk result (WritesTags W.write_str_gives self w.old (linked formatting (chars text.now) (chars url.now)) w.new) }
+    )
+        ensures { WritesTags T.takes self target.old (linked formatting (chars text.now) (chars url.now)) target.new }
     {
-        self.start_link(w, url)?;
-        self.write_text(w, formatting, text)?;
-        self.end_link(w)?;
-        Ok(())
+        self.push_anchor(target, url);
+        self.push_text(target, formatting, text);
+        self.push_anchor_end(target);
     }
 
-    /// Writes where an element begins.
-    ///
-    /// # Errors
-    /// An error of the writer.
-    pub fn start<W: fmt::Write>(self, w: &mut W, display: Option<Display>) -> fmt::Result
-        ensures { OnOk result (WritesTags W.write_str_gives self w.old (begun display) w.new) }
+    /// Hands the beginning of an element to the target.
+    pub fn push_start<T: TextTarget>(self, target: &mut T, display: Option<Display>)
+        ensures { WritesTags T.takes self target.old (begun display) target.new }
     {
         match (self, display) {
-            (_, None) => Ok(()),
-            (BufWriteFormat::Plain, Some(display)) => write_break(w, display),
-            (BufWriteFormat::Html, Some(_)) => w.write_str("<div>"),
+            (_, None) => {}
+            (BufWriteFormat::Plain, Some(display)) => push_break(target, display),
+            (BufWriteFormat::Html, Some(_)) => target.push_str("<div>"),
         }
     }
 
-    /// Writes where an element ends.
-    ///
-    /// # Errors
-    /// An error of the writer.
-    pub fn end<W: fmt::Write>(self, w: &mut W, display: Option<Display>) -> fmt::Result
-        ensures { OnOk result (WritesTags W.write_str_gives self w.old (ended display) w.new) }
+    /// Hands the end of an element to the target.
+    pub fn push_end<T: TextTarget>(self, target: &mut T, display: Option<Display>)
+        ensures { WritesTags T.takes self target.old (ended display) target.new }
     {
         match (self, display) {
-            (_, None) => Ok(()),
-            (BufWriteFormat::Plain, Some(display)) => write_break(w, display),
-            (BufWriteFormat::Html, Some(_)) => w.write_str("</div>"),
+            (_, None) => {}
+            (BufWriteFormat::Plain, Some(display)) => push_break(target, display),
+            (BufWriteFormat::Html, Some(_)) => target.push_str("</div>"),
         }
     }
 
-    /// Writes where a text begins that looks so.
-    fn start_span<W: fmt::Write>(self, w: &mut W, formatting: Formatting) -> fmt::Result
-        ensures { OnOk result (WritesTags W.write_str_gives self w.old (span formatting ∷ []) w.new) }
+    /// Hands over where a text begins that looks so.
+    fn push_span<T: TextTarget>(self, target: &mut T, formatting: Formatting)
+        ensures { WritesTags T.takes self target.old (span formatting ∷ []) target.new }
     {
         match self {
-            BufWriteFormat::Plain => Ok(()),
-            BufWriteFormat::Html => write_span(w, formatting),
+            BufWriteFormat::Plain => {}
+            BufWriteFormat::Html => push_span_tag(target, formatting),
         }
     }
 
-    /// Writes where a text ends that looks so.
-    fn end_span<W: fmt::Write>(self, w: &mut W) -> fmt::Result
-        ensures { OnOk result (WritesTags W.write_str_gives self w.old (end_span ∷ []) w.new) }
+    /// Hands over where a text ends that looks so.
+    fn push_span_end<T: TextTarget>(self, target: &mut T)
+        ensures { WritesTags T.takes self target.old (end_span ∷ []) target.new }
     {
         match self {
-            BufWriteFormat::Plain => Ok(()),
-            BufWriteFormat::Html => w.write_str("</span>"),
+            BufWriteFormat::Plain => {}
+            BufWriteFormat::Html => target.push_str("</span>"),
         }
     }
 
-    /// Writes where a text begins that leads to an address.
-    fn start_link<W: fmt::Write>(self, w: &mut W, url: &str) -> fmt::Result
-        ensures { OnOk result (WritesTags W.write_str_gives self w.old (anchor (chars url.now) ∷ []) w.new) }
+    /// Hands over where a text begins that leads to an address.
+    fn push_anchor<T: TextTarget>(self, target: &mut T, url: &str)
+        ensures { WritesTags T.takes self target.old (anchor (chars url.now) ∷ []) target.new }
     {
         match self {
-            BufWriteFormat::Plain => Ok(()),
-            BufWriteFormat::Html => write_anchor(w, url),
+            BufWriteFormat::Plain => {}
+            BufWriteFormat::Html => push_anchor_tag(target, url),
         }
     }
 
-    /// Writes where a text ends that leads to an address.
-    fn end_link<W: fmt::Write>(self, w: &mut W) -> fmt::Result
-        ensures { OnOk result (WritesTags W.write_str_gives self w.old (end_anchor ∷ []) w.new) }
+    /// Hands over where a text ends that leads to an address.
+    fn push_anchor_end<T: TextTarget>(self, target: &mut T)
+        ensures { WritesTags T.takes self target.old (end_anchor ∷ []) target.new }
     {
         match self {
-            BufWriteFormat::Plain => Ok(()),
-            BufWriteFormat::Html => w.write_str("</a>"),
+            BufWriteFormat::Plain => {}
+            BufWriteFormat::Html => target.push_str("</a>"),
         }
     }
 }
@@ -155,106 +135,132 @@ fn is_plain(formatting: Formatting) -> bool
         && matches!(formatting.vertical_align, VerticalAlign::None)
 }
 
-/// Writes the line feed that stands before and after a block.
-fn write_break<W: fmt::Write>(w: &mut W, display: Display) -> fmt::Result
-    ensures { OnOk result (WritesCharacters W.write_str_gives w.old (line_break display) w.new) }
+/// Hands over the line feed that stands before and after a block.
+fn push_break<T: TextTarget>(target: &mut T, display: Display)
+    ensures { WritesCharacters T.takes target.old (line_break display) target.new }
 {
     match display {
-        Display::Block => w.write_str("\n"),
-        Display::LeftMargin | Display::RightInline | Display::Indent => Ok(()),
+        Display::Block => target.push_str("\n"),
+        Display::LeftMargin | Display::RightInline | Display::Indent => {}
     }
 }
 
-/// Writes the tag of HTML before a text that looks so.
-fn write_span<W: fmt::Write>(w: &mut W, formatting: Formatting) -> fmt::Result
-    ensures { OnOk result (WritesCharacters W.write_str_gives w.old (html_tag (span formatting)) w.new) }
+/// Hands over the tag of HTML before a text that looks so.
+fn push_span_tag<T: TextTarget>(target: &mut T, formatting: Formatting)
+    ensures { WritesCharacters T.takes target.old (html_tag (span formatting)) target.new }
 {
-    w.write_str("<span style=\"")?;
-    write_declarations(w, formatting)?;
-    w.write_str("\">")?;
-    Ok(())
+    target.push_str("<span style=\"");
+    push_declarations(target, formatting);
+    target.push_str("\">");
 }
 
-/// Writes the tag of HTML before a text that leads to an address.
-fn write_anchor<W: fmt::Write>(w: &mut W, url: &str) -> fmt::Result
-    ensures { OnOk result (WritesCharacters W.write_str_gives w.old (html_tag (anchor (chars url.now))) w.new) }
+/// Hands over the tag of HTML before a text that leads to an address.
+fn push_anchor_tag<T: TextTarget>(target: &mut T, url: &str)
+    ensures { WritesCharacters T.takes target.old (html_tag (anchor (chars url.now))) target.new }
 {
-    w.write_str("<a href=\"")?;
-    write_escaped(w, url)?;
-    w.write_str("\">")?;
-    Ok(())
+    target.push_str("<a href=\"");
+    push_escaped(target, url);
+    target.push_str("\">");
 }
 
-/// Writes a text with four characters by their names.
-fn write_escaped<W: fmt::Write>(w: &mut W, text: &str) -> fmt::Result
-    ensures { OnOk result (WritesCharacters W.write_str_gives w.old (escaped (chars text.now)) w.new) }
+/// Hands over a text with four characters by their names.
+fn push_escaped<T: TextTarget>(target: &mut T, text: &str)
+    ensures { WritesCharacters T.takes target.old (escaped (chars text.now)) target.new }
 {
-    for c in text.chars() {
-        write_escaped_character(w, c)?;
+    let mut rest = push_run(target, text);
+    while let Some((c, more)) = split_first(rest) {
+        target.push_str(name_of(c));
+        rest = push_run(target, more);
     }
-    Ok(())
 }
 
-/// Writes a character, or its name.
-fn write_escaped_character<W: fmt::Write>(w: &mut W, c: char) -> fmt::Result
-    ensures { OnOk result (WritesCharacters W.write_str_gives w.old (escaped_character c) w.new) }
+/// Hands over the characters before the first that has a name, in one go, and gives back what follows them.
+fn push_run<'t, T: TextTarget>(target: &mut T, text: &'t str) -> &'t str
+    ensures written { LeavesEscaped T.takes target.old (chars text.now) target.new (chars result.now) }
+    ensures rest { chars result.now ≡ after stands_as_it_is (chars text.now) }
+{
+    let (run, rest) = split_run(text, AsItIs);
+    target.push_str(run);
+    rest
+}
+
+/// The characters that are written as they are in HTML.
+#[derive(Clone, Copy)]
+struct AsItIs;
+
+impl CharacterClass for AsItIs {
+    ghost passes = { λ _ c. stands_as_it_is c };
+
+    fn contains(self, c: char) -> bool {
+        !matches!(c, '&' | '<' | '>' | '"')
+    }
+}
+
+/// The name of a character that is not written as it is.
+fn name_of(c: char) -> &'static str
+    requires { has_name c ≡ true }
+    ensures { result.now ≡ escaped_character c }
 {
     match c {
-        '&' => w.write_str("&amp;"),
-        '<' => w.write_str("&lt;"),
-        '>' => w.write_str("&gt;"),
-        '"' => w.write_str("&quot;"),
-        _ => w.write_char(c),
+        '&' => "&amp;",
+        '<' => "&lt;",
+        '>' => "&gt;",
+        _ => "&quot;",
     }
 }
 
-/// Writes what is declared for the attributes that are not as they are of themselves.
-fn write_declarations<W: fmt::Write>(w: &mut W, formatting: Formatting) -> fmt::Result
-    ensures { OnOk result (WritesCharacters W.write_str_gives w.old (spaced (declarations formatting)) w.new) }
+/// Hands over what is declared for the attributes that are not as they are of themselves.
+fn push_declarations<T: TextTarget>(target: &mut T, formatting: Formatting)
+    ensures { WritesCharacters T.takes target.old (spaced (declarations formatting)) target.new }
 {
-    let style = write_declaration(w, false, style_declared(formatting.font_style))?;
-    let variant = write_declaration(w, style, variant_declared(formatting.font_variant))?;
-    let weight = write_declaration(w, variant, weight_declared(formatting.font_weight))?;
-    let decoration = write_declaration(w, weight, decoration_declared(formatting.text_decoration))?;
-    write_declaration(w, decoration, align_declared(formatting.vertical_align))?;
-    Ok(())
+    let style = push_declaration(target, false, style_declared(formatting.font_style));
+    let variant = push_declaration(target, style, variant_declared(formatting.font_variant));
+    let weight = push_declaration(target, variant, weight_declared(formatting.font_weight));
+    let decoration = push_declaration(
+        target,
+        weight,
+        decoration_declared(formatting.text_decoration),
+    );
+    push_declaration(
+        target,
+        decoration,
+        align_declared(formatting.vertical_align),
+    );
 }
 
-/// Writes a declaration, where there is one, after others or as the first, and says whether there are any by then.
-fn write_declaration<W: fmt::Write>(
-    w: &mut W,
+/// Hands over a declaration, where there is one, after others or as the first, and says whether there are any by then.
+fn push_declaration<T: TextTarget>(
+    target: &mut T,
     is_after: bool,
     declaration: Option<&str>,
-) -> Result<bool, fmt::Error>
-    ensures written { IfOk result (λ b. WritesCharacters W.write_str_gives w.old (spaced_after is_after (declared declaration.entry)) w.new) }
-    ensures any { IfOk result (λ b. b ≡ (is_after || is_filled (declared declaration.entry))) }
+) -> bool
+    ensures written { WritesCharacters T.takes target.old (spaced_after is_after (declared declaration.entry)) target.new }
+    ensures any { result ≡ (is_after || is_filled (declared declaration.entry)) }
 {
     match declaration {
-        None => Ok(is_after),
+        None => is_after,
         Some(text) => {
-            write_next(w, is_after, text)?;
-            Ok(true)
+            push_next(target, is_after, text);
+            true
         }
     }
 }
 
-/// Writes a declaration after others or as the first.
-fn write_next<W: fmt::Write>(w: &mut W, is_after: bool, text: &str) -> fmt::Result
-    ensures { OnOk result (WritesCharacters W.write_str_gives w.old (spaced_after is_after (chars text.now ∷ [])) w.new) }
+/// Hands over a declaration after others or as the first.
+fn push_next<T: TextTarget>(target: &mut T, is_after: bool, text: &str)
+    ensures { WritesCharacters T.takes target.old (spaced_after is_after (chars text.now ∷ [])) target.new }
 {
-    write_space(w, is_after)?;
-    w.write_str(text)?;
-    Ok(())
+    push_space(target, is_after);
+    target.push_str(text);
 }
 
-/// Writes the space before a declaration that is not the first.
-fn write_space<W: fmt::Write>(w: &mut W, is_after: bool) -> fmt::Result
-    ensures { OnOk result (WritesCharacters W.write_str_gives w.old (if is_after then 32 ∷ [] else []) w.new) }
+/// Hands over the space before a declaration that is not the first.
+fn push_space<T: TextTarget>(target: &mut T, is_after: bool)
+    ensures { WritesCharacters T.takes target.old (if is_after then 32 ∷ [] else []) target.new }
 {
     if is_after {
-        return w.write_str(" ");
+        target.push_str(" ");
     }
-    Ok(())
 }
 
 /// What is declared for a style of a font.

@@ -1,7 +1,7 @@
 //! How characters look, and where an element stands.
 
 ghost use Rattle.std.specs.Prelude.{◌≡◌};
-ghost use Rattle.rendering_taxonomy.specs.Formats.{changed};
+ghost use Rattle.rendering_taxonomy.specs.Formats.{changed, plain};
 ghost use Rattle.rendering_taxonomy.specs.Views.{changes_seen};
 
 /// The style of a font.
@@ -59,6 +59,21 @@ pub struct Formatting {
     pub font_weight: FontWeight,
     pub text_decoration: TextDecoration,
     pub vertical_align: VerticalAlign,
+}
+
+impl Formatting {
+    /// How characters look where nothing is said of them.
+    pub fn plain() -> Formatting
+        ensures { result ≡ plain }
+    {
+        Formatting {
+            font_style: FontStyle::Normal,
+            font_variant: FontVariant::Normal,
+            font_weight: FontWeight::Normal,
+            text_decoration: TextDecoration::None,
+            vertical_align: VerticalAlign::None,
+        }
+    }
 }
 
 /// What is said of the look of characters; what is left open stays as it is around.

@@ -140,3 +140,7 @@ one_tree xs ys h k e = sym (same_all xs h) ∙ sym (simplified_is xs) ∙ ap tre
 -- a tree in its normal form with the tokens of another one is that one, simplified
 pub is_simplified : (xs ys : Children) → is_normal xs ≡ true → flat xs ≡ flat ys → xs ≡ simplified ys
 is_simplified xs ys h e = one_tree xs (simplified ys) h (simplified_normal ys) (e ∙ sym (keeps_tokens ys))
+
+-- a tree in its normal form is what it is simplified to
+pub stays : (xs : Children) → is_normal xs ≡ true → xs ≡ simplified xs
+stays xs h = is_simplified xs xs h refl

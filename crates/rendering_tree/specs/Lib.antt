@@ -5,5 +5,6 @@ pub mod Parting
 pub mod Same
 pub mod Laws
 pub mod Views
+pub mod Normal
 pub mod Simplify
 pub mod Writing

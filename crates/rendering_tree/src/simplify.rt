@@ -1,26 +1,35 @@
 //! The normal form of trees.
 
 ghost use Rattle.std.specs.Prelude.{◌≡◌, true, [], IfOk, OnOk};
-ghost use Rattle.std.specs.Option.{option_map};
 ghost use Rattle.laws.specs.Text.{characters};
-ghost use Rattle.rendering_tree.specs.Laws.{says_something};
 ghost use Rattle.rendering_tree.specs.Simplify.{Puts, is_whole, text_after};
 ghost use Rattle.rendering_tree.specs.Tokens.{with_letters};
 ghost use Rattle.rendering_tree.specs.Trees.{Text, nothing, before, flat, flat_child, followed_by, simplified};
-ghost use Rattle.rendering_tree.specs.Views.{child, meaning, row, tree};
+ghost use Rattle.rendering_tree.specs.Views.{child, row, tree};
 
-use crate::{Elem, ElemChild, ElemChildren, ElemMeta, Formatted};
-use rendering_taxonomy::Display;
+use crate::normal::{is_normal, says_something};
+use crate::{Elem, ElemChild, ElemChildren, Formatted};
 use std::alloc::AllocError;
 use texts::{has_text, push_text};
 
 /// The tree in its normal form: the children of an element without display and meta stand in its place, there are no empty texts,
-/// and neighbouring texts of one formatting are joined.
+/// and neighbouring texts of one formatting are joined. A tree that is in its normal form is handed back.
 ///
 /// # Errors
 /// Out of memory.
-#[cycle(simplify)]
+#[tactic(auto, using(crate::proofs::LawsNormal::stays))]
 pub fn simplify_children(parts: ElemChildren) -> Result<ElemChildren, AllocError>
+    ensures { IfOk result (λ t. tree t ≡ simplified (tree parts)) }
+{
+    if is_normal(&parts) {
+        return Ok(parts);
+    }
+    simplified(parts)
+}
+
+/// The tree in its normal form, made anew.
+#[cycle(simplify)]
+fn simplified(parts: ElemChildren) -> Result<ElemChildren, AllocError>
     ensures { IfOk result (λ t. tree t ≡ simplified (tree parts)) }
 {
     let mut simple = Vec::new(*parts.0.allocator());
@@ -68,7 +77,7 @@ fn push_element(elem: Elem, simple: &mut Vec<ElemChild>) -> Result<(), AllocErro
     if !says_something(&display, &meta) {
         return push_all(children, simple);
     }
-    let children = simplify_children(children)?;
+    let children = simplified(children)?;
     push_whole(
         ElemChild::Elem(Elem {
             children,
@@ -77,13 +86,6 @@ fn push_element(elem: Elem, simple: &mut Vec<ElemChild>) -> Result<(), AllocErro
         }),
         simple,
     )
-}
-
-/// Whether there is a display or a meta.
-fn says_something(display: &Option<Display>, meta: &Option<ElemMeta>) -> bool
-    ensures { result ≡ says_something display.now (option_map meaning meta.now) }
-{
-    display.is_some() || meta.is_some()
 }
 
 /// Appends a text, joined with the last one where that has its formatting; an empty one is passed over.

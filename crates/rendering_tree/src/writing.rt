@@ -7,59 +7,86 @@ ghost use Rattle.rendering_tree.specs.Views.{child, element, tree};
 ghost use Rattle.rendering_tree.specs.Writing.{tags, tags_in, plain_text, plain_child_text, plain_element_text};
 
 use crate::{Elem, ElemChild, ElemChildren};
-use rendering_output::BufWriteFormat;
+use rendering_output::{BufWriteFormat, TextTarget, WriterTarget};
 use std::fmt;
 
 impl ElemChildren {
+    /// Hands the children in that format to the target, one after the other.
+    #[cycle(writing)]
+    pub fn push_to<T: TextTarget>(&self, target: &mut T, format: BufWriteFormat)
+        ensures { WritesTags T.takes format target.old (tags (tree self.now)) target.new }
+    {
+        for part in &self.0 {
+            part.push_to(target, format);
+        }
+    }
+
     /// Writes the children in that format, one after the other.
     ///
     /// # Errors
     /// An error of the writer, after which some of it may have been written.
-    #[cycle(writing)]
     pub fn write_buf<W: fmt::Write>(&self, w: &mut W, format: BufWriteFormat) -> fmt::Result
         ensures { OnOk result (WritesTags W.write_str_gives format w.old (tags (tree self.now)) w.new) }
     {
-        for part in &self.0 {
-            part.write_buf(w, format)?;
-        }
-        Ok(())
+        let mut target = WriterTarget::new(w);
+        self.push_to(&mut target, format);
+        target.result()
     }
 }
 
 impl ElemChild {
+    /// Hands the child in that format to the target.
+    #[cycle(writing)]
+    pub fn push_to<T: TextTarget>(&self, target: &mut T, format: BufWriteFormat)
+        ensures { WritesTags T.takes format target.old (tags_in (child self.now)) target.new }
+    {
+        match self {
+            ElemChild::Text(text) => {
+                format.push_text(target, text.formatting, text.text.as_str());
+            }
+            ElemChild::Elem(elem) => elem.push_to(target, format),
+            ElemChild::Markup(text) => format.push_markup(target, text.as_str()),
+            ElemChild::Link { text, url } => {
+                format.push_link(target, text.formatting, text.text.as_str(), url.as_str());
+            }
+            ElemChild::Transparent { .. } => {}
+        }
+    }
+
     /// Writes the child in that format.
     ///
     /// # Errors
     /// An error of the writer, after which some of it may have been written.
-    #[cycle(writing)]
     pub fn write_buf<W: fmt::Write>(&self, w: &mut W, format: BufWriteFormat) -> fmt::Result
         ensures { OnOk result (WritesTags W.write_str_gives format w.old (tags_in (child self.now)) w.new) }
     {
-        match self {
-            ElemChild::Text(text) => format.write_text(w, text.formatting, text.text.as_str()),
-            ElemChild::Elem(elem) => elem.write_buf(w, format),
-            ElemChild::Markup(text) => format.write_markup(w, text.as_str()),
-            ElemChild::Link { text, url } => {
-                format.write_link(w, text.formatting, text.text.as_str(), url.as_str())
-            }
-            ElemChild::Transparent { .. } => Ok(()),
-        }
+        let mut target = WriterTarget::new(w);
+        self.push_to(&mut target, format);
+        target.result()
     }
 }
 
 impl Elem {
+    /// Hands the element in that format to the target.
+    #[cycle(writing)]
+    pub fn push_to<T: TextTarget>(&self, target: &mut T, format: BufWriteFormat)
+        ensures { WritesTags T.takes format target.old (divided self.now.display (tags (tree self.now.children))) target.new }
+    {
+        format.push_start(target, self.display);
+        self.children.push_to(target, format);
+        format.push_end(target, self.display);
+    }
+
     /// Writes the element in that format.
     ///
     /// # Errors
     /// An error of the writer, after which some of it may have been written.
-    #[cycle(writing)]
     pub fn write_buf<W: fmt::Write>(&self, w: &mut W, format: BufWriteFormat) -> fmt::Result
         ensures { OnOk result (WritesTags W.write_str_gives format w.old (divided self.now.display (tags (tree self.now.children))) w.new) }
     {
-        format.start(w, self.display)?;
-        self.children.write_buf(w, format)?;
-        format.end(w, self.display)?;
-        Ok(())
+        let mut target = WriterTarget::new(w);
+        self.push_to(&mut target, format);
+        target.result()
     }
 }
 

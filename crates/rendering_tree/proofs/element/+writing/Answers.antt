@@ -7,19 +7,19 @@ use Rattle.rendering_tree.specs.declared.element.ElemChild.{ElemChild}
 use Rattle.rendering_tree.proofs.WritingTaken.{tags-more}
 use Rattle.rendering_tree.proofs.element.+writing.Goals as goal
 
-pub Elem::write_buf-returns : goal.Elem::write_buf-returns
-Elem::write_buf-returns g t c =
-    let took = g.W.Write.write_str_gives in
+pub Elem::push_to-returns : goal.Elem::push_to-returns
+Elem::push_to-returns g t c =
+    let took = g.T.TextTarget.takes in
     let format = c.args.format in
     let display = c.args.self.now.display in
     let inside = tags (tree c.args.self.now.children) in
-    let last = writes_more_tags took format _ inside _ (ended display) _ c.in_ok-write_buf.ensures c.in_ok-end.ensures in
-    let whole = writes_more_tags took format _ (begun display) _ (inside ++ ended display) _ c.in_ok-start.ensures last in
-    subst (λ (ts : List Tag). WritesTags took format c.args.w.now ts c.end.new.w) (divided-parts display inside) whole
+    let last = writes_more_tags took format _ inside _ (ended display) _ c.push_to.ensures c.push_end.ensures in
+    let whole = writes_more_tags took format _ (begun display) _ (inside ++ ended display) _ c.push_start.ensures last in
+    subst (λ (ts : List Tag). WritesTags took format c.args.target.now ts c.push_end.new.target) (divided-parts display inside) whole
 
-pub ElemChildren::write_buf-loop-part-preserved : goal.ElemChildren::write_buf-loop-part-preserved
-ElemChildren::write_buf-loop-part-preserved g t c = λ u written.
-    let took = g.W.Write.write_str_gives in
+pub ElemChildren::push_to-loop-part-preserved : goal.ElemChildren::push_to-loop-part-preserved
+ElemChildren::push_to-loop-part-preserved g t c = λ u written.
+    let took = g.T.TextTarget.takes in
     let format = c.args.format in
     let i = c.loop-part.part-index in
     let x = c.part-item.result in
@@ -27,5 +27,5 @@ ElemChildren::write_buf-loop-part-preserved g t c = λ u written.
     let parts = tags-more c.deref-part-items.result.now i x x c.loop-part-test.true c.part-item.is in
     let here = subst (λ (xs : List ElemChild). tags (row (drop i xs)) ≡ tags_in (child x) ++ tags (row (drop (i + 1) xs))) c.deref-part-items.ensures.value parts in
     c.loop-part.invariant u
-    (subst (λ (ts : List Tag). WritesTags took format c.loop-part.w ts u) (sym here)
-    (writes_more_tags took format c.loop-part.w (tags_in (child x)) c.write_buf.new.w more u c.in_ok-write_buf.ensures written))
+    (subst (λ (ts : List Tag). WritesTags took format c.loop-part.target ts u) (sym here)
+    (writes_more_tags took format c.loop-part.target (tags_in (child x)) c.push_to.new.target more u c.push_to.ensures written))

@@ -50,7 +50,7 @@ push_element-returns t c =
     ∙ ap flat_child (sym (child-Elem e)) in
     on_ok c.push_whole.result (subst (λ ts. Puts ts (row c.args.simple.now.items) (row c.push_whole.new.simple.items)) tokens) c.push_whole.ensures
 
-pub simplify_children-returns : goal.simplify_children-returns
-simplify_children-returns t c =
+pub simplified-returns : goal.simplified-returns
+simplified-returns t c =
     tree_rolled (record { 0 = c.push_all.new.simple })
     ∙ puts_all (tree c.args.parts) (row c.new-simple.result.items) (row c.push_all.new.simple.items) (ap row c.new-simple.ensures.items) c.in_ok-push_all.ensures

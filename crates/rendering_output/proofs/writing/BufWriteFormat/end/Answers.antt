@@ -1,6 +1,6 @@
-use Rattle.std.proofs.Common.{refl, codes}
-use Rattle.rendering_output.proofs.WritingCalls.{ascii_on_ok}
+use Rattle.std.proofs.Common.{rules}
+use Rattle.rendering_output.proofs.TargetsTaken.{all_taken}
 use Rattle.rendering_output.proofs.writing.BufWriteFormat.end.Goals as goal
 
-pub returns-in-Html-Some : goal.returns-in-Html-Some
-returns-in-Html-Some g c = rw (c.in-Html-Some.is-0, c.in-Html-Some.is-1) (ascii_on_ok g.W.Write.write_str_gives _ _ (codes "</div>") _ refl c.write_str.ensures.ok)
+pub returns : goal.returns
+returns g c = all_taken g.W.Write.write_str_gives c.new-target.result c.push_end.new.target c.args.w.now _ c.result.result _ c.new-target.ensures.writer c.result.ensures (λ same. search rules) c.push_end.ensures

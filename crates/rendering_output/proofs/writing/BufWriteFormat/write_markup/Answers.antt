@@ -1,5 +1,6 @@
-use Rattle.rendering_output.proofs.WritingCalls.{text_on_ok}
+use Rattle.std.proofs.Common.{rules}
+use Rattle.rendering_output.proofs.TargetsTaken.{all_taken}
 use Rattle.rendering_output.proofs.writing.BufWriteFormat.write_markup.Goals as goal
 
-pub returns-in-Plain : goal.returns-in-Plain
-returns-in-Plain g c = rw c.in-Plain.is (text_on_ok g.W.Write.write_str_gives _ _ c.args.text.now _ c.utf8.text c.write_str.ensures.ok)
+pub returns : goal.returns
+returns g c = all_taken g.W.Write.write_str_gives c.new-target.result c.push_markup.new.target c.args.w.now _ c.result.result _ c.new-target.ensures.writer c.result.ensures (λ same. search rules) c.push_markup.ensures
