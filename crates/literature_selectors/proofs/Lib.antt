@@ -6,6 +6,7 @@ pub mod GrammarAgain
 pub mod GrammarTakes
 pub mod GrammarOutcome
 pub mod HoldingMembers
+pub mod HoldingWorks
 pub mod TreesWeights
 pub mod LeftPlaces
 pub mod BindingsAdded

@@ -29,7 +29,7 @@ at_first test bound = record { at = bound; above = of_first test bound }
 
 -- a selector by its meaning and by what it binds
 pub record Side : Type 0 where
-  pub means : Meaning
+  pub means : Meaning Entry
   pub binds : Binds
 
 -- what was taken binds, and then what the others do

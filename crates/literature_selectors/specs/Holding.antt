@@ -7,27 +7,22 @@ use Rattle.laws.specs.Text.{text}
 use Rattle.literature_values.specs.EntryTypes.{type_name}
 use Rattle.literature_values.specs.declared.entry_type.EntryType.{EntryType}
 use Rattle.literature_entries.specs.declared.entry.Entry.{Entry}
+use Rattle.literature_entries.specs.Fields.{Fields}
 use Rattle.literature_entries.specs.Names.{has, are_some}
 use Rattle.literature_entries.specs.Views.{fields, parents}
+use Rattle.literature_entries.specs.Wholes as wholes
+use Rattle.literature_entries.specs.Wholes.{Whole, Wholes, Holding}
 use Rattle.literature_selectors.specs.Trees.{Tree, Trees, nothing, before}
 use Rattle.literature_selectors.specs.Trees as trees
 
 -- what a selector says of an entry, and of the parents of one
-pub record Meaning : Type 0 where
-  pub at : Entry → Bool
-  pub above : List Entry → Bool
+pub record Meaning (E : Type 0) : Type 0 where
+  pub at : E → Bool
+  pub above : List E → Bool
 
 -- parents satisfy what holds at one of them
-abbrev pub at_one : (Entry → Bool) → Meaning
+abbrev pub at_one : {E : Type 0} → (E → Bool) → Meaning E
 at_one test = record { at = test; above = list_any test }
-
--- whether the entry is of the type, by the names of both
-abbrev pub is_of : EntryType → Entry → Bool
-is_of t e = bytes_eq (type_name t) (type_name (fields e).entry_type)
-
--- whether the entry has each of the named fields
-abbrev pub has_each : List (List ℕ) → Entry → Bool
-has_each names e = list_all (λ n. has (text n) (fields e) (are_some (parents e))) names
 
 -- one that was taken, before which another one stands that was not
 abbrev pub following : {X : Type 0} → X → X × List X → X × List X
@@ -54,21 +49,65 @@ abbrev mutual
   -- of parents holds where the first part does and the parents satisfy the second.
   -- Parents satisfy a negation where they do not satisfy the negated, a choice where they satisfy a side, more than one at
   -- once where each in turn takes the first parent that is left and at which it holds, and any other where it holds at one.
-  pub meaning : Tree → Meaning
-  meaning trees.Any = at_one (λ e. true)
-  meaning (trees.Entry t) = at_one (is_of t)
-  meaning (trees.Not x) = record { at = λ e. not ((meaning x).at e); above = λ ps. not ((meaning x).above ps) }
-  meaning (trees.Binding n x) = at_one (meaning x).at
-  meaning (trees.Attributes x names) = at_one (λ e. (meaning x).at e && has_each names e)
-  meaning (trees.Alternatives xs) = record { at = λ e. list_any (λ m. m.at e) (meanings xs); above = λ ps. list_any (λ m. m.above ps) (meanings xs) }
-  meaning (trees.Multi xs) = record { at = λ e. false; above = λ ps. each_takes (map (λ m. m.at) (meanings xs)) ps }
-  meaning (trees.Ancestry x y) = at_one (λ e. (meaning x).at e && (meaning y).above (parents e))
+  -- An entry is anything of which it is known of which types it is, which fields it has, and what its parents are.
+  pub meaning_by : {E : Type 0} → (EntryType → E → Bool) → (List (List ℕ) → E → Bool) → (E → List E) → Tree → Meaning E
+  meaning_by is has ps trees.Any = at_one (λ e. true)
+  meaning_by is has ps (trees.Entry t) = at_one (is t)
+  meaning_by is has ps (trees.Not x) = record { at = λ e. not ((meaning_by is has ps x).at e); above = λ es. not ((meaning_by is has ps x).above es) }
+  meaning_by is has ps (trees.Binding n x) = at_one (meaning_by is has ps x).at
+  meaning_by is has ps (trees.Attributes x names) = at_one (λ e. (meaning_by is has ps x).at e && has names e)
+  meaning_by is has ps (trees.Alternatives xs) = record { at = λ e. list_any (λ m. m.at e) (meanings_by is has ps xs); above = λ es. list_any (λ m. m.above es) (meanings_by is has ps xs) }
+  meaning_by is has ps (trees.Multi xs) = record { at = λ e. false; above = λ es. each_takes (map (λ m. m.at) (meanings_by is has ps xs)) es }
+  meaning_by is has ps (trees.Ancestry x y) = at_one (λ e. (meaning_by is has ps x).at e && (meaning_by is has ps y).above (ps e))
 
   -- the same of each
-  pub meanings : Trees → List Meaning
-  meanings nothing = []
-  meanings (before x xs) = meaning x ∷ meanings xs
+  pub meanings_by : {E : Type 0} → (EntryType → E → Bool) → (List (List ℕ) → E → Bool) → (E → List E) → Trees → List (Meaning E)
+  meanings_by is has ps nothing = []
+  meanings_by is has ps (before x xs) = meaning_by is has ps x ∷ meanings_by is has ps xs
 
--- whether the selector holds at the entry
+-- whether what is said is of the type, by the names of both
+abbrev pub is_type_of : EntryType → Fields → Bool
+is_type_of t fs = bytes_eq (type_name t) (type_name fs.entry_type)
+
+-- whether an entry of the code is of the type
+abbrev pub is_of : EntryType → Entry → Bool
+is_of t e = is_type_of t (fields e)
+
+-- whether it has each of the named fields
+abbrev pub has_each : List (List ℕ) → Entry → Bool
+has_each names e = list_all (λ n. has (text n) (fields e) (are_some (parents e))) names
+
+-- what a selector says of entries of the code
+abbrev pub meaning : Tree → Meaning Entry
+meaning x = meaning_by is_of has_each parents x
+
+-- the same of each
+abbrev pub meanings : Trees → List (Meaning Entry)
+meanings xs = meanings_by is_of has_each parents xs
+
+-- whether the selector holds at an entry of the code
 abbrev pub holds : Tree → Entry → Bool
 holds x e = (meaning x).at e
+
+-- what a work says of itself, and the works that it is part of
+abbrev pub said_of : Whole → Fields
+said_of (Holding key fs ws) = fs
+
+abbrev pub listed : Wholes → List Whole
+listed wholes.nothing = []
+listed (wholes.before w ws) = w ∷ listed ws
+
+abbrev pub outer_works : Whole → List Whole
+outer_works (Holding key fs ws) = listed ws
+
+-- whether a work is of the type
+abbrev pub is_work_of : EntryType → Whole → Bool
+is_work_of t w = is_type_of t (said_of w)
+
+-- whether it has each of the named fields
+abbrev pub work_has_each : List (List ℕ) → Whole → Bool
+work_has_each names w = list_all (λ n. has (text n) (said_of w) (are_some (outer_works w))) names
+
+-- whether the selector holds at a work
+abbrev pub holds_at : Tree → Whole → Bool
+holds_at x w = (meaning_by is_work_of work_has_each outer_works x).at w
