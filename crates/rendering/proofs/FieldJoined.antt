@@ -1,20 +1,19 @@
 -- A field before other children.
-use Rattle.std.proofs.Common.{◌≡◌, true≢false, List, ◌++◌, sym, ap, ◌∙◌, Option, Some, None, is_some}
-use Rattle.rendering_taxonomy.specs.declared.formatting.Display.{Display}
-use Rattle.rendering_tree.specs.Metas.{Meta}
+use Rattle.std.proofs.Common.{◌≡◌, true≢false, List, ◌∷◌, ◌++◌, sym, ap, ◌∙◌, Option, Some, None, is_some}
+use Rattle.std.specs.Option.{option_map}
 use Rattle.rendering_tree.specs.Parting.{taken, left}
 use Rattle.rendering_tree.specs.Tokens.{Token}
-use Rattle.rendering_tree.specs.Trees.{Child, Children, Elem, nothing, before, flat, flat_child, followed_by, Parted, tree_of}
+use Rattle.rendering_tree.specs.Trees.{Children, Elem as Element, flat, flat_child, Parted, tree_of}
+use Rattle.rendering_tree.specs.Views.{meaning, row, tree}
+use Rattle.rendering_tree.specs.declared.element.Elem.{Elem}
+use Rattle.rendering_tree.specs.declared.element.ElemChild.{ElemChild}
+use Rattle.rendering_tree.specs.declared.element.ElemChild.TheVariants as parts
+use Rattle.rendering_tree.proofs.ViewsLevels.{child-Elem}
 use Rattle.rendering.specs.Purposes.{in_front}
 
--- what stands in an element that says nothing follows the field
-pub joined_flat : (t u v : Children) (x y : Child) (d : Option Display) (m : Option Meta) (xs others : Children)
-    → t ≡ nothing → u ≡ followed_by t (before x nothing) → v ≡ followed_by u (before y nothing) → x ≡ Elem d m xs → y ≡ Elem None None others
-    → flat v ≡ flat others ++ flat_child (Elem d m xs)
-joined_flat t u v x y d m xs others none first second is_field is_others =
-    ap flat (second ∙ ap (λ w. followed_by w (before y nothing)) (first ∙ ap (λ w. followed_by w (before x nothing)) none))
-    ∙ ap (λ z. flat_child y ++ flat_child z) is_field
-    ∙ ap (λ z. flat_child z ++ flat_child (Elem d m xs)) is_others
+-- a field stands before others
+pub before_others : (xs ys : List ElemChild) (e : Elem) → ys ≡ parts.Elem e ∷ xs → flat (row ys) ≡ flat (row xs) ++ flat_child (Element e.display (option_map meaning e.meta) (tree e.children))
+before_others xs ys e is = ap (λ zs. flat (row zs)) is ∙ ap (λ x. flat (row xs) ++ flat_child x) (child-Elem e)
 
 -- where no element stands for something the tree is as it was
 pub none_in_front : (p : Parted) (ts : List Token) (whole new : Children) → None ≡ taken p → new ≡ left p whole → tree_of ts ≡ whole → new ≡ in_front ts p

@@ -12,7 +12,7 @@ use Rattle.literature_values.specs.declared.date.Date.{Date}
 use Rattle.rendering_dates.specs.Dates.{years_text}
 use Rattle.rendering_page.specs.Pages.{Manner, Frame, space_put}
 use Rattle.rendering_page.specs.Pieces.{normal, begin, end}
-use Rattle.rendering_page.specs.Titles.{plainly}
+use Rattle.rendering_page.specs.Shown.{plainly}
 use Rattle.rendering_entries.specs.Answers.{Answers}
 use Rattle.rendering_style.specs.Options.{NameOptions, options_over}
 use Rattle.rendering_style.specs.Nodes.{Look, NamesNode, Nodes, names, no_nodes, node}

@@ -48,17 +48,12 @@ fn spaced_before(field: Elem, others: ElemChildren) -> Result<ElemChildren, Allo
     simplify_children(both(field, others)?)
 }
 
-/// A field and other children, which stand in an element that says nothing.
+/// A field before other children.
 fn both(field: Elem, others: ElemChildren) -> Result<ElemChildren, AllocError>
     ensures { IfOk result (λ t. flat (tree t) ≡ flat (tree others) ++ flat_child (Element (element field).display (element field).meta (element field).children)) }
 {
-    let mut all = ElemChildren::new(*others.0.allocator());
-    all.push(ElemChild::Elem(field))?;
-    all.push(ElemChild::Elem(Elem {
-        children: others,
-        display: None,
-        meta: None,
-    }))?;
+    let mut all = others;
+    all.0.insert(0, ElemChild::Elem(field))?;
     Ok(all)
 }
 

@@ -8,7 +8,7 @@ use Rattle.literature_values.specs.declared.date.Date.{Date}
 use Rattle.rendering_locale.specs.Locales.{Locale}
 use Rattle.rendering_page.specs.Pages.{Page, Manner, Quotes, empty_page, normal_put}
 use Rattle.rendering_page.specs.Pieces.{Piece, normal, put_down, all_down}
-use Rattle.rendering_page.specs.Titles.{page_text}
+use Rattle.rendering_page.specs.Shown.{page_text}
 use Rattle.rendering_dates.specs.Dates.{DateShape, side_pieces, side_text}
 
 -- a text after pieces

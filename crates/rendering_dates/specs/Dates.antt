@@ -17,7 +17,7 @@ use Rattle.rendering_numbers.specs.Numbers.{ordinal_text}
 use Rattle.rendering_numbers.specs.Years.{year_text}
 use Rattle.rendering_page.specs.Pages.{Manner, Frame, empty_page}
 use Rattle.rendering_page.specs.Pieces.{Piece, normal, framed, all_down}
-use Rattle.rendering_page.specs.Titles.{page_text}
+use Rattle.rendering_page.specs.Shown.{page_text}
 use Rattle.rendering_taxonomy.specs.declared.date.LongShortForm.{LongShortForm}
 use Rattle.rendering_taxonomy.specs.declared.date.LongShortForm.TheVariants as lengths
 use Rattle.rendering_taxonomy.specs.declared.date.DateParts.{DateParts}

@@ -101,7 +101,7 @@ fn long_text(
 fn straight(alloc: Global, given: &str, person: &Person) -> Result<String, AllocError>
     ensures { IfOk result (λ s. characters s ≡ straight (chars given.now) (person_seen person.now)) }
 {
-    let mut out = empty_text(alloc);
+    let mut out = text_with_room(alloc)?;
     push_part(&mut out, space(), given)?;
     push_part(&mut out, space(), text_or_empty(&person.prefix))?;
     push_part(&mut out, space(), person.name.as_str())?;
@@ -118,7 +118,7 @@ fn inverted(
 ) -> Result<String, AllocError>
     ensures { IfOk result (λ s. characters s ≡ inverted_by false (chars separator.now) (chars given.now) (person_seen person.now)) }
 {
-    let mut out = empty_text(alloc);
+    let mut out = text_with_room(alloc)?;
     push_part(&mut out, space(), text_or_empty(&person.prefix))?;
     push_part(&mut out, space(), person.name.as_str())?;
     push_part(&mut out, separator, given)?;
@@ -136,7 +136,7 @@ fn demoted(
 ) -> Result<String, AllocError>
     ensures { IfOk result (λ s. characters s ≡ inverted_by true (chars separator.now) (chars given.now) (person_seen person.now)) }
 {
-    let mut out = empty_text(alloc);
+    let mut out = text_with_room(alloc)?;
     push_part(&mut out, separator, person.name.as_str())?;
     push_part(&mut out, separator, given)?;
     push_part(
@@ -153,6 +153,14 @@ fn after_given<'a>(separator: &'a str, given: &str) -> &'a str
     ensures { spelled result ≡ (if is_filled (chars given.now) then 32 ∷ [] else spelled separator.entry) }
 {
     if has_text(given) { space() } else { separator }
+}
+
+/// No text, with room for most names.
+fn text_with_room(alloc: Global) -> Result<String, AllocError>
+    ensures { IfOk result (λ s. characters s ≡ []) }
+{
+    let text = String::with_capacity(alloc, 32)?;
+    Ok(text)
 }
 
 /// Appends a part of a name, after what stands between two parts. A part that is empty is none.

@@ -8,7 +8,6 @@ pub mod CursorsPlaces
 pub mod TailEnds
 pub mod PagesMarks
 pub mod PagesPutting
-pub mod TitlesShown
-pub mod PlainTitlesPages
+pub mod ShownPages
 pub mod BuildingReading
 pub mod CutsTexts

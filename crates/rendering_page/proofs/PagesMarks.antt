@@ -1,11 +1,11 @@
 -- What pieces are to the marks of a page.
-use Rattle.std.proofs.Common.{◌≡◌, ◌+◌, ◌≤◌, ℕ, zero, suc, Bool, true, false, not, ◌||◌, List, [], ◌∷◌, length, take, get_or, refl, sym, ap, ◌∙◌}
+use Rattle.std.proofs.Common.{◌≡◌, ◌+◌, ◌<◌, ◌≤◌, ℕ, zero, suc, Bool, true, false, not, ◌&&◌, ◌||◌, List, [], ◌∷◌, ◌++◌, length, take, get_or, refl, sym, ap, ◌∙◌, arith, Option, Some, None}
 use Rattle.std.specs.List.{fold, list_any}
 use Rattle.std.specs.Char.{is_whitespace}
 use Rattle.laws.specs.Text.{is_filled}
 use Rattle.rendering_taxonomy.specs.declared.formatting.Formatting.{Formatting}
 use Rattle.rendering_tree.specs.Tokens.{Token, letter, with_letters}
-use Rattle.rendering_page.specs.Marks.{kind_by, kind_of, is_something, is_first}
+use Rattle.rendering_page.specs.Marks.{begins_nothing, goes_on, kind_by, kind_of, is_something, is_first, none_begins, none_begins_after, none_begins_since}
 use Rattle.rendering_page.specs.Pages.{prints, before_mark, before_prefix, is_begun}
 use Rattle.rendering_page.specs.Views.{letters, put, tokens_of}
 use Rattle.rendering_page.specs.declared.marks.Kind.{Kind}
@@ -40,9 +40,10 @@ by_kind false n ts = refl
 pub prints_put : (p : Piece) (n : ℕ) (ts : List Token) → prints n (put ts p) ≡ prints_by (kind_of p) n ts
 prints_put (pieces.Text f w) n ts = prints_letters f (letters w) n ts ∙ by_kind (list_any (λ c. not (is_whitespace c)) (letters w)) n ts
 prints_put (pieces.Markup w) n ts = refl
-prints_put (pieces.Link f w url) n ts = refl
+prints_put (pieces.Link l) n ts = refl
 prints_put (pieces.Transparent f k) n ts = refl
 prints_put (pieces.Opening d m) n ts = refl
+prints_put (pieces.MadeOpening d m) n ts = refl
 prints_put pieces.Closing n ts = refl
 prints_put pieces.Mark zero ts = refl
 prints_put pieces.Mark (suc n) ts = refl
@@ -69,12 +70,14 @@ pub before_mark_put : (p : Piece) (n : ℕ) (ts : List Token) → before_mark n 
 before_mark_put (pieces.Text f w) n ts = before_mark_letters f (letters w) n ts ∙ before_kind (list_any (λ c. not (is_whitespace c)) (letters w)) n ts
 before_mark_put (pieces.Markup w) zero ts = refl
 before_mark_put (pieces.Markup w) (suc n) ts = refl
-before_mark_put (pieces.Link f w url) zero ts = refl
-before_mark_put (pieces.Link f w url) (suc n) ts = refl
+before_mark_put (pieces.Link l) zero ts = refl
+before_mark_put (pieces.Link l) (suc n) ts = refl
 before_mark_put (pieces.Transparent f k) zero ts = refl
 before_mark_put (pieces.Transparent f k) (suc n) ts = refl
 before_mark_put (pieces.Opening d m) zero ts = refl
 before_mark_put (pieces.Opening d m) (suc n) ts = refl
+before_mark_put (pieces.MadeOpening d m) zero ts = refl
+before_mark_put (pieces.MadeOpening d m) (suc n) ts = refl
 before_mark_put pieces.Closing zero ts = refl
 before_mark_put pieces.Closing (suc n) ts = refl
 before_mark_put pieces.Mark zero ts = refl
@@ -99,6 +102,7 @@ before_prefix_letters f (c ∷ cs) ts = before_prefix_letters f cs (letter f c �
 pub prefix_goes_on : (p : Piece) (ts : List Token) → is_first p ≡ false → before_prefix (put ts p) ≡ before_prefix ts
 prefix_goes_on (pieces.Text f w) ts e = before_prefix_letters f (letters w) ts
 prefix_goes_on (pieces.Opening d m) ts e = cc
+prefix_goes_on (pieces.MadeOpening d m) ts e = cc
 prefix_goes_on pieces.Mark ts e = cc
 prefix_goes_on p ts e = refl
 
@@ -113,9 +117,10 @@ begun_letters f (c ∷ cs) ts = begun_still f cs (letter f c ∷ ts) refl
 pub begun_put : (p : Piece) (ts : List Token) → is_begun (put ts p) ≡ (is_something p || is_begun ts)
 begun_put (pieces.Text f w) ts = begun_letters f (letters w) ts
 begun_put (pieces.Markup w) ts = refl
-begun_put (pieces.Link f w url) ts = refl
+begun_put (pieces.Link l) ts = refl
 begun_put (pieces.Transparent f n) ts = refl
 begun_put (pieces.Opening d m) ts = refl
+begun_put (pieces.MadeOpening d m) ts = refl
 begun_put pieces.Closing ts = refl
 begun_put pieces.Mark ts = refl
 begun_put pieces.Unmark ts = refl
@@ -136,3 +141,64 @@ begun_any ps = sym (begun_from ps [] ∙ or_none (list_any is_something ps))
 -- an element may begin with a piece or not
 pub prefix_more : (ps : List Piece) (i j : ℕ) (p : Piece) → i + 1 ≡ j → j ≤ length ps → p ≡ get_or ps i p → before_prefix (tokens_of (take j ps)) ≡ before_prefix (put (tokens_of (take i ps)) p)
 prefix_more ps i j p next low at = ap before_prefix (tokens_more ps i j p next low at)
+
+-- a piece more, with which nothing begins
+and_true : (a b : Bool) → a ≡ true → b ≡ true → (a && b) ≡ true
+and_true true b e f = f
+and_true false b e f = e
+
+and_first : (a b : Bool) → (a && b) ≡ true → a ≡ true
+and_first true b e = refl
+and_first false b e = e
+
+and_second : (a b : Bool) → (a && b) ≡ true → b ≡ true
+and_second true b e = e
+and_second false b e = cc
+
+none_push : (ps : List Piece) (p : Piece) → begins_nothing p ≡ true → none_begins ps ≡ true → none_begins (ps ++ p ∷ []) ≡ true
+none_push [] p g e = and_true (begins_nothing p) true g refl
+none_push (q ∷ ps) p g e =
+    and_true (begins_nothing q) (none_begins (ps ++ p ∷ [])) (and_first (begins_nothing q) (none_begins ps) e) (none_push ps p g (and_second (begins_nothing q) (none_begins ps) e))
+
+after_push : (i : ℕ) (ps : List Piece) (p : Piece) → begins_nothing p ≡ true → none_begins_after i ps ≡ true → none_begins_after i (ps ++ p ∷ []) ≡ true
+after_push zero [] p g e = refl
+after_push (suc i) [] p g e = refl
+after_push zero (q ∷ ps) p g e = none_push ps p g e
+after_push (suc i) (q ∷ ps) p g e = after_push i ps p g e
+
+pub since_push : (o : Option ℕ) (ps qs : List Piece) (p : Piece) → begins_nothing p ≡ true → none_begins_since o ps ≡ true → qs ≡ ps ++ p ∷ [] → none_begins_since o qs ≡ true
+since_push None ps qs p g e f = refl
+since_push (Some i) ps qs p g e f = ap (none_begins_after i) f ∙ after_push i ps p g e
+
+-- nothing stands after the last place
+after_last : (i : ℕ) (ps : List Piece) → length ps ≤ i + 1 → none_begins_after i ps ≡ true
+after_last i [] low = refl
+after_last zero (p ∷ []) low = refl
+after_last zero (p ∷ q ∷ ps) low = absurd (omega (arith, low))
+after_last (suc i) (p ∷ ps) low = after_last i ps (omega (arith, low))
+
+pub since_last : (i : ℕ) (ps : List Piece) → length ps ≤ i + 1 → none_begins_since (Some i) ps ≡ true
+since_last i ps low = after_last i ps low
+
+-- where a piece prints, and nothing begins after it
+still_prints : (k : Kind) (n : ℕ) (ts : List Token) → goes_on k ≡ true → ((m : ℕ) → prints m ts ≡ true) → prints_by k n ts ≡ true
+still_prints kinds.Begin n ts g e = cc
+still_prints kinds.End n ts g e = e (suc n)
+still_prints kinds.Print n ts g e = refl
+still_prints kinds.Other n ts g e = e n
+
+all_print : (ps : List Piece) (ts : List Token) → none_begins ps ≡ true → ((m : ℕ) → prints m ts ≡ true) → (n : ℕ) → prints n (fold put ts ps) ≡ true
+all_print [] ts g e n = e n
+all_print (p ∷ ps) ts g e n =
+    all_print ps (put ts p) (and_second (begins_nothing p) (none_begins ps) g)
+    (λ m. prints_put p m ts ∙ still_prints (kind_of p) m ts (and_first (begins_nothing p) (none_begins ps) g) e) n
+
+printed_after : (ps : List Piece) (i : ℕ) (p : Piece) (ts : List Token) → i < length ps → p ≡ get_or ps i p → kind_of p ≡ kinds.Print → none_begins_after i ps ≡ true
+    → (n : ℕ) → prints n (fold put ts ps) ≡ true
+printed_after [] i p ts inside at is g n = absurd (omega (arith, inside))
+printed_after (q ∷ ps) zero p ts inside at is g n =
+    all_print ps (put ts q) g (λ m. prints_put q m ts ∙ ap (λ r. prints_by (kind_of r) m ts) (sym at) ∙ ap (λ k. prints_by k m ts) is) n
+printed_after (q ∷ ps) (suc i) p ts inside at is g n = printed_after ps i p (put ts q) (omega (arith, inside)) at is g n
+
+pub printed_since : (ps : List Piece) (i : ℕ) (p : Piece) → i < length ps → p ≡ get_or ps i p → kind_of p ≡ kinds.Print → none_begins_since (Some i) ps ≡ true → prints 0 (tokens_of ps) ≡ true
+printed_since ps i p inside at is g = printed_after ps i p [] inside at is g 0

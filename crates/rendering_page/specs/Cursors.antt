@@ -50,7 +50,7 @@ text_of p = []
 abbrev pub shown_of : Piece → List ℕ
 shown_of (pieces.Text f w) = letters w
 shown_of (pieces.Markup w) = letters w
-shown_of (pieces.Link f w url) = letters w
+shown_of (pieces.Link l) = letters l.value.text
 shown_of p = []
 
 -- the characters of a text, and of the pieces from a place on

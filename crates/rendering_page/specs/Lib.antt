@@ -1,8 +1,7 @@
 pub mod Tail
 pub mod Pages
 pub mod Pieces
-pub mod Titles
-pub mod PlainTitles
+pub mod Shown
 pub mod Views
 pub mod Cuts
 pub mod Cursors

@@ -1,17 +1,15 @@
 -- Pages of the code as plain data. Texts are seen as their characters.
-use Rattle.std.specs.Prelude.{ℕ, List, [], ◌∷◌, map, fold}
+use Rattle.std.specs.Prelude.{ℕ, List, [], ◌∷◌, map, fold, Some}
 use Rattle.std.specs.Borrow.{Bor}
 use Rattle.std.specs.Option.{option_map}
 use Rattle.std.specs.Str.{chars}
 use Rattle.laws.specs.Text.{characters, spelled}
-use Rattle.rendering_tree.specs.Metas.{Meta}
 use Rattle.rendering_tree.specs.Tokens.{Token, formula, link, transparent, opening, closing, mark, unmark, with_letters}
 use Rattle.rendering_tree.specs.Views.{meaning}
 use Rattle.rendering_page.specs.Pages as pages
 use Rattle.rendering_page.specs.declared.manner.Manner.{Manner}
 use Rattle.rendering_page.specs.declared.manner.Frame.{Frame}
-use Rattle.rendering_page.specs.declared.piece.Meaning.{Meaning}
-use Rattle.rendering_page.specs.declared.piece.Meaning.TheVariants as meanings
+use Rattle.rendering_page.specs.declared.piece.Link.{Link}
 use Rattle.rendering_page.specs.declared.piece.Words.{Words}
 use Rattle.rendering_page.specs.declared.piece.Words.TheVariants as words
 use Rattle.rendering_page.specs.declared.piece.Piece.{Piece}
@@ -22,18 +20,18 @@ abbrev pub letters : Words → List ℕ
 letters (words.Borrowed s) = chars s.now
 letters (words.Made s) = characters s
 
--- what an element stands for, borrowed or made
-abbrev pub stood_for : Meaning → Meta
-stood_for (meanings.Borrowed e) = meaning e.now
-stood_for (meanings.Made e) = meaning e
+-- a link
+abbrev pub link_token : Link → Token
+link_token l = link l.formatting (letters l.text) (letters l.url)
 
 -- a piece after what was put down
 abbrev pub put : List Token → Piece → List Token
 put ts (pieces.Text f w) = with_letters f (letters w) ts
 put ts (pieces.Markup w) = formula (letters w) ∷ ts
-put ts (pieces.Link f w url) = link f (letters w) (letters url) ∷ ts
+put ts (pieces.Link l) = link_token l.value ∷ ts
 put ts (pieces.Transparent f n) = transparent f n ∷ ts
-put ts (pieces.Opening d m) = opening d (option_map stood_for m) ∷ ts
+put ts (pieces.Opening d m) = opening d (option_map (λ e. meaning e.now) m) ∷ ts
+put ts (pieces.MadeOpening d m) = opening d (Some (meaning m)) ∷ ts
 put ts pieces.Closing = closing ∷ ts
 put ts pieces.Mark = mark ∷ ts
 put ts pieces.Unmark = unmark ∷ ts

@@ -21,9 +21,9 @@ pub(crate) fn text_in<'p>(piece: &'p Piece<'_>, met: &mut Option<Formatting>) ->
 {
     match piece {
         Piece::Text { formatting, words } => text_that_goes_on(*formatting, words.as_str(), met),
-        Piece::Opening { .. } | Piece::Closing => text_before_all(*met),
+        Piece::Opening { .. } | Piece::MadeOpening { .. } | Piece::Closing => text_before_all(*met),
         Piece::Mark | Piece::Unmark => Some(""),
-        Piece::Markup(_) | Piece::Link { .. } | Piece::Transparent { .. } => None,
+        Piece::Markup(_) | Piece::Link(_) | Piece::Transparent { .. } => None,
     }
 }
 

@@ -2,20 +2,18 @@
 
 ghost use Rattle.std.specs.Prelude.{◌≡◌, ◌∷◌, [], true, List, Option, IfOk, OnOk, fold, map, reverse};
 ghost use Rattle.std.specs.Option.{option_map};
+ghost use Rattle.std.specs.Str.{chars};
 ghost use Rattle.laws.specs.Text.{characters, is_filled};
-ghost use Rattle.rendering_taxonomy.specs.Formats.{plain};
 ghost use Rattle.rendering_taxonomy.specs.declared.formatting.Display.{Display};
 ghost use Rattle.rendering_tree.specs.Metas.{Meta};
 ghost use Rattle.rendering_tree.specs.Tokens.{Token};
-ghost use Rattle.rendering_tree.specs.Trees.{Children, Text, Link, Elem as ElemOf, element_read, nothing, before, take_token, tree_of};
+ghost use Rattle.rendering_tree.specs.Trees.{Children, Text, Link as LinkOf, Elem as ElemOf, element_read, nothing, before, take_token, tree_of};
 ghost use Rattle.rendering_tree.specs.Views.{child, meaning, tree};
 ghost use Rattle.rendering_page.specs.Building.{backwards, joined, level, nest_of, text_before, text_on};
-ghost use Rattle.rendering_page.specs.Views.{letters, put, stood_for, tokens_of};
+ghost use Rattle.rendering_page.specs.Views.{letters, put, tokens_of};
 
-use crate::piece::{Meaning, Piece, Words, looks_like};
-use rendering_taxonomy::{
-    Display, FontStyle, FontVariant, FontWeight, Formatting, TextDecoration, VerticalAlign,
-};
+use crate::piece::{Link, Piece, Words, looks_like};
+use rendering_taxonomy::{Display, Formatting};
 use rendering_tree::{Elem, ElemChild, ElemChildren, ElemMeta, Formatted};
 use std::alloc::{AllocError, Global};
 use std::mem;
@@ -45,19 +43,6 @@ pub(crate) fn build(mut pieces: Vec<Piece<'_>>) -> Result<ElemChildren, AllocErr
     builder.finish()
 }
 
-/// How texts look of themselves.
-pub(crate) fn plain() -> Formatting
-    ensures { result ≡ plain }
-{
-    Formatting {
-        font_style: FontStyle::Normal,
-        font_variant: FontVariant::Normal,
-        font_weight: FontWeight::Normal,
-        text_decoration: TextDecoration::None,
-        vertical_align: VerticalAlign::None,
-    }
-}
-
 impl<'a> Builder<'a> {
     /// Before anything was read.
     fn new(alloc: Global) -> Builder<'a>
@@ -67,7 +52,7 @@ impl<'a> Builder<'a> {
             children: Vec::new(alloc),
             around: Vec::new(alloc),
             parts: Vec::new(alloc),
-            formatting: plain(),
+            formatting: Formatting::plain(),
         }
     }
 
@@ -79,11 +64,7 @@ impl<'a> Builder<'a> {
         match piece {
             Piece::Text { formatting, words } => self.take_words(formatting, words),
             Piece::Markup(text) => self.take_child(ElemChild::Markup(owned_words(alloc, text)?)),
-            Piece::Link {
-                formatting,
-                text,
-                url,
-            } => self.take_child(link(alloc, formatting, text, url)?),
+            Piece::Link(link) => self.take_child(owned_link(alloc, Box::into_inner(link))?),
             Piece::Transparent {
                 formatting,
                 cite_idx,
@@ -91,10 +72,8 @@ impl<'a> Builder<'a> {
                 cite_idx,
                 format: formatting,
             }),
-            Piece::Opening { display, meta } => {
-                let meta = owned_meaning(meta)?;
-                self.take_opening(display, meta)
-            }
+            Piece::Opening { display, meta } => self.take_opening(display, owned_meaning(meta)?),
+            Piece::MadeOpening { display, meta } => self.take_opening(display, Some(meta)),
             Piece::Closing => self.take_closing(),
             Piece::Mark | Piece::Unmark => Ok(()),
         }
@@ -190,14 +169,14 @@ impl<'a> Builder<'a> {
 }
 
 /// A link from a text to an address.
-fn link(
-    alloc: Global,
-    formatting: Formatting,
-    text: Words<'_>,
-    url: Words<'_>,
-) -> Result<ElemChild, AllocError>
-    ensures { IfOk result (λ c. child c ≡ Link formatting (letters text.entry) (letters url.entry)) }
+fn owned_link(alloc: Global, link: Link<'_>) -> Result<ElemChild, AllocError>
+    ensures { IfOk result (λ c. child c ≡ LinkOf link.entry.formatting (letters link.entry.text) (letters link.entry.url)) }
 {
+    let Link {
+        formatting,
+        text,
+        url,
+    } = link;
     Ok(ElemChild::Link {
         text: Formatted {
             text: owned_words(alloc, text)?,
@@ -215,6 +194,25 @@ fn owned_words(alloc: Global, words: Words<'_>) -> Result<String, AllocError>
         Words::Borrowed(text) => owned(alloc, text),
         Words::Made(text) => Ok(text),
     }
+}
+
+/// A text in memory of its own that others are appended to.
+fn owned_with_room(alloc: Global, words: Words<'_>) -> Result<String, AllocError>
+    ensures { IfOk result (λ s. characters s ≡ letters words.entry) }
+{
+    match words {
+        Words::Borrowed(text) => copied_with_room(alloc, text),
+        Words::Made(made) => Ok(made),
+    }
+}
+
+/// A copy of a text that others are appended to.
+fn copied_with_room(alloc: Global, text: &str) -> Result<String, AllocError>
+    ensures { IfOk result (λ s. characters s ≡ chars text.now) }
+{
+    let mut copy = String::with_capacity(alloc, text.len().max(32))?;
+    copy.push_str(text)?;
+    Ok(copy)
 }
 
 /// Takes out the children of the element around; there are none where nothing is around.
@@ -240,13 +238,12 @@ fn element(display: Option<Display>, meta: Option<ElemMeta>, children: Vec<ElemC
     })
 }
 
-/// What an element stands for, copied where it is borrowed.
-fn owned_meaning(meta: Option<Meaning<'_>>) -> Result<Option<ElemMeta>, AllocError>
-    ensures { IfOk result (λ m. option_map meaning m ≡ option_map stood_for meta.entry) }
+/// A copy of what an element stands for.
+fn owned_meaning(meta: Option<&ElemMeta>) -> Result<Option<ElemMeta>, AllocError>
+    ensures { IfOk result (λ m. option_map meaning m ≡ option_map (λ e. meaning e.now) meta.entry) }
 {
     match meta {
-        Some(Meaning::Borrowed(meta)) => Ok(Some(meta.clone()?)),
-        Some(Meaning::Made(meta)) => Ok(Some(meta)),
+        Some(meta) => Ok(Some(meta.clone()?)),
         None => Ok(None),
     }
 }
@@ -259,7 +256,10 @@ fn join(alloc: Global, parts: &mut Vec<Words<'_>>) -> Result<String, AllocError>
     let Some(first) = parts.pop() else {
         return Ok(empty_text(alloc));
     };
-    let mut text = owned_words(alloc, first)?;
+    if parts.is_empty() {
+        return owned_words(alloc, first);
+    }
+    let mut text = owned_with_room(alloc, first)?;
     while let Some(words) = parts.pop() {
         push_text(&mut text, words.as_str())?;
     }

@@ -1,11 +1,10 @@
 //! Copies of pieces.
 
 ghost use Rattle.std.specs.Prelude.{◌≡◌, List, IfOk};
-ghost use Rattle.std.specs.Option.{option_map};
 ghost use Rattle.rendering_tree.specs.Tokens.{Token};
-ghost use Rattle.rendering_page.specs.Views.{letters, put, stood_for, tokens_of};
+ghost use Rattle.rendering_page.specs.Views.{letters, link_token, put, tokens_of};
 
-use crate::piece::{Meaning, Piece, Words};
+use crate::piece::{Link, Piece, Words};
 use std::alloc::AllocError;
 
 impl<'a> Clone for Words<'a> {
@@ -19,14 +18,15 @@ impl<'a> Clone for Words<'a> {
     }
 }
 
-impl<'a> Clone for Meaning<'a> {
-    ghost is_clone = { λ m n. stood_for n ≡ stood_for m };
+impl<'a> Clone for Link<'a> {
+    ghost is_clone = { λ l k. link_token k ≡ link_token l };
 
-    fn clone(&self) -> Result<Meaning<'a>, AllocError> {
-        match self {
-            Meaning::Borrowed(meta) => Ok(Meaning::Borrowed(*meta)),
-            Meaning::Made(meta) => Ok(Meaning::Made(meta.clone()?)),
-        }
+    fn clone(&self) -> Result<Link<'a>, AllocError> {
+        Ok(Link {
+            formatting: self.formatting,
+            text: self.text.clone()?,
+            url: self.url.clone()?,
+        })
     }
 }
 
@@ -40,15 +40,7 @@ impl<'a> Clone for Piece<'a> {
                 words: words.clone()?,
             }),
             Piece::Markup(text) => Ok(Piece::Markup(text.clone()?)),
-            Piece::Link {
-                formatting,
-                text,
-                url,
-            } => Ok(Piece::Link {
-                formatting: *formatting,
-                text: text.clone()?,
-                url: url.clone()?,
-            }),
+            Piece::Link(link) => Ok(Piece::Link(link.clone()?)),
             Piece::Transparent {
                 formatting,
                 cite_idx,
@@ -58,22 +50,16 @@ impl<'a> Clone for Piece<'a> {
             }),
             Piece::Opening { display, meta } => Ok(Piece::Opening {
                 display: *display,
-                meta: copied_meaning(meta)?,
+                meta: *meta,
+            }),
+            Piece::MadeOpening { display, meta } => Ok(Piece::MadeOpening {
+                display: *display,
+                meta: meta.clone()?,
             }),
             Piece::Closing => Ok(Piece::Closing),
             Piece::Mark => Ok(Piece::Mark),
             Piece::Unmark => Ok(Piece::Unmark),
         }
-    }
-}
-
-/// A copy of what an element stands for.
-fn copied_meaning<'a>(meta: &Option<Meaning<'a>>) -> Result<Option<Meaning<'a>>, AllocError>
-    ensures { IfOk result (λ m. option_map stood_for m ≡ option_map stood_for meta.now) }
-{
-    match meta {
-        Some(meta) => Ok(Some(meta.clone()?)),
-        None => Ok(None),
     }
 }
 

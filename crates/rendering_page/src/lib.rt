@@ -12,10 +12,6 @@ mod piece;
 mod putting;
 mod shown;
 mod tail;
-mod title;
-mod title_laws;
 
 pub use manner::{Frame, Manner};
 pub use page::Page;
-pub use title::push_title;
-pub use title_laws::titles_are_plain;

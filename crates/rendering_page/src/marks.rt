@@ -1,9 +1,10 @@
 //! Whether something was printed since something began, and where that is.
 
-ghost use Rattle.std.specs.Prelude.{◌≡◌, not, true, false, MatchOption, take};
+ghost use Rattle.std.specs.Prelude.{◌≡◌, not, true, false, MatchOption, Some, take};
 ghost use Rattle.std.specs.Char.{is_whitespace};
 ghost use Rattle.std.specs.List.{list_any};
 ghost use Rattle.rendering_page.specs.Marks as specs;
+ghost use Rattle.rendering_page.specs.Marks.{none_begins_since};
 ghost use Rattle.rendering_page.specs.Pages.{before_mark, before_prefix, is_begun, prints};
 ghost use Rattle.rendering_page.specs.Views.{letters, tokens_of};
 
@@ -47,6 +48,31 @@ pub(crate) fn begin_of_nothing(pieces: &[Piece<'_>]) -> Option<usize>
     Some(0)
 }
 
+/// The last place, where there are pieces.
+#[tactic(auto, using(crate::proofs::PagesMarks::since_last))]
+pub(crate) fn last_place(pieces: &[Piece<'_>]) -> Option<usize>
+    ensures { none_begins_since result pieces.now ≡ true }
+{
+    pieces.len().checked_sub(1)
+}
+
+/// Whether there is a piece at the place that prints.
+pub(crate) fn prints_at(pieces: &[Piece<'_>], place: usize) -> bool
+    ensures { result ≡ true → none_begins_since (Some place) pieces.now ≡ true → prints 0 (tokens_of pieces.now) ≡ true }
+{
+    if place >= pieces.len() {
+        return false;
+    }
+    prints_by_itself(&pieces[place])
+}
+
+/// Whether a piece prints.
+fn prints_by_itself(piece: &Piece<'_>) -> bool
+    ensures { result ≡ true → specs.kind_of piece.now ≡ Kind.Print }
+{
+    matches!(kind_of(piece), Kind::Print)
+}
+
 /// Where an element begins of which there is only the prefix.
 pub(crate) fn begin_of_prefix(pieces: &[Piece<'_>]) -> usize
     ensures { tokens_of (take result pieces.now) ≡ before_prefix (tokens_of pieces.now) }
@@ -65,7 +91,10 @@ pub(crate) fn begin_of_prefix(pieces: &[Piece<'_>]) -> usize
 fn is_first(piece: &Piece<'_>) -> bool
     ensures { result ≡ specs.is_first piece.now }
 {
-    matches!(piece, Piece::Opening { .. } | Piece::Mark)
+    matches!(
+        piece,
+        Piece::Opening { .. } | Piece::MadeOpening { .. } | Piece::Mark
+    )
 }
 
 /// What a piece is.
@@ -74,8 +103,8 @@ fn kind_of(piece: &Piece<'_>) -> Kind
 {
     match piece {
         Piece::Text { words, .. } => kind_of_words(words),
-        Piece::Markup(_) | Piece::Link { .. } | Piece::Transparent { .. } => Kind::Print,
-        Piece::Opening { .. } | Piece::Closing => Kind::Other,
+        Piece::Markup(_) | Piece::Link(_) | Piece::Transparent { .. } => Kind::Print,
+        Piece::Opening { .. } | Piece::MadeOpening { .. } | Piece::Closing => Kind::Other,
         Piece::Mark => Kind::Begin,
         Piece::Unmark => Kind::End,
     }

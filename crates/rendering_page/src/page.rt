@@ -1,6 +1,6 @@
 //! Pages.
 
-ghost use Rattle.std.specs.Prelude.{◌≡◌, ◌∷◌, ◌++◌, false, OnOk, IfOk, Some, map, if◌then◌else◌};
+ghost use Rattle.std.specs.Prelude.{◌≡◌, ◌∷◌, ◌++◌, true, false, OnOk, IfOk, Some, map, if◌then◌else◌};
 ghost use Rattle.std.specs.Str.{bytes_eq, chars};
 ghost use Rattle.laws.specs.Text.{characters};
 ghost use Rattle.literature_values.specs.TextViews.{chunk as chunk_of, chunks as chunks_of};
@@ -8,18 +8,19 @@ ghost use Rattle.rendering_tree.specs.Metas.{Meta};
 ghost use Rattle.rendering_tree.specs.Tokens.{formula, link, transparent, unmark};
 ghost use Rattle.rendering_tree.specs.Trees.{tree_of};
 ghost use Rattle.rendering_tree.specs.Views.{meaning, tree};
+ghost use Rattle.rendering_page.specs.Marks.{begins_nothing};
 ghost use Rattle.rendering_page.specs.Pages.{before_mark, before_prefix, begun, empty_page, ended, normal_put, prints, quote_put, space_put, suffix_put, token_put, verbatim_put};
 ghost use Rattle.rendering_page.specs.Pieces.{all_down, chunk_by, chunk_piece, chunk_pieces, put_down};
-ghost use Rattle.rendering_page.specs.Titles.{page_text};
+ghost use Rattle.rendering_page.specs.Shown.{page_text};
 ghost use Rattle.rendering_page.specs.Views as views;
 ghost use Rattle.rendering_page.specs.Views.{letters, quotes_of};
 
 use crate::backwards::{ends_in, ends_spaced};
-use crate::builder::{build, plain};
+use crate::builder::build;
 use crate::copies::copied_pieces;
 use crate::manner::{Frame, Manner};
-use crate::marks::{begin_of_nothing, begin_of_prefix, is_begun};
-use crate::piece::{Meaning, Piece, Words};
+use crate::marks::{begin_of_nothing, begin_of_prefix, is_begun, last_place, prints_at};
+use crate::piece::{Link, Piece, Words};
 use crate::putting::{append, append_after_quote, begin, first_piece, last_piece, put_words};
 use crate::shown::{push_shown, show_the_same};
 use crate::tail::is_punctuation;
@@ -44,6 +45,8 @@ use texts::{has_text, split_first};
 pub struct Page<'a> {
     pieces: Vec<Piece<'a>>,
     after_quote: bool,
+    /// The place of the piece that was put down last, where nothing has begun after it.
+    last_put: Option<usize>,
 }
 
 impl<'a> Model for Page<'a> {
@@ -51,9 +54,13 @@ impl<'a> Model for Page<'a> {
 
     ghost Value = { pages.Page };
 
+    ghost use Rattle.std.specs.Prelude.{◌≡◌, true};
+    ghost use Rattle.rendering_page.specs.Marks.{none_begins_since};
     ghost use Rattle.rendering_page.specs.Views.{tokens_of};
 
     ghost view = { λ p. record { tokens = tokens_of p.pieces.items; after_quote = p.after_quote } };
+
+    ghost invariant = { λ p. none_begins_since p.last_put p.pieces.items ≡ true };
 }
 
 impl<'a> Clone for Page<'a> {
@@ -67,6 +74,7 @@ impl<'a> Clone for Page<'a> {
         Ok(Page {
             pieces: copied_pieces(&self.pieces)?,
             after_quote: self.after_quote,
+            last_put: None,
         })
     }
 }
@@ -79,6 +87,7 @@ impl<'a> Page<'a> {
         Page {
             pieces: Vec::new(alloc),
             after_quote: false,
+            last_put: None,
         }
     }
 
@@ -205,6 +214,7 @@ impl<'a> Page<'a> {
     pub fn begin(&mut self, frame: &Frame<'a>) -> Result<(), AllocError>
         ensures { OnOk result (self.new ≡ begun (views.frame frame.now) self.old) }
     {
+        self.last_put = None;
         begin(&mut self.pieces, first_piece(frame), frame)
     }
 
@@ -215,10 +225,11 @@ impl<'a> Page<'a> {
     pub fn begin_element(&mut self, frame: &Frame<'a>, meta: ElemMeta) -> Result<(), AllocError>
         ensures { OnOk result (self.new ≡ begun (record (views.frame frame.now) { meta = Some (meaning meta) }) self.old) }
     {
-        let first = Piece::Opening {
+        let first = Piece::MadeOpening {
             display: frame.display,
-            meta: Some(Meaning::Made(meta)),
+            meta,
         };
+        self.last_put = None;
         begin(&mut self.pieces, first, frame)
     }
 
@@ -230,7 +241,7 @@ impl<'a> Page<'a> {
         ensures { OnOk result (self.new ≡ ended (quotes_of quotes.now) (views.frame frame.now) self.old) }
     {
         if self.end_content(quotes, frame)? {
-            self.pieces.push(last_piece(frame))?;
+            self.push_end(last_piece(frame))?;
         }
         Ok(())
     }
@@ -243,7 +254,7 @@ impl<'a> Page<'a> {
         ensures { (m : Meta) → OnOk result (self.new ≡ ended (quotes_of quotes.now) (record (views.frame frame.now) { meta = Some m }) self.old) }
     {
         if self.end_content(quotes, frame)? {
-            self.pieces.push(Piece::Closing)?;
+            self.push_end(Piece::Closing)?;
         }
         Ok(())
     }
@@ -259,7 +270,7 @@ impl<'a> Page<'a> {
         if !is_begun(&self.pieces) || ends_spaced(&self.pieces) {
             return Ok(());
         }
-        self.push_verbatim(plain(), " ")
+        self.push_verbatim(Formatting::plain(), " ")
     }
 
     /// Puts a text down in pieces: formulas, texts as they are, and ordinary texts.
@@ -332,6 +343,7 @@ impl<'a> Page<'a> {
         let Page {
             pieces,
             after_quote: _,
+            last_put: _,
         } = self;
         build(pieces)
     }
@@ -340,11 +352,26 @@ impl<'a> Page<'a> {
     fn put(&mut self, quotes: &[&str], manner: Manner, words: Words<'a>) -> Result<(), AllocError>
         ensures { OnOk result (self.new ≡ normal_put (quotes_of quotes.now) (views.manner manner) (letters words.entry) self.old) }
     {
+        self.put_at_end(quotes, manner, words)?;
+        self.last_put = last_place(&self.pieces);
+        Ok(())
+    }
+
+    /// Puts an ordinary text down after the others.
+    fn put_at_end(
+        &mut self,
+        quotes: &[&str],
+        manner: Manner,
+        words: Words<'a>,
+    ) -> Result<(), AllocError>
+        ensures { OnOk result (self.new ≡ normal_put (quotes_of quotes.now) (views.manner manner) (letters words.entry) self.old) }
+    {
         let Some((first, _)) = split_first(words.as_str()) else {
             return Ok(());
         };
         let after_quote = self.after_quote;
         self.after_quote = false;
+        self.last_put = None;
         if after_quote && is_punctuation(first) {
             append_after_quote(&mut self.pieces, quotes, manner, first, words)
         } else {
@@ -356,8 +383,20 @@ impl<'a> Page<'a> {
     fn push(&mut self, piece: Piece<'a>) -> Result<(), AllocError>
         ensures { OnOk result ((self.new.tokens ≡ views.put self.old.tokens piece.entry) × (self.new.after_quote ≡ false)) }
     {
+        self.last_put = None;
         self.pieces.push(piece)?;
         self.after_quote = false;
+        self.last_put = last_place(&self.pieces);
+        Ok(())
+    }
+
+    /// Puts down a piece with which nothing begins.
+    #[tactic(auto, using(crate::proofs::PagesMarks::since_push))]
+    fn push_end(&mut self, piece: Piece<'a>) -> Result<(), AllocError>
+        requires { begins_nothing piece ≡ true }
+        ensures { OnOk result (self.new ≡ record self.old { tokens = views.put self.old.tokens piece.entry }) }
+    {
+        self.pieces.push(piece)?;
         Ok(())
     }
 
@@ -409,8 +448,10 @@ impl<'a> Page<'a> {
         ensures { OnOk result (self.new ≡ verbatim_put formatting (letters words.entry) self.old) }
     {
         if has_text(words.as_str()) {
+            self.last_put = None;
             put_words(&mut self.pieces, formatting, words)?;
             self.after_quote = false;
+            self.last_put = last_place(&self.pieces);
         }
         Ok(())
     }
@@ -424,11 +465,14 @@ impl<'a> Page<'a> {
     ) -> Result<(), AllocError>
         ensures { OnOk result (self.new ≡ token_put (link formatting (letters text.entry) (letters url.entry)) self.old) }
     {
-        self.push(Piece::Link {
+        let link = Link {
             formatting,
             text,
             url,
-        })
+        };
+        let alloc = *self.pieces.allocator();
+        let link = Box::new(alloc, link)?;
+        self.push(Piece::Link(link))
     }
 
     /// Ends what an element contains, with its suffix. Where it has printed nothing but white space, the element goes whole.
@@ -437,8 +481,13 @@ impl<'a> Page<'a> {
         ensures prints { IfOk result (λ b. b ≡ prints 0 self.old.tokens) }
         ensures page { IfOk result (λ b. self.new ≡ (if b then suffix_put (quotes_of quotes.now) (views.manner frame.now.manner) (chars frame.now.suffix.now) (record self.old { tokens = unmark ∷ self.old.tokens }) else record self.old { tokens = before_prefix (before_mark 0 self.old.tokens) })) }
     {
+        if self.is_known_to_print() {
+            self.put_suffix(quotes, frame)?;
+            return Ok(true);
+        }
         match begin_of_nothing(&self.pieces) {
             Some(place) => {
+                self.last_put = None;
                 self.pieces.truncate(place);
                 let place = begin_of_prefix(&self.pieces);
                 self.pieces.truncate(place);
@@ -451,11 +500,21 @@ impl<'a> Page<'a> {
         }
     }
 
+    /// Whether what was begun last is known to have printed something, without a look at what was put down before.
+    fn is_known_to_print(&self) -> bool
+        ensures { result ≡ true → prints 0 self.now.tokens ≡ true }
+    {
+        match self.last_put {
+            Some(place) => prints_at(&self.pieces, place),
+            None => false,
+        }
+    }
+
     /// Puts the suffix of an element down that has printed something.
     fn put_suffix(&mut self, quotes: &[&str], frame: &Frame<'a>) -> Result<(), AllocError>
         ensures { OnOk result (self.new ≡ suffix_put (quotes_of quotes.now) (views.manner frame.now.manner) (chars frame.now.suffix.now) (record self.old { tokens = unmark ∷ self.old.tokens })) }
     {
-        self.pieces.push(Piece::Unmark)?;
+        self.push_end(Piece::Unmark)?;
         if !ends_in(&self.pieces, frame.suffix) {
             self.push_text(quotes, frame.manner, frame.suffix)?;
         }

@@ -18,14 +18,15 @@ pub(crate) enum Words<'a> {
     Made(String),
 }
 
-/// What an element stands for: the caller's, or one that was made.
+/// A link from a text to an address.
 #[derive(Drop)]
-pub(crate) enum Meaning<'a> {
-    Borrowed(&'a ElemMeta),
-    Made(ElemMeta),
+pub(crate) struct Link<'a> {
+    pub(crate) formatting: Formatting,
+    pub(crate) text: Words<'a>,
+    pub(crate) url: Words<'a>,
 }
 
-/// A piece of a page.
+/// A piece of a page. Most pieces are marks and short texts, so that links, which are rare and long, are in memory of their own.
 #[derive(Drop)]
 pub(crate) enum Piece<'a> {
     /// A text; it may be empty.
@@ -36,20 +37,21 @@ pub(crate) enum Piece<'a> {
     /// A formula.
     Markup(Words<'a>),
     /// A link from a text to an address.
-    Link {
-        formatting: Formatting,
-        text: Words<'a>,
-        url: Words<'a>,
-    },
+    Link(Box<Link<'a>>),
     /// A locator of the caller's own, by the place of its cite.
     Transparent {
         formatting: Formatting,
         cite_idx: usize,
     },
-    /// Where an element begins.
+    /// Where an element begins, which may stand for something of the caller's.
     Opening {
         display: Option<Display>,
-        meta: Option<Meaning<'a>>,
+        meta: Option<&'a ElemMeta>,
+    },
+    /// Where an element begins that stands for what was made on the way.
+    MadeOpening {
+        display: Option<Display>,
+        meta: ElemMeta,
     },
     /// Where an element ends.
     Closing,

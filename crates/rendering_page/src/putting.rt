@@ -1,9 +1,10 @@
 //! What is put down on a page.
 
-ghost use Rattle.std.specs.Prelude.{◌≡◌, ◌∷◌, List, ℕ, Bool, OnOk, length, Option, Some, None};
+ghost use Rattle.std.specs.Prelude.{◌≡◌, ◌∷◌, true, List, ℕ, Bool, OnOk, length, Option, Some, None};
 ghost use Rattle.std.specs.Option.{option_map};
 ghost use Rattle.std.specs.Str.{chars};
 ghost use Rattle.rendering_tree.specs.Tokens.{Token, mark, with_letters};
+ghost use Rattle.rendering_page.specs.Marks.{begins_nothing};
 ghost use Rattle.rendering_page.specs.Pages as pages;
 ghost use Rattle.rendering_page.specs.Tail.{remaining};
 ghost use Rattle.rendering_page.specs.Views as views;
@@ -12,7 +13,7 @@ ghost use Rattle.rendering_page.specs.Views.{letters, quotes_of, tokens_of};
 use crate::backwards::ends_in;
 use crate::cutting::put_before;
 use crate::manner::{Frame, Manner};
-use crate::piece::{Meaning, Piece, Words};
+use crate::piece::{Piece, Words};
 use crate::tail::{in_manner, length, make_room};
 use rendering_taxonomy::Formatting;
 use std::alloc::AllocError;
@@ -86,7 +87,7 @@ pub(crate) fn begin<'a>(
     ensures { OnOk result (tokens_of pieces.new.items ≡ mark ∷ with_letters frame.now.manner.formatting (chars frame.now.prefix.now) (views.put (tokens_of pieces.old.items) first.entry)) }
 {
     // As many as a short page has, such as that of a cite.
-    let room = 32;
+    let room = 64;
     if pieces.capacity() < room {
         pieces.reserve(room)?;
     }
@@ -107,7 +108,7 @@ pub(crate) fn first_piece<'a>(frame: &Frame<'a>) -> Piece<'a>
     match (frame.meta, frame.display) {
         (Some(meta), display) => Piece::Opening {
             display,
-            meta: Some(Meaning::Borrowed(meta)),
+            meta: Some(meta),
         },
         (None, Some(display)) => Piece::Opening {
             display: Some(display),
@@ -119,7 +120,8 @@ pub(crate) fn first_piece<'a>(frame: &Frame<'a>) -> Piece<'a>
 
 /// Where an element ends.
 pub(crate) fn last_piece<'a>(frame: &Frame<'_>) -> Piece<'a>
-    ensures { (ts : List Token) → views.put ts result ≡ pages.last_token (views.frame frame.now).display (views.frame frame.now).meta ∷ ts }
+    ensures token { (ts : List Token) → views.put ts result ≡ pages.last_token (views.frame frame.now).display (views.frame frame.now).meta ∷ ts }
+    ensures end { begins_nothing result ≡ true }
 {
     if frame.display.is_some() || frame.meta.is_some() {
         Piece::Closing

@@ -5,7 +5,7 @@ ghost use Rattle.std.specs.Str.{bytes_eq, chars};
 ghost use Rattle.laws.specs.Text.{characters};
 ghost use Rattle.rendering_page.specs.Cursors as specs;
 ghost use Rattle.rendering_page.specs.Cursors.{to_come};
-ghost use Rattle.rendering_page.specs.Titles.{page_text};
+ghost use Rattle.rendering_page.specs.Shown.{page_text};
 ghost use Rattle.rendering_page.specs.Views.{tokens_of};
 
 use crate::piece::Piece;
@@ -36,7 +36,7 @@ fn shown_of<'p>(piece: &'p Piece<'_>) -> &'p str
     match piece {
         Piece::Text { words, .. } => words.as_str(),
         Piece::Markup(text) => text.as_str(),
-        Piece::Link { text, .. } => text.as_str(),
+        Piece::Link(link) => link.text.as_str(),
         _ => "",
     }
 }

@@ -3,7 +3,7 @@ use Rattle.std.specs.Prelude.{ℕ, true, false, List, [], ◌∷◌, None}
 use Rattle.literature_values.specs.TextViews.{Chunk}
 use Rattle.rendering_page.specs.Pages.{Page, space_put}
 use Rattle.rendering_page.specs.Pieces.{normal, linked, own_locator, chunk_pieces}
-use Rattle.rendering_page.specs.Titles.{plainly}
+use Rattle.rendering_page.specs.Shown.{plainly}
 use Rattle.rendering_style.specs.Options.{NameOptions, open_options, options_over}
 use Rattle.rendering_style.specs.Nodes.{Nodes}
 use Rattle.rendering_context.specs.Contexts.{Context}

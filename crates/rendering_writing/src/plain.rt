@@ -1,7 +1,7 @@
 //! How texts look of themselves.
 
 ghost use Rattle.std.specs.Prelude.{◌≡◌};
-ghost use Rattle.rendering_page.specs.Titles.{plainly};
+ghost use Rattle.rendering_page.specs.Shown.{plainly};
 ghost use Rattle.rendering_page.specs.Views.{manner};
 
 use rendering_page::Manner;

@@ -3,7 +3,7 @@ use Rattle.std.specs.List.{flat_map}
 use Rattle.std.proofs.lemmas.List.{take_all}
 use Rattle.laws.specs.Text.{characters}
 use Rattle.rendering_page.specs.Cursors.{shown_of}
-use Rattle.rendering_page.proofs.TitlesShown.{text_shown}
+use Rattle.rendering_page.proofs.ShownPages.{text_shown}
 use Rattle.rendering_page.proofs.shown.push_shown.Goals as goal
 
 pub returns : goal.returns

@@ -1,6 +1,6 @@
 use Rattle.std.specs.Str.{bytes_eq}
 use Rattle.std.proofs.lemmas.Str.{IsUtf8-nil}
-use Rattle.rendering_page.proofs.TitlesShown.{all_to_come}
+use Rattle.rendering_page.proofs.ShownPages.{all_to_come}
 use Rattle.rendering_page.proofs.shown.show_the_same.Goals as goal
 
 pub loop-c-init : goal.loop-c-init

@@ -3,7 +3,7 @@ use denote.Shadow.{shadow}
 use denote.Text.{Utf8}
 use Rattle.std.specs.Str.{bytes_eq, chars}
 use Rattle.rendering_page.specs.Cursors.{to_come}
-use Rattle.rendering_page.specs.Titles.{page_text}
+use Rattle.rendering_page.specs.Shown.{page_text}
 use Rattle.rendering_page.specs.Views.{tokens_of}
 use Rattle.rendering_page.proofs.shown.show_the_same.Given as goal
 

@@ -1,4 +1,4 @@
-use Rattle.rendering_page.proofs.TitlesShown.{shows_nothing}
+use Rattle.rendering_page.proofs.ShownPages.{shows_nothing}
 use Rattle.rendering_page.proofs.shown.shown_of.Goals as goal
 
 pub returns-in_default : goal.returns-in_default

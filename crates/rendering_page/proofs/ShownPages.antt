@@ -1,13 +1,16 @@
 -- The characters that pieces show.
 use Rattle.std.proofs.Common.{◌≡◌, ℕ, List, [], ◌∷◌, ◌++◌, append-nil, append_assoc, refl, sym, ap, ◌∙◌}
+use Rattle.std.specs.Global.{Global}
+use Rattle.std.specs.Prelude.{Box}
 use Rattle.std.specs.List.{flat_map, fold}
 use Rattle.std.specs.Str.{chars}
 use Rattle.std.proofs.lemmas.Str.{chars-nil}
 use Rattle.rendering_taxonomy.specs.declared.formatting.Formatting.{Formatting}
 use Rattle.rendering_tree.specs.Tokens.{Token, letter, with_letters}
 use Rattle.rendering_page.specs.Cursors.{shown_of, to_come}
-use Rattle.rendering_page.specs.Titles.{page_text}
+use Rattle.rendering_page.specs.Shown.{page_text}
 use Rattle.rendering_page.specs.Views.{letters, put, tokens_of}
+use Rattle.rendering_page.specs.declared.piece.Link.{Link}
 use Rattle.rendering_page.specs.declared.piece.Words.{Words}
 use Rattle.rendering_page.specs.declared.piece.Piece.{Piece}
 use Rattle.rendering_page.specs.declared.piece.Piece.TheVariants as pieces
@@ -19,7 +22,7 @@ text_letters f (c ∷ cs) ts = text_letters f cs (letter f c ∷ ts) ∙ append_
 text_put : (p : Piece) (ts : List Token) → page_text (put ts p) ≡ page_text ts ++ shown_of p
 text_put (pieces.Text f w) ts = text_letters f (letters w) ts
 text_put (pieces.Markup w) ts = refl
-text_put (pieces.Link f w url) ts = refl
+text_put (pieces.Link l) ts = refl
 text_put p ts = sym (append-nil (page_text ts))
 
 text_from : (ps : List Piece) (ts : List Token) → page_text (fold put ts ps) ≡ page_text ts ++ flat_map shown_of ps
@@ -37,12 +40,13 @@ all_to_come ps = ap (λ cs. cs ++ flat_map shown_of ps) chars-nil ∙ text_shown
 
 -- what is no text, no formula and no link shows nothing
 pub shows_nothing : (p : Piece) → ((f : Formatting) (w : Words) → p ≡ pieces.Text f w → ⊥) → ((w : Words) → p ≡ pieces.Markup w → ⊥)
-    → ((f : Formatting) (w url : Words) → p ≡ pieces.Link f w url → ⊥) → chars [] ≡ shown_of p
+    → ((l : Box Link Global) → p ≡ pieces.Link l → ⊥) → chars [] ≡ shown_of p
 shows_nothing (pieces.Text f w) a b c = absurd (a f w refl)
 shows_nothing (pieces.Markup w) a b c = absurd (b w refl)
-shows_nothing (pieces.Link f w url) a b c = absurd (c f w url refl)
+shows_nothing (pieces.Link l) a b c = absurd (c l refl)
 shows_nothing (pieces.Transparent f n) a b c = chars-nil
 shows_nothing (pieces.Opening d m) a b c = chars-nil
+shows_nothing (pieces.MadeOpening d m) a b c = chars-nil
 shows_nothing pieces.Closing a b c = chars-nil
 shows_nothing pieces.Mark a b c = chars-nil
 shows_nothing pieces.Unmark a b c = chars-nil

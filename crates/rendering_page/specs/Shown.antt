@@ -1,0 +1,17 @@
+-- What a page shows.
+use Rattle.std.specs.Prelude.{ℕ, false, List, [], ◌∷◌, ◌++◌}
+use Rattle.rendering_taxonomy.specs.Formats.{plain}
+use Rattle.rendering_tree.specs.Tokens.{Token, letter, formula, link}
+use Rattle.rendering_page.specs.Pages.{Manner}
+
+-- the characters of a page, in reading order
+abbrev pub page_text : List Token → List ℕ
+page_text [] = []
+page_text (letter f c ∷ ts) = page_text ts ++ c ∷ []
+page_text (formula cs ∷ ts) = page_text ts ++ cs
+page_text (link f cs url ∷ ts) = page_text ts ++ cs
+page_text (t ∷ ts) = page_text ts
+
+-- texts that look as texts do of themselves
+abbrev pub plainly : Manner
+plainly = record { formatting = plain; strips_periods = false }
