@@ -1,7 +1,8 @@
--- As many cites are arranged as there are.
-use Rattle.std.proofs.Common.{arith, ◌≡◌, ℕ, suc, ◌+◌, Bool, true, false, cond, ◌&&◌, List, [], ◌∷◌, ◌++◌, append_assoc, append-nil, length, map, refl, sym, ap, ◌∙◌, Option, Some, None}
-use Rattle.std.specs.List.{flat_map, zip}
-use Rattle.std.proofs.lemmas.List.{length-append, length-map}
+-- All cites that are gathered are arranged, each as often as it was gathered.
+use Rattle.std.proofs.Common.{arith, ◌≡◌, ℕ, ◌+◌, ◌<◌, Bool, true, false, cond, ◌&&◌, ◌||◌, List, [], ◌∷◌, ◌++◌, append_assoc, append-nil, length, map, refl, sym, ap, ◌∙◌, Option, Some, None}
+use Rattle.std.specs.Prelude.{count_by, sum_by}
+use Rattle.std.specs.List.{flat_map, list_any, zip}
+use Rattle.std.proofs.lemmas.List.Sums.{sum_by-append, sum_by-cons, sum_by_push}
 use Rattle.rendering_style.specs.Styles.{Citation}
 use Rattle.rendering_taxonomy.specs.declared.style.Collapse.{Collapse}
 use Rattle.rendering_taxonomy.specs.declared.style.Collapse.TheVariants as collapses
@@ -12,18 +13,18 @@ use Rattle.driver_blocks.specs.Views.{put_in, takes}
 use Rattle.driver_blocks.proofs.GatheredSteps.{block-last}
 use Rattle.driver.specs.Stages.{flattened}
 
--- as many are made of lists as there are in them
-count_each : {A B C : Type 0} (g : A → List B) (h : A → List C) → ((a : A) → length (g a) ≡ length (h a)) → (xs : List A) → length (flat_map g xs) ≡ length (flat_map h xs)
-count_each g h e [] = refl
-count_each g h e (x ∷ xs) = length-append (g x) (flat_map g xs) ∙ (λ k. e x k + count_each g h e xs k) ∙ sym (length-append (h x) (flat_map h xs))
+-- what lists come to that are made of others
+count_each : {A B C : Type 0} (v : B → ℕ) (w : C → ℕ) (g : A → List B) (h : A → List C) → ((a : A) → sum_by v (g a) ≡ sum_by w (h a)) → (xs : List A) → sum_by v (flat_map g xs) ≡ sum_by w (flat_map h xs)
+count_each v w g h e [] = refl
+count_each v w g h e (x ∷ xs) = sum_by-append v (g x) (flat_map g xs) ∙ (λ k. e x k + count_each v w g h e xs k) ∙ sym (sum_by-append w (h x) (flat_map h xs))
 
 -- lists with a test of the one before them
 tested_each : {A : Type 0} (test : List A → Bool) (b : Bool) (xss : List (List A)) → flat_map (λ (p : Bool × List A). p.1) (zip (b ∷ map test xss) xss) ≡ flattened xss
 tested_each test b [] = refl
 tested_each test b (xs ∷ xss) = ap (λ ys. xs ++ ys) (tested_each test (test xs) xss)
 
-count_tested : {A B : Type 0} (test : List A → Bool) (g : Bool × List A → List B) → ((p : Bool × List A) → length (g p) ≡ length p.1) → (xss : List (List A)) → length (flat_map g (with_previous_test test xss)) ≡ length (flattened xss)
-count_tested test g e xss = count_each g (λ p. p.1) e (with_previous_test test xss) ∙ ap length (tested_each test false xss)
+count_tested : {A B : Type 0} (v : B → ℕ) (w : A → ℕ) (test : List A → Bool) (g : Bool × List A → List B) → ((p : Bool × List A) → sum_by v (g p) ≡ sum_by w p.1) → (xss : List (List A)) → sum_by v (flat_map g (with_previous_test test xss)) ≡ sum_by w (flattened xss)
+count_tested v w test g e xss = count_each v w g (λ p. p.1) e (with_previous_test test xss) ∙ ap (sum_by w) (tested_each test false xss)
 
 added_all : {A : Type 0} (follows : A → A → Bool) (y : A) (rows : List (List A)) → flattened (added_to_rows follows y rows) ≡ y ∷ flattened rows
 added_all follows y [] = refl
@@ -34,95 +35,153 @@ added_all follows y ((z ∷ zs) ∷ rows) = by_value (follows y z)
     by_value true = refl
     by_value false = refl
 
-rows_all : {A : Type 0} (follows : A → A → Bool) (ys : List A) → flattened (rows_of follows ys) ≡ ys
+-- rows, one after the other, are the members that they are rows of
+pub rows_all : {A : Type 0} (follows : A → A → Bool) (ys : List A) → flattened (rows_of follows ys) ≡ ys
 rows_all follows [] = refl
 rows_all follows (y ∷ ys) = added_all follows y (rows_of follows ys) ∙ ap (λ zs. y ∷ zs) (rows_all follows ys)
 
-count_either : {A : Type 0} (b : Bool) (xs ys : List A) (n : ℕ) → length xs ≡ n → length ys ≡ n → length (cond b xs ys) ≡ n
-count_either true xs ys n e f = e
-count_either false xs ys n e f = f
+count_either : {A : Type 0} (w : A → ℕ) (b : Bool) (xs ys : List A) (n : ℕ) → sum_by w xs ≡ n → sum_by w ys ≡ n → sum_by w (cond b xs ys) ≡ n
+count_either w true xs ys n e f = e
+count_either w false xs ys n e f = f
 
-count_one : {X : Type 0} (b : List X) (x : X) → length (b ++ x ∷ []) ≡ length b + 1
-count_one b x = length-append b (x ∷ [])
-
-put_either : {X : Type 0} (x : X) (b : List X) (bs put : List (List X)) (t : Bool) → length (flattened put) ≡ length (flattened bs) + 1 → length (flattened (cond t ((b ++ x ∷ []) ∷ bs) (b ∷ put))) ≡ length (flattened (b ∷ bs)) + 1
-put_either x b bs put true h =
-    let e : length (flattened ((b ++ x ∷ []) ∷ bs)) ≡ length (b ++ x ∷ []) + length (flattened bs) = length-append (b ++ x ∷ []) (flattened bs) in
-    let f : length (flattened (b ∷ bs)) ≡ length b + length (flattened bs) = length-append b (flattened bs) in
-    omega (arith, e, f, count_one b x)
-put_either x b bs put false h =
-    let e : length (flattened (b ∷ put)) ≡ length b + length (flattened put) = length-append b (flattened put) in
-    let f : length (flattened (b ∷ bs)) ≡ length b + length (flattened bs) = length-append b (flattened bs) in
+put_either : {X : Type 0} (w : X → ℕ) (x : X) (b : List X) (bs put : List (List X)) (t : Bool) → sum_by w (flattened put) ≡ sum_by w (flattened bs) + w x → sum_by w (flattened (cond t ((b ++ x ∷ []) ∷ bs) (b ∷ put))) ≡ sum_by w (flattened (b ∷ bs)) + w x
+put_either w x b bs put true h =
+    let e : sum_by w (flattened ((b ++ x ∷ []) ∷ bs)) ≡ sum_by w (b ++ x ∷ []) + sum_by w (flattened bs) = sum_by-append w (b ++ x ∷ []) (flattened bs) in
+    let f : sum_by w (flattened (b ∷ bs)) ≡ sum_by w b + sum_by w (flattened bs) = sum_by-append w b (flattened bs) in
+    omega (arith, e, f, sum_by_push w b x)
+put_either w x b bs put false h =
+    let e : sum_by w (flattened (b ∷ put)) ≡ sum_by w b + sum_by w (flattened put) = sum_by-append w b (flattened put) in
+    let f : sum_by w (flattened (b ∷ bs)) ≡ sum_by w b + sum_by w (flattened bs) = sum_by-append w b (flattened bs) in
     omega (arith, e, f, h)
 
-module _ {X : Type 0} (c : Citation) where
-  count_dash : (xs : List (Arranged X)) → length (last_after_dash xs) ≡ length xs
+-- what a list comes to that is the same member by member
+count_cons : {A B : Type 0} (v : A → ℕ) (w : B → ℕ) (a : A) (b : B) (xs : List A) (ys : List B) → v a ≡ w b → sum_by v xs ≡ sum_by w ys → sum_by v (a ∷ xs) ≡ sum_by w (b ∷ ys)
+count_cons v w a b xs ys e f = sum_by-cons v a xs ∙ (λ k. e k + f k) ∙ sym (sum_by-cons w b ys)
+
+count_map : {A B : Type 0} (v : B → ℕ) (w : A → ℕ) (f : A → B) → ((a : A) → v (f a) ≡ w a) → (xs : List A) → sum_by v (map f xs) ≡ sum_by w xs
+count_map v w f e [] = refl
+count_map v w f e (x ∷ xs) = count_cons v w (f x) x (map f xs) xs (e x) (count_map v w f e xs)
+
+module _ {X : Type 0} (c : Citation) (w : Gathered X → ℕ) where
+  -- a cite counts as it did when it was gathered
+  abbrev weight : Arranged X → ℕ
+  weight a = w a.cite
+
+  count_dash : (xs : List (Arranged X)) → sum_by weight (last_after_dash xs) ≡ sum_by weight xs
   count_dash [] = refl
   count_dash (a ∷ []) = refl
-  count_dash (a ∷ b ∷ others) = ap suc (count_dash (b ∷ others))
+  count_dash (a ∷ b ∷ others) = count_cons weight weight (record a { is_shown = false }) a (last_after_dash (b ∷ others)) (b ∷ others) refl (count_dash (b ∷ others))
 
-  count_row : (xs : List (Arranged X)) → length (collapsed_row xs) ≡ length xs
+  count_row : (xs : List (Arranged X)) → sum_by weight (collapsed_row xs) ≡ sum_by weight xs
   count_row [] = refl
-  count_row (a ∷ others) = count_either (is_long (a ∷ others)) (a ∷ last_after_dash others) (a ∷ others) (length (a ∷ others)) (ap suc (count_dash others)) refl
+  count_row (a ∷ others) =
+      count_either weight (is_long (a ∷ others)) (a ∷ last_after_dash others) (a ∷ others) (sum_by weight (a ∷ others)) (count_cons weight weight a a (last_after_dash others) others refl (count_dash others)) refl
 
-  count_after : (p : Bool × List (Arranged X)) → length (after_row c p) ≡ length p.1
+  count_after : (p : Bool × List (Arranged X)) → sum_by weight (after_row c p) ≡ sum_by weight p.1
   count_after (is_after, []) = refl
-  count_after (is_after, a ∷ others) = count_either (is_after && is_numbered a) (record a { delimiter = delimiter_after_collapsed c } ∷ others) (a ∷ others) (length (a ∷ others)) refl refl
+  count_after (is_after, a ∷ others) =
+      let moved = record a { delimiter = delimiter_after_collapsed c } in
+      count_either weight (is_after && is_numbered a) (moved ∷ others) (a ∷ others) (sum_by weight (a ∷ others)) (count_cons weight weight moved a others others refl refl) refl
 
-  count_numbers : (xs : List (Arranged X)) → length (numbers_collapsed c xs) ≡ length xs
+  count_numbers : (xs : List (Arranged X)) → sum_by weight (numbers_collapsed c xs) ≡ sum_by weight xs
   count_numbers xs =
-      count_tested is_long (λ r. collapsed_row (after_row c r)) (λ r. count_row (after_row c r) ∙ count_after r) (rows_of is_next_number xs) ∙ ap length (rows_all is_next_number xs)
+      count_tested weight weight is_long (λ r. collapsed_row (after_row c r)) (λ r. count_row (after_row c r) ∙ count_after r) (rows_of is_next_number xs) ∙ ap (sum_by weight) (rows_all is_next_number xs)
 
-  count_suffixes : (xs : List (Arranged X)) → length (suffixes_collapsed xs) ≡ length xs
-  count_suffixes xs = count_each collapsed_row (λ ys. ys) count_row (rows_of continues xs) ∙ ap length (rows_all continues xs)
+  count_suffixes : (xs : List (Arranged X)) → sum_by weight (suffixes_collapsed xs) ≡ sum_by weight xs
+  count_suffixes xs = count_each weight weight collapsed_row (λ ys. ys) count_row (rows_of continues xs) ∙ ap (sum_by weight) (rows_all continues xs)
 
-  count_block : (xs : List (Gathered X)) → length (uncollapsed_block c xs) ≡ length xs
+  count_block : (xs : List (Gathered X)) → sum_by weight (uncollapsed_block c xs) ≡ sum_by w xs
   count_block [] = refl
-  count_block (x ∷ xs) = ap suc (length-map xs (uncollapsed (inside_delimiter c)))
+  count_block (x ∷ xs) =
+      count_cons weight w (uncollapsed c.layout.delimiter x) x (map (uncollapsed (inside_delimiter c)) xs) xs refl (count_map weight w (uncollapsed (inside_delimiter c)) (λ y. refl) xs)
 
-  count_years : (mode : Collapse) (p : Bool × List (Gathered X)) → length (year_block c mode p) ≡ length p.1
+  count_years : (mode : Collapse) (p : Bool × List (Gathered X)) → sum_by weight (year_block c mode p) ≡ sum_by w p.1
   count_years mode (is_after, []) = refl
-  count_years mode (is_after, x ∷ xs) = ap suc (length-map xs (later c mode))
+  count_years mode (is_after, x ∷ xs) =
+      count_cons weight w (uncollapsed (cond is_after (delimiter_after_collapsed c) c.layout.delimiter) x) x (map (later c mode) xs) xs refl (count_map weight w (later c mode) (λ y. refl) xs)
 
-  count_by : (mode : Collapse) (p : Bool × List (Gathered X)) → length (block_by c mode p) ≡ length p.1
-  count_by collapses.CitationNumber p = count_years collapses.CitationNumber p
-  count_by collapses.Year p = count_years collapses.Year p
-  count_by collapses.YearSuffix p = count_years collapses.YearSuffix p
-  count_by collapses.YearSuffixRanged p = count_suffixes (year_block c collapses.YearSuffixRanged p) ∙ count_years collapses.YearSuffixRanged p
+  count_mode : (mode : Collapse) (p : Bool × List (Gathered X)) → sum_by weight (block_by c mode p) ≡ sum_by w p.1
+  count_mode collapses.CitationNumber p = count_years collapses.CitationNumber p
+  count_mode collapses.Year p = count_years collapses.Year p
+  count_mode collapses.YearSuffix p = count_years collapses.YearSuffix p
+  count_mode collapses.YearSuffixRanged p = count_suffixes (year_block c collapses.YearSuffixRanged p) ∙ count_years collapses.YearSuffixRanged p
 
-  count_uncollapsed : (bs : List (List (Gathered X))) → length (flat_map (uncollapsed_block c) bs) ≡ length (flattened bs)
-  count_uncollapsed bs = count_each (uncollapsed_block c) (λ ys. ys) count_block bs
+  count_uncollapsed : (bs : List (List (Gathered X))) → sum_by weight (flat_map (uncollapsed_block c) bs) ≡ sum_by w (flattened bs)
+  count_uncollapsed bs = count_each weight w (uncollapsed_block c) (λ ys. ys) count_block bs
 
-  count_collapsed : (mode : Option Collapse) (bs : List (List (Gathered X))) → length (collapsed c mode bs) ≡ length (flattened bs)
+  count_collapsed : (mode : Option Collapse) (bs : List (List (Gathered X))) → sum_by weight (collapsed c mode bs) ≡ sum_by w (flattened bs)
   count_collapsed None bs = count_uncollapsed bs
   count_collapsed (Some collapses.CitationNumber) bs = count_numbers (flat_map (uncollapsed_block c) bs) ∙ count_uncollapsed bs
-  count_collapsed (Some collapses.Year) bs = count_tested has_later (block_by c collapses.Year) (count_by collapses.Year) bs
-  count_collapsed (Some collapses.YearSuffix) bs = count_tested has_later (block_by c collapses.YearSuffix) (count_by collapses.YearSuffix) bs
-  count_collapsed (Some collapses.YearSuffixRanged) bs = count_tested has_later (block_by c collapses.YearSuffixRanged) (count_by collapses.YearSuffixRanged) bs
+  count_collapsed (Some collapses.Year) bs = count_tested weight w has_later (block_by c collapses.Year) (count_mode collapses.Year) bs
+  count_collapsed (Some collapses.YearSuffix) bs = count_tested weight w has_later (block_by c collapses.YearSuffix) (count_mode collapses.YearSuffix) bs
+  count_collapsed (Some collapses.YearSuffixRanged) bs = count_tested weight w has_later (block_by c collapses.YearSuffixRanged) (count_mode collapses.YearSuffixRanged) bs
 
-  count_put : (x : Gathered X) (bs : List (List (Gathered X))) → length (flattened (put_in is_of_block x bs)) ≡ length (flattened bs) + 1
+  count_put : (x : Gathered X) (bs : List (List (Gathered X))) → sum_by w (flattened (put_in is_of_block x bs)) ≡ sum_by w (flattened bs) + w x
   count_put x [] = refl
-  count_put x (b ∷ bs) = put_either x b bs (put_in is_of_block x bs) (takes is_of_block b x) (count_put x bs)
+  count_put x (b ∷ bs) = put_either w x b bs (put_in is_of_block x bs) (takes is_of_block b x) (count_put x bs)
 
-  count_more : (xs ys : List (Gathered X)) → length (flattened (gathered is_of_block (xs ++ ys))) ≡ length (flattened (gathered is_of_block xs)) + length ys
+  count_more : (xs ys : List (Gathered X)) → sum_by w (flattened (gathered is_of_block (xs ++ ys))) ≡ sum_by w (flattened (gathered is_of_block xs)) + sum_by w ys
   count_more xs [] =
-      let e : length (flattened (gathered is_of_block (xs ++ []))) ≡ length (flattened (gathered is_of_block xs)) = ap (λ zs. length (flattened (gathered is_of_block zs))) (append-nil xs) in
+      let e : sum_by w (flattened (gathered is_of_block (xs ++ []))) ≡ sum_by w (flattened (gathered is_of_block xs)) = ap (λ zs. sum_by w (flattened (gathered is_of_block zs))) (append-nil xs) in
       omega (arith, e)
   count_more xs (y ∷ ys) =
-      let all : length (flattened (gathered is_of_block (xs ++ y ∷ ys))) ≡ length (flattened (gathered is_of_block ((xs ++ y ∷ []) ++ ys))) =
-      ap (λ zs. length (flattened (gathered is_of_block zs))) (sym (append_assoc xs (y ∷ []) ys)) in
-      let one : length (flattened (gathered is_of_block (xs ++ y ∷ []))) ≡ length (flattened (gathered is_of_block xs)) + 1 =
-      ap (λ bs. length (flattened bs)) (block-last xs y) ∙ count_put y (gathered is_of_block xs) in
-      omega (arith, all, one, count_more (xs ++ y ∷ []) ys)
+      let all : sum_by w (flattened (gathered is_of_block (xs ++ y ∷ ys))) ≡ sum_by w (flattened (gathered is_of_block ((xs ++ y ∷ []) ++ ys))) =
+      ap (λ zs. sum_by w (flattened (gathered is_of_block zs))) (sym (append_assoc xs (y ∷ []) ys)) in
+      let one : sum_by w (flattened (gathered is_of_block (xs ++ y ∷ []))) ≡ sum_by w (flattened (gathered is_of_block xs)) + w y =
+      ap (λ bs. sum_by w (flattened bs)) (block-last xs y) ∙ count_put y (gathered is_of_block xs) in
+      omega (arith, all, one, count_more (xs ++ y ∷ []) ys, sum_by-cons w y ys)
 
-  count_alone : (xs : List (Gathered X)) → length (flattened (map (λ x. x ∷ []) xs)) ≡ length xs
+  count_alone : (xs : List (Gathered X)) → sum_by w (flattened (map (λ x. x ∷ []) xs)) ≡ sum_by w xs
   count_alone [] = refl
-  count_alone (x ∷ xs) = ap suc (count_alone xs)
+  count_alone (x ∷ xs) = count_cons w w x x (flattened (map (λ y. y ∷ []) xs)) xs refl (count_alone xs)
 
-  count_blocks : (b : Bool) (xs : List (Gathered X)) → length (flattened (cond b (gathered is_of_block xs) (map (λ x. x ∷ []) xs))) ≡ length xs
-  count_blocks true xs = let e : length (flattened (gathered is_of_block xs)) ≡ 0 + length xs = count_more [] xs in omega (arith, e)
+  count_blocks : (b : Bool) (xs : List (Gathered X)) → sum_by w (flattened (cond b (gathered is_of_block xs) (map (λ x. x ∷ []) xs))) ≡ sum_by w xs
+  count_blocks true xs = let e : sum_by w (flattened (gathered is_of_block xs)) ≡ 0 + sum_by w xs = count_more [] xs in omega (arith, e)
   count_blocks false xs = count_alone xs
 
-  -- as many cites are arranged as are gathered
-  pub arranged_count : (some_purpose : Bool) (xs : List (Gathered X)) → length (arranged c some_purpose xs) ≡ length xs
-  arranged_count some_purpose xs = count_collapsed (cond some_purpose None c.collapse) (blocks c xs) ∙ count_blocks (gathers c) xs
+  -- arranged cites come to what they came to when they were gathered
+  pub arranged_sum : (some_purpose : Bool) (xs : List (Gathered X)) → sum_by weight (arranged c some_purpose xs) ≡ sum_by w xs
+  arranged_sum some_purpose xs = count_collapsed (cond some_purpose None c.collapse) (blocks c xs) ∙ count_blocks (gathers c) xs
+
+count_ones : {A : Type 0} (xs : List A) → sum_by (λ x. 1) xs ≡ length xs
+count_ones [] = refl
+count_ones (x ∷ xs) = let e : sum_by (λ y. 1) (x ∷ xs) ≡ 1 + sum_by (λ y. 1) xs = sum_by-cons (λ y. 1) x xs in omega (arith, e, count_ones xs)
+
+-- as many cites are arranged as are gathered
+pub arranged_count : {X : Type 0} (c : Citation) (some_purpose : Bool) (xs : List (Gathered X)) → length (arranged c some_purpose xs) ≡ length xs
+arranged_count c some_purpose xs = sym (count_ones (arranged c some_purpose xs)) ∙ arranged_sum c (λ x. 1) some_purpose xs ∙ count_ones xs
+
+some_counted : {A : Type 0} (p : A → Bool) (xs : List A) → list_any p xs ≡ true → 0 < count_by p xs
+some_counted p [] h = absurd cc
+some_counted p (x ∷ xs) h = by_value (p x) refl (some_counted p xs)
+  where
+    by_value : (b : Bool) → p x ≡ b → (list_any p xs ≡ true → 0 < count_by p xs) → 0 < count_by p (x ∷ xs)
+    by_value true e others = let n : count_by p (x ∷ xs) ≡ 1 + count_by p xs = sum_by-cons (λ y. cond (p y) 1 0) x xs ∙ ap (λ b. cond b 1 0 + count_by p xs) e in omega (arith, n)
+    by_value false e others =
+        let n : count_by p (x ∷ xs) ≡ 0 + count_by p xs = sum_by-cons (λ y. cond (p y) 1 0) x xs ∙ ap (λ b. cond b 1 0 + count_by p xs) e in
+        let some : 0 < count_by p xs = others (sym (ap (λ b. b || list_any p xs) e) ∙ h) in
+        omega (arith, n, some)
+
+counted_some : {A : Type 0} (p : A → Bool) (xs : List A) → 0 < count_by p xs → list_any p xs ≡ true
+counted_some p [] h = absurd (omega (arith, h))
+counted_some p (x ∷ xs) h = by_value (p x) refl (counted_some p xs)
+  where
+    by_value : (b : Bool) → p x ≡ b → (0 < count_by p xs → list_any p xs ≡ true) → (p x || list_any p xs) ≡ true
+    by_value true e others = ap (λ b. b || list_any p xs) e
+    by_value false e others =
+        let n : count_by p (x ∷ xs) ≡ 0 + count_by p xs = sum_by-cons (λ y. cond (p y) 1 0) x xs ∙ ap (λ b. cond b 1 0 + count_by p xs) e in
+        let some : 0 < count_by p xs = omega (arith, n, h) in
+        ap (λ b. b || list_any p xs) e ∙ others some
+
+both_ways : (b c : Bool) → (b ≡ true → c ≡ true) → (c ≡ true → b ≡ true) → b ≡ c
+both_ways true c f g = sym (f refl)
+both_ways false true f g = g refl
+both_ways false false f g = refl
+
+-- a test that some cite passes where they are gathered, some cite passes where they are arranged
+pub arranged_any : {X : Type 0} (c : Citation) (some_purpose : Bool) (p : Gathered X → Bool) (xs : List (Gathered X)) → list_any (λ (a : Arranged X). p a.cite) (arranged c some_purpose xs) ≡ list_any p xs
+arranged_any {X} c some_purpose p xs =
+    let q : Arranged X → Bool = λ a. p a.cite in
+    let ys = arranged c some_purpose xs in
+    let same : count_by q ys ≡ count_by p xs = arranged_sum c (λ x. cond (p x) 1 0) some_purpose xs in
+    both_ways (list_any q ys) (list_any p xs) (λ h. counted_some p xs (omega (arith, same, some_counted q ys h))) (λ h. counted_some q ys (omega (arith, same, some_counted p xs h)))

@@ -1,5 +1,5 @@
 -- Cites are arranged alike however they are known.
-use Rattle.std.proofs.Common.{◌≡◌, ℕ, ◌+◌, Bool, true, false, ◌&&◌, ◌||◌, List, [], ◌∷◌, ◌++◌, nat_le, filter, map, take, drop, refl, sym, ap, ◌∙◌, Option, Some, None}
+use Rattle.std.proofs.Common.{◌≡◌, ℕ, ◌+◌, Bool, true, false, ◌&&◌, List, [], ◌∷◌, ◌++◌, nat_le, filter, map, take, drop, refl, sym, ap, ◌∙◌, Option, Some, None}
 use Rattle.std.specs.List.{enumerate_from, flat_map, list_any, zip}
 use Rattle.std.specs.Prelude.{if◌then◌else◌}
 use Rattle.std.proofs.lemmas.List.{drop-map, length-map, map-append, take-map}
@@ -10,14 +10,11 @@ use Rattle.driver_blocks.specs.Blocks.{Gathered, blocks, gathered, gathered_at, 
 use Rattle.driver_blocks.specs.Collapsing.{after_row, arranged, block_by, collapsed, continues, delimiter_after_collapsed, has_later, is_next_number, is_numbered, later, numbers_collapsed, suffixes_collapsed, uncollapsed, uncollapsed_block, with_previous_test, year_block, years_collapsed}
 use Rattle.driver_blocks.specs.Rows.{Arranged, added_to_rows, collapsed_row, is_long, last_after_dash, rows_of}
 use Rattle.driver.specs.Renaming.{arranged_as, gathered_as}
+use Rattle.driver.proofs.Maps.{any_map, enumerate_map, placed}
 
 flat_both : {A B C D : Type 0} (k : A → B) (m : C → D) (g : A → List C) (h : B → List D) → ((a : A) → h (k a) ≡ map m (g a)) → (xs : List A) → flat_map h (map k xs) ≡ map m (flat_map g xs)
 flat_both k m g h e [] = refl
 flat_both k m g h e (x ∷ xs) = (λ i. e x i ++ flat_both k m g h e xs i) ∙ sym (map-append m (g x) (flat_map g xs))
-
-any_renamed : {A B : Type 0} (k : A → B) (p : B → Bool) (xs : List A) → list_any p (map k xs) ≡ list_any (λ x. p (k x)) xs
-any_renamed k p [] = refl
-any_renamed k p (x ∷ xs) = ap (λ b. p (k x) || b) (any_renamed k p xs)
 
 kept_if : {A B : Type 0} (k : A → B) (b : Bool) (x : A) (xs : List A) → (if b then k x ∷ map k xs else map k xs) ≡ map k (if b then x ∷ xs else xs)
 kept_if k true x xs = refl
@@ -27,21 +24,13 @@ filter_renamed : {A B : Type 0} (k : A → B) (p : B → Bool) (xs : List A) →
 filter_renamed k p [] = refl
 filter_renamed k p (x ∷ xs) = ap (λ ys. if p (k x) then k x ∷ ys else ys) (filter_renamed k p xs) ∙ kept_if k (p (k x)) x (filter (λ y. p (k y)) xs)
 
--- a member with its place
-abbrev placed : {A B : Type 0} → (A → B) → ℕ × A → ℕ × B
-placed k p = (p.0, k p.1)
-
-enumerate_renamed : {A B : Type 0} (k : A → B) (n : ℕ) (xs : List A) → enumerate_from n (map k xs) ≡ map (placed k) (enumerate_from n xs)
-enumerate_renamed k n [] = refl
-enumerate_renamed k n (x ∷ xs) = ap (λ ys. (n, k x) ∷ ys) (enumerate_renamed k (n + 1) xs)
-
 chosen_list : {A B : Type 0} (k : A → B) (b : Bool) (xs : List A) → (if b then [] else map k xs ∷ []) ≡ map (map k) (if b then [] else xs ∷ [])
 chosen_list k true xs = refl
 chosen_list k false xs = refl
 
 gathered_at_renamed : {A B : Type 0} (k : A → B) (same : B → B → Bool) (xs : List A) (p : ℕ × A) → gathered_at same (map k xs) (placed k p) ≡ map (map k) (gathered_at (λ x y. same (k x) (k y)) xs p)
 gathered_at_renamed k same xs (i, y) =
-    let met : list_any (same (k y)) (take i (map k xs)) ≡ list_any (λ x. same (k y) (k x)) (take i xs) = ap (list_any (same (k y))) (take-map k i xs) ∙ any_renamed k (same (k y)) (take i xs) in
+    let met : list_any (same (k y)) (take i (map k xs)) ≡ list_any (λ x. same (k y) (k x)) (take i xs) = ap (list_any (same (k y))) (take-map k i xs) ∙ any_map k (same (k y)) (take i xs) in
     let like : filter (same (k y)) (drop (i + 1) (map k xs)) ≡ map k (filter (λ x. same (k y) (k x)) (drop (i + 1) xs)) =
     ap (filter (same (k y))) (drop-map k (i + 1) xs) ∙ filter_renamed k (same (k y)) (drop (i + 1) xs) in
     (λ j. if met j then [] else (k y ∷ like j) ∷ [])
@@ -49,7 +38,7 @@ gathered_at_renamed k same xs (i, y) =
 
 gathered_renamed : {A B : Type 0} (k : A → B) (same : B → B → Bool) (xs : List A) → gathered same (map k xs) ≡ map (map k) (gathered (λ x y. same (k x) (k y)) xs)
 gathered_renamed k same xs =
-    ap (flat_map (gathered_at same (map k xs))) (enumerate_renamed k 0 xs)
+    ap (flat_map (gathered_at same (map k xs))) (enumerate_map k 0 xs)
     ∙ flat_both (placed k) (map k) (gathered_at (λ x y. same (k x) (k y)) xs) (gathered_at same (map k xs)) (gathered_at_renamed k same xs) (enumerate_from 0 xs)
 
 alone_renamed : {A B : Type 0} (k : A → B) (xs : List A) → map (λ x. x ∷ []) (map k xs) ≡ map (map k) (map (λ x. x ∷ []) xs)

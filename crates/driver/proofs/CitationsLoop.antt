@@ -31,10 +31,10 @@ module _ {T P A : Type 0} (answers : T → Answers) (requests : List (CitationRe
       ap length own
       ∙ element_seen (λ (w : Vec NumberedCite A). length w.items) (λ (q : CitationRequest T P). length q.items.items) rows requests n v r sizes (element_at rows n v in_rows also) (element_at requests n r less is)
 
-  own_long : length own_cites ≡ length ks
+  pub own_long : length own_cites ≡ length ks
   own_long = row_long answers (context_of r) r.items.items ks own_size ∙ sym own_size
 
-  left_step : cites_left n ≡ own_cites ++ cites_left (n + 1)
+  pub left_step : cites_left n ≡ own_cites ++ cites_left (n + 1)
   left_step = ap flattened (rows_step answers requests rows n r v ks less in_rows is also own)
 
   pub left_size : length (cites_left n) ≡ length ks + length (cites_left (n + 1))

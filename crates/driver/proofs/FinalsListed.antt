@@ -1,5 +1,5 @@
 -- Entries that are listed one after the other are listed by their first cites.
-use Rattle.std.proofs.Common.{arith, ◌≡◌, ℕ, zero, suc, ◌<◌, Bool, true, false, true≢false, cond, eqb-true, eq-eqb, nat_eq, is_some, option_map, unwrap_or, find, List, [], ◌∷◌, map, length, get_or, set, replicate, fold, Option, Some, None, refl, sym, ap, ◌∙◌}
+use Rattle.std.proofs.Common.{arith, ◌≡◌, ℕ, zero, suc, ◌<◌, Bool, true, false, true≢false, cond, eqb-true, eq-eqb, nat_eq, option_map, find, List, [], ◌∷◌, map, length, get_or, set, replicate, fold, Option, Some, None, refl, sym, ap, ◌∙◌}
 use Rattle.std.specs.List.{range_with_len}
 use Rattle.std.specs.Option.{option_or}
 use Rattle.std.proofs.lemmas.List.{ext_get_or, get_or-set_same, get_or-set_other, get_or-replicate, length-set, length-replicate}
@@ -78,16 +78,6 @@ module _ {P : Type 0} where
   -- cites that list entries one after the other
   pub listed_all : (fs : List (Final P)) (n : ℕ) → fold listed_with (replicate n None) (map listed_as fs) ≡ map (first_listed fs) (range_with_len 0 n)
   listed_all fs n = found_all n (map listed_as fs) ∙ each_seen fs (range_with_len 0 n)
-
-  at_first : (f : Final P) (fs : List (Final P)) (e : ℕ) (l : Listed) → (first_listed fs e ≡ Some l → l.place ≡ e) → (b : Bool) → nat_eq (listed_as f).place e ≡ b
-      → option_map listed_as (cond b (Some f) (find (is_final_of e) fs)) ≡ Some l → l.place ≡ e
-  at_first f fs e l on true h is = sym (ap (λ o. (unwrap_or o l).place) is) ∙ eqb-true (listed_as f).place e h
-  at_first f fs e l on false h is = on is
-
-  -- an entry is listed at its place
-  pub first_listed_place : (fs : List (Final P)) (e : ℕ) (l : Listed) → first_listed fs e ≡ Some l → l.place ≡ e
-  first_listed_place [] e l is = absurd (true≢false (sym (ap is_some is)))
-  first_listed_place (f ∷ fs) e l is = at_first f fs e l (first_listed_place fs e l) (nat_eq (listed_as f).place e) refl is
 
 pub none_seen : {A B : Type 0} (f : Option A → Option B) → f None ≡ None → (n : ℕ) → map f (replicate n None) ≡ replicate n None
 none_seen f h zero = refl

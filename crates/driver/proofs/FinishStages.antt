@@ -4,7 +4,7 @@ use Rattle.std.specs.Prelude.{filter_map, find, if◌then◌else◌, zip}
 use Rattle.std.specs.List.{enumerate_from, flat_map, last_or, range_with_len}
 use Rattle.std.specs.Option.{option_and_then, option_map, option_map_or, unwrap_or}
 use Rattle.std.proofs.Math.Path.{fun_ext}
-use Rattle.std.proofs.lemmas.List.{length-append, length-map, length-replicate, map-append}
+use Rattle.std.proofs.lemmas.List.{length-append, length-map, length-replicate}
 use Rattle.std.proofs.lemmas.List.FromFn.{length-enumerate_from}
 use Rattle.laws.specs.Results.{EndsWith, Gives, GivesBack}
 use Rattle.rendering_context.specs.Cites.{undisturbed}
@@ -27,26 +27,15 @@ use Rattle.driver.specs.Known.{KnownCites, known_in, known_of, numbered_in}
 use Rattle.driver.specs.Listing.{bibliography_from, item_first, item_listed, rendered_of}
 use Rattle.driver.specs.Stages.{Final, adds_names, candidate, disambiguated_in, finals_in, first_print, first_prints_in, flattened, numbered_after}
 use Rattle.driver.proofs.KnownPlaces.{passed}
+use Rattle.driver.proofs.Maps.{flat_maps, map_map, maps_of_maps}
 
 -- what is known of cites, where no number overflows
 pub known_parts : {P : Type 0} (same : P → P → Bool) (d : Document P) (k : KnownCites P) → known_in same d ≡ Ok k → (numbers_overflow d.offset (cited d.requests) ≡ false) × (known_of same d ≡ k)
 known_parts same d k e = passed (numbers_overflow d.offset (cited d.requests)) overflow (known_of same d) k e
 
-map_map : {A B C : Type 0} (f : B → C) (g : A → B) (xs : List A) → map f (map g xs) ≡ map (λ (a : A). f (g a)) xs
-map_map f g [] = refl
-map_map f g (x ∷ xs) = ap (λ zs. f (g x) ∷ zs) (map_map f g xs)
-
-maps_of_maps : {A B C : Type 0} (f : B → C) (g : A → B) (xss : List (List A)) → map (map (λ (a : A). f (g a))) xss ≡ map (map f) (map (map g) xss)
-maps_of_maps f g [] = refl
-maps_of_maps f g (xs ∷ xss) = ap₂ (λ zs zss. zs ∷ zss) (sym (map_map f g xs)) (maps_of_maps f g xss)
-
 -- first prints are those of the cites with their numbers
 pub firsts_are : {P : Type 0} (same : P → P → Bool) (d : Document P) → first_prints_in same d ≡ firsts (numbered_in same d)
 firsts_are {P} same d = maps_of_maps (first_print {P = P}) (numbered_after same d) (with_previous None (cites_of d.requests))
-
-flat_maps : {A B : Type 0} (f : A → B) (xss : List (List A)) → flattened (map (map f) xss) ≡ map f (flattened xss)
-flat_maps f [] = refl
-flat_maps f (xs ∷ xss) = ap (λ ys. map f xs ++ ys) (flat_maps f xss) ∙ sym (map-append f xs (flattened xss))
 
 adds_alike : {T P : Type 0} (answers : T → Answers) (p q : T → ℕ) (rs : List (CitationRequest T P)) → adds_names (map (request_by {P = P} p answers) rs) ≡ adds_names (map (request_by {P = P} q answers) rs)
 adds_alike answers p q [] = refl
@@ -101,7 +90,7 @@ pub back_gives : {E F X Y : Type 0} (refusal : E → Option F) (view : X → Y) 
 back_gives refusal view (Ok x) v read e h = e ∙ ap (λ y. Ok y) (sym h)
 back_gives refusal view (Err f) v read e h = subst (λ o. EndsWith o read) (sym h) tt
 
-and_then_map : {A B C : Type 0} (g : B → Option C) (f : A → B) (o : Option A) → option_and_then (λ (a : A). g (f a)) o ≡ option_and_then g (option_map f o)
+pub and_then_map : {A B C : Type 0} (g : B → Option C) (f : A → B) (o : Option A) → option_and_then (λ (a : A). g (f a)) o ≡ option_and_then g (option_map f o)
 and_then_map g f None = refl
 and_then_map g f (Some a) = refl
 

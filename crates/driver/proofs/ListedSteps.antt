@@ -11,11 +11,10 @@ use Rattle.rendering_context.specs.Cites.{undisturbed}
 use Rattle.rendering_context.specs.Views.{state_by}
 use Rattle.rendering_context.specs.declared.cite.DisambiguateState.{DisambiguateState as CodeState}
 use Rattle.rendering_entries.specs.Answers.{Answers}
-use Rattle.rendering.specs.Purposes.{StyleContext}
 use Rattle.driver_marks.specs.Marks.{mark_of}
 use Rattle.driver.specs.Finals.{Listed, first_listed, listed_as, listed_by}
 use Rattle.driver.specs.Finish.{is_final_of}
-use Rattle.driver.specs.Listing.{StandAtPlaces, item_at, item_first, item_listed, listed_marked, trees_listed}
+use Rattle.driver.specs.Listing.{StandAtPlaces, listed_marked}
 use Rattle.driver.specs.Stages.{Final, cite_of}
 use Rattle.driver.specs.declared.finals.ListedCite.{ListedCite}
 
@@ -46,15 +45,15 @@ marked_alike answers marks mark place (Some l) less at h =
     ap state_by at ∙ sym (get_or-map state_by marks place mark undisturbed less) ∙ ap (λ p. get_or (map state_by marks) p undisturbed) (sym h) in
     ap (λ m. Some (listed_marked answers m l)) same
 
--- what is printed of the entry at a place, by its mark
-pub item_by_mark : {T : Type 0} (x : StyleContext) (answers : T → Answers) (marks : List CodeState) (listed : List (Option (ListedCite T))) (place : ℕ) (mark : CodeState) (o : Option (ListedCite T)) → place < length marks → length listed ≡ length marks
+-- what is made of the entry at a place, by its mark
+pub made_by_mark : {T B : Type 0} (make : Listed → Option B) (answers : T → Answers) (marks : List CodeState) (listed : List (Option (ListedCite T))) (place : ℕ) (mark : CodeState) (o : Option (ListedCite T)) → place < length marks → length listed ≡ length marks
     → mark ≡ get_or marks place mark → o ≡ get_or listed place o → StandAtPlaces (map (option_map (listed_by answers (map state_by marks))) listed)
-    → option_and_then (item_listed x) (option_map (listed_marked answers (state_by mark)) o) ≡ item_at x (map (option_map (listed_by answers (map state_by marks))) listed) place
-item_by_mark x answers marks listed place mark o less long at_mark at stand =
+    → option_and_then make (option_map (listed_marked answers (state_by mark)) o) ≡ option_and_then make (slice_index_or (map (option_map (listed_by answers (map state_by marks))) listed) place None)
+made_by_mark make answers marks listed place mark o less long at_mark at stand =
     let here : get_or (map (option_map (listed_by answers (map state_by marks))) listed) place None ≡ option_map (listed_by answers (map state_by marks)) o =
     get_or-map (option_map (listed_by answers (map state_by marks))) listed place o None (omega (arith, less, long)) ∙ ap (option_map (listed_by answers (map state_by marks))) (sym at) in
     let own : IfSome (option_map (listed_by answers (map state_by marks)) o) (λ l. l.place ≡ place) = subst (λ (p : Option Listed). IfSome p (λ l. l.place ≡ place)) here (stand place) in
-    ap (option_and_then (item_listed x)) (marked_alike answers marks mark place o less at_mark own ∙ sym here)
+    ap (option_and_then make) (marked_alike answers marks mark place o less at_mark own ∙ sym here)
 
 own_if : {P : Type 0} (place : ℕ) (f : Final P) (o : Option (Final P)) (b : Bool) → is_final_of place f ≡ b → IfSome (option_map listed_as o) (λ l. l.place ≡ place) → IfSome (option_map listed_as (cond b (Some f) o)) (λ l. l.place ≡ place)
 own_if place f o true e h = eqb-true (cite_of f).item.entry.place place e
@@ -76,10 +75,10 @@ placed_if {P} fs count place false e =
 pub firsts_stand : {P : Type 0} (fs : List (Final P)) (count : ℕ) (ls : List (Option Listed)) → ls ≡ map (first_listed fs) (range_with_len 0 count) → StandAtPlaces ls
 firsts_stand fs count ls e = λ place. subst (λ (ms : List (Option Listed)). IfSome (slice_index_or ms place None) (λ l. l.place ≡ place)) (sym e) (placed_if fs count place (nat_lt place count) refl)
 
--- what is printed of entries by their first cites
-pub trees_are : {P : Type 0} (x : StyleContext) (fs : List (Final P)) (count : ℕ) (ls : List (Option Listed)) (order : List ℕ) → ls ≡ map (first_listed fs) (range_with_len 0 count) → All (λ p. p < count) order
-    → trees_listed x ls order ≡ filter_map (item_first x fs) order
-trees_are x fs count ls [] e within = refl
-trees_are x fs count ls (p ∷ ps) e within =
-    let here : item_at x ls p ≡ item_first x fs p = ap (λ (ms : List (Option Listed)). option_and_then (item_listed x) (slice_index_or ms p None)) e ∙ ap (option_and_then (item_listed x)) (get_or-map-range_with_len (first_listed fs) 0 count p p None (All-head (λ q. q < count) p ps within) (zero-add p)) in
-    λ k. cons_option (here k) (trees_are x fs count ls ps e (All-tail (λ q. q < count) p ps within) k)
+-- what is made of entries by their first cites
+pub made_are : {P B : Type 0} (make : Listed → Option B) (fs : List (Final P)) (count : ℕ) (ls : List (Option Listed)) (order : List ℕ) → ls ≡ map (first_listed fs) (range_with_len 0 count) → All (λ p. p < count) order
+    → filter_map (λ place. option_and_then make (slice_index_or ls place None)) order ≡ filter_map (λ place. option_and_then make (first_listed fs place)) order
+made_are make fs count ls [] e within = refl
+made_are make fs count ls (p ∷ ps) e within =
+    let here : option_and_then make (slice_index_or ls p None) ≡ option_and_then make (first_listed fs p) = ap (λ (ms : List (Option Listed)). option_and_then make (slice_index_or ms p None)) e ∙ ap (option_and_then make) (get_or-map-range_with_len (first_listed fs) 0 count p p None (All-head (λ q. q < count) p ps within) (zero-add p)) in
+    λ k. cons_option (here k) (made_are make fs count ls ps e (All-tail (λ q. q < count) p ps within) k)

@@ -1,10 +1,12 @@
 -- The cites of a request, gathered and arranged, are its cites in their final order.
-use Rattle.std.proofs.Common.{◌≡◌, ℕ, Bool, List, ◌++◌, All, length, map, fold, flat_map, sym, ap, ◌∙◌, Option}
+use Rattle.std.proofs.Common.{arith, ◌≡◌, ℕ, ◌<◌, Bool, List, ◌++◌, All, length, map, fold, flat_map, sym, ap, ◌∙◌, Option}
 use Rattle.std.specs.List.{enumerate_from}
 use Rattle.std.proofs.lemmas.List.{length-map}
 use Rattle.std.proofs.lemmas.List.Elements.{All-same}
 use Rattle.std.proofs.lemmas.List.FromFn.{length-enumerate_from}
 use Rattle.rendering_context.specs.Cites.{DisambiguateState}
+use Rattle.rendering_context.specs.Views.{state_by}
+use Rattle.rendering_context.specs.declared.cite.DisambiguateState.{DisambiguateState as CodeState}
 use Rattle.rendering_entries.specs.Answers.{Answers}
 use Rattle.rendering_style.specs.Styles.{Citation}
 use Rattle.rendering.specs.Purposes.{StyleContext}
@@ -38,6 +40,10 @@ placed_in same ms p cites = record {
 
 pub suffixes_long : (ms : Marks) (gs : List Given) → length (suffixes_by ms gs) ≡ length ms
 suffixes_long ms gs = length-map (enumerate_from 0 ms) (λ (p : ℕ × DisambiguateState). suffix_by p.1 p.0 gs) ∙ length-enumerate_from 0 ms
+
+-- cites whose entries have marks
+pub low_marks : (ms : List CodeState) (ks : List NumberedCite) → All (λ (k : NumberedCite). k.entry < length ms) ks → All (IsLow (length (map state_by ms))) ks
+low_marks ms ks h = λ k d less. omega (arith, h k d less, length-map ms state_by)
 
 module _ {T P : Type 0} (answers : T → Answers) (t : Disambiguation) (r : CitationRequest T P) (c : Citation) (some_purpose : Bool) (ks : List NumberedCite) (letters : List (Option Suffix)) (ss : List marks.Printed) (gs : List (Gathered ℕ)) (seen : List (Arranged ℕ))
     (low : All (IsLow (length t.marks)) ks) (is_letters : letters ≡ suffixes_by t.marks t.given) (is_printed : ss ≡ map (marked_by t.marks) (row_seen answers (context_of r) r.items.items ks)) (is_gathered : gs ≡ all_gathered letters 0 r.items.items ks ss)

@@ -62,14 +62,6 @@ pub row_match : {T P A : Type 0} (rows : List (Vec NumberedCite A)) (requests : 
     → length v.items ≡ length r.items.items
 row_match {T} {P} {A} rows requests n v r e below less also is = agree_at (λ (v : Vec NumberedCite A). length v.items) (λ (r : CitationRequest T P). length r.items.items) rows requests n v r e below less also is
 
--- the entries of a row are among as many as those of all rows
-pub row_among : {A : Type 0} (count n : ℕ) (rows : List (Vec NumberedCite A)) (v : Vec NumberedCite A) (row : List NumberedCite) → AreWithin count rows → n < length rows → v ≡ get_or rows n v → row ≡ v.items
-    → All (λ (k : NumberedCite). k.entry < count) row
-row_among {A} count n rows v row h below also list =
-    let P : Vec NumberedCite A → Type 0 = λ (w : Vec NumberedCite A). All (λ (k : NumberedCite). k.entry < count) w.items in
-    let Q : List NumberedCite → Type 0 = λ (ks : List NumberedCite). All (λ (k : NumberedCite). k.entry < count) ks in
-    subst Q (sym list) (subst P (sym also) (h n v below))
-
 module _ {T P : Type 0} (answers : T → Answers) where
   module _ (x : StyleContext) (items : List (CitationItem T P)) (row : List NumberedCite) where
     -- the cite at a place, then those after it
@@ -155,18 +147,6 @@ module _ {T P : Type 0} (answers : T → Answers) where
     -- past the requests all is made
     pub rows_end : {B : Type 0} (make : Numbered P → B) (n : ℕ) (now all : List B) → length requests ≤ n → now ++ map make (flattened (rows_seen answers (drop n requests) (drop n rows))) ≡ all → now ≡ all
     rows_end make n now all le h = ends make (flattened (rows_seen answers (drop n requests) (drop n rows))) now all (rows_done n le) h
-
-    -- after the cites of a request those of the requests after it are left
-    pub rows_left : (n : ℕ) (r : CitationRequest T P) (v : Vec NumberedCite A) (row : List NumberedCite) (from count : ℕ)
-        → n < length requests → n < length rows → r ≡ get_or requests n r → v ≡ get_or rows n v → row ≡ v.items → length row ≡ length r.items.items
-        → from + length (flattened (rows_seen answers (drop n requests) (drop n rows))) ≡ count
-        → from + length row + length (flattened (rows_seen answers (drop (n + 1) requests) (drop (n + 1) rows))) ≡ count
-    rows_left n r v row from count less below is also list many h =
-        let here : length (row_seen answers (context_of r) r.items.items row) ≡ length row = row_count (context_of r) r.items.items row many in
-        let same : length (row_seen answers (context_of r) r.items.items row) ≡ length (row_seen answers (context_of r) r.items.items v.items) = ap (λ ks. length (row_seen answers (context_of r) r.items.items ks)) list in
-        let both = length-append (row_seen answers (context_of r) r.items.items v.items) (flattened (rows_seen answers (drop (n + 1) requests) (drop (n + 1) rows))) in
-        let step = ap length (rows_step n r v less below is also) in
-        omega (arith, here, same, both, step, h)
 
   -- the entries of the cites of a row are among so many
   row_within : (count : ℕ) (x : StyleContext) (items : List (CitationItem T P)) (row : List NumberedCite) → All (λ (k : NumberedCite). k.entry < count) row → All (λ (n : Numbered P). entry_of n.cite < count) (row_seen answers x items row)

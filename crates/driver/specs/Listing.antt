@@ -49,6 +49,18 @@ item_at x ls place = option_and_then (item_listed x) (slice_index_or ls place No
 abbrev pub trees_listed : StyleContext → List (Option Listed) → List ℕ → List Children
 trees_listed x ls order = filter_map (item_at x ls) order
 
+-- the key of an entry, where the bibliography prints this
+abbrev pub key_printed : StyleContext → Listed → Option (List ℕ)
+key_printed x l = option_map (λ (t : Children). l.answers.key) (item_listed x l)
+
+-- the same of the entry at a place, where it is listed
+abbrev pub key_listed_at : StyleContext → List (Option Listed) → ℕ → Option (List ℕ)
+key_listed_at x ls place = option_and_then (key_printed x) (slice_index_or ls place None)
+
+-- the keys of the entries that the bibliography prints, in that order
+abbrev pub keys_listed : StyleContext → List (Option Listed) → List ℕ → List (List ℕ)
+keys_listed x ls order = filter_map (key_listed_at x ls) order
+
 -- what is listed at a place is the entry of that place
 abbrev pub StandAtPlaces : List (Option Listed) → Type 0
 StandAtPlaces ls = (place : ℕ) → IfSome (slice_index_or ls place None) (λ l. l.place ≡ place)
@@ -56,6 +68,14 @@ StandAtPlaces ls = (place : ℕ) → IfSome (slice_index_or ls place None) (λ l
 -- the entry at a place, in the bibliography
 abbrev pub item_first : {P : Type 0} → StyleContext → List (Final P) → ℕ → Option Children
 item_first x fs place = option_and_then (item_listed x) (first_listed fs place)
+
+-- the key of the entry at a place, where the bibliography prints this
+abbrev pub key_first : {P : Type 0} → StyleContext → List (Final P) → ℕ → Option (List ℕ)
+key_first x fs place = option_and_then (key_printed x) (first_listed fs place)
+
+-- the keys of the entries that the bibliography prints by their first cites, in that order
+abbrev pub keys_first : {P : Type 0} → StyleContext → List (Final P) → List ℕ → List (List ℕ)
+keys_first x fs order = filter_map (key_first x fs) order
 
 -- citations and bibliography, from the cites of requests as they are printed at last
 abbrev pub rendered_of : {P : Type 0} → StyleContext → List ℕ → List (Request P) → List (List (Final P)) → Rendered

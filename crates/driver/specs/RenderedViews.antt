@@ -41,6 +41,10 @@ bibliography_by b = record {
   items = map fields_by b.items.items;
 }
 
+-- the bytes of the keys of its items
+abbrev pub keys_by : RenderedBibliography → List (List ℕ)
+keys_by b = map key_by b.items.items
+
 -- citations and bibliography
 abbrev pub rendered_by : Rendered → finish.Rendered
 rendered_by r = record { bibliography = option_map bibliography_by r.bibliography; citations = map citation_by r.citations.items }

@@ -6,9 +6,10 @@ use Rattle.rendering_tree.specs.Writing.{plain_text}
 use Rattle.driver_requests.specs.Cites.{Numbered, entry_of}
 use Rattle.driver_requests.specs.Errors.{Overflow, overflow}
 use Rattle.driver_marks.specs.Classes.{Printed}
+use Rattle.driver_marks.specs.CitesViews.{cites_seen}
 use Rattle.driver_marks.specs.Marks.{Marks, mark_of, suffixes_overflow}
 use Rattle.driver_marks.specs.Rounds.{Disambiguation}
-use Rattle.driver_marks.specs.Views.{givens_by, printed_seen}
+use Rattle.driver_marks.specs.Views.{givens_by}
 use Rattle.driver.specs.Stages.{printed_by}
 use Rattle.driver.specs.Views.{marked_by}
 use Rattle.driver.specs.declared.cite.NumberedCite.{NumberedCite}
@@ -16,7 +17,7 @@ use Rattle.driver.specs.declared.rounds.Marked.{Marked}
 
 -- marks, all that was given, and what cites print
 abbrev pub marked_seen : Marked → Disambiguation × List Printed
-marked_seen m = (record { marks = map state_by m.marks.items; given = givens_by m.given.items }, map printed_seen m.printed.items)
+marked_seen m = (record { marks = map state_by m.marks.items; given = givens_by m.given.items }, cites_seen m.printed)
 
 -- marks with what cites print by them, unless letters are after the last
 abbrev pub unless_overflow : {P : Type 0} → List (Numbered P) → Disambiguation → Result (Disambiguation × List Printed) Overflow

@@ -7,13 +7,16 @@ ghost use Rattle.driver.specs.Brackets as brackets;
 /// Brackets around a citation, for callers that print them.
 #[derive(Clone, Copy, Debug, PartialEq, Eq, Hash)]
 pub enum Brackets {
+    /// `(` and `)`.
     Round,
+    /// `[` and `]`.
     Square,
+    /// Nothing before or after.
     None,
 }
 
 impl Brackets {
-    /// The character before what they enclose.
+    /// The character before what they enclose; none where there are no brackets.
     pub fn left(self) -> Option<char>
         ensures { result ≡ brackets.left (brackets_by self) }
     {
@@ -24,7 +27,7 @@ impl Brackets {
         }
     }
 
-    /// The character after it.
+    /// The character after what they enclose; none where there are no brackets.
     pub fn right(self) -> Option<char>
         ensures { result ≡ brackets.right (brackets_by self) }
     {

@@ -1,17 +1,17 @@
 //! From requests to citations and a bibliography.
 
 ghost use Rattle.std.specs.Prelude.{◌≡◌, ◌+◌, ◌<◌, ◌≤◌, ◌++◌, ◌∷◌, [], ℕ, All, length, map, replicate, None, IfOk, OnErr, OnOk};
-ghost use Rattle.std.specs.Option.{option_map_or};
+ghost use Rattle.std.specs.Option.{option_map, option_map_or};
 ghost use Rattle.laws.specs.Results.{Gives, GivesBack};
 ghost use Rattle.rendering.specs.Views.{context_seen};
 ghost use Rattle.rendering_context.specs.Views.{state_by};
-ghost use Rattle.driver_marks.specs.Views.{printed_seen};
+ghost use Rattle.driver_marks.specs.CitesViews.{cites_seen};
 ghost use Rattle.driver_requests.specs.Errors.{overflow_of};
 ghost use Rattle.driver_requests.specs.Views.{context_of, request_by};
 ghost use Rattle.driver.specs.Finals.{finals_from, firsts};
-ghost use Rattle.driver.specs.Finish.{effort_bound, finish};
-ghost use Rattle.driver.specs.Listing.{rendered_of};
-ghost use Rattle.driver.specs.RenderedViews.{rendered_by};
+ghost use Rattle.driver.specs.Finish.{effort_bound, finish, keys_in};
+ghost use Rattle.driver.specs.Listing.{keys_first, rendered_of};
+ghost use Rattle.driver.specs.RenderedViews.{keys_by, rendered_by};
 ghost use Rattle.driver.specs.Rounding.{AreWithin, marked_seen};
 ghost use Rattle.driver.specs.Stages.{flattened};
 ghost use Rattle.driver.specs.Views.{bibliography_context_of, document_by, marked_by, rows_seen, usage_of};
@@ -33,6 +33,8 @@ use std::alloc::{AllocError, Global};
 use std::hash::Hash;
 
 /// Requests in the order of the text, from which citations and a bibliography are made.
+///
+/// Entries are of a type `T` and borrowed by the requests; `P` is the type of locators that the caller prints by itself.
 #[derive(Drop)]
 pub struct BibliographyDriver<'a, T, P: Drop> {
     alloc: Global,
@@ -41,7 +43,7 @@ pub struct BibliographyDriver<'a, T, P: Drop> {
 }
 
 impl<'a, T, P: Drop> BibliographyDriver<'a, T, P> {
-    /// A driver without requests.
+    /// A driver without requests, which numbers entries from one on. It takes memory from the given allocator.
     pub fn new(alloc: Global) -> BibliographyDriver<'a, T, P>
         ensures requests { result.citations.items ≡ [] }
         ensures offset { result.offset ≡ 0 }
@@ -53,7 +55,7 @@ impl<'a, T, P: Drop> BibliographyDriver<'a, T, P> {
         }
     }
 
-    /// The same with all numbers greater by so much.
+    /// The same with so much added to the number of each entry, in place of what was said before.
     pub fn with_citation_number_offset(self, offset: usize) -> BibliographyDriver<'a, T, P>
         ensures requests { result.citations.items ≡ self.entry.citations.items }
         ensures offset { result.offset ≡ offset }
@@ -65,7 +67,8 @@ impl<'a, T, P: Drop> BibliographyDriver<'a, T, P> {
         }
     }
 
-    /// Adds a request after those that were added before. Without memory for it the driver is as it was.
+    /// Adds a request, whose cites come after those of the requests that were added before. Each request is printed in its own style.
+    /// Without memory for it the driver is as it was.
     ///
     /// # Errors
     /// Out of memory.
@@ -80,13 +83,19 @@ impl<'a, T, P: Drop> BibliographyDriver<'a, T, P> {
 }
 
 impl<'a, T: EntryLike + Hash, P: PartialEq + Drop> BibliographyDriver<'a, T, P> {
-    /// Citations and bibliography. Equal entries are one.
+    /// Citations and bibliography of all requests.
+    ///
+    /// Equal entries are one. They are numbered in the order of the bibliography: where its style has one, the entries that its request
+    /// wants first, so far as they are cited, then the others by their first cites. Hidden items are counted and numbered. Cites of
+    /// different entries that print alike are told apart by more of their names, by other branches of a style or by letters after the
+    /// year, as the styles say.
     ///
     /// # Errors
-    /// `Overflow` where a number is above the greatest that is printed, or letters are after the last; `Memory` where a request for
-    /// memory was refused.
+    /// `Overflow` where the offset and the number of cited entries are together above 2147483647, or where more than 256 entries that
+    /// print alike need letters; `Memory` where a request for memory was refused.
     pub fn finish(self, request: BibliographyRequest<'a, T>) -> Result<Rendered, DriverError>
         ensures rendered { Gives overflow_of rendered_by result (finish P.eq (document_by T.eq T.answers self.entry.citations.items self.entry.offset request.entry)) }
+        ensures keys { IfOk result (λ r. option_map keys_by r.bibliography ≡ option_map (λ s. keys_in (document_by T.eq T.answers self.entry.citations.items self.entry.offset request.entry)) (bibliography_context_of request.entry).style.bibliography) }
         ensures effort { IfOk result (λ r. r.effort ≤ effort_bound (document_by T.eq T.answers self.entry.citations.items self.entry.offset request.entry)) }
     {
         let BibliographyDriver {
@@ -106,6 +115,7 @@ fn finish_requests<'r, T: EntryLike + Hash, P: PartialEq>(
     request: &BibliographyRequest<'r, T>,
 ) -> Result<Rendered, DriverError>
     ensures rendered { Gives overflow_of rendered_by result (finish P.eq (document_by T.eq T.answers requests.now offset request.now)) }
+    ensures keys { IfOk result (λ r. option_map keys_by r.bibliography ≡ option_map (λ s. keys_in (document_by T.eq T.answers requests.now offset request.now)) (bibliography_context_of request.now).style.bibliography) }
     ensures effort { IfOk result (λ r. r.effort ≤ effort_bound (document_by T.eq T.answers requests.now offset request.now)) }
 {
     let known = known_of(alloc, requests, offset, request)?;
@@ -152,8 +162,9 @@ fn render<'r, T: EntryLike, P: PartialEq>(
     requires within { AreWithin (length marked.now.marks.items) rows.now }
     requires order { All (λ p. p < length marked.now.marks.items) order.now }
     requires usages { usages.now ≡ map usage_of (flattened (rows_seen T.answers requests.now rows.now)) }
-    requires printed { map printed_seen marked.now.printed.items ≡ map (marked_by (map state_by marked.now.marks.items)) (flattened (rows_seen T.answers requests.now rows.now)) }
+    requires printed { cites_seen marked.now.printed ≡ map (marked_by (map state_by marked.now.marks.items)) (flattened (rows_seen T.answers requests.now rows.now)) }
     ensures rendered { (place : T → ℕ) → GivesBack overflow_of rendered_by result (rendered_of (bibliography_context_of request.now) order.now (map (request_by place T.answers) requests.now) (finals_from P.eq (marked_seen marked.now).0 (map (request_by place T.answers) requests.now) (firsts (rows_seen T.answers requests.now rows.now)))) }
+    ensures keys { (place : T → ℕ) → IfOk result (λ r. option_map keys_by r.bibliography ≡ option_map (λ s. keys_first (bibliography_context_of request.now) (flattened (finals_from P.eq (marked_seen marked.now).0 (map (request_by place T.answers) requests.now) (firsts (rows_seen T.answers requests.now rows.now)))) order.now) (bibliography_context_of request.now).style.bibliography) }
     ensures effort { IfOk result (λ r. r.effort ≤ effort.old + length (flattened (rows_seen T.answers requests.now rows.now)) + option_map_or (λ s. length order.now) (bibliography_context_of request.now).style.bibliography 0) }
 {
     let letters = suffixes(alloc, &marked.marks, &marked.given)?;

@@ -12,6 +12,7 @@ ghost use Rattle.rendering_tree.specs.Views.{tree};
 ghost use Rattle.driver_blocks.specs.Views.{arranged_seen, gathered_seen};
 ghost use Rattle.driver_marks.specs.Lettered.{suffixes_by};
 ghost use Rattle.driver_marks.specs.Marks.{Marks};
+ghost use Rattle.driver_marks.specs.CitesViews.{cites_seen};
 ghost use Rattle.driver_marks.specs.Views.{givens_by, printed_seen};
 ghost use Rattle.driver_requests.specs.Positions as positions;
 ghost use Rattle.driver_requests.specs.SuffixViews.{suffix_by};
@@ -100,7 +101,7 @@ pub(crate) fn citations<'r, T: EntryLike, P: PartialEq>(
     requires rows { map (λ v. length v.items) rows.now ≡ map (λ r. length r.items.items) requests.now }
     requires within { AreWithin (length marked.now.marks.items) rows.now }
     requires usages { usages.now ≡ map usage_of (flattened (rows_seen T.answers requests.now rows.now)) }
-    requires printed { map printed_seen marked.now.printed.items ≡ map (marked_by (map state_by marked.now.marks.items)) (flattened (rows_seen T.answers requests.now rows.now)) }
+    requires printed { cites_seen marked.now.printed ≡ map (marked_by (map state_by marked.now.marks.items)) (flattened (rows_seen T.answers requests.now rows.now)) }
     requires letters { map (option_map suffix_by) letters.now ≡ suffixes_by (map state_by marked.now.marks.items) (givens_by marked.now.given.items) }
     requires unlisted { listed.old ≡ replicate (length marked.now.marks.items) None }
     ensures citations { (place : T → ℕ) → IfOk result (λ v. map citation_by v.items ≡ map citation_in (zip (map (request_by place T.answers) requests.now) (finals_from P.eq (marked_seen marked.now).0 (map (request_by place T.answers) requests.now) (firsts (rows_seen T.answers requests.now rows.now))))) }
@@ -112,6 +113,7 @@ pub(crate) fn citations<'r, T: EntryLike, P: PartialEq>(
     let mut printed = marked.printed.as_slice();
     let mut usages = usages;
     for (index, request) in requests.iter().enumerate() {
+        let context = &contexts[index];
         let row = rows[index].as_slice();
         let (own_printed, other_printed) = printed.split_at(row.len());
         let (own_usages, other_usages) = usages.split_at(row.len());
@@ -121,15 +123,7 @@ pub(crate) fn citations<'r, T: EntryLike, P: PartialEq>(
             usages: own_usages,
         };
         let citation = request_citation(
-            alloc,
-            request,
-            &contexts[index],
-            cites,
-            marked,
-            letters,
-            &mut last,
-            listed,
-            effort,
+            alloc, request, context, cites, marked, letters, &mut last, listed, effort,
         )?;
         citations.push(citation)?;
         printed = other_printed;

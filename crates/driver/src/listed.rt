@@ -9,8 +9,8 @@ ghost use Rattle.rendering_style.specs.StyleViews.{style_seen};
 ghost use Rattle.rendering_style.specs.Views.{bibliography_seen};
 ghost use Rattle.rendering_tree.specs.Views.{tree};
 ghost use Rattle.driver.specs.Finals.{listed_by};
-ghost use Rattle.driver.specs.Listing.{bibliography_from, item_listed, listed_marked, StandAtPlaces, trees_listed};
-ghost use Rattle.driver.specs.RenderedViews.{bibliography_by};
+ghost use Rattle.driver.specs.Listing.{bibliography_from, item_listed, key_printed, keys_listed, keys_of, listed_marked, StandAtPlaces, trees_listed};
+ghost use Rattle.driver.specs.RenderedViews.{bibliography_by, keys_by};
 ghost use Rattle.driver.specs.Views.{bibliography_context_of};
 
 use crate::bibliography::bibliography_of;
@@ -44,6 +44,7 @@ pub(crate) fn bibliography<T: EntryLike>(
     requires listed { length listed.now ≡ length marks.now }
     requires own { StandAtPlaces (map (option_map (listed_by T.answers (map state_by marks.now))) listed.now) }
     ensures bibliography { IfOk result (λ b. option_map bibliography_by b ≡ option_map (λ s. bibliography_from s (trees_listed (bibliography_context_of request.now) (map (option_map (listed_by T.answers (map state_by marks.now))) listed.now) order.now)) (bibliography_context_of request.now).style.bibliography) }
+    ensures keys { IfOk result (λ b. option_map keys_by b ≡ option_map (λ s. keys_listed (bibliography_context_of request.now) (map (option_map (listed_by T.answers (map state_by marks.now))) listed.now) order.now) (bibliography_context_of request.now).style.bibliography) }
     ensures effort { effort.new ≤ effort.old + option_map_or (λ s. length order.now) (bibliography_context_of request.now).style.bibliography 0 }
 {
     match &request.style.parts().bibliography {
@@ -66,6 +67,7 @@ fn listed_in<T: EntryLike>(
     requires listed { length listed.now ≡ length marks.now }
     requires own { StandAtPlaces (map (option_map (listed_by T.answers (map state_by marks.now))) listed.now) }
     ensures bibliography { IfOk result (λ b. bibliography_by b ≡ bibliography_from (bibliography_seen style.now) (trees_listed (bibliography_context_of request.now) (map (option_map (listed_by T.answers (map state_by marks.now))) listed.now) order.now)) }
+    ensures keys { IfOk result (λ b. keys_by b ≡ keys_listed (bibliography_context_of request.now) (map (option_map (listed_by T.answers (map state_by marks.now))) listed.now) order.now) }
     ensures effort { effort.new ≤ effort.old + length order.now }
 {
     let context = context_for(alloc, request)?;
@@ -104,6 +106,7 @@ fn listed_items<'r, T: EntryLike>(
     requires own { StandAtPlaces (map (option_map (listed_by T.answers (map state_by marks.now))) listed.now) }
     ensures trees { IfOk result (λ i. map tree i.trees.items ≡ trees_listed (context_seen context.now) (map (option_map (listed_by T.answers (map state_by marks.now))) listed.now) order.now) }
     ensures entries { IfOk result (λ i. length i.entries.items ≡ length i.trees.items) }
+    ensures keys { IfOk result (λ i. keys_of T.answers i.entries.items ≡ keys_listed (context_seen context.now) (map (option_map (listed_by T.answers (map state_by marks.now))) listed.now) order.now) }
     ensures effort { effort.new ≤ effort.old + length order.now }
 {
     let mut trees = Vec::with_capacity(alloc, order.len())?;
@@ -133,6 +136,7 @@ fn push_item<'r, T: EntryLike>(
 ) -> Result<(), AllocError>
     ensures trees { OnOk result (map tree trees.new.items ≡ map tree trees.old.items ++ option_to_list (option_and_then (item_listed (context_seen context.now)) (option_map (listed_marked T.answers (state_by mark.now)) listed.now))) }
     ensures entries { OnOk result (length entries.old.items ≡ length trees.old.items → length entries.new.items ≡ length trees.new.items) }
+    ensures keys { OnOk result (keys_of T.answers entries.new.items ≡ keys_of T.answers entries.old.items ++ option_to_list (option_and_then (key_printed (context_seen context.now)) (option_map (listed_marked T.answers (state_by mark.now)) listed.now))) }
     ensures effort { effort.new ≤ effort.old + 1 }
 {
     match listed {
@@ -147,7 +151,7 @@ fn push_item<'r, T: EntryLike>(
 }
 
 /// Appends what is printed of an entry, if anything is.
-fn push_printed<'r, T>(
+fn push_printed<'r, T: EntryLike>(
     printed: Option<ElemChildren>,
     entry: &'r T,
     trees: &mut Vec<ElemChildren>,
@@ -155,6 +159,7 @@ fn push_printed<'r, T>(
 ) -> Result<(), AllocError>
     ensures trees { OnOk result (map tree trees.new.items ≡ map tree trees.old.items ++ option_to_list (option_map tree printed)) }
     ensures entries { OnOk result (length entries.old.items ≡ length trees.old.items → length entries.new.items ≡ length trees.new.items) }
+    ensures keys { OnOk result (keys_of T.answers entries.new.items ≡ keys_of T.answers entries.old.items ++ option_to_list (option_map (λ t. (T.answers entry.now).key) (option_map tree printed))) }
 {
     if let Some(printed) = printed {
         trees.push(printed)?;

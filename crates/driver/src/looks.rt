@@ -5,14 +5,11 @@ ghost use Rattle.std.specs.Option.{option_map, unwrap_or};
 ghost use Rattle.std.specs.Str.{chars};
 ghost use Rattle.laws.specs.Text.{characters, spelled};
 ghost use Rattle.rendering_style.specs.Views.{layout_seen};
-ghost use Rattle.rendering_taxonomy.specs.Formats.{plain};
 ghost use Rattle.rendering_tree.specs.Views.{tree};
 ghost use Rattle.driver.specs.Citations.{citation_look, followed_by_text};
 
 use rendering_style::Layout;
-use rendering_taxonomy::{
-    FontStyle, FontVariant, FontWeight, Formatting, TextDecoration, VerticalAlign,
-};
+use rendering_taxonomy::Formatting;
 use rendering_tree::{ElemChild, ElemChildren, Formatted};
 use std::alloc::{AllocError, Global};
 use texts::owned;
@@ -21,20 +18,7 @@ use texts::owned;
 pub(crate) fn citation_look(layout: &Layout) -> Formatting
     ensures { result ≡ citation_look (layout_seen layout.now) }
 {
-    layout.formatting.over(plain())
-}
-
-/// How texts look of themselves.
-fn plain() -> Formatting
-    ensures { result ≡ plain }
-{
-    Formatting {
-        font_style: FontStyle::Normal,
-        font_variant: FontVariant::Normal,
-        font_weight: FontWeight::Normal,
-        text_decoration: TextDecoration::None,
-        vertical_align: VerticalAlign::None,
-    }
+    layout.formatting.over(Formatting::plain())
 }
 
 /// Appends a text.

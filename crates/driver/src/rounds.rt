@@ -1,9 +1,11 @@
 //! Rounds in which cites that print alike are told apart.
 
-ghost use Rattle.std.specs.Prelude.{◌≡◌, ◌+◌, ◌*◌, ◌++◌, ◌<◌, ◌≤◌, All, length, map, false, IfOk, OnOk};
+ghost use Rattle.std.specs.Prelude.{◌≡◌, ◌+◌, ◌*◌, ◌++◌, ◌<◌, ◌≤◌, All, drop, length, map, false, slice_index_or, slice_set, take, IfOk, OnOk};
 ghost use Rattle.laws.specs.Results.{Gives, Leaves};
 ghost use Rattle.rendering_context.specs.Views.{state_by};
 ghost use Rattle.rendering.specs.Views.{context_seen};
+ghost use Rattle.driver_marks.specs.Classes as classes;
+ghost use Rattle.driver_marks.specs.CitesViews.{cites_seen};
 ghost use Rattle.driver_marks.specs.Marks as marks;
 ghost use Rattle.driver_marks.specs.Marks.{suffixes_overflow};
 ghost use Rattle.driver_marks.specs.Rounds as rounds;
@@ -16,7 +18,7 @@ ghost use Rattle.driver.specs.Stages.{candidate, first_print, flattened};
 ghost use Rattle.driver.specs.Views.{marked_by, numbered_seen, row_seen, rows_seen, unmarked};
 
 use crate::cite::{NumberedCite, printed_by};
-use driver_marks::{Given, Printed, mark, round_given};
+use driver_marks::{Given, Printed, PrintedCites, mark};
 use driver_requests::{CitationItem, CitationRequest, DriverError};
 use rendering::{Effort, StyleContext};
 use rendering_context::DisambiguateState;
@@ -31,7 +33,7 @@ const ROUNDS: u8 = 3;
 pub(crate) struct Marked {
     pub(crate) marks: Vec<DisambiguateState>,
     pub(crate) given: Vec<Given>,
-    pub(crate) printed: Vec<Printed>,
+    pub(crate) printed: PrintedCites,
 }
 
 /// What tells cites apart, from what they print without marks.
@@ -55,6 +57,7 @@ pub(crate) fn disambiguated<T: EntryLike, P>(
     ensures effort { OnOk result (effort.new ≤ effort.old + 3 * length (flattened (rows_seen T.answers requests.now rows.now))) }
 {
     let adds_names = adds_names(requests);
+    let printed = PrintedCites::new(alloc, printed)?;
     let mut marked = Marked {
         marks: no_marks(alloc, entries)?,
         given: Vec::new(alloc),
@@ -111,11 +114,11 @@ fn give_round<T: EntryLike, P>(
     requires rows { map (λ v. length v.items) rows.now ≡ map (λ r. length r.items.items) requests.now }
     requires within { AreWithin (length marked.old.marks.items) rows.now }
     requires given { suffixes_overflow (givens_by marked.old.given.items) ≡ false }
-    requires printed { map printed_seen marked.old.printed.items ≡ map (marked_by (map state_by marked.old.marks.items)) (flattened (rows_seen T.answers requests.now rows.now)) }
+    requires printed { cites_seen marked.old.printed ≡ map (marked_by (map state_by marked.old.marks.items)) (flattened (rows_seen T.answers requests.now rows.now)) }
     ensures marked { Leaves overflow_of result (marked_seen marked.new) (unless_overflow (flattened (rows_seen T.answers requests.now rows.now)) (rounds.after_round adds_names (map (λ n. candidate (first_print n)) (flattened (rows_seen T.answers requests.now rows.now))) (marked_seen marked.old).0 round)) }
     ensures effort { OnOk result (effort.new ≤ effort.old + length (flattened (rows_seen T.answers requests.now rows.now))) }
 {
-    let given = round_given(alloc, adds_names, round, &marked.printed)?;
+    let given = marked.printed.round_given(alloc, adds_names, round)?;
     let is_given = mark(alloc, &mut marked.marks, &given)?;
     print_again(
         alloc,
@@ -149,100 +152,113 @@ fn print_again<T: EntryLike, P>(
     rows: &[Vec<NumberedCite>],
     marks: &[DisambiguateState],
     is_given: &[bool],
-    printed: &mut [Printed],
+    printed: &mut PrintedCites,
     effort: &mut Effort,
 ) -> Result<(), AllocError>
     requires contexts { map context_seen contexts.now ≡ map context_of requests.now }
     requires rows { map (λ v. length v.items) rows.now ≡ map (λ r. length r.items.items) requests.now }
     requires within { AreWithin (length marks.now) rows.now }
     requires given { length is_given.now ≡ length marks.now }
-    requires printed { length printed.old ≡ length (flattened (rows_seen T.answers requests.now rows.now)) }
-    ensures printed { OnOk result (map printed_seen printed.new ≡ are_again (map state_by marks.now) is_given.now (flattened (rows_seen T.answers requests.now rows.now)) (map printed_seen printed.old)) }
+    requires printed { length (cites_seen printed.old) ≡ length (flattened (rows_seen T.answers requests.now rows.now)) }
+    ensures printed { OnOk result (cites_seen printed.new ≡ are_again (map state_by marks.now) is_given.now (flattened (rows_seen T.answers requests.now rows.now)) (cites_seen printed.old)) }
     ensures effort { OnOk result (effort.new ≤ effort.old + length (flattened (rows_seen T.answers requests.now rows.now))) }
 {
     let mut start = 0;
     for (index, request) in requests.iter().enumerate() {
         let row = rows[index].as_slice();
-        let end = start + row.len();
         print_row_again(
             alloc,
             request,
             &contexts[index],
             row,
+            start,
             marks,
             is_given,
-            &mut printed[start..end],
+            printed,
             effort,
         )?;
-        start = end;
+        start += row.len();
     }
     Ok(())
 }
 
-/// Prints cites of a request again whose entries were given something.
+/// Prints cites of a request again whose entries were given something, where the first one has that place among all cites.
 fn print_row_again<T: EntryLike, P>(
     alloc: Global,
     request: &CitationRequest<'_, T, P>,
     context: &StyleContext<'_>,
     row: &[NumberedCite],
+    start: usize,
     marks: &[DisambiguateState],
     is_given: &[bool],
-    printed: &mut [Printed],
+    printed: &mut PrintedCites,
     effort: &mut Effort,
 ) -> Result<(), AllocError>
     requires context { context_seen context.now ≡ context_of request.now }
     requires row { length row.now ≡ length request.now.items.items }
     requires within { All (λ n. n.entry < length marks.now) row.now }
     requires given { length is_given.now ≡ length marks.now }
-    requires printed { length printed.old ≡ length row.now }
-    ensures printed { OnOk result (map printed_seen printed.new ≡ are_again (map state_by marks.now) is_given.now (row_seen T.answers (context_of request.now) request.now.items.items row.now) (map printed_seen printed.old)) }
+    requires printed { start + length row.now ≤ length (cites_seen printed.old) }
+    ensures printed { OnOk result (cites_seen printed.new ≡ take start (cites_seen printed.old) ++ are_again (map state_by marks.now) is_given.now (row_seen T.answers (context_of request.now) request.now.items.items row.now) (drop start (cites_seen printed.old))) }
     ensures effort { OnOk result (effort.new ≤ effort.old + length (row_seen T.answers (context_of request.now) request.now.items.items row.now)) }
 {
     for (index, item) in request.items.iter().enumerate() {
-        let cite = row[index];
-        let one = &mut printed[index];
-        print_cite_again(alloc, context, item, cite, marks, is_given, one, effort)?;
+        print_cite_again(
+            alloc,
+            context,
+            item,
+            row[index],
+            start + index,
+            marks,
+            is_given,
+            printed,
+            effort,
+        )?;
     }
     Ok(())
 }
 
-/// Prints a cite again if its entry was given something.
+/// Prints the cite at a place again if its entry was given something.
 fn print_cite_again<T: EntryLike, P>(
     alloc: Global,
     context: &StyleContext<'_>,
     item: &CitationItem<'_, T, P>,
     cite: NumberedCite,
+    place: usize,
     marks: &[DisambiguateState],
     is_given: &[bool],
-    printed: &mut Printed,
+    printed: &mut PrintedCites,
     effort: &mut Effort,
 ) -> Result<(), AllocError>
     requires within { cite.entry < length marks.now }
     requires given { length is_given.now ≡ length marks.now }
-    ensures printed { OnOk result (printed_seen printed.new ≡ again_if (map state_by marks.now) is_given.now (numbered_seen T.answers (context_seen context.now) item.now cite) (printed_seen printed.old)) }
+    requires place { place < length (cites_seen printed.old) }
+    ensures printed { OnOk result ((d : classes.Printed) → cites_seen printed.new ≡ slice_set (cites_seen printed.old) place (again_if (map state_by marks.now) is_given.now (numbered_seen T.answers (context_seen context.now) item.now cite) (slice_index_or (cites_seen printed.old) place d))) }
     ensures effort { effort.new ≤ effort.old + 1 }
 {
     if is_given[cite.entry] {
         let mark = &marks[cite.entry];
-        print_by(alloc, context, item, cite, mark, printed, effort)
+        print_by(alloc, context, item, cite, place, mark, printed, effort)
     } else {
         Ok(())
     }
 }
 
-/// Prints a cite by another mark.
+/// Prints the cite at a place by another mark.
 fn print_by<T: EntryLike, P>(
     alloc: Global,
     context: &StyleContext<'_>,
     item: &CitationItem<'_, T, P>,
     cite: NumberedCite,
+    place: usize,
     mark: &DisambiguateState,
-    printed: &mut Printed,
+    printed: &mut PrintedCites,
     effort: &mut Effort,
 ) -> Result<(), AllocError>
-    ensures printed { OnOk result (printed_seen printed.new ≡ again_by (state_by mark.now) (numbered_seen T.answers (context_seen context.now) item.now cite) (printed_seen printed.old)) }
+    requires { place < length (cites_seen printed.old) }
+    ensures printed { OnOk result ((d : classes.Printed) → cites_seen printed.new ≡ slice_set (cites_seen printed.old) place (again_by (state_by mark.now) (numbered_seen T.answers (context_seen context.now) item.now cite) (slice_index_or (cites_seen printed.old) place d))) }
     ensures effort { effort.new ≤ effort.old + 1 }
 {
     let rendering = printed_by(context, item, cite, mark.clone()?, effort)?;
-    printed.print_by(alloc, mark.clone()?, rendering.tree)
+    printed.print_by(alloc, place, mark.clone()?, rendering.tree)
 }

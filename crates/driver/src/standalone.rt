@@ -30,8 +30,11 @@ use rendering_taxonomy::{Formatting, IbidState, IdentifierUsage};
 use rendering_tree::ElemChildren;
 use std::alloc::{AllocError, Global};
 
-/// A citation outside of any document. Hidden items are not printed. Nothing is told apart or collapsed, and no cite is the first of
-/// its entry.
+/// A citation outside of any document, in the style of the request, as a tree in its normal form.
+///
+/// Each item that is not hidden is printed with its locator and for its purpose, as no first cite, outside of notes, and with the number
+/// one. Nothing is told apart or collapsed. What prints more than white space stands in order in the affixes of the layout, with its
+/// delimiter between, which is a comma and a space where the layout has none; where nothing does, the tree is empty.
 ///
 /// # Errors
 /// Out of memory.

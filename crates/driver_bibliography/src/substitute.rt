@@ -3,16 +3,13 @@
 ghost use Rattle.std.specs.Prelude.{◌≡◌, IfOk, OnOk};
 ghost use Rattle.std.specs.Option.{option_map_or};
 ghost use Rattle.std.specs.Str.{chars};
-ghost use Rattle.rendering_taxonomy.specs.Formats.{plain};
 ghost use Rattle.rendering_tree.specs.Trees.{simplified};
 ghost use Rattle.rendering_tree.specs.Views.{child, element, row, tree};
 ghost use Rattle.driver_bibliography.specs.Substitution.{changed, changed_in, is_some_names, names_replaced, names_replaced_in, text_alone, text_for};
 ghost use Rattle.driver_bibliography.specs.Views.{Changes, as_child, children_for, repeated_seen};
 
 use crate::repeats::{Repetition, is_name};
-use rendering_taxonomy::{
-    FontStyle, FontVariant, FontWeight, Formatting, TextDecoration, VerticalAlign,
-};
+use rendering_taxonomy::Formatting;
 use rendering_tree::{Elem, ElemChild, ElemChildren, ElemMeta, Formatted, simplify_children};
 use std::alloc::{AllocError, Global};
 use texts::owned;
@@ -172,20 +169,7 @@ fn text_alone(alloc: Global, text: &str) -> Result<ElemChildren, AllocError>
     let mut alone = ElemChildren::new(alloc);
     alone.push(ElemChild::Text(Formatted {
         text: owned(alloc, text)?,
-        formatting: plain(),
+        formatting: Formatting::plain(),
     }))?;
     Ok(alone)
-}
-
-/// How texts look of themselves.
-fn plain() -> Formatting
-    ensures { result ≡ plain }
-{
-    Formatting {
-        font_style: FontStyle::Normal,
-        font_variant: FontVariant::Normal,
-        font_weight: FontWeight::Normal,
-        text_decoration: TextDecoration::None,
-        vertical_align: VerticalAlign::None,
-    }
 }

@@ -1,37 +1,61 @@
 -- Classes by what the code has of cites.
-use Rattle.std.proofs.Common.{◌≡◌, ℕ, Bool, true, false, cond, not, ◌||◌, List, [], ◌∷◌, ◌++◌, map, suc, length, refl, sym, ap, ◌∙◌, arith}
-use Rattle.std.proofs.lemmas.Grind.{common_steps}
-use Rattle.std.specs.Prelude.{Vec, filter, nat_eq, nat_lt}
 use Rattle.std.specs.Global.{Global}
+use Rattle.std.proofs.Common.{◌≡◌, ℕ, Bool, true, false, cond, not, ◌||◌, List, [], ◌∷◌, ◌++◌, map, suc, length, Some, Vec, String, string_bytes, bytes_eq, refl, sym, ap, ◌∙◌, arith}
+use Rattle.std.proofs.Math.Path.{fun_ext}
+use Rattle.std.proofs.lemmas.Grind.{common_steps}
+use Rattle.std.specs.Prelude.{filter, nat_eq, nat_lt, unwrap_or}
 use Rattle.std.specs.Borrow.{Bor}
-use Rattle.std.specs.List.{flat_map, list_any}
-use Rattle.std.specs.Str.{bytes_eq}
-use Rattle.std.proofs.lemmas.Slice.Eq.{bytes_eq-Decides}
-use Rattle.std.proofs.lemmas.Bool.{eqb-true}
+use Rattle.std.specs.HashMap.{HashMap, get_by_text}
+use Rattle.std.specs.List.{flat_map, list_any, zip}
+use Rattle.std.specs.Cmp.Lexicographic.{bytes_decides}
+use Rattle.std.proofs.lemmas.Bool.{eqb-true, eq-eqb}
 use Rattle.std.proofs.lemmas.Cmp.{nat_eq_equiv}
+use Rattle.std.proofs.lemmas.List.Elements.{All-filter}
+use Rattle.std.proofs.lemmas.Simd.{map-map}
+use Rattle.std.proofs.lemmas.Slice.Zip.{seconds-zip}
 use Rattle.laws.specs.Text.{characters}
 use Rattle.laws.proofs.Equality.{Shows-strings}
 use Rattle.rendering_tree.proofs.ViewsEquality.{agreed}
 use Rattle.rendering_context.specs.Cites.{allows_suffix}
+use Rattle.rendering_context.specs.Views.{state_by}
 use Rattle.driver_requests.specs.CitedEntries.{once}
 use Rattle.driver_marks.specs.Classes as classes
-use Rattle.driver_marks.specs.Classes.{is_mixed, parts, entries_of}
-use Rattle.driver_marks.specs.Grouping.{is_alike, if_mixed}
+use Rattle.driver_marks.specs.Classes.{is_mixed, parts}
+use Rattle.driver_marks.specs.Grouping.{allowing, if_mixed, is_alike, of_number, seconds, under}
+use Rattle.driver_marks.specs.Numbered.{AreApart, AreNumbered, number_of}
 use Rattle.driver_marks.specs.Views.{class_by, printed_seen}
 use Rattle.driver_marks.specs.declared.printed.Printed.{Printed}
-use Rattle.driver_marks.proofs.Lists.{parts-map}
+use Rattle.driver_marks.proofs.Groups.{seconds_parts}
+use Rattle.driver_marks.proofs.Lists.{map-filter, parts-among}
+use Rattle.driver_marks.proofs.Numbering.{numbers_beside, numbers_length}
 
 -- cites print one text where the bytes of it are the same
-alike : (s t : Bor Printed) → is_alike s t ≡ classes.is_alike (printed_seen s.now) (printed_seen t.now)
+alike : (s t : Printed) → bytes_eq (string_bytes s.text) (string_bytes t.text) ≡ classes.is_alike (printed_seen s) (printed_seen t)
 alike s t =
-    agreed (is_alike s t) (bytes_eq (characters s.now.text) (characters t.now.text)) (Shows-strings s.now.text t.now.text) (bytes_eq-Decides (characters s.now.text) (characters t.now.text))
+    agreed (bytes_eq (string_bytes s.text) (string_bytes t.text)) (bytes_eq (characters s.text) (characters t.text)) (Shows-strings s.text t.text) (bytes_decides (characters s.text) (characters t.text))
+
+-- two tests that imply each other
+same_test : (b c : Bool) → (b ≡ true → c ≡ true) → (c ≡ true → b ≡ true) → b ≡ c
+same_test true c to from = sym (to refl)
+same_test false true to from = from refl
+same_test false false to from = refl
+
+-- cites have one number where they print one text
+numbered_alike : {S : Type 0} (texts : HashMap (String Global) ℕ S) → AreApart texts → (p q : ℕ × Printed) → number_of texts p.1 ≡ Some p.0 → number_of texts q.1 ≡ Some q.0
+    → is_alike p q ≡ classes.is_alike (printed_seen p.1) (printed_seen q.1)
+numbered_alike texts apart p q first second =
+    let one = string_bytes p.1.text in
+    let other = string_bytes q.1.text in
+    same_test (nat_eq p.0 q.0) (bytes_eq one other) (λ e. apart one other q.0 (first ∙ ap (λ n. Some n) (eqb-true p.0 q.0 e)) second)
+    (λ e. eq-eqb p.0 q.0 (ap (λ o. unwrap_or o 0) (sym first ∙ ap (get_by_text texts) ((bytes_decides one other).0 e) ∙ second)))
+    ∙ alike p.1 q.1
 
 one_mixed : (b : Bool) (ss : List (Bor Printed)) (rest : List (List (Bor Printed))) (all : List (List classes.Printed)) → map class_by rest ≡ all
     → map class_by (cond b (ss ∷ []) [] ++ rest) ≡ cond b (class_by ss ∷ all) all
 one_mixed true ss rest all e = ap (λ cs. class_by ss ∷ cs) e
 one_mixed false ss rest all e = e
 
--- the parts that are of more than one entry, seen
+-- the groups that are of more than one entry, seen
 mixed : (ps : List (List (Bor Printed))) → map class_by (flat_map if_mixed ps) ≡ filter is_mixed (map class_by ps)
 mixed [] = refl
 mixed (p ∷ ps) = one_mixed (is_mixed (class_by p)) p (flat_map if_mixed ps) (filter is_mixed (map class_by ps)) (mixed ps)
@@ -40,15 +64,31 @@ seen_items : (cs : List (Vec (Bor Printed) Global)) → map (λ c. class_by c.it
 seen_items [] = refl
 seen_items (c ∷ cs) = ap (λ ds. class_by c.items ∷ ds) (seen_items cs)
 
+-- a group, seen, has the cites of its number
+group_seen : (xs : List (ℕ × Printed)) (n : ℕ) (group : List (Bor Printed)) → map (λ s. s.now) group ≡ of_number n xs → class_by group ≡ map (λ p. printed_seen p.1) (filter (λ p. nat_eq n p.0) xs)
+group_seen xs n group is = sym (map-map printed_seen (λ s. s.now) group) ∙ ap (map printed_seen) is ∙ map-map printed_seen (λ p. p.1) (filter (λ p. nat_eq n p.0) xs)
+
 -- the classes that the code makes
-pub classes_are : (cs : List (Vec (Bor Printed) Global)) (allowing : List (Bor Printed)) (ss : List classes.Printed)
-    → class_by allowing ≡ filter (λ s. allows_suffix s.mark) ss → map (λ c. c.items) cs ≡ flat_map if_mixed (parts is_alike allowing)
-    → map (λ c. class_by c.items) cs ≡ classes.classes ss
-classes_are cs allowing ss is_allowing are_mixed =
+pub classes_are : {S : Type 0} (texts : HashMap (String Global) ℕ S) (numbers : List ℕ) (cites : List Printed) (groups : List (Vec (Bor Printed) Global)) (shared : List ℕ) (cs : List (Vec (Bor Printed) Global))
+    → AreNumbered texts numbers cites → ((n : ℕ) → map (λ s. s.now) (under groups n) ≡ of_number n (allowing (zip numbers cites))) → shared ≡ seconds (allowing (zip numbers cites))
+    → map (λ c. c.items) cs ≡ flat_map if_mixed (map (under groups) shared) → map (λ c. class_by c.items) cs ≡ classes.classes (map printed_seen cites)
+classes_are texts numbers cites groups shared cs numbered members seconds_are are_mixed =
+    let zs : List (ℕ × Printed) = zip numbers cites in
+    let xs : List (ℕ × Printed) = allowing zs in
+    let f : ℕ × Printed → classes.Printed = λ p. printed_seen p.1 in
+    let G : ℕ × Printed → Type 0 = λ p. number_of texts p.1 ≡ Some p.0 in
+    let h : ℕ → List (ℕ × Printed) = λ n. filter (λ p. nat_eq n p.0) xs in
+    let each : (λ n. class_by (under groups n)) ≡ (λ n. map f (h n)) = fun_ext (λ n. group_seen xs n (under groups n) (members n)) in
+    let all : map class_by (map (under groups) shared) ≡ map (map f) (parts is_alike xs) =
+    map-map class_by (under groups) shared ∙ (λ j. map (each j) (seconds_are j)) ∙ sym (map-map (map f) h (seconds xs)) ∙ ap (map (map f)) (seconds_parts xs) in
+    let beside = All-filter (λ p. allows_suffix (state_by p.1.mark)) G zs (numbers_beside (number_of texts) cites numbers numbered.1) in
+    let seen : map f xs ≡ filter (λ s. allows_suffix s.mark) (map printed_seen cites) =
+    map-filter f (λ p. allows_suffix (state_by p.1.mark)) (λ s. allows_suffix s.mark) (λ p. refl) zs
+    ∙ ap (filter (λ s. allows_suffix s.mark)) (sym (map-map printed_seen (λ p. p.1) zs) ∙ ap (map printed_seen) (seconds-zip numbers cites (sym (numbers_length (number_of texts) cites numbers numbered.1)))) in
     seen_items cs
     ∙ ap (map class_by) are_mixed
-    ∙ mixed (parts is_alike allowing)
-    ∙ ap (filter is_mixed) (parts-map (λ s. printed_seen s.now) is_alike classes.is_alike alike allowing ∙ ap (parts classes.is_alike) is_allowing)
+    ∙ mixed (map (under groups) shared)
+    ∙ ap (filter is_mixed) (all ∙ parts-among G f is_alike classes.is_alike (numbered_alike texts numbered.0.0) xs beside ∙ ap (parts classes.is_alike) seen)
 
 longer_or_not : (x y : ℕ) (rest : List ℕ) (t : Bool) → nat_lt 1 (suc (length (cond t (y ∷ rest) rest))) ≡ (t || nat_lt 1 (suc (length rest)))
 longer_or_not x y rest true =

@@ -9,3 +9,5 @@ pub mod Marking
 pub mod Lettered
 pub mod NamesPeople
 pub mod NamesDistinguished
+pub mod Numbering
+pub mod CitesFit

@@ -1,11 +1,10 @@
 -- Lists under views, and parts of them.
-use Rattle.std.proofs.Common.{arith, ◌≡◌, ℕ, ◌+◌, ◌<◌, Bool, true, false, cond, ◌||◌, List, [], ◌∷◌, ◌++◌, map, length, take, get_or, refl, sym, ap, ◌∙◌}
+use Rattle.std.proofs.Common.{◌≡◌, ℕ, ◌+◌, ◌<◌, Bool, true, false, cond, ◌||◌, List, [], ◌∷◌, ◌++◌, All, map, length, take, get_or, refl, sym, ap, ◌∙◌}
 use Rattle.std.specs.Prelude.{◌==◌, filter, count_by}
 use Rattle.std.specs.List.{flat_map, list_any, enumerate_from}
-use Rattle.std.proofs.lemmas.List.{map-append, take_more, take-map, append-nil, length-map}
+use Rattle.std.proofs.lemmas.List.{append-nil, map-append, take_more, take-map, length-map}
 use Rattle.std.proofs.lemmas.List.Concat.{flat_map-append}
-use Rattle.std.proofs.lemmas.List.Elements.{filter-append}
-use Rattle.std.proofs.lemmas.List.FromFn.{get_or-enumerate_from, length-enumerate_from}
+use Rattle.std.proofs.lemmas.List.Elements.{All-head, All-tail, All-take, filter-append}
 use Rattle.std.proofs.lemmas.List.Sums.{length-filter}
 use Rattle.driver_marks.specs.Classes.{part_at, parts}
 
@@ -20,30 +19,37 @@ map-filter f p q same [] = refl
 map-filter f p q same (x ∷ xs) =
     map-cond f (p x) (x ∷ filter p xs) (filter p xs) ∙ (λ i. cond (same x i) (f x ∷ map-filter f p q same xs i) (map-filter f p q same xs i))
 
--- as many pass it
-pub count-map : {X Y : Type 0} (f : X → Y) (p : X → Bool) (q : Y → Bool) → ((x : X) → p x ≡ q (f x)) → (xs : List X) → count_by p xs ≡ count_by q (map f xs)
-count-map f p q same xs =
-    sym (length-filter p xs) ∙ sym (length-map (filter p xs) f) ∙ ap length (map-filter f p q same xs) ∙ length-filter q (map f xs)
+module _ {X Y : Type 0} (G : X → Type 0) (f : X → Y) where
+  -- the same, where test and view agree on some elements
+  filter-among : (p : X → Bool) (q : Y → Bool) → ((x : X) → G x → p x ≡ q (f x)) → (xs : List X) → All G xs → map f (filter p xs) ≡ filter q (map f xs)
+  filter-among p q same [] all = refl
+  filter-among p q same (x ∷ xs) all =
+      map-cond f (p x) (x ∷ filter p xs) (filter p xs)
+      ∙ (λ i. cond (same x (All-head G x xs all) i) (f x ∷ filter-among p q same xs (All-tail G x xs all) i) (filter-among p q same xs (All-tail G x xs all) i))
 
-part-map : {X Y : Type 0} (f : X → Y) (a : X → X → Bool) (b : Y → Y → Bool) → ((x y : X) → a x y ≡ b (f x) (f y)) → (xs : List X) (i : ℕ) (x : X)
-    → map (map f) (part_at a xs (i, x)) ≡ part_at b (map f xs) (i, f x)
-part-map f a b same xs i x =
-    let counts : count_by (a x) (take i xs) ≡ count_by (b (f x)) (take i (map f xs)) =
-    count-map f (a x) (b (f x)) (same x) (take i xs) ∙ ap (count_by (b (f x))) (sym (take-map f i xs)) in
-    map-cond (map f) (count_by (a x) (take i xs) == 1) (filter (a x) xs ∷ []) []
-    ∙ (λ k. cond (counts k == 1) (map-filter f (a x) (b (f x)) (same x) xs k ∷ []) [])
+  -- as many pass it
+  count-among : (p : X → Bool) (q : Y → Bool) → ((x : X) → G x → p x ≡ q (f x)) → (xs : List X) → All G xs → count_by p xs ≡ count_by q (map f xs)
+  count-among p q same xs all =
+      sym (length-filter p xs) ∙ sym (length-map (filter p xs) f) ∙ ap length (filter-among p q same xs all) ∙ length-filter q (map f xs)
 
-parts-from : {X Y : Type 0} (f : X → Y) (a : X → X → Bool) (b : Y → Y → Bool) → ((x y : X) → a x y ≡ b (f x) (f y)) → (xs : List X) (n : ℕ) (ys : List X)
-    → map (map f) (flat_map (part_at a xs) (enumerate_from n ys)) ≡ flat_map (part_at b (map f xs)) (enumerate_from n (map f ys))
-parts-from f a b same xs n [] = refl
-parts-from f a b same xs n (y ∷ ys) =
-    map-append (map f) (part_at a xs (n, y)) (flat_map (part_at a xs) (enumerate_from (n + 1) ys))
-    ∙ (λ k. part-map f a b same xs n y k ++ parts-from f a b same xs (n + 1) ys k)
+  module _ (a : X → X → Bool) (b : Y → Y → Bool) (same : (x y : X) → G x → G y → a x y ≡ b (f x) (f y)) where
+    part-among : (xs : List X) → All G xs → (i : ℕ) (x : X) → G x → map (map f) (part_at a xs (i, x)) ≡ part_at b (map f xs) (i, f x)
+    part-among xs all i x has =
+        let counts : count_by (a x) (take i xs) ≡ count_by (b (f x)) (take i (map f xs)) =
+        count-among (a x) (b (f x)) (λ y also. same x y has also) (take i xs) (All-take G i xs all) ∙ ap (count_by (b (f x))) (sym (take-map f i xs)) in
+        map-cond (map f) (count_by (a x) (take i xs) == 1) (filter (a x) xs ∷ []) []
+        ∙ (λ k. cond (counts k == 1) (filter-among (a x) (b (f x)) (λ y also. same x y has also) xs all k ∷ []) [])
 
--- the parts, seen, are the parts of what is seen
-pub parts-map : {X Y : Type 0} (f : X → Y) (a : X → X → Bool) (b : Y → Y → Bool) → ((x y : X) → a x y ≡ b (f x) (f y)) → (xs : List X)
-    → map (map f) (parts a xs) ≡ parts b (map f xs)
-parts-map f a b same xs = parts-from f a b same xs 0 xs
+    parts-from : (xs : List X) → All G xs → (n : ℕ) (ys : List X) → All G ys
+        → map (map f) (flat_map (part_at a xs) (enumerate_from n ys)) ≡ flat_map (part_at b (map f xs)) (enumerate_from n (map f ys))
+    parts-from xs all n [] here = refl
+    parts-from xs all n (y ∷ ys) here =
+        map-append (map f) (part_at a xs (n, y)) (flat_map (part_at a xs) (enumerate_from (n + 1) ys))
+        ∙ (λ k. part-among xs all n y (All-head G y ys here) k ++ parts-from xs all (n + 1) ys (All-tail G y ys here) k)
+
+    -- the parts, seen, are the parts of what is seen, where the two tests agree on all elements
+    pub parts-among : (xs : List X) → All G xs → map (map f) (parts a xs) ≡ parts b (map f xs)
+    parts-among xs all = parts-from xs all 0 xs all
 
 -- what is made of one element more
 pub flat_more : {X Y Z : Type 0} (h : Y → List Z) (g : X → Y) (xs : List X) (i : ℕ) (d : X) → i < length xs
@@ -68,20 +74,6 @@ filter_step g p xs i d old new b low before is after =
     after
     ∙ (λ k. before k ++ cond (is k) (g x ∷ []) [])
     ∙ sym (ap (λ ys. filter p (map g ys)) (take_more xs i d low) ∙ ap (filter p) (map-append g (take i xs) (x ∷ [])) ∙ filter-append p (map g (take i xs)) (g x ∷ []))
-
--- a loop that appends the part of each element
-pub part_step : {X : Type 0} (a : X → X → Bool) (xs : List X) (i : ℕ) (d : X) (old new : List (List X)) → i < length xs
-    → old ≡ flat_map (part_at a xs) (take i (enumerate_from 0 xs)) → new ≡ old ++ part_at a xs (i, get_or xs i d)
-    → new ≡ flat_map (part_at a xs) (take (i + 1) (enumerate_from 0 xs))
-part_step {X} a xs i d old new low before after =
-    let es : List (ℕ × X) = enumerate_from 0 xs in
-    let there : i < length es = omega (arith, length-enumerate_from 0 xs) in
-    let zero_more : 0 + i ≡ i = omega arith in
-    let read : get_or es i (0, d) ≡ (i, get_or xs i d) = get_or-enumerate_from 0 xs i (0, d) low ∙ (λ k. (zero_more k, get_or xs i d)) in
-    after
-    ∙ (λ k. before k ++ part_at a xs (sym read k))
-    ∙ ap (λ zs. flat_map (part_at a xs) (take i es) ++ zs) (sym (append-nil (part_at a xs (get_or es i (0, d)))))
-    ∙ sym (ap (flat_map (part_at a xs)) (take_more es i (0, d) there) ∙ flat_map-append (part_at a xs) (take i es) (get_or es i (0, d) ∷ []))
 
 -- the same, where the element is known by itself
 pub flat_step_at : {X Y Z : Type 0} (h : Y → List Z) (g : X → Y) (xs : List X) (i : ℕ) (x : X) (old new : List Z) → i < length xs

@@ -1,34 +1,50 @@
--- Cites under the texts that they print.
-use Rattle.std.specs.Prelude.{ℕ, Bool, ◌==◌, List, [], ◌∷◌, Vec, if◌then◌else◌, string_bytes}
+-- Cites in groups of those that print one text, by its number.
+use Rattle.std.specs.Prelude.{ℕ, Bool, ◌==◌, nat_eq, List, [], ◌∷◌, ◌++◌, map, filter, count_by, get_or, length, Vec, if◌then◌else◌}
 use Rattle.std.specs.Global.{Global}
 use Rattle.std.specs.Borrow.{Bor}
-use Rattle.std.specs.HashMap.{HashMap, get_by}
-use Rattle.std.specs.Option.{option_map_or}
-use Rattle.std.specs.Str.{bytes_eq}
+use Rattle.rendering_context.specs.Cites.{allows_suffix}
+use Rattle.rendering_context.specs.Views.{state_by}
 use Rattle.driver_marks.specs.Classes.{is_mixed}
 use Rattle.driver_marks.specs.Views.{class_by}
 use Rattle.driver_marks.specs.declared.printed.Printed.{Printed}
 
--- the bytes of what a cite prints
-abbrev pub text_of : Bor Printed → List ℕ
-text_of s = string_bytes s.now.text
+-- the cites that may still be given letters
+abbrev pub allowing : List (ℕ × Printed) → List (ℕ × Printed)
+allowing ps = filter (λ p. allows_suffix (state_by p.1.mark)) ps
 
--- the cites under a text
-abbrev pub under : {S : Type 0} → HashMap (Bor (List ℕ)) (Vec (Bor Printed) Global) S → List ℕ → List (Bor Printed)
-under m q = option_map_or (λ g. g.items) (get_by (λ k. bytes_eq q k.now) m) []
+-- whether two cites have one number
+abbrev pub is_alike : ℕ × Printed → ℕ × Printed → Bool
+is_alike p q = nat_eq p.0 q.0
 
--- a cite, where it prints that text
-abbrev pub printing_that : List ℕ → Bor Printed → List (Bor Printed)
-printing_that q s = if bytes_eq q (text_of s) then s ∷ [] else []
+-- the cites of a number
+abbrev pub of_number : ℕ → List (ℕ × Printed) → List Printed
+of_number n ps = map (λ p. p.1) (filter (λ p. nat_eq n p.0) ps)
 
--- whether two cites print one text
-abbrev pub is_alike : Bor Printed → Bor Printed → Bool
-is_alike s t = bytes_eq (text_of s) (text_of t)
+-- the number of a cite that comes after some others, where one of these has it
+abbrev pub number_if_second : List (ℕ × Printed) → ℕ × Printed → List ℕ
+number_if_second before p = if count_by (is_alike p) before == 1 then p.0 ∷ [] else []
 
--- a part that is of more than one entry
+-- the same of cites one after the other
+abbrev pub seconds_after : List (ℕ × Printed) → List (ℕ × Printed) → List ℕ
+seconds_after before [] = []
+seconds_after before (p ∷ ps) = number_if_second before p ++ seconds_after (before ++ p ∷ []) ps
+
+-- the numbers of two cites or more, in the order of their second ones
+abbrev pub seconds : List (ℕ × Printed) → List ℕ
+seconds ps = seconds_after [] ps
+
+-- the cites in a group, by its number
+abbrev pub under : List (Vec (Bor Printed) Global) → ℕ → List (Bor Printed)
+under groups n = get_or (map (λ g. g.items) groups) n []
+
+-- a cite, where it is wanted in the group of a number
+abbrev pub put_where : Bool → ℕ → Bor Printed → ℕ → List (Bor Printed)
+put_where is_wanted number s n = if is_wanted then (if nat_eq n number then s ∷ [] else []) else []
+
+-- a number, where its group has one cite and another one is wanted
+abbrev pub second_where : Bool → ℕ → List (Bor Printed) → List ℕ
+second_where is_wanted number group = if is_wanted then (if length group == 1 then number ∷ [] else []) else []
+
+-- a group that is of more than one entry
 abbrev pub if_mixed : List (Bor Printed) → List (List (Bor Printed))
 if_mixed ss = if is_mixed (class_by ss) then ss ∷ [] else []
-
--- such a part, after one cite of it
-abbrev pub mixed_after_one : ℕ → List (Bor Printed) → List (List (Bor Printed))
-mixed_after_one earlier ss = if earlier == 1 then if_mixed ss else []

@@ -4,6 +4,8 @@ pub mod Names
 pub mod NamesViews
 pub mod Rounds
 pub mod Views
+pub mod Numbered
+pub mod CitesViews
 pub mod Grouping
 pub mod Gathered
 pub mod Joining

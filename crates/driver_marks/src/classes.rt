@@ -1,124 +1,137 @@
 //! Classes of cites that print alike.
 
-ghost use Rattle.std.specs.Prelude.{◌≡◌, ◌==◌, not, ℕ, List, [], ◌++◌, bytes_eq, filter, length, map, IfOk, OnOk};
-ghost use Rattle.std.specs.List.{flat_map, list_any};
-ghost use Rattle.rendering_context.specs.Cites.{allows_suffix};
+ghost use Rattle.std.specs.Prelude.{◌≡◌, ◌<◌, ◌==◌, nat_eq, not, if◌then◌else◌, ℕ, All, [], ◌∷◌, ◌++◌, length, map, replicate, IfOk, OnOk};
+ghost use Rattle.std.specs.List.{flat_map, list_any, zip};
 ghost use Rattle.driver_marks.specs.Classes as classes;
-ghost use Rattle.driver_marks.specs.Classes.{is_mixed, parts};
-ghost use Rattle.driver_marks.specs.Grouping.{text_of, under, printing_that, is_alike, mixed_after_one, if_mixed};
+ghost use Rattle.driver_marks.specs.Classes.{is_mixed};
+ghost use Rattle.driver_marks.specs.Grouping.{allowing, if_mixed, of_number, put_where, second_where, seconds, under};
+ghost use Rattle.driver_marks.specs.Numbered.{AreNumbered};
 ghost use Rattle.driver_marks.specs.Views.{printed_seen, class_by};
 
-use crate::printed::{Printed, push_where};
+use crate::printed::Printed;
 use std::alloc::{AllocError, Global};
 use std::collections::HashMap;
+
+/// Cites that may still be given letters, in groups of those that print one text.
+#[derive(Drop)]
+struct Groups<'a> {
+    /// The cites of each group, by its number.
+    members: Vec<Vec<&'a Printed>>,
+    /// The numbers of the groups of two cites or more, in the order of their second ones.
+    shared: Vec<usize>,
+}
 
 /// The classes: cites that may still be given letters, in parts of those that print alike, in the order of their second members. Cites
 /// of one entry alone are no class.
 pub(crate) fn classes<'a>(
     alloc: Global,
+    texts: &HashMap<String, usize>,
+    numbers: &[usize],
     cites: &'a [Printed],
 ) -> Result<Vec<Vec<&'a Printed>>, AllocError>
+    requires { AreNumbered texts.now numbers.now cites.now }
     ensures { IfOk result (λ cs. map (λ c. class_by c.items) cs.items ≡ classes.classes (map printed_seen cites.now)) }
 {
-    let allowing = allowing_suffix(alloc, cites)?;
-    mixed_parts(alloc, allowing.as_slice())
+    let groups = grouped(alloc, texts.len(), numbers, cites)?;
+    mixed_parts(alloc, groups.members.as_slice(), groups.shared.as_slice())
 }
 
-/// The cites that may still be given letters.
-fn allowing_suffix<'a>(alloc: Global, cites: &'a [Printed]) -> Result<Vec<&'a Printed>, AllocError>
-    ensures { IfOk result (λ v. class_by v.items ≡ filter (λ s. allows_suffix s.mark) (map printed_seen cites.now)) }
+/// The cites that may still be given letters, in so many groups by their numbers.
+fn grouped<'a>(
+    alloc: Global,
+    count: usize,
+    numbers: &[usize],
+    cites: &'a [Printed],
+) -> Result<Groups<'a>, AllocError>
+    requires len { length numbers.now ≡ length cites.now }
+    requires below { All (λ n. n < count) numbers.now }
+    ensures members { IfOk result (λ g. (n : ℕ) → map (λ s. s.now) (under g.members.items n) ≡ of_number n (allowing (zip numbers.now cites.now))) }
+    ensures shared { IfOk result (λ g. g.shared.items ≡ seconds (allowing (zip numbers.now cites.now))) }
+    ensures len { IfOk result (λ g. length g.members.items ≡ count) }
 {
-    let mut allowing = Vec::new(alloc);
-    for cite in cites {
-        push_where(&mut allowing, cite, cite.allows_suffix())?;
+    let mut members = no_groups(alloc, count)?;
+    let mut shared = Vec::new(alloc);
+    for (place, cite) in cites.iter().enumerate() {
+        let is_wanted = cite.allows_suffix();
+        add_where(&mut members, &mut shared, numbers[place], cite, is_wanted)?;
     }
-    Ok(allowing)
+    Ok(Groups { members, shared })
 }
 
-/// Cites in parts of those that print alike, in the order of their second members, but for parts of one entry alone.
+/// So many groups without cites.
+fn no_groups<'a>(alloc: Global, count: usize) -> Result<Vec<Vec<&'a Printed>>, AllocError>
+    ensures { IfOk result (λ gs. map (λ g. g.items) gs.items ≡ replicate count []) }
+{
+    let mut groups = Vec::with_capacity(alloc, count)?;
+    for _group in 0..count {
+        groups.push(Vec::new(alloc))?;
+    }
+    Ok(groups)
+}
+
+/// Adds a cite to the group of its number, where it is wanted. Where it is the second one there, the number is put last.
+fn add_where<'a>(
+    members: &mut Vec<Vec<&'a Printed>>,
+    shared: &mut Vec<usize>,
+    number: usize,
+    cite: &'a Printed,
+    is_wanted: bool,
+) -> Result<(), AllocError>
+    requires { number < length members.old.items }
+    ensures members { OnOk result ((n : ℕ) → under members.new.items n ≡ under members.old.items n ++ put_where is_wanted number cite.entry n) }
+    ensures shared { OnOk result (shared.new.items ≡ shared.old.items ++ second_where is_wanted number (under members.old.items number)) }
+    ensures len { length members.new.items ≡ length members.old.items }
+{
+    if is_wanted {
+        add(members, shared, number, cite)?;
+    }
+    Ok(())
+}
+
+/// Adds a cite to the group of its number. Where it is the second one there, the number is put last.
+fn add<'a>(
+    members: &mut Vec<Vec<&'a Printed>>,
+    shared: &mut Vec<usize>,
+    number: usize,
+    cite: &'a Printed,
+) -> Result<(), AllocError>
+    requires { number < length members.old.items }
+    ensures members { OnOk result ((n : ℕ) → under members.new.items n ≡ under members.old.items n ++ (if nat_eq n number then cite.entry ∷ [] else [])) }
+    ensures shared { OnOk result (shared.new.items ≡ shared.old.items ++ (if length (under members.old.items number) == 1 then number ∷ [] else [])) }
+    ensures len { length members.new.items ≡ length members.old.items }
+{
+    if members[number].len() == 1 {
+        shared.push(number)?;
+    }
+    members[number].push(cite)?;
+    Ok(())
+}
+
+/// Groups by their numbers, but for those of one entry alone.
 fn mixed_parts<'a>(
     alloc: Global,
-    cites: &[&'a Printed],
+    groups: &[Vec<&'a Printed>],
+    numbers: &[usize],
 ) -> Result<Vec<Vec<&'a Printed>>, AllocError>
-    ensures { IfOk result (λ ps. map (λ p. p.items) ps.items ≡ flat_map if_mixed (parts is_alike cites.now)) }
+    requires { All (λ n. n < length groups.now) numbers.now }
+    ensures { IfOk result (λ ps. map (λ p. p.items) ps.items ≡ flat_map if_mixed (map (under groups.now) numbers.now)) }
 {
-    let groups = grouped(alloc, cites)?;
-    let mut found = HashMap::new(alloc);
     let mut parts = Vec::new(alloc);
-    for cite in cites {
-        let earlier = add(&mut found, *cite)?;
-        push_second(alloc, &mut parts, &groups, earlier, *cite)?;
+    for number in numbers {
+        push_mixed(&mut parts, &groups[*number])?;
     }
     Ok(parts)
 }
 
-/// Appends the cites that print like one, where one of them came before it and they are of more than one entry.
-fn push_second<'a>(
-    alloc: Global,
-    parts: &mut Vec<Vec<&'a Printed>>,
-    groups: &HashMap<&'a str, Vec<&'a Printed>>,
-    earlier: usize,
-    cite: &'a Printed,
-) -> Result<(), AllocError>
-    ensures { OnOk result (map (λ p. p.items) parts.new.items ≡ map (λ p. p.items) parts.old.items ++ mixed_after_one earlier (under groups.now (text_of cite.entry))) }
-{
-    if earlier != 1 {
-        return Ok(());
-    }
-    push_mixed(parts, group_of(alloc, groups, cite.text.as_str())?)
-}
-
-/// Cites under the texts that they print.
-fn grouped<'a>(
-    alloc: Global,
-    cites: &[&'a Printed],
-) -> Result<HashMap<&'a str, Vec<&'a Printed>>, AllocError>
-    ensures { IfOk result (λ m. (q : List ℕ) → under m q ≡ filter (λ s. bytes_eq q (text_of s)) cites.now) }
-{
-    let mut found = HashMap::new(alloc);
-    for cite in cites {
-        add(&mut found, *cite)?;
-    }
-    Ok(found)
-}
-
-/// Adds a cite to those that print alike. Returns how many these were.
-fn add<'a>(
-    found: &mut HashMap<&'a str, Vec<&'a Printed>>,
-    cite: &'a Printed,
-) -> Result<usize, AllocError>
-    ensures count { IfOk result (λ n. n ≡ length (under found.old (text_of cite.entry))) }
-    ensures added { OnOk result ((q : List ℕ) → under found.new q ≡ under found.old q ++ printing_that q cite.entry) }
-{
-    let group = found.entry(cite.text.as_str())?.or_default();
-    let earlier = group.len();
-    group.push(cite)?;
-    Ok(earlier)
-}
-
-/// The cites that print a text.
-fn group_of<'a>(
-    alloc: Global,
-    groups: &HashMap<&'a str, Vec<&'a Printed>>,
-    text: &str,
-) -> Result<Vec<&'a Printed>, AllocError>
-    ensures { IfOk result (λ g. g.items ≡ under groups.now text.now) }
-{
-    match groups.get(text) {
-        Some(group) => group.clone(),
-        None => Ok(Vec::new(alloc)),
-    }
-}
-
-/// Appends a part, where its cites are of more than one entry.
+/// Appends a group, where its cites are of more than one entry.
 fn push_mixed<'a>(
-    classes: &mut Vec<Vec<&'a Printed>>,
-    part: Vec<&'a Printed>,
+    parts: &mut Vec<Vec<&'a Printed>>,
+    group: &Vec<&'a Printed>,
 ) -> Result<(), AllocError>
-    ensures { OnOk result (map (λ c. c.items) classes.new.items ≡ map (λ c. c.items) classes.old.items ++ if_mixed part.entry.items) }
+    ensures { OnOk result (map (λ p. p.items) parts.new.items ≡ map (λ p. p.items) parts.old.items ++ if_mixed group.now.items) }
 {
-    if is_mixed(part.as_slice()) {
-        classes.push(part)?;
+    if is_mixed(group.as_slice()) {
+        parts.push(group.clone()?)?;
     }
     Ok(())
 }

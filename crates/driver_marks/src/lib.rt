@@ -13,11 +13,13 @@ mod names_compared;
 mod names_members;
 mod names_people;
 mod names_raised;
+mod numbers;
 mod printed;
+mod printed_cites;
 mod round;
 
 pub use given::Given;
 pub use given_suffixes::suffixes;
 pub use marks::mark;
 pub use printed::{Candidate, Printed};
-pub use round::round_given;
+pub use printed_cites::PrintedCites;

@@ -99,22 +99,14 @@ impl Printed {
     }
 
     /// Makes it the cite that prints a tree by another mark.
-    ///
-    /// # Errors
-    /// Out of memory.
-    pub fn print_by(
-        &mut self,
-        alloc: Global,
-        mark: DisambiguateState,
-        printed: ElemChildren,
-    ) -> Result<(), AllocError>
-        ensures { OnOk result (printed_seen self.new ≡ printed_again (printed_seen self.old) (state_by mark) (tree printed)) }
+    pub(crate) fn set_print(&mut self, mark: DisambiguateState, printed: ElemChildren, text: String)
+        requires { characters text ≡ plain_text (tree printed) }
+        ensures print { printed_seen self.new ≡ printed_again (printed_seen self.old) (state_by mark) (tree printed) }
+        ensures text { self.new.text ≡ text }
     {
-        let text = plain_text(alloc, &printed)?;
         self.mark = mark;
         self.tree = printed;
         self.text = text;
-        Ok(())
     }
 
     /// The place of its entry among all that are cited, from zero.
@@ -155,7 +147,7 @@ impl Printed {
 }
 
 /// A tree in plain text.
-fn plain_text(alloc: Global, tree: &ElemChildren) -> Result<String, AllocError>
+pub(crate) fn plain_text(alloc: Global, tree: &ElemChildren) -> Result<String, AllocError>
     ensures { IfOk result (λ s. characters s ≡ plain_text (trees.tree tree.now)) }
 {
     tree.to_string(alloc)

@@ -13,7 +13,6 @@ ghost use Rattle.driver_requests.specs.SuffixViews.{origin_by};
 ghost use Rattle.driver_marks.specs.Views.{class_by, givens_by, printed_seen, unless_beyond};
 
 use crate::branches::marks_by_branches;
-use crate::classes::classes;
 use crate::given::Given;
 use crate::letters::marks_by_letters;
 use crate::names::marks_by_names;
@@ -22,37 +21,15 @@ use driver_requests::{DriverError, Origin};
 use std::alloc::{AllocError, Global};
 use std::collections::HashSet;
 
-/// What a round gives to the entries of cites, class by class.
-///
-/// # Errors
-/// Out of memory, or letters that have no place.
-pub fn round_given(
-    alloc: Global,
-    adds_names: bool,
-    round: u8,
-    cites: &[Printed],
-) -> Result<Vec<Given>, DriverError>
-    ensures { Gives overflow_of (λ g. givens_by g.items) result (unless_beyond (rounds.round_given adds_names round (map printed_seen cites.now))) }
-{
-    let classes = classes(alloc, cites)?;
-    given_to_classes(
-        alloc,
-        adds_names,
-        some_prints_date(cites),
-        round,
-        classes.as_slice(),
-    )
-}
-
 /// Whether some cite prints a date, or a label that has one.
-fn some_prints_date(cites: &[Printed]) -> bool
+pub(crate) fn some_prints_date(cites: &[Printed]) -> bool
     ensures { result ≡ list_any prints_date (map printed_seen cites.now) }
 {
     cites.iter().any(|cite| cite.prints_date())
 }
 
 /// What is given to classes, one after the other.
-fn given_to_classes(
+pub(crate) fn given_to_classes(
     alloc: Global,
     adds_names: bool,
     has_dates: bool,

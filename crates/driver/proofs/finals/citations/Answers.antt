@@ -13,8 +13,12 @@ use Rattle.driver.proofs.CitationsLoop.{enough_plain, enough_seen, in_rows, left
 use Rattle.driver.proofs.FinalsListed.{listed_all, none_seen}
 use Rattle.driver.proofs.FinalsRows.{citations_are, listed_are}
 use Rattle.driver.proofs.FinalsSteps.{cited_one, element_at, element_seen, fold_ends, fold_more, prints_end, prints_step, with_prints}
+use Rattle.driver.proofs.RowsSteps.{rows_match}
 use Rattle.driver.proofs.finals.citations.Goals as goal
 use Rattle.driver.proofs.finals.citations.Given.{Over}
+
+pub bounds-rows-index : goal.bounds-rows-index
+bounds-rows-index g c = omega (arith, c.loop-index-test.true, rows_match c.args.rows.now c.args.requests.now c.requires.rows)
 
 pub split_at-requires : goal.split_at-requires
 split_at-requires g c =
@@ -66,36 +70,28 @@ request_citation-requires-clause-printed g c =
 pub loop-index-preserved : goal.loop-index-preserved
 loop-index-preserved g c =
     let answers = g.T.EntryLike.answers in
-    let requests = c.args.requests.now in
-    let rows = c.args.rows.now in
-    let n = c.loop-index.index in
+    let sizes = c.requires.rows in
     let r = c.index-requests-index.result in
-    let v = c.index-rows-index.result in
     let ks = c.as_slice-row.result.now in
     let marks = map state_by c.args.marked.now.marks.items in
     let t = (marked_seen c.args.marked.now).0 in
     let seen = map (option_map (listed_by answers marks)) in
-    let seen_request = request_by (λ e. 0) answers r in
     let prints = map first_print (row_seen answers (context_of r) r.items.items ks) in
-    let less = in_rows g.T.EntryLike.answers c.args.requests.now c.args.rows.now c.loop-index.index c.index-requests-index.result c.index-rows-index.result c.as_slice-row.result.now c.requires.rows c.loop-index-test.true c.index-requests-index.is
-    c.index-rows-index.is c.as_slice-row.ensures.value in
-    let size = left_size g.T.EntryLike.answers c.args.requests.now c.args.rows.now c.loop-index.index c.index-requests-index.result c.index-rows-index.result c.as_slice-row.result.now c.requires.rows c.loop-index-test.true c.index-requests-index.is
-    c.index-rows-index.is c.as_slice-row.ensures.value in
-    let whole = fold (cited_with g.P.PartialEq.eq t) (cited_seen answers marks [] c.args.listed.now None) (with_prints answers requests rows) in
+    let less = in_rows answers c.args.requests.now c.args.rows.now c.loop-index.index r c.index-rows-index.result ks sizes c.loop-index-test.true c.index-requests-index.is c.index-rows-index.is c.as_slice-row.ensures.value in
+    let size = left_size answers c.args.requests.now c.args.rows.now c.loop-index.index r c.index-rows-index.result ks sizes c.loop-index-test.true c.index-requests-index.is c.index-rows-index.is c.as_slice-row.ensures.value in
+    let whole = fold (cited_with g.P.PartialEq.eq t) (cited_seen answers marks [] c.args.listed.now None) (with_prints answers c.args.requests.now c.args.rows.now) in
     record {
-      same = fold_more (cited_with g.P.PartialEq.eq t) (cited_seen answers marks c.loop-index.citations.items c.loop-index.listed c.loop-index.last) (cited_seen answers marks c.push.new.self.items c.request_citation.new.listed c.request_citation.new.last) whole (seen_request, prints)
-          (with_prints answers (drop n requests) (drop n rows)) (with_prints answers (drop (n + 1) requests) (drop (n + 1) rows))
-          (prints_step answers requests rows n r v ks c.loop-index-test.true less c.index-requests-index.is c.index-rows-index.is c.as_slice-row.ensures.value) c.loop-index.invariant.same
-          (cited_one g.P.PartialEq.eq t seen_request prints (map citation_by c.loop-index.citations.items) (map citation_by c.push.new.self.items) (citation_by c.in_ok-citation.citation) (seen c.loop-index.listed) (seen c.request_citation.new.listed) (last_seen answers c.loop-index.last)
-          (last_seen answers c.request_citation.new.last) (ap (map citation_by) c.in_ok-push.ensures.items ∙ map-append citation_by c.loop-index.citations.items (c.in_ok-citation.citation ∷ [])) c.in_ok-citation.ensures.citation c.in_ok-citation.ensures.listed
-          c.in_ok-citation.ensures.last);
+      same = fold_more (cited_with g.P.PartialEq.eq t) (cited_seen answers marks c.loop-index.citations.items c.loop-index.listed c.loop-index.last) (cited_seen answers marks c.push.new.self.items c.request_citation.new.listed c.request_citation.new.last) whole
+          (request_by (λ e. 0) answers r, prints) (with_prints answers (drop c.loop-index.index c.args.requests.now) (drop c.loop-index.index c.args.rows.now)) (with_prints answers (drop (c.loop-index.index + 1) c.args.requests.now) (drop (c.loop-index.index + 1) c.args.rows.now))
+          (prints_step answers c.args.requests.now c.args.rows.now c.loop-index.index r c.index-rows-index.result ks c.loop-index-test.true less c.index-requests-index.is c.index-rows-index.is c.as_slice-row.ensures.value) c.loop-index.invariant.same
+          (cited_one g.P.PartialEq.eq t (request_by (λ e. 0) answers r) prints (map citation_by c.loop-index.citations.items) (map citation_by c.push.new.self.items) (citation_by c.in_ok-citation.citation) (seen c.loop-index.listed) (seen c.request_citation.new.listed)
+          (last_seen answers c.loop-index.last) (last_seen answers c.request_citation.new.last) (ap (map citation_by) c.in_ok-push.ensures.items ∙ map-append citation_by c.loop-index.citations.items (c.in_ok-citation.citation ∷ [])) c.in_ok-citation.ensures.citation
+          c.in_ok-citation.ensures.listed c.in_ok-citation.ensures.last);
       printed = ap (map printed_seen) c.split_at.ensures.back
-          ∙ (seen_parts g.T.EntryLike.answers c.args.requests.now c.args.rows.now c.loop-index.index c.index-requests-index.result c.index-rows-index.result c.as_slice-row.result.now c.requires.rows c.loop-index-test.true c.index-requests-index.is
-          c.index-rows-index.is c.as_slice-row.ensures.value
+          ∙ (seen_parts answers c.args.requests.now c.args.rows.now c.loop-index.index r c.index-rows-index.result ks sizes c.loop-index-test.true c.index-requests-index.is c.index-rows-index.is c.as_slice-row.ensures.value
           printed_seen (marked_by marks) c.loop-index.printed.now c.loop-index.invariant.printed).1;
       usages = c.split_at-in-loop-index.ensures.back
-          ∙ (plain_parts g.T.EntryLike.answers c.args.requests.now c.args.rows.now c.loop-index.index c.index-requests-index.result c.index-rows-index.result c.as_slice-row.result.now c.requires.rows c.loop-index-test.true c.index-requests-index.is
-          c.index-rows-index.is c.as_slice-row.ensures.value
+          ∙ (plain_parts answers c.args.requests.now c.args.rows.now c.loop-index.index r c.index-rows-index.result ks sizes c.loop-index-test.true c.index-requests-index.is c.index-rows-index.is c.as_slice-row.ensures.value
           usage_of c.loop-index.usages.now c.loop-index.invariant.usages).1;
       long = c.request_citation.auto.listed ∙ c.loop-index.invariant.long;
       effort = omega (arith, c.in_ok-citation.ensures.effort, c.loop-index.invariant.effort, size);

@@ -1,4 +1,4 @@
-use Rattle.std.proofs.Common.{◌≡◌, [], All, length, map, option_map, refl, sym, ap, ◌∙◌, arith}
+use Rattle.std.proofs.Common.{◌≡◌, [], length, map, option_map, refl, sym, ap, ◌∙◌, arith}
 use Rattle.std.proofs.lemmas.List.{length-map}
 use Rattle.rendering.specs.Views.{context_seen}
 use Rattle.rendering_context.specs.Views.{state_by}
@@ -14,8 +14,7 @@ use Rattle.driver.specs.Rounding.{marked_seen}
 use Rattle.driver.specs.Stages.{arranged_for, first_print}
 use Rattle.driver.specs.Views.{marked_by, row_seen}
 use Rattle.driver.proofs.FinalsSteps.{arranged_low, row_long}
-use Rattle.driver.proofs.GatheredFinals.{IsLow}
-use Rattle.driver.proofs.RequestFinals.{placed_in, request_count, request_placed, request_within, suffixes_long}
+use Rattle.driver.proofs.RequestFinals.{low_marks, placed_in, request_count, request_placed, request_within, suffixes_long}
 use Rattle.driver.proofs.finals.request_citation.Given.{Over}
 use Rattle.driver.proofs.finals.request_citation.Goals as goal
 
@@ -39,23 +38,15 @@ gathered_cites-requires-clause-within g c =
 
 pub print_arranged-requires-clause-places : goal.print_arranged-requires-clause-places
 print_arranged-requires-clause-places g c =
-    let answers = g.T.EntryLike.answers in
     let r = c.args.request.now in
-    let items = r.items.items in
     let row = c.args.cites.row.now in
-    let marks = map state_by c.args.marked.now.marks.items in
-    let ns = row_seen answers (context_of r) items row in
+    let ns = row_seen g.T.EntryLike.answers (context_of r) r.items.items row in
     let style = citation_seen c.parts.result.now.citation in
-    let letters = map (option_map suffix_by) c.args.letters.now in
-    let printed = map printed_seen c.args.cites.printed.now in
-    let gathered = map gathered_seen c.deref.result.now in
-    let seen = map (arranged_seen style) c.deref-3.result.now in
-    let low : All (IsLow (length marks)) row = (λ k d less. omega (arith, c.requires.within k d less, length-map c.args.marked.now.marks.items state_by)) in
-    let is_gathered : gathered ≡ all_gathered letters 0 items row printed = ap (map gathered_seen) c.deref.ensures.value ∙ c.in_ok-gathered.ensures in
-    let is_seen : seen ≡ arranged style c.has_purpose-some_purpose.result gathered = ap (map (arranged_seen style)) c.deref-3.ensures.value ∙ c.in_ok-arranged.ensures in
-    arranged_low style c.deref-3.result.now seen (length (map first_print ns)) (length items) refl
-    (request_within answers (marked_seen c.args.marked.now).0 r style c.has_purpose-some_purpose.result row letters printed gathered seen low c.requires.letters c.requires.printed is_gathered is_seen)
-    (length-map ns first_print ∙ row_long answers (context_of r) items row c.requires.row)
+    arranged_low style c.deref-3.result.now (map (arranged_seen style) c.deref-3.result.now) (length (map first_print ns)) (length r.items.items) refl
+    (request_within g.T.EntryLike.answers (marked_seen c.args.marked.now).0 r style c.has_purpose-some_purpose.result row (map (option_map suffix_by) c.args.letters.now) (map printed_seen c.args.cites.printed.now) (map gathered_seen c.deref.result.now)
+    (map (arranged_seen style) c.deref-3.result.now) (low_marks c.args.marked.now.marks.items row c.requires.within) c.requires.letters c.requires.printed (ap (map gathered_seen) c.deref.ensures.value ∙ c.in_ok-gathered.ensures)
+    (ap (map (arranged_seen style)) c.deref-3.ensures.value ∙ c.in_ok-arranged.ensures))
+    (length-map ns first_print ∙ row_long g.T.EntryLike.answers (context_of r) r.items.items row c.requires.row)
 
 -- the cites of the request, gathered, arranged and put down
 request_done : (g : Over) (c : goal.After-drop-gathered-2 g)
@@ -75,7 +66,7 @@ request_done g c =
     let printed = map printed_seen c.args.cites.printed.now in
     let gathered = map gathered_seen c.deref.result.now in
     let seen = map (arranged_seen style) c.deref-3.result.now in
-    let low : All (IsLow (length marks)) row = (λ k d less. omega (arith, c.requires.within k d less, length-map c.args.marked.now.marks.items state_by)) in
+    let low = low_marks c.args.marked.now.marks.items row c.requires.within in
     let is_gathered : gathered ≡ all_gathered letters 0 items row printed = ap (map gathered_seen) c.deref.ensures.value ∙ c.in_ok-gathered.ensures in
     let is_seen : seen ≡ arranged style c.has_purpose-some_purpose.result gathered = ap (map (arranged_seen style)) c.deref-3.ensures.value ∙ c.in_ok-arranged.ensures in
     let t = (marked_seen c.args.marked.now).0 in

@@ -1,4 +1,4 @@
-use Rattle.std.proofs.Common.{ap, ◌∙◌, ◌++◌, length, map, arith}
+use Rattle.std.proofs.Common.{◌<◌, ap, ◌∙◌, ◌++◌, length, map, arith}
 use Rattle.rendering.specs.Views.{context_seen}
 use Rattle.driver_marks.specs.Views.{printed_seen}
 use Rattle.driver_requests.specs.Views.{context_of}
@@ -35,24 +35,17 @@ loop-index-init g c =
 
 pub loop-index-preserved : goal.loop-index-preserved
 loop-index-preserved g c =
-    let answers = g.T.EntryLike.answers in
     let requests = c.args.requests.now in
     let rows = c.args.rows.now in
     let n = c.loop-index.index in
-    let r = c.index-requests-index.result in
-    let v = c.index-rows-index.result in
-    let row = c.as_slice-row.result.now in
-    let less = c.loop-index-test.true in
-    let is = c.index-requests-index.is in
-    let also = c.index-rows-index.is in
-    let list = c.as_slice-row.ensures.value in
+    let below : n < length rows = omega (arith, c.loop-index-test.true, rows_match rows requests c.requires.rows) in
     record {
-      printed = rows_go_on answers requests rows unmarked n r v row (map printed_seen c.loop-index.prints.printed.items) (map printed_seen c.print_row.new.prints.printed.items) _ less (omega (arith, c.loop-index-test.true, rows_match rows requests c.requires.rows)) is also list
-          c.loop-index.invariant.printed c.in_ok-print_row.ensures.printed;
-      usages = rows_go_on answers requests rows usage_of n r v row c.loop-index.prints.usages.items c.print_row.new.prints.usages.items _ less (omega (arith, c.loop-index-test.true, rows_match rows requests c.requires.rows)) is also list
-          c.loop-index.invariant.usages c.in_ok-print_row.ensures.usages;
-      effort = rows_count_on answers requests rows n r v row c.loop-index.effort c.print_row.new.effort _ less (omega (arith, c.loop-index-test.true, rows_match rows requests c.requires.rows)) is also list
-          c.loop-index.invariant.effort c.in_ok-print_row.ensures.effort;
+      printed = rows_go_on g.T.EntryLike.answers requests rows unmarked n c.index-requests-index.result c.index-rows-index.result c.as_slice-row.result.now (map printed_seen c.loop-index.prints.printed.items) (map printed_seen c.print_row.new.prints.printed.items) _
+          c.loop-index-test.true below c.index-requests-index.is c.index-rows-index.is c.as_slice-row.ensures.value c.loop-index.invariant.printed c.in_ok-print_row.ensures.printed;
+      usages = rows_go_on g.T.EntryLike.answers requests rows usage_of n c.index-requests-index.result c.index-rows-index.result c.as_slice-row.result.now c.loop-index.prints.usages.items c.print_row.new.prints.usages.items _
+          c.loop-index-test.true below c.index-requests-index.is c.index-rows-index.is c.as_slice-row.ensures.value c.loop-index.invariant.usages c.in_ok-print_row.ensures.usages;
+      effort = rows_count_on g.T.EntryLike.answers requests rows n c.index-requests-index.result c.index-rows-index.result c.as_slice-row.result.now c.loop-index.effort c.print_row.new.effort _
+          c.loop-index-test.true below c.index-requests-index.is c.index-rows-index.is c.as_slice-row.ensures.value c.loop-index.invariant.effort c.in_ok-print_row.ensures.effort;
     }
 
 pub returns-clause-printed : goal.returns-clause-printed

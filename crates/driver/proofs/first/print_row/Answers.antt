@@ -14,23 +14,15 @@ print_cite-requires g c = ap (λ s. s.citation) (c.parts.ensures.style ∙ c.sty
 
 pub loop-index-preserved : goal.loop-index-preserved
 loop-index-preserved g c =
-    let answers = g.T.EntryLike.answers in
-    let x = context_of c.args.request.now in
-    let y = context_seen c.args.context.now in
-    let items = c.args.request.now.items.items in
-    let given = c.deref-item-items.result.now in
-    let row = c.args.row.now in
-    let n = c.loop-index.index in
-    let i = c.item-item.result in
-    let same = c.requires.context in
-    let list = c.deref-item-items.ensures.value in
-    let less = c.loop-index-test.true in
-    let many = c.requires.row in
-    let is = c.item-item.is in
+    let r = c.args.request.now in
+    let given = c.deref-item-items in
     record {
-      printed = row_goes_on answers x items row unmarked y given n i (map printed_seen c.loop-index.prints.printed.items) (map printed_seen c.print_cite.new.prints.printed.items) _ same list less many is c.loop-index.invariant.printed c.in_ok-print_cite.ensures.printed;
-      usages = row_goes_on answers x items row usage_of y given n i c.loop-index.prints.usages.items c.print_cite.new.prints.usages.items _ same list less many is c.loop-index.invariant.usages c.in_ok-print_cite.ensures.usages;
-      effort = row_counts_on answers x items row y given n i c.loop-index.effort c.print_cite.new.effort _ same list less many is c.loop-index.invariant.effort (one_counted c.loop-index.effort c.print_cite.new.effort c.in_ok-print_cite.ensures.effort);
+      printed = row_goes_on g.T.EntryLike.answers (context_of r) r.items.items c.args.row.now unmarked (context_seen c.args.context.now) given.result.now c.loop-index.index c.item-item.result (map printed_seen c.loop-index.prints.printed.items)
+          (map printed_seen c.print_cite.new.prints.printed.items) _ c.requires.context given.ensures.value c.loop-index-test.true c.requires.row c.item-item.is c.loop-index.invariant.printed c.in_ok-print_cite.ensures.printed;
+      usages = row_goes_on g.T.EntryLike.answers (context_of r) r.items.items c.args.row.now usage_of (context_seen c.args.context.now) given.result.now c.loop-index.index c.item-item.result c.loop-index.prints.usages.items
+          c.print_cite.new.prints.usages.items _ c.requires.context given.ensures.value c.loop-index-test.true c.requires.row c.item-item.is c.loop-index.invariant.usages c.in_ok-print_cite.ensures.usages;
+      effort = row_counts_on g.T.EntryLike.answers (context_of r) r.items.items c.args.row.now (context_seen c.args.context.now) given.result.now c.loop-index.index c.item-item.result c.loop-index.effort c.print_cite.new.effort _ c.requires.context
+          given.ensures.value c.loop-index-test.true c.requires.row c.item-item.is c.loop-index.invariant.effort (one_counted c.loop-index.effort c.print_cite.new.effort c.in_ok-print_cite.ensures.effort);
     }
 
 pub returns-clause-printed : goal.returns-clause-printed

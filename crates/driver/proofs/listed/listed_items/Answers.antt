@@ -6,8 +6,8 @@ use Rattle.rendering.specs.Views.{context_seen}
 use Rattle.rendering_context.specs.Views.{state_by}
 use Rattle.rendering_tree.specs.Views.{tree}
 use Rattle.driver.specs.Finals.{listed_by}
-use Rattle.driver.specs.Listing.{item_at, item_listed, listed_marked}
-use Rattle.driver.proofs.ListedSteps.{item_by_mark, tried_goes_on, tried_ends}
+use Rattle.driver.specs.Listing.{item_at, item_listed, key_listed_at, key_printed, keys_of, listed_marked}
+use Rattle.driver.proofs.ListedSteps.{made_by_mark, tried_goes_on, tried_ends}
 use Rattle.driver.proofs.listed.listed_items.Goals as goal
 
 pub loop-place-preserved : goal.loop-place-preserved
@@ -26,7 +26,9 @@ loop-place-preserved g c =
     let below : place < length marks = All-get_or (λ p. p < length marks) order n 0 here c.requires.order in
     record {
       same = tried_goes_on (item_at x ls) order (map tree c.loop-place.trees.items) (map tree c.push_item.new.trees.items) n place (option_and_then (item_listed x) (option_map (listed_marked answers (state_by mark)) own)) _ here
-          (get_or_default order n 0 place here) (item_by_mark x answers marks listed place mark own below c.requires.listed c.index-marks-place.is c.index-listed-place.is c.requires.own) c.loop-place.invariant.same c.in_ok-push_item.ensures.trees;
+          (get_or_default order n 0 place here) (made_by_mark (item_listed x) answers marks listed place mark own below c.requires.listed c.index-marks-place.is c.index-listed-place.is c.requires.own) c.loop-place.invariant.same c.in_ok-push_item.ensures.trees;
+      keys = tried_goes_on (key_listed_at x ls) order (keys_of answers c.loop-place.entries.items) (keys_of answers c.push_item.new.entries.items) n place (option_and_then (key_printed x) (option_map (listed_marked answers (state_by mark)) own)) _ here
+          (get_or_default order n 0 place here) (made_by_mark (key_printed x) answers marks listed place mark own below c.requires.listed c.index-marks-place.is c.index-listed-place.is c.requires.own) c.loop-place.invariant.keys c.in_ok-push_item.ensures.keys;
       entries = c.in_ok-push_item.ensures.entries c.loop-place.invariant.entries;
       effort = omega (arith, c.push_item.ensures.effort, c.loop-place.invariant.effort);
     }
@@ -36,3 +38,9 @@ returns-clause-trees g c =
     let over : length c.args.order.now ≤ c.loop-place.place-index = omega (arith, c.loop-place-test.false) in
     tried_ends (item_at (context_seen c.args.context.now) (map (option_map (listed_by g.T.EntryLike.answers (map state_by c.args.marks.now))) c.args.listed.now)) c.args.order.now (map tree c.loop-place.trees.items) c.loop-place.place-index _ over
     c.loop-place.invariant.same
+
+pub returns-clause-keys : goal.returns-clause-keys
+returns-clause-keys g c =
+    let over : length c.args.order.now ≤ c.loop-place.place-index = omega (arith, c.loop-place-test.false) in
+    tried_ends (key_listed_at (context_seen c.args.context.now) (map (option_map (listed_by g.T.EntryLike.answers (map state_by c.args.marks.now))) c.args.listed.now)) c.args.order.now (keys_of g.T.EntryLike.answers c.loop-place.entries.items)
+    c.loop-place.place-index _ over c.loop-place.invariant.keys

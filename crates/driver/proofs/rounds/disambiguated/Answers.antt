@@ -10,7 +10,8 @@ use Rattle.driver_requests.specs.Views.{request_by}
 use Rattle.driver_marks.specs.Marks.{no_marks, suffixes_overflow}
 use Rattle.driver_marks.specs.Rounds.{Disambiguation}
 use Rattle.driver_marks.specs.Rounds as rounds
-use Rattle.driver_marks.specs.Views.{givens_by, printed_seen}
+use Rattle.driver_marks.specs.CitesViews.{cites_seen}
+use Rattle.driver_marks.specs.Views.{givens_by}
 use Rattle.driver.specs.Rounding.{AreWithin, marked_seen}
 use Rattle.driver.specs.Stages.{adds_names, candidate, first_print, flattened}
 use Rattle.driver.specs.Views.{marked_by, rows_seen}
@@ -24,10 +25,10 @@ loop-round-init g c =
     let names = adds_names (map (request_by (λ e. 0) g.T.EntryLike.answers) c.args.requests.now) in
     let cites = map (λ n. candidate (first_print n)) ns in
     record {
-      same = ap (λ ms. fold (rounds.after_round names cites) (record { marks = ms; given = givens_by c.new.result.items }) (range_with_len 0 3)) c.in_ok-no_marks.ensures
-          ∙ ap (λ gs. fold (rounds.after_round names cites) (record { marks = no_marks c.args.entries; given = givens_by gs }) (range_with_len 0 3)) c.new.ensures.items;
-      printed = c.requires.printed ∙ unmarked_all c.args.entries ns (rows_within g.T.EntryLike.answers c.args.entries c.args.requests.now c.args.rows.now c.requires.within) ∙ ap (λ ms. map (marked_by ms) ns) (sym c.in_ok-no_marks.ensures);
-      given = ap (λ gs. suffixes_overflow (givens_by gs)) c.new.ensures.items;
+      same = ap (λ ms. fold (rounds.after_round names cites) (record { marks = ms; given = givens_by c.new-2.result.items }) (range_with_len 0 3)) c.in_ok-no_marks.ensures
+          ∙ ap (λ gs. fold (rounds.after_round names cites) (record { marks = no_marks c.args.entries; given = givens_by gs }) (range_with_len 0 3)) c.new-2.ensures.items;
+      printed = c.in_ok-printed.ensures ∙ c.requires.printed ∙ unmarked_all c.args.entries ns (rows_within g.T.EntryLike.answers c.args.entries c.args.requests.now c.args.rows.now c.requires.within) ∙ ap (λ ms. map (marked_by ms) ns) (sym c.in_ok-no_marks.ensures);
+      given = ap (λ gs. suffixes_overflow (givens_by gs)) c.new-2.ensures.items;
       many = sym (length-map c.in_ok-no_marks.field-0.items state_by) ∙ ap length c.in_ok-no_marks.ensures ∙ length-replicate c.args.entries undisturbed;
       effort = omega arith;
     }
@@ -48,7 +49,7 @@ loop-round-preserved g c =
     let ns = flattened (rows_seen g.T.EntryLike.answers c.args.requests.now c.args.rows.now) in
     let names = adds_names (map (request_by (λ e. 0) g.T.EntryLike.answers) c.args.requests.now) in
     let on = rounds_go_on names ns c.adds_names-adds_names.result c.loop-round.round (marked_seen c.loop-round.marked).0 (marked_seen c.give_round.new.marked).0 (rounds.disambiguated names c.args.entries (map (λ n. candidate (first_print n)) ns))
-    (map printed_seen c.give_round.new.marked.printed.items) c.adds_names-adds_names.ensures c.loop-round-test.true c.loop-round.invariant.same c.in_ok-give_round.ensures.marked in
+    (cites_seen c.give_round.new.marked.printed) c.adds_names-adds_names.ensures c.loop-round-test.true c.loop-round.invariant.same c.in_ok-give_round.ensures.marked in
     record {
       same = on.0;
       printed = on.1;
@@ -69,7 +70,7 @@ pub returns-clause-marked : goal.returns-clause-marked
 returns-clause-marked g c =
     let ns = flattened (rows_seen g.T.EntryLike.answers c.args.requests.now c.args.rows.now) in
     let names = adds_names (map (request_by (λ e. 0) g.T.EntryLike.answers) c.args.requests.now) in
-    rounds_done names ns c.loop-round.round (marked_seen c.loop-round.marked).0 (rounds.disambiguated names c.args.entries (map (λ n. candidate (first_print n)) ns)) (map printed_seen c.loop-round.marked.printed.items) c.loop-round-test.false c.loop-round.invariant.same
+    rounds_done names ns c.loop-round.round (marked_seen c.loop-round.marked).0 (rounds.disambiguated names c.args.entries (map (λ n. candidate (first_print n)) ns)) (cites_seen c.loop-round.marked.printed) c.loop-round-test.false c.loop-round.invariant.same
     c.loop-round.invariant.printed c.loop-round.invariant.given
 
 pub returns-clause-effort : goal.returns-clause-effort

@@ -4,7 +4,8 @@ use Rattle.std.specs.List.{range_with_len}
 use Rattle.rendering_context.specs.Views.{state_by}
 use Rattle.driver_marks.specs.Marks.{suffixes_overflow}
 use Rattle.driver_marks.specs.Rounds as rounds
-use Rattle.driver_marks.specs.Views.{givens_by, printed_seen}
+use Rattle.driver_marks.specs.CitesViews.{cites_seen}
+use Rattle.driver_marks.specs.Views.{givens_by}
 use Rattle.driver_requests.specs.Views.{request_by}
 use Rattle.driver.specs.Rounding.{marked_seen}
 use Rattle.driver.specs.Stages.{adds_names, candidate, first_print, flattened}
@@ -15,7 +16,7 @@ abbrev pub invariant-loop-round : goal.invariant-loop-round
 invariant-loop-round g l = record {
   same : fold (rounds.after_round (adds_names (map (request_by (λ e. 0) g.T.EntryLike.answers) l.requests)) (map (λ n. candidate (first_print n)) (flattened (rows_seen g.T.EntryLike.answers l.requests l.rows)))) (marked_seen l.marked).0 (range_with_len l.round (3 - l.round))
       ≡ rounds.disambiguated (adds_names (map (request_by (λ e. 0) g.T.EntryLike.answers) l.requests)) l.entries (map (λ n. candidate (first_print n)) (flattened (rows_seen g.T.EntryLike.answers l.requests l.rows)));
-  printed : map printed_seen l.marked.printed.items ≡ map (marked_by (map state_by l.marked.marks.items)) (flattened (rows_seen g.T.EntryLike.answers l.requests l.rows));
+  printed : cites_seen l.marked.printed ≡ map (marked_by (map state_by l.marked.marks.items)) (flattened (rows_seen g.T.EntryLike.answers l.requests l.rows));
   given : suffixes_overflow (givens_by l.marked.given.items) ≡ false;
   many : length l.marked.marks.items ≡ l.entries;
   effort : l.effort + (3 - l.round) * length (flattened (rows_seen g.T.EntryLike.answers l.requests l.rows)) ≤ l.fn.effort + 3 * length (flattened (rows_seen g.T.EntryLike.answers l.requests l.rows));

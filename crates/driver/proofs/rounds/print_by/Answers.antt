@@ -1,7 +1,8 @@
+use Rattle.std.proofs.Common.{set, get_or, ap, refl, ◌∙◌}
 use Rattle.rendering_context.specs.Views.{state_by}
 use Rattle.rendering_tree.proofs.SimplifySteps.{on_ok}
 use Rattle.rendering.specs.Views.{context_seen, rendered_by}
-use Rattle.driver_marks.specs.Views.{printed_seen}
+use Rattle.driver_marks.specs.CitesViews.{cites_seen}
 use Rattle.driver.specs.Views.{numbered_seen}
 use Rattle.driver.proofs.AgainSteps.{again_is}
 use Rattle.driver.proofs.RowsSteps.{one_counted}
@@ -9,9 +10,12 @@ use Rattle.driver.proofs.rounds.print_by.Goals as goal
 
 pub returns-clause-printed : goal.returns-clause-printed
 returns-clause-printed g c =
+    let ss = cites_seen c.args.printed.now in
     on_ok c.print_by.result
-    (again_is (numbered_seen g.T.EntryLike.answers (context_seen c.args.context.now) c.args.item.now c.args.cite) (printed_seen c.args.printed.now) (printed_seen c.print_by.new.self) (state_by c.in_ok-clone.field-0) (state_by c.in_ok-clone-2.field-0)
-    (state_by c.args.mark.now) (rendered_by c.in_ok-rendering.rendering) c.in_ok-clone.ensures c.in_ok-clone-2.ensures c.in_ok-rendering.ensures.prints)
+    (λ e d. e d
+    ∙ ap (set ss c.args.place)
+    (again_is (numbered_seen g.T.EntryLike.answers (context_seen c.args.context.now) c.args.item.now c.args.cite) (get_or ss c.args.place d) _ (state_by c.in_ok-clone.field-0) (state_by c.in_ok-clone-2.field-0)
+    (state_by c.args.mark.now) (rendered_by c.in_ok-rendering.rendering) c.in_ok-clone.ensures c.in_ok-clone-2.ensures c.in_ok-rendering.ensures.prints refl))
     c.print_by.ensures
 
 pub returns-clause-effort : goal.returns-clause-effort

@@ -1,21 +1,23 @@
-use Rattle.std.proofs.Common.{◌+◌, length, map, drop, get_or, ap, arith}
+use Rattle.std.proofs.Common.{◌+◌, ◌<◌, length, map, drop, get_or, ap, ◌∙◌, arith}
 use Rattle.rendering_context.specs.Views.{state_by}
 use Rattle.rendering.specs.Views.{context_seen}
-use Rattle.driver_marks.specs.Views.{printed_seen}
+use Rattle.driver_marks.proofs.CitesFit.{cites_fit}
+use Rattle.driver_marks.specs.CitesViews.{cites_seen}
 use Rattle.driver_requests.specs.Views.{context_of}
 use Rattle.driver.specs.Views.{numbered_seen, row_seen}
-use Rattle.driver.proofs.AgainSteps.{again_ends, again_set}
+use Rattle.driver.proofs.AgainSteps.{again_at, again_at_length, again_done}
 use Rattle.driver.proofs.RowsSteps.{no_cite, row_counts_on, row_done, row_more}
 use Rattle.driver.proofs.rounds.print_row_again.Goals as goal
 
 pub bounds-row-index : goal.bounds-row-index
 bounds-row-index g c = omega (arith, c.requires.row, c.loop-index-test.true, ap length c.deref-item-items.ensures.value)
 
-pub bounds-printed-index : goal.bounds-printed-index
-bounds-printed-index g c = omega (arith, c.requires.row, c.requires.printed, c.loop-index.auto.printed, c.loop-index-test.true, ap length c.deref-item-items.ensures.value)
-
 pub print_cite_again-requires-clause-within : goal.print_cite_again-requires-clause-within
 print_cite_again-requires-clause-within g c = c.requires.within c.loop-index.index no_cite (omega (arith, c.requires.row, c.loop-index-test.true, ap length c.deref-item-items.ensures.value))
+
+pub print_cite_again-requires-clause-place : goal.print_cite_again-requires-clause-place
+print_cite_again-requires-clause-place g c =
+    omega (arith, c.requires.row, c.requires.printed, c.loop-index.invariant.many, c.loop-index-test.true, ap length c.deref-item-items.ensures.value)
 
 pub loop-index-preserved : goal.loop-index-preserved
 loop-index-preserved g c =
@@ -32,11 +34,16 @@ loop-index-preserved g c =
     let less = c.loop-index-test.true in
     let many = c.requires.row in
     let is = c.item-item.is in
+    let marks = map state_by c.args.marks.now in
+    let one = numbered_seen answers y i (get_or row n no_cite) in
+    let old = cites_seen c.loop-index.printed in
+    let new = cites_seen c.print_cite_again.new.printed in
+    let place = c.args.start + n in
+    let low : place < length old = omega (arith, c.requires.row, c.requires.printed, c.loop-index.invariant.many, c.loop-index-test.true, ap length c.deref-item-items.ensures.value) in
     record {
-      printed = again_set (map state_by c.args.marks.now) c.args.is_given.now printed_seen c.loop-index.printed n c.index-printed-index.result c.print_cite_again.new.printed (numbered_seen answers y i (get_or row n no_cite))
-          (row_seen answers x (drop n items) (drop n row)) (row_seen answers x (drop (n + 1) items) (drop (n + 1) row)) _
-          (omega (arith, c.requires.row, c.requires.printed, c.loop-index.auto.printed, c.loop-index-test.true, ap length c.deref-item-items.ensures.value)) c.index-printed-index.is (row_more answers x items row y given n i same list less many is)
-          c.loop-index.invariant.printed c.in_ok-print_cite_again.ensures.printed;
+      printed = again_at marks c.args.is_given.now old new place (c.args.start + (n + 1)) one (row_seen answers x (drop n items) (drop n row)) (row_seen answers x (drop (n + 1) items) (drop (n + 1) row)) _ low (omega arith)
+          (row_more answers x items row y given n i same list less many is) c.loop-index.invariant.printed c.in_ok-print_cite_again.ensures.printed;
+      many = again_at_length marks c.args.is_given.now old new place one c.in_ok-print_cite_again.ensures.printed ∙ c.loop-index.invariant.many;
       effort = row_counts_on answers x items row y given n i c.loop-index.effort c.print_cite_again.new.effort _ same list less many is c.loop-index.invariant.effort c.in_ok-print_cite_again.ensures.effort;
     }
 
@@ -46,6 +53,5 @@ returns-clause-printed g c =
     let items = c.args.request.now.items.items in
     let row = c.args.row.now in
     let n = c.loop-index.index in
-    again_ends (map state_by c.args.marks.now) c.args.is_given.now printed_seen c.loop-index.printed n (row_seen g.T.EntryLike.answers x (drop n items) (drop n row)) _
-    (omega (arith, c.requires.row, c.requires.printed, c.loop-index.auto.printed, c.loop-index-test.false, ap length c.deref-item-items.ensures.value))
+    again_done (map state_by c.args.marks.now) c.args.is_given.now (cites_seen c.loop-index.printed) (c.args.start + n) (row_seen g.T.EntryLike.answers x (drop n items) (drop n row)) _
     (row_done g.T.EntryLike.answers x items row n (omega (arith, c.loop-index-test.false, ap length c.deref-item-items.ensures.value))) c.loop-index.invariant.printed

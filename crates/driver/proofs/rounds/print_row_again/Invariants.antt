@@ -1,6 +1,6 @@
 use Rattle.std.proofs.Common.{◌≡◌, ◌+◌, ◌≤◌, ◌++◌, map, take, drop, length}
 use Rattle.rendering_context.specs.Views.{state_by}
-use Rattle.driver_marks.specs.Views.{printed_seen}
+use Rattle.driver_marks.specs.CitesViews.{cites_seen}
 use Rattle.driver_requests.specs.Views.{context_of}
 use Rattle.driver.specs.Rounding.{are_again}
 use Rattle.driver.specs.Views.{row_seen}
@@ -8,7 +8,8 @@ use Rattle.driver.proofs.rounds.print_row_again.Given as goal
 
 abbrev pub invariant-loop-index : goal.invariant-loop-index
 invariant-loop-index g l = record {
-  printed : take l.index (map printed_seen l.printed) ++ are_again (map state_by l.marks) l.is_given (row_seen g.T.EntryLike.answers (context_of l.request) (drop l.index l.request.items.items) (drop l.index l.row)) (drop l.index (map printed_seen l.printed))
-      ≡ are_again (map state_by l.marks) l.is_given (row_seen g.T.EntryLike.answers (context_of l.request) l.request.items.items l.row) (map printed_seen l.fn.printed);
+  printed : take (l.start + l.index) (cites_seen l.printed) ++ are_again (map state_by l.marks) l.is_given (row_seen g.T.EntryLike.answers (context_of l.request) (drop l.index l.request.items.items) (drop l.index l.row)) (drop (l.start + l.index) (cites_seen l.printed))
+      ≡ take l.start (cites_seen l.fn.printed) ++ are_again (map state_by l.marks) l.is_given (row_seen g.T.EntryLike.answers (context_of l.request) l.request.items.items l.row) (drop l.start (cites_seen l.fn.printed));
+  many : length (cites_seen l.printed) ≡ length (cites_seen l.fn.printed);
   effort : l.effort + length (row_seen g.T.EntryLike.answers (context_of l.request) (drop l.index l.request.items.items) (drop l.index l.row)) ≤ l.fn.effort + length (row_seen g.T.EntryLike.answers (context_of l.request) l.request.items.items l.row);
 }

@@ -1,9 +1,30 @@
-use Rattle.std.proofs.Common.{bytes_eq}
-use Rattle.driver_marks.specs.Grouping.{text_of, under}
-use Rattle.driver_marks.proofs.Groups.{group_step_at}
+use Rattle.std.proofs.Common.{◌≡◌, ℕ, ◌<◌, length, get_or, refl, ◌∙◌, arith}
+use Rattle.std.specs.List.{zip}
+use Rattle.driver_marks.specs.Grouping.{under}
+use Rattle.driver_marks.specs.declared.printed.Printed.{Printed}
+use Rattle.driver_marks.proofs.Groups.{beside_at, beside_length, members_all, members_step, seconds_all, seconds_step}
 use Rattle.driver_marks.proofs.classes.grouped.Goals as goal
 
-pub loop-cite-preserved : goal.loop-cite-preserved
-loop-cite-preserved c =
-    λ q. group_step_at (λ s. bytes_eq q (text_of s)) c.args.cites.now c.loop-cite.cite-index c.cite-item.result (under c.loop-cite.found q) (under c.add.new.found q)
-    c.loop-cite-test.true c.cite-item.is (c.loop-cite.invariant q) (c.in_ok-add.ensures.added q)
+pub loop-place-preserved : goal.loop-place-preserved
+loop-place-preserved c =
+    let ns = c.args.numbers.now in
+    let ss = c.args.cites.now in
+    let i = c.loop-place.place in
+    let s = c.index-cites-place.result in
+    let p : ℕ × Printed = (get_or ns i 0, s) in
+    let low : i < length (zip ns ss) = omega (arith, c.loop-place-test.true, beside_length ns ss c.requires.len) in
+    let is : p ≡ get_or (zip ns ss) i p = beside_at ns ss i s c.loop-place-test.true c.requires.len c.index-cites-place.is in
+    let old = c.loop-place.members.items in
+    record {
+      members = λ n. members_step (zip ns ss) i p c.allows_suffix-is_wanted.result _ n (under old n) (under c.add_where.new.members.items n) low is c.allows_suffix-is_wanted.ensures refl (c.loop-place.invariant.members n)
+          (c.in_ok-add_where.ensures.members n);
+      shared = seconds_step (zip ns ss) i p c.allows_suffix-is_wanted.result (under old p.0) _ _ low is c.allows_suffix-is_wanted.ensures (c.loop-place.invariant.members p.0) c.loop-place.invariant.shared
+          c.in_ok-add_where.ensures.shared;
+      many = c.add_where.ensures.len ∙ c.loop-place.invariant.many;
+    }
+
+pub returns-clause-members : goal.returns-clause-members
+returns-clause-members c = λ n. members_all c.args.numbers.now c.args.cites.now c.loop-place.place n _ (omega (arith, c.loop-place-test.false)) c.requires.len (c.loop-place.invariant.members n)
+
+pub returns-clause-shared : goal.returns-clause-shared
+returns-clause-shared c = seconds_all c.args.numbers.now c.args.cites.now c.loop-place.place _ (omega (arith, c.loop-place-test.false)) c.requires.len c.loop-place.invariant.shared

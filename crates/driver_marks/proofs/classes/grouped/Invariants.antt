@@ -1,6 +1,11 @@
-use Rattle.std.proofs.Common.{◌≡◌, ℕ, List, take, filter, bytes_eq}
-use Rattle.driver_marks.specs.Grouping.{text_of, under}
+use Rattle.std.proofs.Common.{◌≡◌, ℕ, length, map, take}
+use Rattle.std.specs.List.{zip}
+use Rattle.driver_marks.specs.Grouping.{allowing, of_number, seconds, under}
 use Rattle.driver_marks.proofs.classes.grouped.Given as goal
 
-abbrev pub invariant-loop-cite : goal.invariant-loop-cite
-invariant-loop-cite l = (q : List ℕ) → under l.found q ≡ filter (λ s. bytes_eq q (text_of s)) (take l.cite-index l.cites)
+abbrev pub invariant-loop-place : goal.invariant-loop-place
+invariant-loop-place l = record {
+  members : (n : ℕ) → map (λ s. s.now) (under l.members.items n) ≡ of_number n (allowing (take l.place (zip l.numbers l.cites)));
+  shared : l.shared.items ≡ seconds (allowing (take l.place (zip l.numbers l.cites)));
+  many : length l.members.items ≡ l.count;
+}
