@@ -4,6 +4,7 @@ pub mod FieldsSet
 pub mod ShelfLists
 pub mod KindsTitled
 pub mod ShelfWorks
+pub mod ShelfKeys
 pub mod BridgeDates
 pub mod FaultNames
 pub mod SameFilesAlike

@@ -55,6 +55,12 @@ work_step e es ws ws' fs fs' is h =
     step_by (faults_of e.key (values e.fields)) (work_of e.key (written_type e.entry_type) (values e.fields)) ws ws' fs fs' (all_faults es) (all_works es) h
     ∙ ap (λ (xs : List Source). unless_faulty (fs ++ faults_in xs) (put_after ws (works_of xs))) (sym (among e es is))
 
+-- the faults of a work with those of others after it
+pub faults_step : (e : Source) (es : List Source) (fs fs' : List Fault) → is_xdata (written_type e.entry_type) ≡ false → fs' ≡ fs ++ faults_of e.key (values e.fields) → fs' ++ all_faults es ≡ fs ++ all_faults (e ∷ es)
+faults_step e es fs fs' is h =
+    ap (λ (gs : List Fault). gs ++ all_faults es) h
+    ∙ (append_assoc fs (faults_of e.key (values e.fields)) (all_faults es) ∙ ap (λ (xs : List Source). fs ++ faults_in xs) (sym (among e es is)))
+
 faults_by : (b : Bool) (e : Source) (es : List Source) → faults_in (if b then e ∷ es else es) ≡ if b then faults_of e.key (values e.fields) ++ faults_in es else faults_in es
 faults_by true e es = refl
 faults_by false e es = refl

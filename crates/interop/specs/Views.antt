@@ -1,6 +1,9 @@
 -- What the code holds, as plain data.
 use Rattle.std.specs.Prelude.{◌≡◌, List, map, Option, Some, None, codes, string_bytes}
+use Rattle.std.specs.Borrow.{Bor}
 use Rattle.std.specs.Option.{option_map}
+use Rattle.biblatex_entries.specs.Entries.{Source, source}
+use Rattle.biblatex_entries.specs.declared.entry.Entry.{Entry}
 use Rattle.interop.specs.Kinds.{Container, Row}
 use Rattle.interop.specs.Bridge.{Fault}
 use Rattle.interop.specs.DateFields.{field_name}
@@ -16,6 +19,10 @@ use Rattle.interop.specs.declared.dates.Dates.{Dates}
 use Rattle.interop.specs.declared.error.FieldFault.{FieldFault}
 use Rattle.interop.specs.declared.error.BridgeError.{BridgeError}
 use Rattle.interop.specs.declared.error.BridgeError.TheVariants as errors
+
+-- borrowed entries of a file
+abbrev pub lent_sources : List (Bor Entry) → List Source
+lent_sources es = map (λ (e : Bor Entry). source e.now) es
 
 abbrev pub container : CodeContainer → Container
 container c = record { entry_type = c.entry_type; title = c.title.now }

@@ -14,7 +14,7 @@ ghost use Rattle.literature_entries.specs.Wholes.{Holding, wholes, whole};
 ghost use Rattle.interop.specs.Fields.{container_fields};
 ghost use Rattle.interop.specs.Bridge.{bridged, unless_faulty, work_of, container_of, further, titled_under};
 ghost use Rattle.interop.specs.Shelf.{is_xdata, all_faults, all_works, put_after, library_of, IsPut, AreAlike};
-ghost use Rattle.interop.specs.Views.{container, dates_of, shelf, fault, row, IsBare, refusal_of};
+ghost use Rattle.interop.specs.Views.{container, dates_of, shelf, fault, row, IsBare, lent_sources, refusal_of};
 ghost use Rattle.laws.specs.Results.{Gives};
 
 use crate::dates::{Dates, read_dates};
@@ -136,9 +136,22 @@ pub fn from_biblatex(alloc: Global, bibliography: &Bibliography) -> Result<Libra
     // The same as of any entries with equal keys, written types and contents under written names.
     ensures alike { (es : List Source) → AreAlike es bibliography.now.entries → Gives refusal_of shelf result (library_of es) }
 {
-    let mut library = Library::new(alloc);
+    let mut library = Library::with_capacity(alloc, bibliography.len())?;
     let mut faults = Vec::new(alloc);
     put_all(alloc, &mut library, &mut faults, bibliography.entries())?;
+    finished(library, faults)
+}
+
+/// The library of some entries of a file, as `from_biblatex` makes it of all.
+///
+/// # Errors
+/// Those of `from_biblatex`, of these entries.
+pub fn from_entries(alloc: Global, entries: &[&SourceEntry]) -> Result<Library, BridgeError>
+    ensures { Gives refusal_of shelf result (library_of (lent_sources entries.now)) }
+{
+    let mut library = Library::with_capacity(alloc, entries.len())?;
+    let mut faults = Vec::new(alloc);
+    put_each(alloc, &mut library, &mut faults, entries)?;
     finished(library, faults)
 }
 
@@ -160,6 +173,21 @@ fn put_all(
     entries: &[SourceEntry],
 ) -> Result<(), AllocError>
     ensures { OnOk result (unless_faulty (map fault faults.new.items) (shelf library.new) ≡ unless_faulty (map fault faults.old.items ++ all_faults (sources entries.now)) (put_after (shelf library.old) (all_works (sources entries.now)))) }
+{
+    for read in entries {
+        put_work(alloc, library, faults, read)?;
+    }
+    Ok(())
+}
+
+/// Appends works that are borrowed one by one into the library, or faults after the others.
+fn put_each(
+    alloc: Global,
+    library: &mut Library,
+    faults: &mut Vec<FieldFault>,
+    entries: &[&SourceEntry],
+) -> Result<(), AllocError>
+    ensures { OnOk result (unless_faulty (map fault faults.new.items) (shelf library.new) ≡ unless_faulty (map fault faults.old.items ++ all_faults (lent_sources entries.now)) (put_after (shelf library.old) (all_works (lent_sources entries.now)))) }
 {
     for read in entries {
         put_work(alloc, library, faults, read)?;
@@ -207,7 +235,10 @@ fn put(
 }
 
 /// Appends faults after others.
-fn push_all(faults: &mut Vec<FieldFault>, found: Vec<FieldFault>) -> Result<(), AllocError>
+pub(crate) fn push_all(
+    faults: &mut Vec<FieldFault>,
+    found: Vec<FieldFault>,
+) -> Result<(), AllocError>
     ensures { OnOk result (map fault faults.new.items ≡ map fault faults.old.items ++ map fault found.items) }
 {
     for fault in found {

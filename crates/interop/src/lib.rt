@@ -2,6 +2,7 @@
 #![tactic(auto)]
 
 mod bridge;
+mod date_faults;
 mod dates;
 mod error;
 mod fields;
@@ -10,6 +11,7 @@ mod parents;
 mod same_files;
 mod setting;
 
-pub use bridge::{entry, from_biblatex, is_xdata};
+pub use bridge::{entry, from_biblatex, from_entries, is_xdata};
+pub use date_faults::check_dates;
 pub use error::{BridgeError, DateField, FieldFault};
 pub use same_files::files_that_say_the_same_have_one_library;

@@ -1,6 +1,6 @@
 //! Libraries.
 
-ghost use Rattle.std.specs.Prelude.{◌≡◌, [], length, map, slice_get, string_bytes, IsTrue, ◌↔◌, OnOk, OnErr};
+ghost use Rattle.std.specs.Prelude.{◌≡◌, [], length, map, slice_get, string_bytes, IsTrue, ◌↔◌, IfOk, OnOk, OnErr};
 ghost use Rattle.std.specs.Option.{option_copied};
 ghost use Rattle.std.specs.Map.{values_of};
 ghost use Rattle.literature.specs.Keys.{with_key, put, without_key, AreDistinct};
@@ -30,6 +30,18 @@ impl Library {
         Library {
             entries: IndexMap::new(alloc),
         }
+    }
+
+    /// A library without entries, with room for so many.
+    ///
+    /// # Errors
+    /// Out of memory.
+    pub fn with_capacity(alloc: Global, capacity: usize) -> Result<Library, AllocError>
+        ensures { IfOk result (λ l. entries l ≡ []) }
+    {
+        Ok(Library {
+            entries: IndexMap::with_capacity(alloc, capacity)?,
+        })
     }
 
     /// How many entries there are.

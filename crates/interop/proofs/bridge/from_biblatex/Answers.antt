@@ -11,6 +11,6 @@ pub returns-clause-alike : goal.returns-clause-alike
 returns-clause-alike c es h =
     subst (λ (w : Result (List Whole) (List Fault)). Gives refusal_of shelf c.finished.result w)
     (c.in_ok-put_all.ensures
-    ∙ ((λ i. unless_faulty (map fault (c.new-faults.ensures.items i) ++ all_faults (c.entries.ensures i)) (put_after (map whole (c.new-library.ensures i)) (all_works (c.entries.ensures i))))
+    ∙ ((λ i. unless_faulty (map fault (c.new-faults.ensures.items i) ++ all_faults (c.entries.ensures i)) (put_after (map whole (c.in_ok-library.ensures i)) (all_works (c.entries.ensures i))))
     ∙ sym (alike_library es c.args.bibliography.now.entries h)))
     c.finished.ensures
