@@ -1,5 +1,5 @@
 -- Answers that are wanted in two places.
-use Rattle.std.proofs.Common.{◌≡◌, ℕ, Option, Some, None, Result, Ok, Err}
+use Rattle.std.proofs.Common.{ℕ, Option, Some, None, Result, Ok, Err}
 use Rattle.biblatex.specs.Errors.{refusal_of}
 use Rattle.biblatex.specs.Reading as reading
 use Rattle.literature_selectors.specs.Reading.{Fault}

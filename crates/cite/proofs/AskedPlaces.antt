@@ -1,20 +1,18 @@
 -- Requests of the code are those that are asked for, once each entry has its place among those that are cited.
-use Rattle.std.proofs.Common.{◌≡◌, ℕ, ◌+◌, Bool, true, false, not, List, [], ◌∷◌, ◌++◌, map, filter, filter_map, Option, Some, None, refl, sym, ap, subst, ◌∙◌, cond, position}
-use Rattle.std.specs.List.{flat_map, enumerate_from, position_or_len}
-use Rattle.std.specs.Option.{option_map}
+use Rattle.std.proofs.Common.{◌≡◌, ℕ, ◌+◌, List, [], ◌∷◌, ◌++◌, map, refl, ap, ◌∙◌}
+use Rattle.std.specs.List.{flat_map, enumerate_from}
 use Rattle.literature_entries.specs.Wholes.{Whole, whole}
 use Rattle.literature_entries.specs.declared.entry.Entry.{Entry}
-use Rattle.rendering_entries.specs.Answers.{Answers}
 use Rattle.rendering_entries.specs.Library.{answers_of}
 use Rattle.rendering.specs.Purposes.{StyleContext}
-use Rattle.driver_requests.specs.CitedEntries.{once, place_among, places_among}
+use Rattle.driver_requests.specs.CitedEntries.{place_among}
 use Rattle.driver_requests.specs.Requests.{Item, Request}
-use Rattle.driver_requests.specs.Views.{entries_in, entries_of, item_by, request_by}
+use Rattle.driver_requests.specs.Views.{entries_in, entries_of, item_by}
 use Rattle.driver_requests.specs.declared.item.CitationItem.{CitationItem}
 use Rattle.driver_requests.specs.declared.request.CitationRequest.{CitationRequest}
 use Rattle.cite.specs.Asked.{AskedItem, AskedRequest, asked_item, asked_request, item_seen, request_seen}
 use Rattle.cite.specs.Markers.{CitedWork}
-use Rattle.cite.specs.Requests.{OwnLocator, item_of, request_of, requests_of, works_in}
+use Rattle.cite.specs.Requests.{OwnLocator, item_of, request_of, works_in}
 use Rattle.cite.specs.Works.{is_same}
 
 -- an item and a request, where each work has a place

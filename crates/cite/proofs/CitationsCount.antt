@@ -1,5 +1,5 @@
 -- A driver gives a citation for each request.
-use Rattle.std.proofs.Common.{◌≡◌, ℕ, suc, Bool, true, false, cond, List, [], ◌∷◌, ◌++◌, length, map, Option, None, Result, Ok, Err, refl, sym, ap, ◌∙◌, arith}
+use Rattle.std.proofs.Common.{◌≡◌, ℕ, suc, Bool, cond, List, [], ◌∷◌, ◌++◌, length, map, Option, None, Ok, Err, refl, sym, ap, ◌∙◌, arith}
 use Rattle.std.specs.List.{last_or, zip}
 use Rattle.std.proofs.lemmas.List.{length-map}
 use Rattle.laws.proofs.Results.{guard_ok, ok_is}

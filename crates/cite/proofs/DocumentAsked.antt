@@ -1,7 +1,7 @@
 -- What a driver is asked by requests of the code is what it is asked by the markers of a document.
 use Rattle.std.proofs.Common.{◌≡◌, ℕ, ◌+◌, All, List, [], ◌∷◌, ◌++◌, map, filter, Option, Some, None, Ok, cond, refl, sym, ap, subst, ◌∙◌, Bool, true, false}
 use Rattle.std.specs.Prelude.{option_and_then}
-use Rattle.std.specs.List.{flat_map, enumerate_from}
+use Rattle.std.specs.List.{enumerate_from}
 use Rattle.std.proofs.lemmas.List.Elements.{All-head, All-tail}
 use Rattle.laws.specs.Text.{text}
 use Rattle.laws.proofs.Results.{ok_is}
@@ -17,14 +17,12 @@ use Rattle.interop.specs.Shelf.{key_of, is_xdata}
 use Rattle.rendering_entries.specs.Library.{answers_of}
 use Rattle.rendering.specs.Purposes.{StyleContext}
 use Rattle.driver_requests.specs.CitedEntries.{place_among, places_among}
-use Rattle.driver_requests.specs.Requests.{Request}
-use Rattle.driver_requests.specs.Views.{entries_in, entries_of, item_by, request_by}
-use Rattle.driver_requests.specs.declared.item.CitationItem.{CitationItem}
+use Rattle.driver_requests.specs.Views.{entries_in, entries_of, request_by}
 use Rattle.driver_requests.specs.declared.request.CitationRequest.{CitationRequest}
 use Rattle.cite_markers.specs.Marker.{Cite}
-use Rattle.cite.specs.Asked.{asked_request, item_seen, request_seen}
+use Rattle.cite.specs.Asked.{asked_request, request_seen}
 use Rattle.cite.specs.Finished.{document_asked}
-use Rattle.cite.specs.Holding.{holds_at}
+use Rattle.literature_selectors.specs.Holding.{holds_at}
 use Rattle.cite.specs.Markers.{CitedWork, cited_work, with_work}
 use Rattle.cite.specs.Requests.{OwnLocator, requests_of, works_in}
 use Rattle.cite.specs.Sections.{chosen}

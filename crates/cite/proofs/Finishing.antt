@@ -1,6 +1,5 @@
 -- What the driver of the code is asked.
-use Rattle.std.proofs.Common.{◌≡◌, ℕ, Bool, List, map, Option, Some, None, Result, Ok, Err, sym, ap, ◌∙◌}
-use Rattle.std.specs.Option.{option_map}
+use Rattle.std.proofs.Common.{◌≡◌, ℕ, Bool, List, map, Ok, Err, sym, ap, ◌∙◌}
 use Rattle.literature_entries.specs.Wholes.{whole}
 use Rattle.literature_entries.specs.declared.entry.Entry.{Entry}
 use Rattle.rendering_entries.specs.Library.{answers_of}
@@ -11,11 +10,11 @@ use Rattle.driver_requests.specs.declared.bibliography_request.BibliographyReque
 use Rattle.driver_requests.specs.declared.request.CitationRequest.{CitationRequest}
 use Rattle.driver.specs.Finish.{Rendered, finish}
 use Rattle.driver.specs.Views.{bibliography_context_of, document_by}
-use Rattle.driver_requests.specs.Errors.{Overflow, overflow}
+use Rattle.driver_requests.specs.Errors.{overflow}
 use Rattle.cite.specs.Finished.{document_asked, finished}
 use Rattle.cite.specs.Requests.{OwnLocator, is_same_own}
 use Rattle.cite.specs.Stages as stages
-use Rattle.cite.specs.Stages.{Refusal, refused_as}
+use Rattle.cite.specs.Stages.{refused_as}
 
 module _ (same : Entry → Entry → Bool) (x : StyleContext) (own rs : List (CitationRequest Entry OwnLocator)) (offset : ℕ) (r : BibliographyRequest Entry) (es : List Entry)
     (requests : own ≡ rs) (none : offset ≡ 0) (context : bibliography_context_of r ≡ x) (order : lent r.order.now ≡ es) where

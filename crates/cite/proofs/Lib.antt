@@ -4,12 +4,10 @@ pub mod CitationsCount
 pub mod DocumentAsked
 pub mod EntriesPlaces
 pub mod Finishing
-pub mod HoldingWorks
 pub mod MarkersPlain
 pub mod OneLine
 pub mod OutputPieces
 pub mod OutputReplaced
-pub mod PiecesWritten
 pub mod ProgramLines
 pub mod ProgramServed
 pub mod ProgramWords
@@ -17,6 +15,7 @@ pub mod RenderedStages
 pub mod RequestsNamed
 pub mod RequestsSteps
 pub mod SelectorsPlain
+pub mod SinkingCalls
 pub mod StepsAfter
 pub mod StepsRefused
 pub mod VerdictStages

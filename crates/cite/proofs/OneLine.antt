@@ -1,10 +1,9 @@
 -- What is said of a refusal goes on one line.
-use Rattle.std.proofs.Common.{ℕ, Bool, true, false, cond, All, List, [], ◌∷◌, ◌++◌, Option, Some, None, Result, Ok, Err, codes, decimal, refl, sym, subst}
+use Rattle.std.proofs.Common.{ℕ, Bool, true, false, cond, All, List, ◌++◌, Option, Some, None, Result, Ok, Err, codes, decimal, refl, sym, subst}
 use Rattle.std.specs.List.{enumerate_from}
 use Rattle.std.specs.Prelude.{IfErr, IfOk, MatchResult}
 use Rattle.std.specs.Str.{chars, is_utf8}
 use Rattle.std.proofs.lemmas.List.Elements.{All-nil, All-weaker}
-use Rattle.laws.specs.Results.{◌>>=◌}
 use Rattle.laws.specs.Text.{text}
 use Rattle.laws.proofs.Throughout.{bind_match}
 use Rattle.biblatex.specs.Lines.{HasNoLineFeed}
@@ -26,7 +25,7 @@ use Rattle.interop.proofs.FaultNames.{HoldsOfFaults, library_faults}
 use Rattle.rendering.specs.Purposes.{StyleContext}
 use Rattle.cite_markers.specs.Document.{Piece, document_of}
 use Rattle.cite_markers.specs.Marker.{Cite}
-use Rattle.driver.specs.Finish.{Rendered, finish}
+use Rattle.driver.specs.Finish.{finish}
 use Rattle.cite.specs.Markers.{CitedWork, cited_work, cited_works, markers_of, with_work}
 use Rattle.cite.specs.OneLine.{IsSaidInLines, RefusalsAreSaidInLines}
 use Rattle.cite.specs.Program.{fault_said}
@@ -35,7 +34,7 @@ use Rattle.cite.specs.Requests.{is_same_own}
 use Rattle.cite.specs.Sections.{SectionFault, chosen, selector_in, selector_or_fault, selectors_of}
 use Rattle.cite.specs.Stages.{Refusal, bib_refused, document_not_utf8, no_marker, overflow, section_refused, unknown_name, refused_as, IsReadIf, IsRead, works_from, library_stage, IsShelved, document_stage, name_stage, section_stage}
 use Rattle.cite.specs.Steps.{all_ok}
-use Rattle.cite.specs.Verdict.{Task, driver_document, driver_stage, rendered_stage, verdict, IsVerdict}
+use Rattle.cite.specs.Verdict.{Task, driver_document, driver_stage, rendered_stage, verdict}
 use Rattle.cite.specs.Works.{Works, meaning}
 use Rattle.cite.proofs.MarkersPlain.{DocumentPlain, HasPlainName, MarkerPlain, document_plain, markers_plain}
 use Rattle.cite.proofs.SelectorsPlain.{FaultPlain, selector_plain}

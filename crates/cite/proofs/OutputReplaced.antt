@@ -1,5 +1,5 @@
 -- Outputs and the documents that they are of.
-use Rattle.std.proofs.Common.{◌≡◌, ℕ, suc, Bool, true, false, cond, List, [], ◌∷◌, ◌++◌, append_assoc, length, map, Result, Ok, Err, refl, sym, ap, subst, ◌∙◌, arith}
+use Rattle.std.proofs.Common.{◌≡◌, ℕ, List, [], ◌∷◌, ◌++◌, append_assoc, length, map, Result, Ok, refl, sym, ap, subst, ◌∙◌, arith}
 use Rattle.std.specs.List.{enumerate_from}
 use Rattle.std.specs.Option.{option_map_or}
 use Rattle.std.specs.Str.{chars, is_utf8}
@@ -19,8 +19,8 @@ use Rattle.cite_markers.specs.Marker.{Cite}
 use Rattle.cite_markers.proofs.DocumentStanding.{pieces_stand}
 use Rattle.cite.specs.Markers.{CitedWork, cited_work, cited_works, markers_of}
 use Rattle.cite.specs.Output.{bibliography_text, document_text, output_text, tree_text}
-use Rattle.cite.specs.Replaced.{AreReplaced, CitationsDependOnMarkersAlone, HasMarkers, IsOutputOf, TextsComeOutUnchanged}
-use Rattle.cite.specs.Requests.{is_same_own, request_of, requests_of, works_in}
+use Rattle.cite.specs.Replaced.{AreReplaced, CitationsDependOnMarkersAlone, IsOutputOf, TextsComeOutUnchanged}
+use Rattle.cite.specs.Requests.{is_same_own, request_of, works_in}
 use Rattle.cite.specs.Sections.{chosen}
 use Rattle.cite.specs.Stages.{Refusal, IsShelved, document_not_utf8, document_stage, name_stage, no_marker, overflow, refused_as, section_stage, unknown_name}
 use Rattle.cite.specs.Steps.{all_ok}

@@ -1,14 +1,14 @@
 -- Citations and bibliography, stage by stage.
-use Rattle.std.proofs.Common.{◌≡◌, ℕ, List, [], map, Result, Ok, Err, refl, sym, ap, subst, ◌∙◌}
+use Rattle.std.proofs.Common.{◌≡◌, ℕ, List, map, Result, Ok, Err, refl, sym, ap, ◌∙◌}
 use Rattle.std.specs.List.{enumerate_from}
 use Rattle.laws.specs.Results.{◌>>=◌}
 use Rattle.laws.proofs.Results.{bind_ok, ok_is}
-use Rattle.literature_entries.specs.Wholes.{Whole, whole}
+use Rattle.literature_entries.specs.Wholes.{whole}
 use Rattle.literature_entries.specs.declared.entry.Entry.{Entry}
 use Rattle.literature_entries.specs.contracts.entry.EntryPartialEq.TheImpl as entry
 use Rattle.literature_selectors.specs.Trees.{Tree}
 use Rattle.rendering.specs.Purposes.{StyleContext}
-use Rattle.driver.specs.Finish.{Rendered, finish}
+use Rattle.driver.specs.Finish.{finish}
 use Rattle.driver_requests.specs.declared.request.CitationRequest.{CitationRequest}
 use Rattle.cite_markers.specs.Document.{Piece}
 use Rattle.cite.specs.Asked.{AskedRequest, asked_request, request_seen, requests_asked}

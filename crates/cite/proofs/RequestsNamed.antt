@@ -1,14 +1,13 @@
 -- Requests of markers are those of their cites with the works that names mean.
-use Rattle.std.proofs.Common.{◌≡◌, ℕ, ◌+◌, List, [], ◌∷◌, ◌++◌, map, length, Result, Ok, Err, Option, Some, None, refl, sym, ap, subst, ◌∙◌, append_assoc, append-nil, arith}
+use Rattle.std.proofs.Common.{◌≡◌, ℕ, ◌+◌, List, [], ◌∷◌, ◌++◌, map, length, Result, Ok, Err, refl, sym, ap, ◌∙◌, append_assoc, append-nil}
 use Rattle.std.specs.List.{enumerate_from}
 use Rattle.std.proofs.lemmas.List.{length-append}
 use Rattle.laws.specs.Results.{◌>>=◌}
-use Rattle.laws.specs.Text.{text}
 use Rattle.rendering.specs.Purposes.{StyleContext}
 use Rattle.cite_markers.specs.Document.{Piece, Text, Marker}
 use Rattle.cite_markers.specs.Marker.{Cite}
-use Rattle.cite.specs.Asked.{AskedItem, AskedRequest, asked_item, asked_request, item_asked, items_asked, request_asked, request_pushed, requests_after, requests_asked}
-use Rattle.cite.specs.Markers.{CitedWork, cited_work, cited_works, markers_of}
+use Rattle.cite.specs.Asked.{AskedItem, AskedRequest, asked_item, asked_request, item_asked, items_asked, requests_after, requests_asked}
+use Rattle.cite.specs.Markers.{CitedWork, cited_work, cited_works}
 use Rattle.cite.specs.Stages.{Refusal, unknown_name, refused_as, name_stage}
 use Rattle.cite.specs.Steps.{all_ok}
 use Rattle.cite.specs.Works.{Works}

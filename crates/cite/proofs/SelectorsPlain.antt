@@ -1,5 +1,5 @@
 -- The name in a fault of a selector has no line feed, since it is one of the selector's tokens.
-use Rattle.std.proofs.Common.{ℕ, zero, suc, Bool, true, false, cond, All, List, [], ◌∷◌, length, Option, Some, None, Result, Ok, Err, codes, refl}
+use Rattle.std.proofs.Common.{ℕ, zero, suc, Bool, true, false, cond, All, List, [], ◌∷◌, length, Option, Some, None, Ok, Err, codes, refl}
 use Rattle.std.specs.Prelude.{◌==◌, IfErr, IfSome, MatchResult}
 use Rattle.std.specs.Option.{option_map_or}
 use Rattle.std.proofs.lemmas.List.Elements.{All-nil, All-cons, All-head, All-tail}
@@ -12,7 +12,7 @@ use Rattle.texts.specs.Character.{passes}
 use Rattle.texts.specs.declared.character.Class.TheVariants.{Blank}
 use Rattle.literature_values.specs.EntryTypes.{type_called}
 use Rattle.literature_values.specs.declared.entry_type.EntryType.{EntryType}
-use Rattle.literature_selectors.specs.Reading.{Fault, MissingValue, MalformedAttribute, MissingComma, UnbalancedParens, UnknownEntryType, TooDeep, Reading, taken, one_more, each_below, each_after, name_at, list_end, names_at, lists_at, listed_at, parted, alternatives_of, multi_of, Level, typed, named, closed, parenthesised, signed, unary_in, above, ancestry_in, level, selector_at, selector_of}
+use Rattle.literature_selectors.specs.Reading.{Fault, MissingValue, Reading, taken, one_more, each_below, each_after, name_at, list_end, names_at, lists_at, listed_at, parted, alternatives_of, multi_of, Level, typed, named, closed, parenthesised, signed, unary_in, above, ancestry_in, level, selector_at, selector_of}
 use Rattle.literature_selectors.specs.Tokens.{Token, Name, Sign, is_name_character, is_sign, token_here, token_at, tokens_below, tokens}
 use Rattle.literature_selectors.specs.Trees as trees
 use Rattle.literature_selectors.specs.Trees.{Tree, Any, Entry, one_or_alternatives, one_or_multi}

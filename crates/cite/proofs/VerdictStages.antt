@@ -1,5 +1,5 @@
 -- What a call comes to, stage by stage.
-use Rattle.std.proofs.Common.{◌≡◌, ℕ, List, Result, Ok, Err, refl, sym}
+use Rattle.std.proofs.Common.{◌≡◌, ℕ, List, Ok, Err, refl, sym}
 use Rattle.laws.specs.Text.{text}
 use Rattle.driver.specs.Finish.{Rendered}
 use Rattle.cite_markers.specs.Document.{Piece}

@@ -1,12 +1,12 @@
 pub mod Steps
 pub mod Works
 pub mod Markers
-pub mod Holding
 pub mod Sections
 pub mod Requests
 pub mod Asked
 pub mod Output
 pub mod Pieces
+pub mod Sinking
 pub mod Stages
 pub mod Verdict
 pub mod Replaced

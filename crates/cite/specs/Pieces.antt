@@ -1,23 +1,18 @@
--- Outputs of the code: pieces with the bytes that they have.
-use Rattle.std.specs.Prelude.{ℕ, List, [], ◌∷◌, string_bytes}
-use Rattle.std.specs.List.{flat_map}
+-- Outputs of the code, and what a piece of a document comes to.
+use Rattle.std.specs.Prelude.{ℕ, List, [], ◌∷◌}
+use Rattle.laws.specs.Text.{text}
 use Rattle.rendering_output.specs.declared.writing.BufWriteFormat.{BufWriteFormat}
 use Rattle.driver.specs.Finish.{Citation}
+use Rattle.driver.specs.RenderedViews.{rendered_by}
 use Rattle.cite_markers.specs.Document as document
 use Rattle.cite_markers.specs.Document.{Piece}
-use Rattle.cite.specs.Output.{tree_text}
-use Rattle.cite.specs.declared.pieces.Output.{Output}
-use Rattle.cite.specs.declared.pieces.OutputPiece.{OutputPiece}
-use Rattle.cite.specs.declared.pieces.OutputPiece.TheVariants as pieces
-
--- the bytes of a piece
-abbrev pub bytes_of : OutputPiece → List ℕ
-bytes_of (pieces.Text t) = t.now
-bytes_of (pieces.Written s) = string_bytes s
+use Rattle.cite_markers.specs.Views.{pieces_of}
+use Rattle.cite.specs.Output.{output_text, tree_text}
+use Rattle.cite.specs.declared.output.Output.{Output}
 
 -- the bytes of an output
 abbrev pub output_of : Output → List ℕ
-output_of o = flat_map bytes_of o.pieces.items
+output_of o = text (output_text o.format (pieces_of o.document) (rendered_by o.rendered))
 
 -- what a piece comes to where these citations are left, and those that are left after it
 abbrev pub piece_text : BufWriteFormat → Piece → List Citation → List ℕ

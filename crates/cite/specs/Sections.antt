@@ -2,7 +2,7 @@
 use Rattle.std.specs.Prelude.{ℕ, List, filter, Result, Ok, Err}
 use Rattle.std.specs.List.{flat_map, enumerate_from}
 use Rattle.literature_entries.specs.Wholes.{Whole}
-use Rattle.cite.specs.Holding.{holds_at}
+use Rattle.literature_selectors.specs.Holding.{holds_at}
 use Rattle.literature_selectors.specs.Reading.{Fault, selector_of}
 use Rattle.literature_selectors.specs.Trees.{Tree}
 use Rattle.cite.specs.Steps.{all_ok}

@@ -1,5 +1,5 @@
 -- Steps over a list, each of which may refuse.
-use Rattle.std.specs.Prelude.{List, [], ◌∷◌, ◌++◌, Result, Ok, Err}
+use Rattle.std.specs.Prelude.{List, [], ◌∷◌, ◌++◌, Result, Ok}
 use Rattle.laws.specs.Results.{◌>>=◌}
 
 -- what a step gives of each member, or the first refusal

@@ -1,5 +1,5 @@
 -- What a call of `cite` has to do: refuse, at the first stage that refuses and with its fault, or write the output.
-use Rattle.std.specs.Prelude.{◌≡◌, ℕ, List, [], ◌∷◌, Result, Ok, Err}
+use Rattle.std.specs.Prelude.{◌≡◌, ℕ, List, Result, Ok}
 use Rattle.laws.specs.Results.{◌>>=◌}
 use Rattle.laws.specs.Text.{text}
 use Rattle.literature_entries.specs.Wholes.{Whole}

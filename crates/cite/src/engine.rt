@@ -19,8 +19,7 @@ ghost use Rattle.cite.specs.Answers.{Answers, Gives, Writes, IsRefusalUnlessWrit
 
 use crate::bytes::utf8_text;
 use crate::error::{CiteError, DocumentTextError};
-use crate::output::output_of;
-use crate::pieces::Output;
+use crate::output::Output;
 use crate::requests::{MarkerRequest, Setting, language, requests};
 use crate::sections::{chosen, selectors};
 use crate::works::Works;
@@ -120,7 +119,11 @@ fn compose<'d>(
         locale,
     };
     let rendered = render(alloc, setting, &document, sections)?;
-    Ok(output_of(alloc, &document, &rendered, format)?)
+    Ok(Output {
+        document,
+        rendered,
+        format,
+    })
 }
 
 /// The output of `cite` as a text: the document with its markers replaced, and the bibliography of the cited entries after it.

@@ -8,10 +8,10 @@ mod error;
 mod one_line;
 mod output;
 mod output_laws;
-mod pieces;
 mod program;
 mod requests;
 mod sections;
+mod sink_target;
 mod works;
 
 pub use cite_markers::{Cite, CiteLocator, Document, DocumentError, Piece};

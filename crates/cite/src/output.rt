@@ -1,60 +1,101 @@
-//! The output of a document, in pieces.
+//! The output of a document: its texts with citations in place of markers, and the bibliography.
 
-ghost use Rattle.std.specs.Prelude.{◌≡◌, ◌∷◌, ◌++◌, [], map, IfOk, OnOk, Some, string_bytes};
+ghost use Rattle.std.specs.Prelude.{◌≡◌, ◌∷◌, [], map, IfErr, IfOk, OnErr, OnOk, Some, string_bytes};
+ghost use Rattle.std.specs.Io.KnownBytes.{Appends};
 ghost use Rattle.std.specs.List.{flat_map};
 ghost use Rattle.std.specs.Option.{option_and_then, option_map, option_map_or};
 ghost use Rattle.std.specs.Str.{chars};
 ghost use Rattle.laws.specs.Text.{text as text_of};
+ghost use Rattle.sinks.specs.Sinks.{next_count, HasFailed, AppendsFront};
+ghost use Rattle.rendering_output.specs.Writing.{WritesCharacters};
+ghost use Rattle.rendering_tree.specs.Views.{child};
 ghost use Rattle.cite_markers.specs.Views.{piece as piece_seen, pieces_of};
 ghost use Rattle.driver.specs.RenderedViews.{bibliography_by, citation_by, element_if, fields_by, rendered_by};
-ghost use Rattle.rendering_tree.specs.Views.{child, element as element_seen, tree as tree_seen};
-ghost use Rattle.cite.specs.Output.{bibliography_text, document_text, field_text, item_text, item_opening, item_end, output_text, tree_text};
+ghost use Rattle.cite.specs.Output.{bibliography_text, document_text, field_text, item_text, item_opening, item_end, output_text};
 ghost use Rattle.cite.specs.Pieces.{citations_after, output_of, piece_text};
 
-use crate::pieces::{Output, OutputPiece};
+use crate::sink_target::SinkTarget;
 use cite_markers::{Document, Piece};
 use driver::{BibliographyItem, Rendered, RenderedBibliography, RenderedCitation};
-use rendering_output::BufWriteFormat;
-use rendering_tree::{Elem, ElemChild, ElemChildren};
+use rendering_output::{BufWriteFormat, TextTarget, WriterTarget};
+use rendering_tree::ElemChild;
+use sinks::{Sink, SinkFault};
 use std::alloc::{AllocError, Global};
+use std::fmt;
 
-/// The output of a document with its citations and its bibliography.
-pub(crate) fn output_of<'d>(
-    alloc: Global,
-    document: &Document<'d>,
-    rendered: &Rendered,
-    format: BufWriteFormat,
-) -> Result<Output<'d>, AllocError>
-    ensures { IfOk result (λ o. output_of o ≡ text_of (output_text format (pieces_of document.now) (rendered_by rendered.now))) }
-{
-    let mut output = Output::new(alloc);
-    push_document(
-        alloc,
-        &document.pieces,
-        &rendered.citations,
-        format,
-        &mut output,
-    )?;
-    push_bibliography(alloc, &rendered.bibliography, format, &mut output)?;
-    Ok(output)
+/// An output of which all is known: a document, what it is rendered to, and the format. It is written piece by piece: nothing that takes
+/// memory is done then.
+#[derive(Drop)]
+pub(crate) struct Output<'d> {
+    pub(crate) document: Document<'d>,
+    pub(crate) rendered: Rendered,
+    pub(crate) format: BufWriteFormat,
 }
 
-/// Adds the texts of a document, and a citation in place of each marker.
-fn push_document<'d>(
-    alloc: Global,
-    pieces: &[Piece<'d>],
+impl Output<'_> {
+    /// The output as one text.
+    pub(crate) fn to_text(&self, alloc: Global) -> Result<String, AllocError>
+        ensures { IfOk result (λ s. string_bytes s ≡ output_of self.now) }
+    {
+        let mut text = String::new(alloc);
+        match self.write_text(&mut text) {
+            Ok(()) => Ok(text),
+            Err(_) => Err(AllocError),
+        }
+    }
+
+    /// Writes the pieces in order. A call of `write` that fails or takes nothing ends it and is not tried again: the sink has then taken a
+    /// beginning of the output.
+    pub(crate) fn write_to<W: Sink>(&self, sink: &mut W) -> Result<(), SinkFault>
+        ensures ok { OnOk result (Appends (W.contents sink.old) (W.contents sink.new) (output_of self.now)) }
+        ensures err { OnErr result (AppendsFront (W.contents sink.old) (W.contents sink.new) (output_of self.now)) }
+        ensures cause { OnErr result (HasFailed (W.failures sink.old) (W.failures sink.new)) }
+        ensures quiet { OnOk result (W.failures sink.new ≡ W.failures sink.old) }
+        ensures once { OnErr result (W.failures sink.new ≡ next_count (W.failures sink.old)) }
+        ensures fault { IfErr result (λ e. W.last_fault sink.new ≡ Some e) }
+    {
+        let mut target = SinkTarget::new(sink);
+        self.push_to(&mut target);
+        target.result()
+    }
+
+    /// Writes the pieces in order to any writer.
+    fn write_text<W: fmt::Write>(&self, w: &mut W) -> fmt::Result
+        ensures { OnOk result (WritesCharacters W.write_str_gives w.old (output_text self.now.format (pieces_of self.now.document) (rendered_by self.now.rendered)) w.new) }
+    {
+        let mut target = WriterTarget::new(w);
+        self.push_to(&mut target);
+        target.result()
+    }
+
+    /// Hands the pieces to the target, in order.
+    fn push_to<T: TextTarget>(&self, target: &mut T)
+        ensures { WritesCharacters T.takes target.old (output_text self.now.format (pieces_of self.now.document) (rendered_by self.now.rendered)) target.new }
+    {
+        push_document(
+            target,
+            &self.document.pieces,
+            &self.rendered.citations,
+            self.format,
+        );
+        push_bibliography(target, &self.rendered.bibliography, self.format);
+    }
+}
+
+/// Hands over the texts of a document, and a citation in place of each marker.
+fn push_document<T: TextTarget>(
+    target: &mut T,
+    pieces: &[Piece<'_>],
     citations: &[RenderedCitation],
     format: BufWriteFormat,
-    output: &mut Output<'d>,
-) -> Result<(), AllocError>
-    ensures { OnOk result (output_of output.new ≡ output_of output.old ++ text_of (document_text format (map piece_seen pieces.now) (map citation_by citations.now))) }
+)
+    ensures { WritesCharacters T.takes target.old (document_text format (map piece_seen pieces.now) (map citation_by citations.now)) target.new }
 {
     let mut left = citations;
     for piece in pieces {
-        push_piece(alloc, piece, left, format, output)?;
+        push_piece(target, piece, left, format);
         left = citations_after(piece, left);
     }
-    Ok(())
 }
 
 /// The citations that are left after a piece, of those that were left before it.
@@ -67,129 +108,70 @@ fn citations_after<'c>(piece: &Piece<'_>, left: &'c [RenderedCitation]) -> &'c [
     }
 }
 
-/// Adds a text of the document, or the first of the citations that are left.
-fn push_piece<'d>(
-    alloc: Global,
-    piece: &Piece<'d>,
+/// Hands over a text of the document, or the first of the citations that are left.
+fn push_piece<T: TextTarget>(
+    target: &mut T,
+    piece: &Piece<'_>,
     left: &[RenderedCitation],
     format: BufWriteFormat,
-    output: &mut Output<'d>,
-) -> Result<(), AllocError>
-    ensures { OnOk result (output_of output.new ≡ output_of output.old ++ text_of (piece_text format (piece_seen piece.now) (map citation_by left.now))) }
+)
+    ensures { WritesCharacters T.takes target.old (piece_text format (piece_seen piece.now) (map citation_by left.now)) target.new }
 {
     match (piece, left) {
-        (Piece::Text(text), _) => push_text(text, output),
-        (Piece::Marker(_), [citation, ..]) => push_citation(alloc, citation, format, output),
-        (Piece::Marker(_), []) => Ok(()),
+        (Piece::Text(text), _) => push_text(target, text),
+        (Piece::Marker(_), [citation, ..]) => citation.citation.push_to(target, format),
+        (Piece::Marker(_), []) => {}
     }
 }
 
-/// Adds a text.
-#[tactic(auto, using(laws::proofs::Text::text_of_chars))]
-fn push_text<'d>(text: &'d str, output: &mut Output<'d>) -> Result<(), AllocError>
-    ensures { OnOk result (output_of output.new ≡ output_of output.old ++ text_of (chars text.now)) }
+/// Hands over a text.
+fn push_text<T: TextTarget>(target: &mut T, text: &str)
+    ensures { WritesCharacters T.takes target.old (chars text.now) target.new }
 {
-    output.push(OutputPiece::Text(text))
+    target.push_str(text);
 }
 
-/// Adds a citation.
-fn push_citation(
-    alloc: Global,
-    citation: &RenderedCitation,
-    format: BufWriteFormat,
-    output: &mut Output<'_>,
-) -> Result<(), AllocError>
-    ensures { OnOk result (output_of output.new ≡ output_of output.old ++ text_of (tree_text format (citation_by citation.now).tree)) }
-{
-    let mut text = String::new(alloc);
-    push_tree(&mut text, &citation.citation, format)?;
-    output.push(OutputPiece::Written(text))
-}
-
-/// Adds the bibliography, where there is one.
-fn push_bibliography(
-    alloc: Global,
+/// Hands over the bibliography, where there is one.
+fn push_bibliography<T: TextTarget>(
+    target: &mut T,
     bibliography: &Option<RenderedBibliography>,
     format: BufWriteFormat,
-    output: &mut Output<'_>,
-) -> Result<(), AllocError>
-    ensures { OnOk result (output_of output.new ≡ output_of output.old ++ text_of (option_map_or (bibliography_text format) (option_map bibliography_by bibliography.now) [])) }
+)
+    ensures { WritesCharacters T.takes target.old (option_map_or (bibliography_text format) (option_map bibliography_by bibliography.now) []) target.new }
 {
     match bibliography {
-        Some(bibliography) => push_items(alloc, &bibliography.items, format, output),
-        None => Ok(()),
+        Some(bibliography) => push_items(target, &bibliography.items, format),
+        None => {}
     }
 }
 
-/// Adds a line feed and items.
-fn push_items(
-    alloc: Global,
-    items: &[BibliographyItem],
-    format: BufWriteFormat,
-    output: &mut Output<'_>,
-) -> Result<(), AllocError>
-    ensures { OnOk result (output_of output.new ≡ output_of output.old ++ text_of (10 ∷ flat_map (item_text format) (map fields_by items.now))) }
+/// Hands over a line feed and items.
+fn push_items<T: TextTarget>(target: &mut T, items: &[BibliographyItem], format: BufWriteFormat)
+    ensures { WritesCharacters T.takes target.old (10 ∷ flat_map (item_text format) (map fields_by items.now)) target.new }
 {
-    output.push(OutputPiece::Text("\n"))?;
+    target.push_str("\n");
     for item in items {
-        push_item(alloc, item, format, output)?;
+        push_item(target, item, format);
     }
-    Ok(())
 }
 
-/// Adds an item, in a line.
-fn push_item(
-    alloc: Global,
-    item: &BibliographyItem,
-    format: BufWriteFormat,
-    output: &mut Output<'_>,
-) -> Result<(), AllocError>
-    ensures { OnOk result (output_of output.new ≡ output_of output.old ++ text_of (item_text format (fields_by item.now))) }
+/// Hands over an item, in a line.
+fn push_item<T: TextTarget>(target: &mut T, item: &BibliographyItem, format: BufWriteFormat)
+    ensures { WritesCharacters T.takes target.old (item_text format (fields_by item.now)) target.new }
 {
-    let mut text = String::new(alloc);
-    text.push_str(item_opening(format))?;
-    push_field(&mut text, &item.first_field, format)?;
-    push_tree(&mut text, &item.content, format)?;
-    text.push_str(item_end(format))?;
-    output.push(OutputPiece::Written(text))?;
-    Ok(())
+    target.push_str(item_opening(format));
+    push_field(target, &item.first_field, format);
+    item.content.push_to(target, format);
+    target.push_str(item_end(format));
 }
 
-/// Appends a first field, where there is one, as the format writes it. It is an element.
-fn push_field(
-    text: &mut String,
-    field: &Option<ElemChild>,
-    format: BufWriteFormat,
-) -> Result<(), AllocError>
-    ensures { OnOk result (string_bytes text.new ≡ string_bytes text.old ++ text_of (field_text format (option_and_then (λ x. element_if (child x)) field.now))) }
+/// Hands over a first field, where there is one, as the format writes it. It is an element.
+fn push_field<T: TextTarget>(target: &mut T, field: &Option<ElemChild>, format: BufWriteFormat)
+    ensures { WritesCharacters T.takes target.old (field_text format (option_and_then (λ x. element_if (child x)) field.now)) target.new }
 {
     match field {
-        Some(ElemChild::Elem(element)) => push_element(text, element, format),
-        _ => Ok(()),
-    }
-}
-
-/// Appends a tree as the format writes it.
-fn push_tree(
-    text: &mut String,
-    tree: &ElemChildren,
-    format: BufWriteFormat,
-) -> Result<(), AllocError>
-    ensures { OnOk result (string_bytes text.new ≡ string_bytes text.old ++ text_of (tree_text format (tree_seen tree.now))) }
-{
-    match tree.write_buf(text, format) {
-        Ok(()) => Ok(()),
-        Err(_) => Err(AllocError),
-    }
-}
-
-/// Appends an element as the format writes it.
-fn push_element(text: &mut String, element: &Elem, format: BufWriteFormat) -> Result<(), AllocError>
-    ensures { OnOk result (string_bytes text.new ≡ string_bytes text.old ++ text_of (field_text format (Some (element_seen element.now)))) }
-{
-    match element.write_buf(text, format) {
-        Ok(()) => Ok(()),
-        Err(_) => Err(AllocError),
+        Some(ElemChild::Elem(element)) => element.push_to(target, format),
+        _ => {}
     }
 }
 

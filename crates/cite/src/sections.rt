@@ -5,7 +5,7 @@ ghost use Rattle.std.specs.Str.{chars};
 ghost use Rattle.laws.specs.Text.{spelled};
 ghost use Rattle.literature_entries.specs.Wholes.{whole};
 ghost use Rattle.literature.specs.Entries.{entries};
-ghost use Rattle.cite.specs.Holding.{holds_at};
+ghost use Rattle.literature_selectors.specs.Holding.{holds_at};
 ghost use Rattle.literature_selectors.specs.Views.{meant};
 ghost use Rattle.interop.specs.Views.{shelf};
 ghost use Rattle.cite.specs.Answers.{Gives};

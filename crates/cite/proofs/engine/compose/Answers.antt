@@ -6,7 +6,7 @@ use Rattle.cite.specs.Pieces.{output_of}
 use Rattle.cite.specs.Verdict.{IsVerdict}
 use Rattle.cite.specs.Views.{task_of, works_in}
 use Rattle.cite.specs.declared.error.CiteError.{CiteError}
-use Rattle.cite.specs.declared.pieces.Output.{Output}
+use Rattle.cite.specs.declared.output.Output.{Output}
 use Rattle.cite.proofs.AnswersWeaker.{refused_weaker}
 use Rattle.cite.proofs.VerdictStages.{works_stop, document_stops, rendering_stops, ends}
 use Rattle.cite.proofs.engine.compose.Goals as goal
@@ -36,4 +36,4 @@ returns-in_err-rendered c =
 pub returns : goal.returns
 returns c =
     let task = task_of c.args.document.now c.args.style.now c.args.locale.now c.args.sections.now c.args.format in
-    rw c.in_ok-output_of.ensures (ends c.args.bib.now (works_in c.in_ok-works.works) task (pieces_of c.in_ok-document.document) (rendered_by c.in_ok-rendered.rendered) c.in_ok-works.ensures c.in_ok-document.ensures c.in_ok-rendered.ensures)
+    ends c.args.bib.now (works_in c.in_ok-works.works) task (pieces_of c.in_ok-document.document) (rendered_by c.in_ok-rendered.rendered) c.in_ok-works.ensures c.in_ok-document.ensures c.in_ok-rendered.ensures

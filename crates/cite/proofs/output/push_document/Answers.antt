@@ -1,35 +1,35 @@
-use Rattle.std.proofs.Common.{ℕ, ◌+◌, List, ◌++◌, drop, map, sym, ap, ◌∙◌, arith}
+use Rattle.std.proofs.Common.{◌+◌, List, drop, map, sym, ap, arith}
 use Rattle.std.proofs.lemmas.List.{drop_all}
-use Rattle.laws.specs.Text.{text}
 use Rattle.driver.specs.Finish.{Citation}
 use Rattle.driver.specs.RenderedViews.{citation_by}
 use Rattle.cite_markers.specs.Views.{piece}
 use Rattle.cite_markers.specs.declared.document.Piece.{Piece}
 use Rattle.cite.specs.Output.{document_text}
-use Rattle.cite.specs.Pieces.{citations_after, output_of}
-use Rattle.cite.proofs.OutputPieces.{piece_first, nothing_left}
+use Rattle.cite.specs.Pieces.{citations_after}
+use Rattle.cite.proofs.OutputPieces.{no_piece, piece_first, writes_same}
 use Rattle.cite.proofs.StepsAfter.{at_item}
 use Rattle.cite.proofs.output.push_document.Goals as goal
 
 pub loop-piece-preserved : goal.loop-piece-preserved
-loop-piece-preserved c =
+loop-piece-preserved g c = λ u written.
+    let took = g.T.TextTarget.takes in
     let format = c.args.format in
-    let before = output_of c.loop-piece.output in
     let i = c.loop-piece.piece-index in
     let xs = c.args.pieces.now in
+    let here = c.piece-item.result in
     let left = map citation_by c.loop-piece.left.now in
+    let later = map citation_by c.citations_after-left.result.now in
     let rest = map piece (drop (i + 1) xs) in
-    let all = output_of c.args.output.now ++ text (document_text format (map piece xs) (map citation_by c.args.citations.now)) in
-    let cut = at_item (λ (ys : List Piece). before ++ text (document_text format (map piece ys) left)) xs i c.piece-item.result c.loop-piece-test.true c.piece-item.is in
-    ap (λ (cs : List Citation). output_of c.push_piece.new.output ++ text (document_text format rest cs)) c.citations_after-left.ensures
-    ∙ ap (λ (o : List ℕ). o ++ text (document_text format rest (citations_after (piece c.piece-item.result) left))) c.in_ok-push_piece.ensures
-    ∙ piece_first format before (piece c.piece-item.result) rest left all (sym cut ∙ c.loop-piece.invariant)
+    let cut = at_item (λ (ys : List Piece). document_text format (map piece ys) left) xs i here c.loop-piece-test.true c.piece-item.is in
+    let others = writes_same took c.push_piece.new.target (document_text format rest later) (document_text format rest (citations_after (piece here) left)) u
+    (ap (λ (cs : List Citation). document_text format rest cs) c.citations_after-left.ensures) written in
+    c.loop-piece.invariant u
+    (writes_same took c.loop-piece.target _ (document_text format (map piece (drop i xs)) left) u (sym cut)
+    (piece_first took format (piece here) rest left c.loop-piece.target c.push_piece.new.target u c.push_piece.ensures others))
 
 pub returns : goal.returns
-returns c =
-    let format = c.args.format in
+returns g c =
     let xs = c.args.pieces.now in
-    let left = map citation_by c.loop-piece.left.now in
-    nothing_left format (output_of c.loop-piece.output) (map piece (drop c.loop-piece.piece-index xs)) left
-    (output_of c.args.output.now ++ text (document_text format (map piece xs) (map citation_by c.args.citations.now)))
-    (ap (map piece) (drop_all c.loop-piece.piece-index xs (omega (arith, c.loop-piece-test.false)))) c.loop-piece.invariant
+    let i = c.loop-piece.piece-index in
+    c.loop-piece.invariant c.loop-piece.target
+    (no_piece g.T.TextTarget.takes c.args.format (map piece (drop i xs)) (map citation_by c.loop-piece.left.now) c.loop-piece.target (ap (map piece) (drop_all i xs (omega (arith, c.loop-piece-test.false)))))

@@ -1,17 +1,12 @@
-use Rattle.std.proofs.Common.{ℕ, List, ◌++◌, ap, ◌∙◌}
-use Rattle.std.specs.Prelude.{string_bytes}
-use Rattle.laws.specs.Text.{text}
 use Rattle.driver.specs.RenderedViews.{fields_by}
-use Rattle.cite.specs.Output.{field_text}
-use Rattle.cite.specs.Pieces.{output_of}
-use Rattle.cite.proofs.OutputPieces.{item_written}
+use Rattle.cite.specs.Output.{item_end, item_opening}
+use Rattle.cite.proofs.OutputPieces.{item_written, writes_spelled}
 use Rattle.cite.proofs.output.push_item.Goals as goal
 
 pub returns : goal.returns
-returns c =
-    let f = fields_by c.args.item.now in
-    let opened = c.in_ok-push_str.ensures.bytes ∙ (λ i. c.new-text.ensures.bytes i ++ c.item_opening.ensures i) in
-    let field = c.in_ok-push_field.ensures ∙ ap (λ (xs : List ℕ). xs ++ text (field_text c.args.format f.first_field)) opened in
-    c.in_ok-push.ensures
-    ∙ ap (λ (xs : List ℕ). output_of c.args.output.now ++ xs) (item_written c.args.format f (string_bytes c.push_field.new.text) (string_bytes c.push_str-2.new.self) field
-    (c.in_ok-push_str-2.ensures.bytes ∙ (λ i. c.in_ok-push_tree.ensures i ++ c.item_end.ensures i)))
+returns g c =
+    let took = g.T.TextTarget.takes in
+    let format = c.args.format in
+    let opening = writes_spelled took c.args.target.now (item_opening format) c.item_opening.result.now c.push_str.new.self c.item_opening.ensures c.push_str.ensures in
+    let end = writes_spelled took c.push_to.new.target (item_end format) c.item_end.result.now c.push_str-2.new.self c.item_end.ensures c.push_str-2.ensures in
+    item_written took format (fields_by c.args.item.now) c.args.target.now c.push_str.new.self c.push_field.new.target c.push_to.new.target c.push_str-2.new.self opening c.push_field.ensures c.push_to.ensures end

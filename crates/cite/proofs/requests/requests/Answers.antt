@@ -1,4 +1,4 @@
-use Rattle.std.proofs.Common.{◌≡◌, ◌+◌, List, ◌∷◌, drop, map, sym, ap, subst, ◌∙◌, arith, rules, Result, Err, Vec}
+use Rattle.std.proofs.Common.{◌≡◌, ◌+◌, drop, map, sym, ap, subst, ◌∙◌, arith, rules, Result, Err, Vec}
 use Rattle.std.specs.Global.{Global}
 use Rattle.std.proofs.lemmas.List.{drop_all}
 use Rattle.literature_entries.specs.declared.entry.Entry.{Entry}
@@ -6,7 +6,6 @@ use Rattle.rendering_locale.specs.Views.{locale_seen}
 use Rattle.rendering_style.specs.StyleViews.{style_seen}
 use Rattle.driver_requests.specs.declared.request.CitationRequest.{CitationRequest}
 use Rattle.cite_markers.specs.Views.{piece, pieces_of}
-use Rattle.cite_markers.specs.declared.document.Piece.{Piece}
 use Rattle.cite.specs.Answers.{Gives}
 use Rattle.cite.specs.Asked.{request_seen, requests_after, requests_asked}
 use Rattle.cite.specs.Requests.{OwnLocator, context_of}

@@ -4,9 +4,9 @@ use Rattle.std.proofs.lemmas.List.{map_push}
 use Rattle.literature_entries.specs.Wholes.{Whole, whole}
 use Rattle.literature_entries.specs.declared.entry.Entry.{Entry}
 use Rattle.literature_selectors.specs.Views.{meant}
-use Rattle.cite.specs.Holding.{holds_at}
+use Rattle.literature_selectors.specs.Holding.{holds_at}
 use Rattle.cite.specs.Views.{lent_works}
-use Rattle.cite.proofs.HoldingWorks.{holds_is}
+use Rattle.literature_selectors.proofs.HoldingWorks.{holds_is}
 use Rattle.cite.proofs.sections.push_chosen.Goals as goal
 
 -- one entry more, where it is chosen, and where it is not

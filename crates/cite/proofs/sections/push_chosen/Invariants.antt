@@ -2,7 +2,7 @@ use Rattle.std.proofs.Common.{◌≡◌, ◌++◌, filter, map}
 use Rattle.literature_entries.specs.Wholes.{whole}
 use Rattle.literature.specs.Entries.{entries}
 use Rattle.literature_selectors.specs.Views.{meant}
-use Rattle.cite.specs.Holding.{holds_at}
+use Rattle.literature_selectors.specs.Holding.{holds_at}
 use Rattle.cite.specs.Views.{lent_works}
 use Rattle.cite.proofs.sections.push_chosen.Given as goal
 

@@ -1,0 +1,12 @@
+use Rattle.std.proofs.Common.{rules}
+use Rattle.cite.proofs.SinkingCalls.{all_taken, answered}
+use Rattle.cite.proofs.output.Output.write_to.Goals as goal
+
+pub returns : goal.returns
+returns g c =
+    let contents = g.W.Sink.contents in
+    let failures = g.W.Sink.failures in
+    let last = g.W.Sink.last_fault in
+    let written = all_taken contents failures last c.new-target.result c.push_to.new.target c.args.sink.now _ c.result.result _ c.new-target.ensures.result c.new-target.ensures.sink c.result.ensures (λ same. search rules) c.push_to.ensures in
+    let all = answered contents failures last c.args.sink.now _ _ c.result.result written in
+    record { ok = all.ok; err = all.err; cause = all.cause; quiet = all.quiet; once = all.once; fault = all.fault }

@@ -1,8 +1,0 @@
-use Rattle.std.proofs.Common.{◌≡◌, ◌++◌, List, ℕ}
-use Rattle.std.specs.Prelude.{String, string_bytes}
-use Rattle.std.specs.Global.{Global}
-use Rattle.std.proofs.lemmas.Fmt.{contents_after_writes}
-use Rattle.cite.proofs.output.push_element.Goals as goal
-
-pub returns-in-Ok : goal.returns-in-Ok
-returns-in-Ok c = contents_after_writes (λ (s : String Global) (bs : List ℕ) (t : String Global). string_bytes t ≡ string_bytes s ++ bs) string_bytes (λ s bs t e. e) _ _ _ c.in-Ok.ensures
