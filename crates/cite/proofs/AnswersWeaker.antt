@@ -1,5 +1,5 @@
 -- Answers that are wanted in two places.
-use Rattle.std.proofs.Common.{ℕ, Option, Some, None, Result, Ok, Err}
+use Rattle.std.proofs.Common.{◌≡◌, ℕ, Option, Some, None, Result, Ok, Err}
 use Rattle.biblatex.specs.Errors.{refusal_of}
 use Rattle.biblatex.specs.Reading as reading
 use Rattle.literature_selectors.specs.Reading.{Fault}
@@ -36,3 +36,13 @@ refused_weaker (errors.Write fault) P Q f h = h
 pub answers_weaker : {X Y : Type 0} (view : X → Y) (r : Result X CiteError) (P Q : Wanted Y) → ((a : Result Y Refusal) → P a → Q a) → Answers view r P → Answers view r Q
 answers_weaker view (Ok x) P Q f h = f _ h
 answers_weaker view (Err e) P Q f h = refused_weaker e P Q (λ r. f (Err r)) h
+
+abbrev answered : {X : Type 0} → X → Result X Refusal
+answered x = Ok x
+
+both : {X : Type 0} (Z : Type 0) (x : X) (r : Refusal) → answered x ≡ Err r → Z
+both Z x r is = absurd cc
+
+-- where the answer is a value no error is a refusal of it
+pub no_refusal : {X Y : Type 0} (e : CiteError) (x : X) (Q : Wanted Y) → IsRefusal e (λ (a : Result X Refusal). Ok x ≡ a) → IsRefusal e Q
+no_refusal {X} e x Q h = refused_weaker e (λ (a : Result X Refusal). Ok x ≡ a) Q (λ r is. both (Q (Err r)) x r is) h

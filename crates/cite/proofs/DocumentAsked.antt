@@ -1,5 +1,5 @@
 -- What a driver is asked by requests of the code is what it is asked by the markers of a document.
-use Rattle.std.proofs.Common.{◌≡◌, ℕ, ◌+◌, All, List, [], ◌∷◌, ◌++◌, map, filter, Option, Some, None, Ok, cond, refl, sym, ap, subst, ◌∙◌, Bool, true, false}
+use Rattle.std.proofs.Common.{◌≡◌, ℕ, All, List, [], ◌∷◌, ◌++◌, map, filter, Option, Some, None, Ok, cond, refl, sym, ap, subst, ◌∙◌, Bool, true, false}
 use Rattle.std.specs.Prelude.{option_and_then}
 use Rattle.std.specs.List.{enumerate_from}
 use Rattle.std.proofs.lemmas.List.Elements.{All-head, All-tail}

@@ -1,6 +1,9 @@
 pub mod AnswersWeaker
 pub mod AskedPlaces
+pub mod Bridged
 pub mod CitationsCount
+pub mod CitedKeys
+pub mod CitedWorks
 pub mod DocumentAsked
 pub mod EntriesPlaces
 pub mod Finishing

@@ -3,6 +3,8 @@ use Rattle.std.specs.Prelude.{◌≡◌, ℕ, map, Option, Some, None, Result, O
 use Rattle.biblatex.specs.Reading as reading
 use Rattle.biblatex.specs.Errors.{refusal_of}
 use Rattle.interop.specs.Views.{fault}
+use Rattle.interop.specs.declared.error.BridgeError.{BridgeError}
+use Rattle.interop.specs.declared.error.BridgeError.TheVariants as bridge
 use Rattle.literature_selectors.specs.Reading.{Fault}
 use Rattle.literature_selectors.specs.Views as selectors
 use Rattle.cite.specs.Stages.{Refusal, bib_not_utf8, bib_refused, fields_refused, document_not_utf8, no_marker, unknown_name, section_refused, overflow}
@@ -38,6 +40,11 @@ IsRefusal (errors.Name name) wanted = wanted (Err (unknown_name (string_bytes na
 IsRefusal (errors.Selector index error) wanted = IsSectionRefusal index (selectors.fault error) wanted
 IsRefusal errors.Overflow wanted = wanted (Err overflow)
 IsRefusal (errors.Write fault) wanted = ⊥
+
+-- what the bridge refuses, as an error of a call
+abbrev pub bridge_error : BridgeError → CiteError
+bridge_error bridge.Memory = errors.Memory
+bridge_error (bridge.Fields faults) = errors.Fields faults
 
 -- What was returned, seen by view, is wanted, unless memory ran out.
 abbrev pub Answers : {X Y : Type 0} → (X → Y) → Result X CiteError → Wanted Y → Type 0

@@ -1,5 +1,6 @@
 pub mod Steps
 pub mod Works
+pub mod Cited
 pub mod Markers
 pub mod Sections
 pub mod Requests

@@ -1,9 +1,13 @@
 -- What the code has and returns, without where it lies in memory.
-use Rattle.std.specs.Prelude.{ℕ, List, map}
+use Rattle.std.specs.Prelude.{ℕ, Bool, List, map}
 use Rattle.std.specs.Borrow.{Bor}
+use Rattle.std.specs.HashSet.{HashSet}
+use Rattle.std.specs.List.{list_any}
+use Rattle.std.specs.Str.{bytes_eq}
 use Rattle.laws.specs.Text.{spelled}
 use Rattle.biblatex.specs.Bibliographies.{seen}
 use Rattle.interop.specs.Views.{shelf}
+use Rattle.literature.specs.declared.library.Library.{Library}
 use Rattle.literature_entries.specs.Wholes.{Whole, whole}
 use Rattle.literature_entries.specs.declared.entry.Entry.{Entry}
 use Rattle.rendering_locale.specs.Views.{locale_seen}
@@ -11,14 +15,23 @@ use Rattle.rendering_locale.specs.declared.locale.Locale.{Locale}
 use Rattle.rendering_output.specs.declared.writing.BufWriteFormat.{BufWriteFormat}
 use Rattle.rendering_style.specs.StyleViews.{style_seen}
 use Rattle.rendering_style.specs.declared.style.Style.{Style}
+use Rattle.cite.specs.Cited.{works_of}
 use Rattle.cite.specs.Requests.{context_of}
 use Rattle.cite.specs.Verdict.{Task}
 use Rattle.cite.specs.Works as specs
 use Rattle.cite.specs.declared.works.Works.{Works}
 
--- the works of a bib text
+-- the works of a bib text: its entries, and the library that they come to
 abbrev pub works_in : Works → specs.Works
-works_in w = record { file = seen w.file; library = shelf w.library }
+works_in w = works_of (seen w.file)
+
+-- its entries with a library that was made of them, or of some of them
+abbrev pub works_among : Works → Library → specs.Works
+works_among w library = record { file = seen w.file; library = shelf library }
+
+-- whether a set of texts has one that is the same
+abbrev pub has : {S : Type 0} → HashSet (Bor (List ℕ)) S → Bor (List ℕ) → Bool
+has texts t = list_any (λ (x : Bor (List ℕ)). bytes_eq t.now x.now) texts.keys
 
 -- what a call is given beside the bib text
 abbrev pub task_of : List ℕ → Style → Locale → List (Bor (List ℕ)) → BufWriteFormat → Task

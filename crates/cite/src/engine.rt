@@ -50,19 +50,28 @@ fn read_document<'s>(alloc: Global, document: &'s [u8]) -> Result<Document<'s>, 
     }
 }
 
-/// Citations and bibliography of a document.
-fn render<'x>(
+/// Citations and bibliography of a document. The file is dropped before the driver begins, which prints entries of the library alone.
+fn render(
     alloc: Global,
-    setting: Setting<'x>,
-    document: &Document<'x>,
+    works: Works,
+    style: &Style,
+    locale: &Locale,
+    document: &Document<'_>,
     sections: &[&str],
 ) -> Result<Rendered, CiteError>
-    ensures { Gives rendered_by result (rendered_stage (works_in setting.entry.works.now) (context_of (style_seen setting.entry.style.now) (locale_seen setting.entry.locale.now)) (map spelled sections.now) (pieces_of document.now)) }
+    ensures { Gives rendered_by result (rendered_stage (works_in works) (context_of (style_seen style.now) (locale_seen locale.now)) (map spelled sections.now) (pieces_of document.now)) }
 {
-    let requests = requests(alloc, setting, document)?;
+    let library = works.library(alloc, document, sections)?;
+    let setting = Setting {
+        library: &library,
+        style,
+        locale,
+    };
+    let requests = requests(alloc, &works, setting, document)?;
+    drop(works);
     let selectors = selectors(alloc, sections)?;
-    let chosen = chosen(alloc, &selectors, setting.works.library())?;
-    finish(alloc, requests, setting.style, setting.locale, &chosen)
+    let chosen = chosen(alloc, &selectors, &library)?;
+    finish(alloc, requests, style, locale, &chosen)
 }
 
 /// Citations and bibliography of requests, in the order in which entries are chosen.
@@ -113,12 +122,7 @@ fn compose<'d>(
 {
     let works = Works::read(alloc, bib)?;
     let document = read_document(alloc, document)?;
-    let setting = Setting {
-        works: &works,
-        style,
-        locale,
-    };
-    let rendered = render(alloc, setting, &document, sections)?;
+    let rendered = render(alloc, works, style, locale, &document, sections)?;
     Ok(Output {
         document,
         rendered,

@@ -1,11 +1,12 @@
 //! Why a call of `cite` refused.
 
 ghost use Rattle.std.specs.Prelude.{◌≡◌, Some};
+ghost use Rattle.cite.specs.Answers.{bridge_error};
 ghost use Rattle.cite.specs.Refusals.{bib_text, document_text, error_text, selector_error_text};
 ghost use Rattle.cite.specs.declared.error.CiteError.TheVariants.{Memory};
 
 use biblatex::ParseError;
-use interop::FieldFault;
+use interop::{BridgeError, FieldFault};
 use literature_selectors::SelectorError;
 use sinks::SinkFault;
 use std::alloc::{AllocError, AllocFailed};
@@ -134,5 +135,16 @@ impl<T: Drop> From<AllocFailed<T>> for CiteError {
 
     fn from(_error: AllocFailed<T>) -> CiteError {
         CiteError::Memory
+    }
+}
+
+impl From<BridgeError> for CiteError {
+    ghost from_gives = { λ error e. e ≡ bridge_error error };
+
+    fn from(error: BridgeError) -> CiteError {
+        match error {
+            BridgeError::Fields(faults) => CiteError::Fields(faults),
+            BridgeError::Memory => CiteError::Memory,
+        }
     }
 }

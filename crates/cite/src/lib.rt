@@ -3,6 +3,7 @@
 #![tactic(auto)]
 
 mod bytes;
+mod cited;
 mod engine;
 mod error;
 mod one_line;

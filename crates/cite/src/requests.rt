@@ -14,12 +14,13 @@ ghost use Rattle.cite_markers.specs.Views.{cite as cite_seen, locator as locator
 ghost use Rattle.cite.specs.Answers.{Gives};
 ghost use Rattle.cite.specs.Asked.{item_asked, item_seen, items_asked, request_asked, request_pushed, request_seen, requests_asked};
 ghost use Rattle.cite.specs.Requests.{context_of, locator_of};
-ghost use Rattle.cite.specs.Views.{works_in};
+ghost use Rattle.cite.specs.Views.{works_among};
 
 use crate::error::CiteError;
 use crate::works::Works;
 use cite_markers::{Cite, CiteLocator, Document, Piece};
 use driver_requests::{CitationItem, CitationRequest};
+use literature::Library;
 use literature_entries::Entry;
 use rendering_context::{LocatorPayload, SpecificLocator};
 use rendering_locale::{Locale, LocaleCode};
@@ -31,10 +32,10 @@ use texts::owned;
 /// A request for the marker of a document: no locator is one that a caller prints by itself.
 pub(crate) type MarkerRequest<'a> = CitationRequest<'a, Entry, ()>;
 
-/// What all requests of a document have in common: its works, the style, and the locale.
+/// What all requests of a document have in common: the library of the works that it cites, the style, and the locale.
 #[derive(Clone, Copy)]
 pub(crate) struct Setting<'a> {
-    pub(crate) works: &'a Works,
+    pub(crate) library: &'a Library,
     pub(crate) style: &'a Style,
     pub(crate) locale: &'a Locale,
 }
@@ -42,14 +43,15 @@ pub(crate) struct Setting<'a> {
 /// A request for each marker, or the first name that means no work.
 pub(crate) fn requests<'a>(
     alloc: Global,
+    works: &Works,
     setting: Setting<'a>,
     document: &Document<'a>,
 ) -> Result<Vec<MarkerRequest<'a>>, CiteError>
-    ensures { Gives (λ v. map request_seen v.items) result (requests_asked (works_in setting.entry.works.now) (context_of (style_seen setting.entry.style.now) (locale_seen setting.entry.locale.now)) (pieces_of document.now)) }
+    ensures { Gives (λ v. map request_seen v.items) result (requests_asked (works_among works.now setting.entry.library.now) (context_of (style_seen setting.entry.style.now) (locale_seen setting.entry.locale.now)) (pieces_of document.now)) }
 {
     let mut requests = Vec::new(alloc);
     for piece in &document.pieces {
-        push_request(alloc, setting, piece, &mut requests)?;
+        push_request(alloc, works, setting, piece, &mut requests)?;
     }
     Ok(requests)
 }
@@ -57,15 +59,16 @@ pub(crate) fn requests<'a>(
 /// Adds the request of a piece, if it is a marker.
 fn push_request<'a>(
     alloc: Global,
+    works: &Works,
     setting: Setting<'a>,
     piece: &Piece<'a>,
     requests: &mut Vec<MarkerRequest<'a>>,
 ) -> Result<(), CiteError>
-    ensures { Gives (λ _. map request_seen requests.new.items) result (request_pushed (works_in setting.entry.works.now) (context_of (style_seen setting.entry.style.now) (locale_seen setting.entry.locale.now)) (map request_seen requests.old.items) (piece_seen piece.now)) }
+    ensures { Gives (λ _. map request_seen requests.new.items) result (request_pushed (works_among works.now setting.entry.library.now) (context_of (style_seen setting.entry.style.now) (locale_seen setting.entry.locale.now)) (map request_seen requests.old.items) (piece_seen piece.now)) }
 {
     if let Piece::Marker(cites) = piece {
         let number = requests.len() + 1;
-        requests.push(request(alloc, setting, cites, number)?)?;
+        requests.push(request(alloc, works, setting, cites, number)?)?;
     }
     Ok(())
 }
@@ -73,13 +76,14 @@ fn push_request<'a>(
 /// The request of a marker. Markers are numbered from one.
 fn request<'a>(
     alloc: Global,
+    works: &Works,
     setting: Setting<'a>,
     cites: &[Cite<'a>],
     number: usize,
 ) -> Result<MarkerRequest<'a>, CiteError>
-    ensures { Gives request_seen result (request_asked (works_in setting.entry.works.now) (context_of (style_seen setting.entry.style.now) (locale_seen setting.entry.locale.now)) (number, map cite_seen cites.now)) }
+    ensures { Gives request_seen result (request_asked (works_among works.now setting.entry.library.now) (context_of (style_seen setting.entry.style.now) (locale_seen setting.entry.locale.now)) (number, map cite_seen cites.now)) }
 {
-    let items = items(alloc, setting.works, cites)?;
+    let items = items(alloc, works, setting.library, cites)?;
     let language = language(setting.locale)?;
     Ok(CitationRequest::new(
         items,
@@ -103,14 +107,15 @@ pub(crate) fn language(locale: &Locale) -> Result<Option<LocaleCode>, AllocError
 /// The items of cites, or the first name that means no work.
 fn items<'a>(
     alloc: Global,
-    works: &'a Works,
+    works: &Works,
+    library: &'a Library,
     cites: &[Cite<'a>],
 ) -> Result<Vec<CitationItem<'a, Entry, ()>>, CiteError>
-    ensures { Gives (λ v. map item_seen v.items) result (items_asked (works_in works.now) (map cite_seen cites.now)) }
+    ensures { Gives (λ v. map item_seen v.items) result (items_asked (works_among works.now library.now) (map cite_seen cites.now)) }
 {
     let mut items = Vec::with_capacity(alloc, cites.len())?;
     for cite in cites {
-        items.push(item(alloc, works, cite)?)?;
+        items.push(item(alloc, works, library, cite)?)?;
     }
     Ok(items)
 }
@@ -118,12 +123,13 @@ fn items<'a>(
 /// The item of a cite, or its name where that means no work.
 fn item<'a>(
     alloc: Global,
-    works: &'a Works,
+    works: &Works,
+    library: &'a Library,
     cite: &Cite<'a>,
 ) -> Result<CitationItem<'a, Entry, ()>, CiteError>
-    ensures { Gives item_seen result (item_asked (works_in works.now) (cite_seen cite.now)) }
+    ensures { Gives item_seen result (item_asked (works_among works.now library.now) (cite_seen cite.now)) }
 {
-    let Some(entry) = meant(works, cite.name) else {
+    let Some(entry) = meant(works, library, cite.name) else {
         return Err(CiteError::Name(owned(alloc, cite.name)?));
     };
     let locator = locator(&cite.locator);
@@ -131,10 +137,10 @@ fn item<'a>(
 }
 
 /// The work that a name of the document means.
-fn meant<'b>(works: &'b Works, name: &str) -> Option<&'b Entry>
-    ensures { MatchOption result (meaning (text_of (chars name.now)) (works_in works.now) ≡ None) (λ e. meaning (text_of (chars name.now)) (works_in works.now) ≡ Some (whole e.now)) }
+fn meant<'a>(works: &Works, library: &'a Library, name: &str) -> Option<&'a Entry>
+    ensures { MatchOption result (meaning (text_of (chars name.now)) (works_among works.now library.now) ≡ None) (λ e. meaning (text_of (chars name.now)) (works_among works.now library.now) ≡ Some (whole e.now)) }
 {
-    works.get(name)
+    works.get(library, name)
 }
 
 /// The part of a work that a cite points to.

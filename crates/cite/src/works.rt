@@ -1,68 +1,110 @@
 //! The works of a bib text, and what names mean.
 
-ghost use Rattle.std.specs.Prelude.{◌≡◌};
+ghost use Rattle.std.specs.Prelude.{◌≡◌, []};
 ghost use Rattle.std.specs.Option.{option_map};
-ghost use Rattle.std.specs.Str.{chars};
 ghost use Rattle.biblatex.specs.Bibliographies.{seen};
 ghost use Rattle.biblatex.specs.Entries.{source};
-ghost use Rattle.biblatex.specs.Resolved.{TextMeans};
 ghost use Rattle.literature_entries.specs.Wholes.{whole};
-ghost use Rattle.literature.specs.Entries.{entries};
-ghost use Rattle.interop.specs.Views.{shelf};
-ghost use Rattle.cite.specs.Works.{meaning, work_of};
-ghost use Rattle.cite.specs.Stages.{IsRead, IsShelved, library_stage, refused_as};
-ghost use Rattle.cite.specs.Views.{works_in};
+ghost use Rattle.interop.specs.Shelf.{all_faults, library_of};
+ghost use Rattle.interop.specs.Views.{lent_sources, shelf};
+ghost use Rattle.cite.specs.Works.{work_of};
+ghost use Rattle.cite.specs.Stages.{IsRead, fields_refused, refused_as};
 ghost use Rattle.cite.specs.Answers.{Answers, Gives};
 
 use crate::bytes::utf8_text;
+use crate::cited::{cited_keys, entries_with};
 use crate::error::{BibTextError, CiteError};
 use biblatex::{Bibliography, Entry as SourceEntry, ParseError};
-use interop::{BridgeError, from_biblatex, is_xdata};
+use cite_markers::Document;
+use interop::{check_dates, from_biblatex, from_entries, is_xdata};
 use literature::Library;
 use literature_entries::Entry;
 use std::alloc::Global;
 
-/// The entries of a bib text, and the library that they come to.
+/// The entries of a bib text, all of whose dates can be read. A library is made only of those that are needed.
 #[derive(Drop)]
 pub(crate) struct Works {
     file: Bibliography,
-    library: Library,
+    ghost readable: { all_faults (seen file).entries ≡ [] },
 }
 
 impl Works {
-    /// The works of a bib text: its entries are read, and then what they are in a library.
+    ghost use Rattle.std.specs.Prelude.{◌≡◌, map, Ok};
+    ghost use Rattle.std.specs.Option.{option_map};
+    ghost use Rattle.laws.specs.Text.{spelled};
+    ghost use Rattle.biblatex.specs.Bibliographies.{seen};
+    ghost use Rattle.literature_entries.specs.Wholes.{whole};
+    ghost use Rattle.interop.specs.Views.{shelf};
+    ghost use Rattle.cite_markers.specs.Views.{pieces_of};
+    ghost use Rattle.cite.specs.Answers.{Answers, Gives};
+    ghost use Rattle.cite.specs.Cited.{entries_with, keys_cited, library_from, library_needed};
+    ghost use Rattle.cite.specs.Stages.{IsShelved, library_stage};
+    ghost use Rattle.cite.specs.Views.{works_among, works_in};
+    ghost use Rattle.cite.specs.Works.{meaning};
+
+    /// The works of a bib text: its entries are read, and then their dates.
     pub(crate) fn read(alloc: Global, bib: &[u8]) -> Result<Works, CiteError>
         ensures { Answers works_in result (IsShelved bib.now) }
     {
         let file = read_file(alloc, bib)?;
-        Works::shelve(alloc, file)
+        Works::checked(alloc, file)
     }
 
     /// The works of a file, or all fields of it that cannot be read.
-    fn shelve(alloc: Global, file: Bibliography) -> Result<Works, CiteError>
+    #[tactic(auto, using(interop::proofs::ShelfFaults::none))]
+    fn checked(alloc: Global, file: Bibliography) -> Result<Works, CiteError>
         ensures { Gives works_in result (library_stage (seen file)) }
     {
-        match from_biblatex(alloc, &file) {
-            Ok(library) => Ok(Works { file, library }),
-            Err(BridgeError::Fields(faults)) => Err(CiteError::Fields(faults)),
-            Err(BridgeError::Memory) => Err(CiteError::Memory),
-        }
+        check_dates(alloc, &file)?;
+        Ok(Works { file })
     }
 
-    /// The library.
-    pub(crate) fn library(&self) -> &Library
-        ensures { shelf result.now ≡ (works_in self.now).library }
+    /// The library of the entries that the document cites, or of all entries where there are sections, which may choose any.
+    pub(crate) fn library(
+        &self,
+        alloc: Global,
+        document: &Document<'_>,
+        sections: &[&str],
+    ) -> Result<Library, CiteError>
+        ensures { Gives shelf result (Ok (library_needed (seen self.now.file) (map spelled sections.now) (pieces_of document.now))) }
     {
-        &self.library
+        if sections.is_empty() {
+            return self.cited_library(alloc, document);
+        }
+        whole_library(alloc, &self.file)
     }
 
-    /// The work that a name means, by its key or an alias. Entries of type `xdata`, which only lend their fields, are none.
-    pub(crate) fn get(&self, name: &str) -> Option<&Entry>
-        ensures { option_map (λ e. whole e.now) result ≡ meaning name.now (works_in self.now) }
+    /// The library of the entries that the document cites.
+    fn cited_library(&self, alloc: Global, document: &Document<'_>) -> Result<Library, CiteError>
+        ensures { Gives shelf result (Ok (library_from (entries_with (keys_cited (seen self.now.file) (pieces_of document.now)) (seen self.now.file).entries))) }
+    {
+        let keys = cited_keys(alloc, &self.file, document)?;
+        let cited = entries_with(alloc, self.file.entries(), &keys)?;
+        library_of(alloc, &cited)
+    }
+
+    /// The work of the library that a name means, by its key or an alias. Entries of type `xdata`, which only lend their fields,
+    /// are none.
+    pub(crate) fn get<'l>(&self, library: &'l Library, name: &str) -> Option<&'l Entry>
+        ensures { option_map (λ e. whole e.now) result ≡ meaning name.now (works_among self.now library.now) }
     {
         let entry = self.file.get(name)?;
-        work_of(&self.library, entry)
+        work_of(library, entry)
     }
+}
+
+/// The library of a file, or all fields of it that cannot be read.
+fn whole_library(alloc: Global, file: &Bibliography) -> Result<Library, CiteError>
+    ensures { Gives shelf result (refused_as fields_refused (library_of (seen file.now).entries)) }
+{
+    Ok(from_biblatex(alloc, file)?)
+}
+
+/// The library of entries, or all fields of them that cannot be read.
+fn library_of(alloc: Global, entries: &[&SourceEntry]) -> Result<Library, CiteError>
+    ensures { Gives shelf result (refused_as fields_refused (library_of (lent_sources entries.now))) }
+{
+    Ok(from_entries(alloc, entries)?)
 }
 
 /// The work that an entry of the file is.

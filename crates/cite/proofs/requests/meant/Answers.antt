@@ -6,7 +6,7 @@ use Rattle.literature_entries.specs.Wholes.{Whole, whole}
 use Rattle.literature_entries.specs.declared.entry.Entry.{Entry}
 use Rattle.laws.proofs.Text.{text_of_chars}
 use Rattle.cite.specs.Works.{meaning}
-use Rattle.cite.specs.Views.{works_in}
+use Rattle.cite.specs.Views.{works_among}
 use Rattle.cite.proofs.requests.meant.Goals as goal
 
 -- what an entry that was found is
@@ -16,4 +16,4 @@ found (Some e) m is = sym is
 
 pub returns : goal.returns
 returns c =
-    found c.get.result _ (c.get.ensures ∙ ap (λ (n : List ℕ). meaning n (works_in c.args.works.now)) (sym (text_of_chars c.args.name.now c.utf8.name)))
+    found c.get.result _ (c.get.ensures ∙ ap (λ (n : List ℕ). meaning n (works_among c.args.works.now c.args.library.now)) (sym (text_of_chars c.args.name.now c.utf8.name)))

@@ -9,7 +9,7 @@ use Rattle.cite_markers.specs.Views.{piece, pieces_of}
 use Rattle.cite.specs.Answers.{Gives}
 use Rattle.cite.specs.Asked.{request_seen, requests_after, requests_asked}
 use Rattle.cite.specs.Requests.{OwnLocator, context_of}
-use Rattle.cite.specs.Views.{works_in}
+use Rattle.cite.specs.Views.{works_among}
 use Rattle.cite.specs.declared.error.CiteError.{CiteError}
 use Rattle.cite.proofs.AnswersWeaker.{refused_weaker}
 use Rattle.cite.proofs.RequestsSteps.{goes_on, fails, ends}
@@ -18,7 +18,7 @@ use Rattle.cite.proofs.requests.requests.Goals as goal
 
 pub loop-piece-preserved : goal.loop-piece-preserved
 loop-piece-preserved c =
-    let works = works_in c.args.setting.works.now in
+    let works = works_among c.args.works.now c.args.setting.library.now in
     let x = context_of (style_seen c.args.setting.style.now) (locale_seen c.args.setting.locale.now) in
     let i = c.loop-piece.piece-index in
     let xs = c.args.document.now.pieces.items in
@@ -29,7 +29,7 @@ loop-piece-preserved c =
 
 pub returns-in_err-push_request : goal.returns-in_err-push_request
 returns-in_err-push_request c =
-    let works = works_in c.args.setting.works.now in
+    let works = works_among c.args.works.now c.args.setting.library.now in
     let x = context_of (style_seen c.args.setting.style.now) (locale_seen c.args.setting.locale.now) in
     let i = c.loop-piece.piece-index in
     let xs = c.args.document.now.pieces.items in
@@ -43,7 +43,7 @@ returns-in_err-push_request c =
 
 pub returns : goal.returns
 returns c =
-    let works = works_in c.args.setting.works.now in
+    let works = works_among c.args.works.now c.args.setting.library.now in
     let x = context_of (style_seen c.args.setting.style.now) (locale_seen c.args.setting.locale.now) in
     let xs = c.args.document.now.pieces.items in
     ends works x (map request_seen c.loop-piece.requests.items) (map piece (drop c.loop-piece.piece-index xs)) (requests_asked works x (pieces_of c.args.document.now)) c.loop-piece.invariant

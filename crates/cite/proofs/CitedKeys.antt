@@ -1,0 +1,46 @@
+-- Keys that are put in a set one after the other.
+use Rattle.std.proofs.Common.{◌≡◌, ◌||◌, ℕ, Bool, true, false, List, [], ◌∷◌, ◌++◌, cond, refl, sym, ap, ◌∙◌, append_assoc, append-nil}
+use Rattle.std.specs.Str.{bytes_eq}
+use Rattle.std.proofs.lemmas.Bool.Decides.{Decides-like, same_from_decides}
+use Rattle.std.proofs.lemmas.List.Folds.{list_any-append}
+use Rattle.std.proofs.lemmas.Slice.Eq.{bytes_eq-Decides}
+use Rattle.biblatex.specs.Entries.{Source}
+use Rattle.cite.specs.Cited.{entries_with, is_among}
+
+pub or_false : (b : Bool) → (b || false) ≡ b
+or_false true = refl
+or_false false = refl
+
+-- some keys more, and then the others
+pub among_more : (before : Bool) (keys others : List (List ℕ)) (k : List ℕ) → ((before || is_among keys k) || is_among others k) ≡ (before || is_among (keys ++ others) k)
+among_more true keys others k = refl
+among_more false keys others k = sym (list_any-append (bytes_eq k) keys others)
+
+turned : (a b : List ℕ) → bytes_eq a b ≡ bytes_eq b a
+turned a b = same_from_decides (bytes_eq a b) (bytes_eq b a) (bytes_eq-Decides a b) (Decides-like (bytes_eq b a) sym sym (bytes_eq-Decides b a))
+
+either : (before same : Bool) → cond same true before ≡ (before || (same || false))
+either true true = refl
+either true false = refl
+either false true = refl
+either false false = refl
+
+-- one key more
+pub among_one : (before : Bool) (key k : List ℕ) → cond (bytes_eq key k) true before ≡ (before || is_among (key ∷ []) k)
+among_one before key k = either before (bytes_eq key k) ∙ ap (λ (b : Bool). before || (b || false)) (turned key k)
+
+-- entries with the keys, one entry and then the others
+one_then : (b : Bool) (before rest : List Source) (e : Source) → (before ++ cond b (e ∷ []) []) ++ rest ≡ before ++ cond b (e ∷ rest) rest
+one_then true before rest e = append_assoc before (e ∷ []) rest
+one_then false before rest e = ap (λ (es : List Source). es ++ rest) (append-nil before)
+
+pub entries_more : (keys : List (List ℕ)) (before : List Source) (e : Source) (rest : List Source)
+    → (before ++ entries_with keys (e ∷ [])) ++ entries_with keys rest ≡ before ++ entries_with keys (e ∷ rest)
+entries_more keys before e rest = one_then (is_among keys e.key) before (entries_with keys rest) e
+
+-- an entry by whether it has one of the keys
+pub with_known : (keys : List (List ℕ)) (e : Source) → is_among keys e.key ≡ true → e ∷ [] ≡ entries_with keys (e ∷ [])
+with_known keys e is = ap (λ (b : Bool). cond b (e ∷ []) []) (sym is)
+
+pub without_known : (keys : List (List ℕ)) (e : Source) → is_among keys e.key ≡ false → [] ≡ entries_with keys (e ∷ [])
+without_known keys e is = ap (λ (b : Bool). cond b (e ∷ []) []) (sym is)

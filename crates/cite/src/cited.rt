@@ -1,0 +1,112 @@
+//! The entries of a file that a document cites.
+
+ghost use Rattle.std.specs.Prelude.{◌≡◌, ◌||◌, ◌++◌, ◌∷◌, [], if◌then◌else◌, true, ℕ, List, map, IfOk, OnOk};
+ghost use Rattle.std.specs.Str.{bytes_eq, chars};
+ghost use Rattle.laws.specs.Text.{text};
+ghost use Rattle.std.specs.Borrow.{Bor};
+ghost use Rattle.biblatex.specs.Bibliographies.{seen};
+ghost use Rattle.biblatex.specs.Entries.{source, sources};
+ghost use Rattle.cite_markers.specs.Views.{cite as cite_seen, piece as piece_seen, pieces_of};
+ghost use Rattle.cite.specs.Cited.{entries_with, is_among, key_meant, keys_cited, keys_in, keys_named};
+ghost use Rattle.cite.specs.Views.{has};
+ghost use Rattle.interop.specs.Views.{lent_sources};
+
+use biblatex::{Bibliography, Entry as SourceEntry};
+use cite_markers::{Cite, Document, Piece};
+use std::alloc::{AllocError, Global};
+use std::collections::HashSet;
+
+/// The keys of the entries that the markers of a document cite.
+pub(crate) fn cited_keys<'f>(
+    alloc: Global,
+    file: &'f Bibliography,
+    document: &Document<'_>,
+) -> Result<HashSet<&'f str>, AllocError>
+    ensures { IfOk result (λ keys. (k : Bor (List ℕ)) → has keys k ≡ is_among (keys_cited (seen file.now) (pieces_of document.now)) k.now) }
+{
+    let mut keys = HashSet::new(alloc);
+    for piece in &document.pieces {
+        insert_cited(file, piece, &mut keys)?;
+    }
+    Ok(keys)
+}
+
+/// Adds the keys of the entries that a piece cites, if it is a marker.
+#[tactic(auto, using(crate::proofs::CitedKeys::or_false))]
+fn insert_cited<'f>(
+    file: &'f Bibliography,
+    piece: &Piece<'_>,
+    keys: &mut HashSet<&'f str>,
+) -> Result<(), AllocError>
+    ensures { OnOk result ((k : Bor (List ℕ)) → has keys.new k ≡ (has keys.old k || is_among (keys_in (seen file.now) (piece_seen piece.now)) k.now)) }
+{
+    match piece {
+        Piece::Text(_) => Ok(()),
+        Piece::Marker(cites) => insert_named(file, cites, keys),
+    }
+}
+
+/// Adds the keys of the entries that cites name.
+fn insert_named<'f>(
+    file: &'f Bibliography,
+    cites: &[Cite<'_>],
+    keys: &mut HashSet<&'f str>,
+) -> Result<(), AllocError>
+    ensures { OnOk result ((k : Bor (List ℕ)) → has keys.new k ≡ (has keys.old k || is_among (keys_named (seen file.now) (map cite_seen cites.now)) k.now)) }
+{
+    for cite in cites {
+        insert_meant(file, cite.name, keys)?;
+    }
+    Ok(())
+}
+
+/// Adds the key of the entry that a name means, if it means one.
+fn insert_meant<'f>(
+    file: &'f Bibliography,
+    name: &str,
+    keys: &mut HashSet<&'f str>,
+) -> Result<(), AllocError>
+    ensures { OnOk result ((k : Bor (List ℕ)) → has keys.new k ≡ (has keys.old k || is_among (key_meant (seen file.now) (text (chars name.now))) k.now)) }
+{
+    match file.get(name) {
+        Some(entry) => insert_key(entry.key.as_str(), keys),
+        None => Ok(()),
+    }
+}
+
+/// Adds a key.
+fn insert_key<'f>(key: &'f str, keys: &mut HashSet<&'f str>) -> Result<(), AllocError>
+    ensures { OnOk result ((k : Bor (List ℕ)) → has keys.new k ≡ (if bytes_eq key.now k.now then true else has keys.old k)) }
+{
+    keys.insert(key)?;
+    Ok(())
+}
+
+/// The entries that have one of these keys, in their order.
+pub(crate) fn entries_with<'f>(
+    alloc: Global,
+    entries: &'f [SourceEntry],
+    keys: &HashSet<&str>,
+) -> Result<Vec<&'f SourceEntry>, AllocError>
+    ensures { (known : List (List ℕ)) → ((k : Bor (List ℕ)) → has keys.now k ≡ is_among known k.now) → IfOk result (λ v. lent_sources v.items ≡ entries_with known (sources entries.now)) }
+{
+    let mut found = Vec::new(alloc);
+    for entry in entries {
+        push_known(keys, entry, &mut found)?;
+    }
+    Ok(found)
+}
+
+/// Appends an entry, if it has one of the keys.
+fn push_known<'f>(
+    keys: &HashSet<&str>,
+    entry: &'f SourceEntry,
+    found: &mut Vec<&'f SourceEntry>,
+) -> Result<(), AllocError>
+    ensures { (known : List (List ℕ)) → ((k : Bor (List ℕ)) → has keys.now k ≡ is_among known k.now) → OnOk result (lent_sources found.new.items ≡ lent_sources found.old.items ++ entries_with known (source entry.now ∷ [])) }
+{
+    if !keys.contains(entry.key.as_str()) {
+        return Ok(());
+    }
+    Ok(found.push(entry)?)
+}
