@@ -1,0 +1,3 @@
+pub mod Titles
+pub mod Tasks
+pub mod Hidden
