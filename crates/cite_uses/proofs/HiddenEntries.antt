@@ -13,13 +13,10 @@ use Rattle.driver_requests.specs.Views.{Parts, context_of, entries_in, entry_of_
 use Rattle.driver_requests.specs.declared.bibliography_request.BibliographyRequest.{BibliographyRequest}
 use Rattle.driver_requests.specs.declared.item.CitationItem.{CitationItem}
 use Rattle.driver_requests.specs.declared.request.CitationRequest.{CitationRequest}
+use Rattle.driver.proofs.Maps.{map_map}
 use Rattle.driver.specs.Views.{bibliography_context_of, document_by}
 use Rattle.cite.specs.Requests.{OwnLocator}
 use Rattle.cite_uses.specs.Hidden.{context_in, hidden_document, hidden_parts, hidden_request}
-
-map_map : {A B C : Type 0} (f : B → C) (g : A → B) (xs : List A) → map f (map g xs) ≡ map (λ (a : A). f (g a)) xs
-map_map f g [] = refl
-map_map f g (x ∷ xs) = ap (λ zs. f (g x) ∷ zs) (map_map f g xs)
 
 abbrev answers : Entry → Answers
 answers e = answers_of (whole e)
