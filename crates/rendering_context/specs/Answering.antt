@@ -143,6 +143,10 @@ with_people (p ∷ ps, v) = true
 abbrev pub all_people : Context → List Variable → List NameVariable → List Answered
 all_people c suppressed vs = filter with_people (map (λ v. (people_answer c suppressed v, v)) vs)
 
+-- whether one of the variables has people
+abbrev pub has_people : Context → List Variable → List NameVariable → Bool
+has_people c suppressed vs = list_any (λ v. with_people (people_answer c suppressed v, v)) vs
+
 -- whether there is more than one, by the value or by the signs in a locator's text
 abbrev pub is_range_sign : ℕ → Bool
 is_range_sign c = c == 44 || c == 38 || c == 45 || c == 8211

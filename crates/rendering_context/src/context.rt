@@ -105,6 +105,41 @@ impl<'s, 'a> Context<'s, 'a> {
         Ok(answered)
     }
 
+    /// Whether one of the variables has people.
+    ///
+    /// # Errors
+    /// Out of memory.
+    pub fn has_people<E: EntryLike>(
+        &self,
+        entry: &'a E,
+        suppressed: &[Variable],
+        variables: &[NameVariable],
+    ) -> Result<bool, AllocError>
+        ensures { IfOk result (λ b. b ≡ answering.has_people (context_by (E.answers entry.now) self.now) suppressed.now variables.now) }
+    {
+        for variable in variables {
+            if self.is_answered_by_people(entry, suppressed, *variable)? {
+                return Ok(true);
+            }
+        }
+        Ok(false)
+    }
+
+    /// Whether the variable has people.
+    fn is_answered_by_people<E: EntryLike>(
+        &self,
+        entry: &'a E,
+        suppressed: &[Variable],
+        variable: NameVariable,
+    ) -> Result<bool, AllocError>
+        ensures { IfOk result (λ b. b ≡ answering.with_people (answering.people_answer (context_by (E.answers entry.now) self.now) suppressed.now variable, variable)) }
+    {
+        if is_among(suppressed, Variable::Name(variable)) {
+            return Ok(false);
+        }
+        has_people(self.alloc, entry, variable)
+    }
+
     /// Whether the answer to the variable is more than one: numbers and pages by their value, a locator's text by its signs.
     ///
     /// # Errors

@@ -1,8 +1,9 @@
 //! Years with their era, alone and of ranges.
 
-ghost use Rattle.std.specs.Prelude.{◌≡◌, ◌++◌, OnOk};
+ghost use Rattle.std.specs.Prelude.{◌≡◌, ◌++◌, false, Bool, List, ℕ, OnOk};
 ghost use Rattle.laws.specs.Text.{characters, spelled};
 ghost use Rattle.rendering_dates.specs.Dates.{ad_text, bc_text, is_short, year_by, dash, whole_year, other_year, years_text};
+ghost use Rattle.rendering_numbers.specs.Years.{year_text};
 
 use literature_values::{Date, DateEnd};
 use rendering_locale::AskedLocales;
@@ -66,13 +67,19 @@ pub(crate) fn push_year_by(
 ) -> Result<(), AllocError>
     ensures { OnOk result (characters out.new ≡ characters out.old ++ year_by locales.now form year) }
 {
-    push_year(
-        out,
-        year,
-        is_short(form),
-        ad_text(locales),
-        bc_text(locales),
-    )
+    let is_short = is_short(form);
+    if has_era(year) {
+        push_year(out, year, is_short, ad_text(locales), bc_text(locales))
+    } else {
+        push_year(out, year, is_short, "", "")
+    }
+}
+
+/// Whether a year is written with its era.
+fn has_era(year: i32) -> bool
+    ensures { (short : Bool) (ad bc others more : List ℕ) → result ≡ false → year_text year short ad bc ≡ year_text year short others more }
+{
+    year < 1000
 }
 
 /// Whether a form is the short one.

@@ -5,9 +5,10 @@ ghost use Rattle.std.specs.Fmt.{decimal};
 ghost use Rattle.std.specs.List.{enumerate_from, flat_map};
 ghost use Rattle.laws.specs.Text.{characters};
 ghost use Rattle.rendering_names.specs.Counts.{cut};
-ghost use Rattle.rendering_names.specs.Names.{before_people, beside, label_pieces, list_pieces, names_frame, names_manner, names_pieces, people_pieces, placed_variable, variable_frame, variable_pieces};
+ghost use Rattle.rendering_names.specs.Names.{before_people, beside, label_pieces, list_pieces, names_frame, names_manner, names_pieces, node_options, people_pieces, placed_variable, variable_frame, variable_pieces};
 ghost use Rattle.rendering_names.specs.Views.{all_answered, answered_by, down, node_by, options_by, placed, style_by};
 ghost use Rattle.rendering_page.specs.Pieces.{all_down, normal};
+ghost use Rattle.rendering_style.specs.Options.{NameOptions};
 ghost use Rattle.rendering_page.specs.Views.{quotes_of, manner as manner_seen, frame as frame_seen};
 
 use crate::options::ResolvedNameOptions;
@@ -24,7 +25,8 @@ use std::fmt::Write;
 use texts::empty_text;
 
 /// Puts down the people of a names node in an element that stands for them: of each variable the names that the properties
-/// show, each in its form, with the label of the variable; or only how many are shown, where the options say so. The
+/// show, each in its form, with the label of the variable; or only how many are shown, where the options say so. The options are those
+/// of the node over those around it. The
 /// properties are those of the same people, variable by variable. Nothing is promised of the page after an error.
 ///
 /// # Errors
@@ -33,15 +35,15 @@ pub fn push_names<'a>(
     page: &mut Page<'a>,
     setting: &NameSetting<'_, 'a>,
     node: &NamesParts<'a>,
-    around: &ResolvedNameOptions<'a>,
+    options: &ResolvedNameOptions<'a>,
     properties: &NameDisambiguationProperties,
     people: &[Answered<'_>],
 ) -> Result<(), AllocError>
-    ensures { OnOk result (page.new ≡ all_down (quotes_of setting.now.quotes.now) (names_pieces setting.now.locales.now (manner_seen setting.now.manner) (node_by node.now) (options_by around.now) properties.now (all_answered people.now)) page.old) }
+    ensures { (around : NameOptions) → options_by options.now ≡ node_options (node_by node.now) around → OnOk result (page.new ≡ all_down (quotes_of setting.now.quotes.now) (names_pieces setting.now.locales.now (manner_seen setting.now.manner) (node_by node.now) around properties.now (all_answered people.now)) page.old) }
 {
     let frame = names_frame(setting.manner, node);
     let meta = names_meta(setting.alloc, people)?;
-    let style = NameStyle::new(names_setting(setting, node), node, around);
+    let style = NameStyle::new(names_setting(setting, node), node, options);
     page.begin_element(&frame, meta)?;
     style.push_people(page, node, properties, people)?;
     page.end_element(setting.quotes, &frame)?;

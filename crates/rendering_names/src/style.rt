@@ -3,9 +3,10 @@
 ghost use Rattle.std.specs.Prelude.{◌≡◌, None};
 ghost use Rattle.laws.specs.Text.{spelled};
 ghost use Rattle.rendering_locale.specs.Views.{changes_seen};
-ghost use Rattle.rendering_names.specs.Names.{style_of, and_text, et_al_term};
+ghost use Rattle.rendering_names.specs.Names.{style_of, and_text, et_al_term, node_options};
 ghost use Rattle.rendering_names.specs.Views.{node_by, options_by, style_by};
 ghost use Rattle.rendering_page.specs.Views.{manner as manner_seen, frame as frame_seen};
+ghost use Rattle.rendering_style.specs.Options.{NameOptions};
 ghost use Rattle.rendering_taxonomy.specs.Formats.{changed};
 
 use crate::options::ResolvedNameOptions;
@@ -38,20 +39,20 @@ pub(crate) struct NameStyle<'s, 'a> {
 }
 
 impl<'s, 'a> NameStyle<'s, 'a> {
-    /// How the names of the node stand in its own look, where these options are said around it.
+    /// How the names of the node stand in its own look, with its options over those around it.
     pub(crate) fn new(
         setting: NameSetting<'s, 'a>,
         node: &NamesParts<'a>,
-        around: &ResolvedNameOptions<'a>,
+        options: &ResolvedNameOptions<'a>,
     ) -> NameStyle<'s, 'a>
-        ensures style { style_by result ≡ style_of setting.entry.locales.now (manner_seen setting.entry.manner) (node_by node.now) (options_by around.now) }
+        ensures style { (around : NameOptions) → options_by options.now ≡ node_options (node_by node.now) around → style_by result ≡ style_of setting.entry.locales.now (manner_seen setting.entry.manner) (node_by node.now) around }
         ensures setting { result.setting ≡ setting.entry }
     {
         NameStyle {
             setting,
             name: node.name,
             et_al: node.et_al,
-            options: node.options(around),
+            options: *options,
         }
     }
 

@@ -69,9 +69,9 @@ parted f others own after v e =
       rest = (λ i. drop (count i) (behind i)) ∙ drop-append_seam own after;
     }
 
--- of the first of nodes, that is known now, where the call has come no further
+-- of the first of nodes, that is known now, where a survey of it finds what it found
 pub found_first : (c : Context) (s : Setting) (st : State) (x : Node) (xs : Nodes) (k : Findings) (n : NodeFinding) (f : Finding) (others : List Finding)
-    → stage_then c s.form k ≡ stage c s st → k.nodes.now ≡ f ∷ others
+    → survey (stage_then c s.form k) x ≡ survey (stage c s st) x → k.nodes.now ≡ f ∷ others
     → n.is_admitted ≡ f.is_admitted → n.met ≡ f.met → n.inside.has_date ≡ k.has_date → n.inside.suppressed.now ≡ k.suppressed.now → n.inside.nodes.now ≡ take f.inside others
     → AreFound c s.form k (node x xs) → IsFound c s st n x
 found_first c s st x xs k n f others now is admitted met date suppressed inside known =
@@ -80,8 +80,8 @@ found_first c s st x xs k n f others now is admitted met date suppressed inside 
     parted f others (found_inside here x) (found here xs) (survey here x) (subst (λ (l : List Finding). AreAll l (found here (node x xs))) is known) in
     let same : stage_then c s.form n.inside ≡ here = λ i. record { context = c; form = s.form; has_date = date i; suppressed = suppressed i } in
     record {
-      is_admitted = admitted ∙ p.is_admitted ∙ ap (λ (t : Stage). (survey t x).is_admitted) now;
-      met = met ∙ p.met ∙ ap (λ (t : Stage). (survey t x).met) now;
+      is_admitted = admitted ∙ p.is_admitted ∙ ap (λ (v : Survey). v.is_admitted) now;
+      met = met ∙ p.met ∙ ap (λ (v : Survey). v.met) now;
       inside = all_same n.inside.nodes.now (found_inside (stage_then c s.form n.inside) x) (inside ∙ p.inside ∙ sym (ap (λ (t : Stage). found_inside t x) same));
     }
 

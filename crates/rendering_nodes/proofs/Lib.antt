@@ -11,6 +11,8 @@ pub mod SuffixSteps
 pub mod ElementsSteps
 pub mod OpenedPut
 pub mod StandingPut
+pub mod DatesUnasked
+pub mod PeopleThere
 pub mod FindingsKnown
 pub mod FindingsSteps
 pub mod FindingsPut

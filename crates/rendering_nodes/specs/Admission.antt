@@ -89,6 +89,14 @@ allows_date c has_date without_author = true
 allows_date c has_date first_date_only = not has_date
 allows_date c has_date suffix_only = not has_date && not c.has_suffix_node
 
+-- whether it is asked in a form if the first date was printed
+abbrev pub asks_for_date : Form → Bool
+asks_for_date whole = false
+asks_for_date (author_only a) = false
+asks_for_date without_author = false
+asks_for_date first_date_only = true
+asks_for_date suffix_only = true
+
 -- whether a variable is among those of a names node
 abbrev pub is_of : NameVariable → NamesNode → Bool
 is_of v h = list_any (is_name_variable v) h.variables

@@ -16,6 +16,10 @@ use Rattle.rendering_nodes.specs.declared.finding.Surveyed.{Surveyed}
 abbrev pub with_finding : Survey → List Finding → List Finding
 with_finding v inside = record { is_admitted = v.is_admitted; met = v.met; inside = length inside } ∷ inside
 
+-- where a survey has not yet found anything of a node
+abbrev pub nothing_found : Finding
+nothing_found = record { is_admitted = false; met = false; inside = 0 }
+
 -- nothing is asked of stand-ins beside people, nor where names are shut out
 abbrev pub beside_people : Stage → NamesNode → Bool → List Finding → List Finding
 beside_people s h true stand_ins = []

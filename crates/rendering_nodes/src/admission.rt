@@ -8,7 +8,7 @@ ghost use Rattle.rendering_style.specs.Nodes as nodes;
 ghost use Rattle.rendering_style.specs.Opening.{each_branch, each_node, macro_named, open_node, part};
 ghost use Rattle.rendering_style.specs.Views.{branch_seen, branches_of, names_seen, node_seen, nodes_seen, text_seen, text_look_seen};
 
-use crate::finding::{Finding, nothing_found, put_finding};
+use crate::finding::{Finding, push_nothing_found, put_finding};
 use crate::forms::{allows_names, shuts_out};
 use crate::stage::Stage;
 use crate::survey::Survey;
@@ -48,7 +48,7 @@ impl<'a> Stage<'_, '_, 'a> {
         ensures { IfOk result (λ v. (survey_by v, findings.new.items) ≡ next_asked (stage_by (E.answers entry.now) self.now) findings.old.items (open_node levels (macros_of self.now.walk.now) (node_seen node.now))) }
     {
         let place = findings.len();
-        findings.push(nothing_found())?;
+        push_nothing_found(findings)?;
         let survey = self.survey_node(entry, levels, node, findings)?;
         put_finding(findings, place, survey);
         Ok(survey)

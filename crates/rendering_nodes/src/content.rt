@@ -61,7 +61,7 @@ impl<'a> Walk<'_, 'a> {
         let mut is_first = true;
         let mut rest = findings;
         for node in nodes {
-            let finding = rest.first(state);
+            let finding = rest.first(setting.form, state);
             let is_admitted = self.push_next(
                 entry, setting, levels, is_first, node, finding, state,
             )?;
@@ -360,7 +360,7 @@ impl<'a> Walk<'_, 'a> {
     {
         let mut rest = findings;
         for node in substitute {
-            let finding = rest.first(state);
+            let finding = rest.first(setting.form, state);
             if self.push_standing(entry, setting, levels, names, node, finding, state)? {
                 return Ok(());
             }

@@ -1,17 +1,20 @@
 //! What surveys find of nodes, so that no node is asked twice.
 
-ghost use Rattle.std.specs.Prelude.{◌≡◌, ◌∷◌, ◌++◌, ◌<◌, [], true, drop, length, take, List, IfSome};
+ghost use Rattle.std.specs.Prelude.{◌≡◌, ◌∷◌, ◌++◌, ◌<◌, [], true, drop, length, take, List, IfSome, OnOk};
 ghost use Rattle.rendering_context.specs.Contexts.{Context};
 ghost use Rattle.rendering_leaves.specs.Settings as settings;
+ghost use Rattle.rendering_leaves.specs.Views.{form_by};
+ghost use Rattle.rendering_nodes.specs.Admission.{asks_for_date, survey};
 ghost use Rattle.rendering_nodes.specs.Content.{stage};
-ghost use Rattle.rendering_nodes.specs.Findings.{AreFound, IsFound, IsSurveyed, stage_then, with_finding};
+ghost use Rattle.rendering_nodes.specs.Findings.{AreFound, IsFound, IsSurveyed, nothing_found, stage_then, with_finding};
 ghost use Rattle.rendering_nodes.specs.Turns.{asked, is_next};
 ghost use Rattle.rendering_nodes.specs.Views.{survey_by};
 ghost use Rattle.rendering_style.specs.Nodes.{Node, Nodes, node};
 
 use crate::survey::Survey;
-use rendering_leaves::State;
+use rendering_leaves::{Form, State};
 use rendering_taxonomy::Variable;
+use std::alloc::AllocError;
 
 /// What a survey found of a node.
 #[derive(Clone, Copy)]
@@ -97,10 +100,10 @@ impl<'t> Findings<'t> {
     }
 
     /// What is known of the first node, unless the call has come further.
-    pub(crate) fn first(&self, state: &State<'_>) -> Option<NodeFinding<'t>>
-        ensures { (c : Context) (s : settings.Setting) (x : Node) (xs : Nodes) → AreFound c s.form self.now (node x xs) → IfSome result (λ n. IsFound c s state.now n x) }
+    pub(crate) fn first(&self, form: Form, state: &State<'_>) -> Option<NodeFinding<'t>>
+        ensures { (c : Context) (s : settings.Setting) (x : Node) (xs : Nodes) → s.form ≡ form_by form → AreFound c s.form self.now (node x xs) → IfSome result (λ n. IsFound c s state.now n x) }
     {
-        if !self.hold(state) {
+        if !self.hold(form, state) {
             return None;
         }
         let (first, others) = self.nodes.split_first()?;
@@ -128,11 +131,25 @@ impl<'t> Findings<'t> {
         }
     }
 
-    /// Whether the call has come no further.
-    fn hold(&self, state: &State<'_>) -> bool
-        ensures { (c : Context) (s : settings.Setting) → result ≡ true → stage_then c s.form self.now ≡ stage c s state.now }
+    /// Whether the call has come no further, as far as nodes are asked for it in the form.
+    #[tactic(auto, using(crate::proofs::DatesUnasked::holds_dated, crate::proofs::DatesUnasked::holds_unasked))]
+    fn hold(&self, form: Form, state: &State<'_>) -> bool
+        ensures { (c : Context) (s : settings.Setting) (x : Node) → s.form ≡ form_by form → result ≡ true → survey (stage_then c s.form self.now) x ≡ survey (stage c s state.now) x }
     {
-        self.has_date == state.has_date && are_same(self.suppressed, state.suppressed.as_slice())
+        if !are_same(self.suppressed, state.suppressed.as_slice()) {
+            return false;
+        }
+        self.has_date == state.has_date || !asks_for_date(form)
+    }
+}
+
+/// Whether it is asked in a form if the first date was printed.
+fn asks_for_date(form: Form) -> bool
+    ensures { result ≡ asks_for_date (form_by form) }
+{
+    match form {
+        Form::Whole | Form::AuthorOnly(_) | Form::WithoutAuthor => false,
+        Form::FirstDateOnly | Form::SuffixOnly => true,
     }
 }
 
@@ -143,13 +160,23 @@ fn are_same(some: &[Variable], others: &[Variable]) -> bool
     some == others
 }
 
-/// What stands where a survey has not yet found anything.
-pub(crate) fn nothing_found() -> Finding {
-    Finding {
+/// Adds a finding for a node of which a survey has not yet found anything. The first takes room for as many as most calls find.
+///
+/// # Errors
+/// Out of memory.
+pub(crate) fn push_nothing_found(findings: &mut Vec<Finding>) -> Result<(), AllocError>
+    ensures { OnOk result (findings.new.items ≡ findings.old.items ++ nothing_found ∷ []) }
+{
+    let room = 16;
+    if findings.capacity() < room {
+        findings.reserve(room)?;
+    }
+    findings.push(Finding {
         is_admitted: false,
         met: false,
         inside: 0,
-    }
+    })?;
+    Ok(())
 }
 
 /// So many findings, and those after them.

@@ -6,9 +6,9 @@ ghost use Rattle.rendering_context.specs.Cites.{names_of};
 ghost use Rattle.rendering_entries.specs.Answers.{Answers};
 ghost use Rattle.rendering_leaves.specs.Settings.{put, with_variable};
 ghost use Rattle.rendering_leaves.specs.Views.{setting_by};
-ghost use Rattle.rendering_names.specs.Names.{names_pieces};
+ghost use Rattle.rendering_names.specs.Names.{names_pieces, node_options};
 ghost use Rattle.rendering_names.specs.Properties.{raised_to};
-ghost use Rattle.rendering_names.specs.Views.{all_answered, node_by};
+ghost use Rattle.rendering_names.specs.Views.{all_answered, node_by, options_by};
 ghost use Rattle.rendering_nodes.specs.Content.{names_put, people_put, told_apart};
 ghost use Rattle.rendering_nodes.specs.Views.{walk_context};
 ghost use Rattle.rendering_tree.specs.Metas.{Answered as SomePeople};
@@ -17,7 +17,8 @@ use crate::walk::Walk;
 use rendering_context::DisambiguateState;
 use rendering_leaves::{Setting, State};
 use rendering_names::{
-    Answered, NameDisambiguationProperties, NameSetting, NamesParts, properties_by, push_names,
+    Answered, NameDisambiguationProperties, NameSetting, NamesParts, ResolvedNameOptions,
+    properties_by, push_names,
 };
 use rendering_taxonomy::Variable;
 use std::alloc::AllocError;
@@ -36,7 +37,7 @@ impl<'s, 'a> Walk<'s, 'a> {
         let options = names.options(&setting.options);
         let is_first = self.context.properties.is_first;
         let own = properties_by(self.context.alloc, &options, is_first, people)?;
-        self.push_own(setting, names, own, people, state)
+        self.push_own(setting, names, &options, own, people, state)
     }
 
     /// Prints names with people, of which so much is printed by the options. It is remembered of the first names, and in a stand-in the
@@ -45,13 +46,15 @@ impl<'s, 'a> Walk<'s, 'a> {
         &self,
         setting: &Setting<'a>,
         names: &NamesParts<'a>,
+        options: &ResolvedNameOptions<'a>,
         own: NameDisambiguationProperties,
         people: &[Answered<'_>],
         state: &mut State<'a>,
     ) -> Result<(), AllocError>
+        requires { options_by options.now ≡ node_options (node_by names.now) (setting_by setting.now).options }
         ensures { (a : Answers) → OnOk result (state.new ≡ names_put (walk_context a self.now) (setting_by setting.now) (node_by names.now) own (all_answered people.now) state.old) }
     {
-        self.push_told_apart(setting, names, &own, people, state)?;
+        self.push_told_apart(setting, names, options, &own, people, state)?;
         remember(own, state);
         if setting.stands_in {
             return suppress_people(people, state);
@@ -65,20 +68,22 @@ impl<'s, 'a> Walk<'s, 'a> {
         &self,
         setting: &Setting<'a>,
         names: &NamesParts<'a>,
+        options: &ResolvedNameOptions<'a>,
         own: &NameDisambiguationProperties,
         people: &[Answered<'_>],
         state: &mut State<'a>,
     ) -> Result<(), AllocError>
+        requires { options_by options.now ≡ node_options (node_by names.now) (setting_by setting.now).options }
         ensures { (a : Answers) → OnOk result (state.new ≡ put (walk_context a self.now) (names_pieces (walk_context a self.now).locales (setting_by setting.now).manner (node_by names.now) (setting_by setting.now).options (told_apart (walk_context a self.now) state.old.names own.now) (all_answered people.now)) state.old) }
     {
         if state.names.is_some() {
-            return self.push_shown(setting, names, own, people, state);
+            return self.push_shown(setting, names, options, own, people, state);
         }
         match &self.context.properties.disambiguation {
             DisambiguateState::NameDisambiguation(others) => {
-                self.push_raised(setting, names, own, others, people, state)
+                self.push_raised(setting, names, options, own, others, people, state)
             }
-            _ => self.push_shown(setting, names, own, people, state),
+            _ => self.push_shown(setting, names, options, own, people, state),
         }
     }
 
@@ -87,15 +92,17 @@ impl<'s, 'a> Walk<'s, 'a> {
         &self,
         setting: &Setting<'a>,
         names: &NamesParts<'a>,
+        options: &ResolvedNameOptions<'a>,
         own: &NameDisambiguationProperties,
         others: &NameDisambiguationProperties,
         people: &[Answered<'_>],
         state: &mut State<'a>,
     ) -> Result<(), AllocError>
+        requires { options_by options.now ≡ node_options (node_by names.now) (setting_by setting.now).options }
         ensures { (a : Answers) → OnOk result (state.new ≡ put (walk_context a self.now) (names_pieces (walk_context a self.now).locales (setting_by setting.now).manner (node_by names.now) (setting_by setting.now).options (raised_to others.now own.now) (all_answered people.now)) state.old) }
     {
         let raised = own.raised_to(self.context.alloc, others)?;
-        self.push_shown(setting, names, &raised, people, state)
+        self.push_shown(setting, names, options, &raised, people, state)
     }
 
     /// Prints names with people, of which so much is printed.
@@ -103,10 +110,12 @@ impl<'s, 'a> Walk<'s, 'a> {
         &self,
         setting: &Setting<'a>,
         names: &NamesParts<'a>,
+        options: &ResolvedNameOptions<'a>,
         shown: &NameDisambiguationProperties,
         people: &[Answered<'_>],
         state: &mut State<'a>,
     ) -> Result<(), AllocError>
+        requires { options_by options.now ≡ node_options (node_by names.now) (setting_by setting.now).options }
         ensures { (a : Answers) → OnOk result (state.new ≡ put (walk_context a self.now) (names_pieces (walk_context a self.now).locales (setting_by setting.now).manner (node_by names.now) (setting_by setting.now).options shown.now (all_answered people.now)) state.old) }
     {
         let place = NameSetting {
@@ -115,14 +124,7 @@ impl<'s, 'a> Walk<'s, 'a> {
             locales: self.context.locales,
             manner: setting.manner,
         };
-        push_names(
-            &mut state.page,
-            &place,
-            names,
-            &setting.options,
-            shown,
-            people,
-        )
+        push_names(&mut state.page, &place, names, options, shown, people)
     }
 }
 

@@ -98,6 +98,7 @@ impl<'a> Stage<'_, '_, 'a> {
     ///
     /// # Errors
     /// Out of memory.
+    #[tactic(auto, using(crate::proofs::PeopleThere::people_there))]
     pub(crate) fn has_people<E: EntryLike>(
         &self,
         entry: &'a E,
@@ -105,9 +106,10 @@ impl<'a> Stage<'_, '_, 'a> {
     ) -> Result<bool, AllocError>
         ensures { IfOk result (λ b. b ≡ has_people (stage_by (E.answers entry.now) self.now) (names_seen names.now)) }
     {
-        let context = &self.walk.context;
-        let people = context.people(entry, self.suppressed, names.variables.as_slice())?;
-        Ok(!people.is_empty())
+        let variables = names.variables.as_slice();
+        self.walk
+            .context
+            .has_people(entry, self.suppressed, variables)
     }
 
     /// Whether the variable has something to print where the form lets it stand.

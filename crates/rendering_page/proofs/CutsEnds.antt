@@ -1,12 +1,15 @@
 -- Characters that are cut from the end of a page, or put before its last ones.
-use Rattle.std.proofs.Common.{◌≡◌, ◌<◌, ◌+◌, ℕ, zero, suc, List, [], ◌∷◌, ◌++◌, length, take, refl, sym, ap, ◌∙◌, arith}
+use Rattle.std.proofs.Common.{◌≡◌, ◌<◌, ◌+◌, ℕ, zero, suc, Bool, true, false, true≢false, List, [], ◌∷◌, ◌++◌, length, take, refl, sym, ap, ◌∙◌, arith}
+use Rattle.std.specs.Prelude.{if◌then◌else◌}
 use Rattle.std.specs.Str.{chars, IsUtf8}
 use Rattle.std.proofs.lemmas.List.{length-append, take_at, append_cancel_left}
 use Rattle.std.proofs.lemmas.List.Sums.{fold-append}
 use Rattle.std.proofs.lemmas.Str.{chars-append}
 use Rattle.rendering_taxonomy.specs.declared.formatting.Formatting.{Formatting}
-use Rattle.rendering_tree.specs.Tokens.{Token, letter, with_letters, without_letters, with_letter_before}
+use Rattle.rendering_tree.specs.Tokens.{Token, letter, last_text, with_letters, without_letters, with_letter_before}
+use Rattle.laws.specs.Text.{is_filled}
 use Rattle.rendering_page.specs.Cuts.{IsCut}
+use Rattle.rendering_page.specs.Tail.{ends_in, without_end}
 
 -- one text after another
 pub letters_append : (f : Formatting) (cs ds : List ℕ) (ts : List Token) → with_letters f (cs ++ ds) ts ≡ with_letters f ds (with_letters f cs ts)
@@ -86,6 +89,15 @@ cut_nothing (suc n) = refl
 -- no character is cut
 pub cut_none : (n : ℕ) (ts : List Token) → n ≡ 0 → without_letters n ts ≡ ts
 cut_none n ts e = ap (λ k. without_letters k ts) e
+
+none_either : (b : Bool) (ts : List Token) → (if b then without_letters 0 ts else ts) ≡ ts
+none_either true ts = refl
+none_either false ts = refl
+
+-- an end without characters cuts nothing
+pub no_end : (end : List ℕ) (ts : List Token) → is_filled end ≡ false → ts ≡ without_end end ts
+no_end [] ts e = sym (none_either (ends_in [] (last_text ts)) ts)
+no_end (c ∷ cs) ts e = absurd (true≢false e)
 
 -- before no character, none is put
 pub before_none : (n c : ℕ) (ts : List Token) → n ≡ 0 → with_letter_before n c ts ≡ ts

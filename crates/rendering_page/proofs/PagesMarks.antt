@@ -4,15 +4,13 @@ use Rattle.std.specs.List.{fold, list_any}
 use Rattle.std.specs.Char.{is_whitespace}
 use Rattle.laws.specs.Text.{is_filled}
 use Rattle.rendering_taxonomy.specs.declared.formatting.Formatting.{Formatting}
-use Rattle.rendering_tree.specs.Tokens.{Token, letter, with_letters}
-use Rattle.rendering_page.specs.Marks.{begins_nothing, goes_on, kind_by, kind_of, is_something, is_first, none_begins, none_begins_after, none_begins_since}
+use Rattle.rendering_tree.specs.Tokens.{Token, letter, formula, link, transparent, closing, mark, unmark, with_letters}
+use Rattle.rendering_page.specs.Marks.{before_open, begins_nothing, closes, first_part, is_first, is_something, none_begins, none_begins_after, none_begins_since, opens, prints_itself, with_part}
 use Rattle.rendering_page.specs.Pages.{prints, before_mark, before_prefix, is_begun}
 use Rattle.rendering_page.specs.Views.{letters, put, tokens_of}
-use Rattle.rendering_page.specs.declared.marks.Kind.{Kind}
-use Rattle.rendering_page.specs.declared.marks.Kind.TheVariants as kinds
 use Rattle.rendering_page.specs.declared.piece.Piece.{Piece}
 use Rattle.rendering_page.specs.declared.piece.Piece.TheVariants as pieces
-use Rattle.rendering_page.proofs.ViewsPieces.{tokens_more}
+use Rattle.rendering_page.proofs.ViewsPieces.{tokens_more, tokens_push}
 
 or_turned : (a b r : Bool) → (a || (b || r)) ≡ ((b || a) || r)
 or_turned true true r = refl
@@ -25,86 +23,249 @@ prints_letters f [] n ts = refl
 prints_letters f (c ∷ cs) n ts =
     prints_letters f cs n (letter f c ∷ ts) ∙ or_turned (list_any (λ c. not (is_whitespace c)) cs) (not (is_whitespace c)) (prints n ts)
 
--- what a piece makes of whether more was printed, with so many marks still to be passed
-abbrev pub prints_by : Kind → ℕ → List Token → Bool
-prints_by kinds.Begin zero ts = false
-prints_by kinds.Begin (suc n) ts = prints n ts
-prints_by kinds.End n ts = prints (suc n) ts
-prints_by kinds.Print n ts = true
-prints_by kinds.Other n ts = prints n ts
+-- a piece that prints
+pub printed : (p : Piece) (n : ℕ) (ts : List Token) → prints_itself p ≡ true → prints n (put ts p) ≡ true
+printed (pieces.Text f w) n ts e = prints_letters f (letters w) n ts ∙ ap (λ b. b || prints n ts) e
+printed (pieces.Markup w) n ts e = refl
+printed (pieces.Link l) n ts e = refl
+printed (pieces.Transparent f k) n ts e = refl
+printed (pieces.Opening d m) n ts e = cc
+printed (pieces.MadeOpening d m) n ts e = cc
+printed (pieces.Begin d m) n ts e = cc
+printed (pieces.MadeBegin d m) n ts e = cc
+printed pieces.BareBegin n ts e = cc
+printed pieces.End n ts e = cc
+printed pieces.BareEnd n ts e = cc
+printed pieces.Closing n ts e = cc
+printed pieces.Mark n ts e = cc
+printed pieces.Unmark n ts e = cc
 
-by_kind : (b : Bool) (n : ℕ) (ts : List Token) → (b || prints n ts) ≡ prints_by (kind_by b) n ts
-by_kind true n ts = refl
-by_kind false n ts = refl
+-- one that does not, where all its marks are passed; of the marks n those that begin in it are taken, and those that end in it come to them
+pub printed_before : (p : Piece) (n k : ℕ) (ts : List Token) → prints_itself p ≡ false → k + opens p ≡ n + closes p → prints n (put ts p) ≡ prints k ts
+printed_before (pieces.Text f w) n k ts e h =
+    let same : n ≡ k = omega (arith, h) in
+    prints_letters f (letters w) n ts ∙ ap (λ b. b || prints n ts) e ∙ ap (λ j. prints j ts) same
+printed_before (pieces.Markup w) n k ts e h = cc
+printed_before (pieces.Link l) n k ts e h = cc
+printed_before (pieces.Transparent f i) n k ts e h = cc
+printed_before (pieces.Opening d m) n k ts e h =
+    let same : n ≡ k = omega (arith, h) in
+    ap (λ j. prints j ts) same
+printed_before (pieces.MadeOpening d m) n k ts e h =
+    let same : n ≡ k = omega (arith, h) in
+    ap (λ j. prints j ts) same
+printed_before (pieces.Begin d m) n k ts e h =
+    let more : n ≡ suc k = omega (arith, h) in
+    ap (λ j. prints j (put ts (pieces.Begin d m))) more
+printed_before (pieces.MadeBegin d m) n k ts e h =
+    let more : n ≡ suc k = omega (arith, h) in
+    ap (λ j. prints j (put ts (pieces.MadeBegin d m))) more
+printed_before pieces.BareBegin n k ts e h =
+    let more : n ≡ suc (suc k) = omega (arith, h) in
+    ap (λ j. prints j (put ts pieces.BareBegin)) more
+printed_before pieces.End n k ts e h =
+    let more : suc n ≡ k = omega (arith, h) in
+    ap (λ j. prints j ts) more
+printed_before pieces.BareEnd n k ts e h =
+    let more : suc (suc n) ≡ k = omega (arith, h) in
+    ap (λ j. prints j ts) more
+printed_before pieces.Closing n k ts e h =
+    let same : n ≡ k = omega (arith, h) in
+    ap (λ j. prints j ts) same
+printed_before pieces.Mark n k ts e h =
+    let more : n ≡ suc k = omega (arith, h) in
+    ap (λ j. prints j (put ts pieces.Mark)) more
+printed_before pieces.Unmark n k ts e h =
+    let more : suc n ≡ k = omega (arith, h) in
+    ap (λ j. prints j ts) more
 
-pub prints_put : (p : Piece) (n : ℕ) (ts : List Token) → prints n (put ts p) ≡ prints_by (kind_of p) n ts
-prints_put (pieces.Text f w) n ts = prints_letters f (letters w) n ts ∙ by_kind (list_any (λ c. not (is_whitespace c)) (letters w)) n ts
-prints_put (pieces.Markup w) n ts = refl
-prints_put (pieces.Link l) n ts = refl
-prints_put (pieces.Transparent f k) n ts = refl
-prints_put (pieces.Opening d m) n ts = refl
-prints_put (pieces.MadeOpening d m) n ts = refl
-prints_put pieces.Closing n ts = refl
-prints_put pieces.Mark zero ts = refl
-prints_put pieces.Mark (suc n) ts = refl
-prints_put pieces.Unmark n ts = refl
+-- one that has a mark more than are passed
+pub open_in : (p : Piece) (n : ℕ) (ts : List Token) → n < opens p → prints n (put ts p) ≡ false
+open_in (pieces.Begin d m) zero ts h = refl
+open_in (pieces.Begin d m) (suc n) ts h = absurd (omega (arith, h))
+open_in (pieces.MadeBegin d m) zero ts h = refl
+open_in (pieces.MadeBegin d m) (suc n) ts h = absurd (omega (arith, h))
+open_in pieces.BareBegin zero ts h = refl
+open_in pieces.BareBegin (suc zero) ts h = refl
+open_in pieces.BareBegin (suc (suc n)) ts h = absurd (omega (arith, h))
+open_in pieces.Mark zero ts h = refl
+open_in pieces.Mark (suc n) ts h = absurd (omega (arith, h))
+open_in (pieces.Text f w) n ts h = absurd (omega (arith, h))
+open_in (pieces.Markup w) n ts h = absurd (omega (arith, h))
+open_in (pieces.Link l) n ts h = absurd (omega (arith, h))
+open_in (pieces.Transparent f k) n ts h = absurd (omega (arith, h))
+open_in (pieces.Opening d m) n ts h = absurd (omega (arith, h))
+open_in (pieces.MadeOpening d m) n ts h = absurd (omega (arith, h))
+open_in pieces.End n ts h = absurd (omega (arith, h))
+open_in pieces.BareEnd n ts h = absurd (omega (arith, h))
+open_in pieces.Closing n ts h = absurd (omega (arith, h))
+open_in pieces.Unmark n ts h = absurd (omega (arith, h))
 
 before_mark_letters : (f : Formatting) (cs : List ℕ) (n : ℕ) (ts : List Token) → before_mark n (with_letters f cs ts) ≡ before_mark n ts
 before_mark_letters f [] n ts = refl
 before_mark_letters f (c ∷ cs) zero ts = before_mark_letters f cs zero (letter f c ∷ ts)
 before_mark_letters f (c ∷ cs) (suc n) ts = before_mark_letters f cs (suc n) (letter f c ∷ ts)
 
--- what a piece makes of what stands before the mark
-abbrev pub before_by : Kind → ℕ → List Token → List Token
-before_by kinds.Begin zero ts = ts
-before_by kinds.Begin (suc n) ts = before_mark n ts
-before_by kinds.End n ts = before_mark (suc n) ts
-before_by kinds.Print n ts = before_mark n ts
-before_by kinds.Other n ts = before_mark n ts
+before_formula : (n : ℕ) (cs : List ℕ) (ts : List Token) → before_mark n (formula cs ∷ ts) ≡ before_mark n ts
+before_formula zero cs ts = refl
+before_formula (suc n) cs ts = refl
 
-before_kind : (b : Bool) (n : ℕ) (ts : List Token) → before_mark n ts ≡ before_by (kind_by b) n ts
-before_kind true n ts = refl
-before_kind false n ts = refl
+before_link : (n : ℕ) (f : Formatting) (cs url : List ℕ) (ts : List Token) → before_mark n (link f cs url ∷ ts) ≡ before_mark n ts
+before_link zero f cs url ts = refl
+before_link (suc n) f cs url ts = refl
 
-pub before_mark_put : (p : Piece) (n : ℕ) (ts : List Token) → before_mark n (put ts p) ≡ before_by (kind_of p) n ts
-before_mark_put (pieces.Text f w) n ts = before_mark_letters f (letters w) n ts ∙ before_kind (list_any (λ c. not (is_whitespace c)) (letters w)) n ts
-before_mark_put (pieces.Markup w) zero ts = refl
-before_mark_put (pieces.Markup w) (suc n) ts = refl
-before_mark_put (pieces.Link l) zero ts = refl
-before_mark_put (pieces.Link l) (suc n) ts = refl
-before_mark_put (pieces.Transparent f k) zero ts = refl
-before_mark_put (pieces.Transparent f k) (suc n) ts = refl
-before_mark_put (pieces.Opening d m) zero ts = refl
-before_mark_put (pieces.Opening d m) (suc n) ts = refl
-before_mark_put (pieces.MadeOpening d m) zero ts = refl
-before_mark_put (pieces.MadeOpening d m) (suc n) ts = refl
-before_mark_put pieces.Closing zero ts = refl
-before_mark_put pieces.Closing (suc n) ts = refl
-before_mark_put pieces.Mark zero ts = refl
-before_mark_put pieces.Mark (suc n) ts = refl
-before_mark_put pieces.Unmark n ts = refl
+before_transparent : (n : ℕ) (f : Formatting) (k : ℕ) (ts : List Token) → before_mark n (transparent f k ∷ ts) ≡ before_mark n ts
+before_transparent zero f k ts = refl
+before_transparent (suc n) f k ts = refl
 
--- one piece more, and what it is
-pub prints_more : (ps : List Piece) (i j n : ℕ) (p : Piece) (k : Kind) → i + 1 ≡ j → j ≤ length ps → p ≡ get_or ps i p → k ≡ kind_of p
-    → prints n (tokens_of (take j ps)) ≡ prints_by k n (tokens_of (take i ps))
-prints_more ps i j n p k next low at is =
-    ap (prints n) (tokens_more ps i j p next low at) ∙ prints_put p n (tokens_of (take i ps)) ∙ ap (λ k. prints_by k n (tokens_of (take i ps))) (sym is)
+before_closing : (n : ℕ) (ts : List Token) → before_mark n (closing ∷ ts) ≡ before_mark n ts
+before_closing zero ts = refl
+before_closing (suc n) ts = refl
 
-pub before_more : (ps : List Piece) (i j n : ℕ) (p : Piece) (k : Kind) → i + 1 ≡ j → j ≤ length ps → p ≡ get_or ps i p → k ≡ kind_of p
-    → before_mark n (tokens_of (take j ps)) ≡ before_by k n (tokens_of (take i ps))
-before_more ps i j n p k next low at is =
-    ap (before_mark n) (tokens_more ps i j p next low at) ∙ before_mark_put p n (tokens_of (take i ps)) ∙ ap (λ k. before_by k n (tokens_of (take i ps))) (sym is)
+-- what stands before the mark where the marks of a piece are passed
+pub before_passed : (p : Piece) (n k : ℕ) (ts : List Token) → k + opens p ≡ n + closes p → before_mark n (put ts p) ≡ before_mark k ts
+before_passed (pieces.Text f w) n k ts h =
+    let same : n ≡ k = omega (arith, h) in
+    before_mark_letters f (letters w) n ts ∙ ap (λ j. before_mark j ts) same
+before_passed (pieces.Markup w) n k ts h =
+    let same : n ≡ k = omega (arith, h) in
+    before_formula n (letters w) ts ∙ ap (λ j. before_mark j ts) same
+before_passed (pieces.Link l) n k ts h =
+    let same : n ≡ k = omega (arith, h) in
+    before_link n l.value.formatting (letters l.value.text) (letters l.value.url) ts ∙ ap (λ j. before_mark j ts) same
+before_passed (pieces.Transparent f i) n k ts h =
+    let same : n ≡ k = omega (arith, h) in
+    before_transparent n f i ts ∙ ap (λ j. before_mark j ts) same
+before_passed (pieces.Opening d m) zero k ts h =
+    let same : zero ≡ k = omega (arith, h) in
+    ap (λ j. before_mark j ts) same
+before_passed (pieces.Opening d m) (suc n) k ts h =
+    let same : suc n ≡ k = omega (arith, h) in
+    ap (λ j. before_mark j ts) same
+before_passed (pieces.MadeOpening d m) zero k ts h =
+    let same : zero ≡ k = omega (arith, h) in
+    ap (λ j. before_mark j ts) same
+before_passed (pieces.MadeOpening d m) (suc n) k ts h =
+    let same : suc n ≡ k = omega (arith, h) in
+    ap (λ j. before_mark j ts) same
+before_passed (pieces.Begin d m) n zero ts h =
+    let more : n ≡ suc zero = omega (arith, h) in
+    ap (λ j. before_mark j (put ts (pieces.Begin d m))) more
+before_passed (pieces.Begin d m) n (suc k) ts h =
+    let more : n ≡ suc (suc k) = omega (arith, h) in
+    ap (λ j. before_mark j (put ts (pieces.Begin d m))) more
+before_passed (pieces.MadeBegin d m) n zero ts h =
+    let more : n ≡ suc zero = omega (arith, h) in
+    ap (λ j. before_mark j (put ts (pieces.MadeBegin d m))) more
+before_passed (pieces.MadeBegin d m) n (suc k) ts h =
+    let more : n ≡ suc (suc k) = omega (arith, h) in
+    ap (λ j. before_mark j (put ts (pieces.MadeBegin d m))) more
+before_passed pieces.BareBegin n k ts h =
+    let more : n ≡ suc (suc k) = omega (arith, h) in
+    ap (λ j. before_mark j (put ts pieces.BareBegin)) more
+before_passed pieces.End n k ts h =
+    let more : suc n ≡ k = omega (arith, h) in
+    before_closing n (unmark ∷ ts) ∙ ap (λ j. before_mark j ts) more
+before_passed pieces.BareEnd n k ts h =
+    let more : suc (suc n) ≡ k = omega (arith, h) in
+    ap (λ j. before_mark j ts) more
+before_passed pieces.Closing n k ts h =
+    let same : n ≡ k = omega (arith, h) in
+    before_closing n ts ∙ ap (λ j. before_mark j ts) same
+before_passed pieces.Mark n k ts h =
+    let more : n ≡ suc k = omega (arith, h) in
+    ap (λ j. before_mark j (put ts pieces.Mark)) more
+before_passed pieces.Unmark n k ts h =
+    let more : suc n ≡ k = omega (arith, h) in
+    ap (λ j. before_mark j ts) more
+
+-- what stands before a mark of a piece that is open
+pub before_opened : (p : Piece) (n : ℕ) (ts : List Token) → n < opens p → before_mark n (put ts p) ≡ with_part ts (before_open p n)
+before_opened (pieces.Begin d m) zero ts h = refl
+before_opened (pieces.Begin d m) (suc n) ts h = absurd (omega (arith, h))
+before_opened (pieces.MadeBegin d m) zero ts h = refl
+before_opened (pieces.MadeBegin d m) (suc n) ts h = absurd (omega (arith, h))
+before_opened pieces.BareBegin zero ts h = refl
+before_opened pieces.BareBegin (suc zero) ts h = refl
+before_opened pieces.BareBegin (suc (suc n)) ts h = absurd (omega (arith, h))
+before_opened pieces.Mark zero ts h = refl
+before_opened pieces.Mark (suc n) ts h = absurd (omega (arith, h))
+before_opened (pieces.Text f w) n ts h = absurd (omega (arith, h))
+before_opened (pieces.Markup w) n ts h = absurd (omega (arith, h))
+before_opened (pieces.Link l) n ts h = absurd (omega (arith, h))
+before_opened (pieces.Transparent f k) n ts h = absurd (omega (arith, h))
+before_opened (pieces.Opening d m) n ts h = absurd (omega (arith, h))
+before_opened (pieces.MadeOpening d m) n ts h = absurd (omega (arith, h))
+before_opened pieces.End n ts h = absurd (omega (arith, h))
+before_opened pieces.BareEnd n ts h = absurd (omega (arith, h))
+before_opened pieces.Closing n ts h = absurd (omega (arith, h))
+before_opened pieces.Unmark n ts h = absurd (omega (arith, h))
+
+-- what stands before the first mark of a piece, or before the beginning of an element
+pub before_first : (p : Piece) (ts : List Token) → is_first p ≡ true → before_prefix (put ts p) ≡ with_part ts (first_part p)
+before_first pieces.Mark ts h = refl
+before_first (pieces.Opening d m) ts h = refl
+before_first (pieces.MadeOpening d m) ts h = refl
+before_first (pieces.Begin d m) ts h = refl
+before_first (pieces.MadeBegin d m) ts h = refl
+before_first pieces.BareBegin ts h = refl
+before_first (pieces.Text f w) ts h = cc
+before_first (pieces.Markup w) ts h = cc
+before_first (pieces.Link l) ts h = cc
+before_first (pieces.Transparent f k) ts h = cc
+before_first pieces.End ts h = cc
+before_first pieces.BareEnd ts h = cc
+before_first pieces.Closing ts h = cc
+before_first pieces.Unmark ts h = cc
+
+-- one piece more
+pub put_more : (ps : List Piece) (i j : ℕ) (p : Piece) (n : ℕ) → i + 1 ≡ j → j ≤ length ps → p ≡ get_or ps i p → prints n (tokens_of (take j ps)) ≡ prints n (put (tokens_of (take i ps)) p)
+put_more ps i j p n next low at = ap (prints n) (tokens_more ps i j p next low at)
 
 before_prefix_letters : (f : Formatting) (cs : List ℕ) (ts : List Token) → before_prefix (with_letters f cs ts) ≡ before_prefix ts
 before_prefix_letters f [] ts = refl
 before_prefix_letters f (c ∷ cs) ts = before_prefix_letters f cs (letter f c ∷ ts)
 
+-- what an element does not begin with
 pub prefix_goes_on : (p : Piece) (ts : List Token) → is_first p ≡ false → before_prefix (put ts p) ≡ before_prefix ts
 prefix_goes_on (pieces.Text f w) ts e = before_prefix_letters f (letters w) ts
 prefix_goes_on (pieces.Opening d m) ts e = cc
 prefix_goes_on (pieces.MadeOpening d m) ts e = cc
+prefix_goes_on (pieces.Begin d m) ts e = cc
+prefix_goes_on (pieces.MadeBegin d m) ts e = cc
+prefix_goes_on pieces.BareBegin ts e = cc
 prefix_goes_on pieces.Mark ts e = cc
-prefix_goes_on p ts e = refl
+prefix_goes_on (pieces.Markup w) ts e = refl
+prefix_goes_on (pieces.Link l) ts e = refl
+prefix_goes_on (pieces.Transparent f k) ts e = refl
+prefix_goes_on pieces.End ts e = refl
+prefix_goes_on pieces.BareEnd ts e = refl
+prefix_goes_on pieces.Closing ts e = refl
+prefix_goes_on pieces.Unmark ts e = refl
+
+-- the last piece is taken off
+pub taken_off : (change : List Token → List Token) (ps qs : List Piece) (p : Piece) → qs ≡ ps ++ p ∷ [] → change (tokens_of qs) ≡ change (put (tokens_of ps) p)
+taken_off change ps qs p e = ap (λ rs. change (tokens_of rs)) e ∙ ap change (tokens_push ps p)
+
+-- where a piece has the mark that is looked for, what of it stands before that mark is left
+pub cut_in : (ps qs : List Piece) (p : Piece) (n : ℕ) (part : Option Piece) (ts : List Token) → qs ≡ ps ++ p ∷ [] → n < opens p → part ≡ before_open p n → before_mark n (tokens_of qs) ≡ ts
+    → with_part (tokens_of ps) part ≡ ts
+cut_in ps qs p n part ts last low is known =
+    ap (with_part (tokens_of ps)) is ∙ sym (before_opened p n (tokens_of ps) low) ∙ sym (taken_off (before_mark n) ps qs p last) ∙ known
+
+-- where it has not, the mark is looked for before it
+pub cut_before : (ps qs : List Piece) (p : Piece) (n k : ℕ) (ts : List Token) → qs ≡ ps ++ p ∷ [] → k + opens p ≡ n + closes p → before_mark n (tokens_of qs) ≡ ts → before_mark k (tokens_of ps) ≡ ts
+cut_before ps qs p n k ts last marks known = sym (taken_off (before_mark n) ps qs p last ∙ before_passed p n k (tokens_of ps) marks) ∙ known
+
+-- where an element begins with a piece, what of it stands before is left
+pub cut_first : (ps qs : List Piece) (p : Piece) (part : Option Piece) (ts : List Token) → qs ≡ ps ++ p ∷ [] → is_first p ≡ true → part ≡ first_part p → before_prefix (tokens_of qs) ≡ ts
+    → with_part (tokens_of ps) part ≡ ts
+cut_first ps qs p part ts last first is known =
+    ap (with_part (tokens_of ps)) is ∙ sym (before_first p (tokens_of ps) first) ∙ sym (taken_off before_prefix ps qs p last) ∙ known
+
+-- where it does not, it begins before
+pub cut_more : (ps qs : List Piece) (p : Piece) (ts : List Token) → qs ≡ ps ++ p ∷ [] → is_first p ≡ false → before_prefix (tokens_of qs) ≡ ts → before_prefix (tokens_of ps) ≡ ts
+cut_more ps qs p ts last none known = sym (taken_off before_prefix ps qs p last ∙ prefix_goes_on p (tokens_of ps) none) ∙ known
 
 begun_still : (f : Formatting) (cs : List ℕ) (ts : List Token) → is_begun ts ≡ true → is_begun (with_letters f cs ts) ≡ true
 begun_still f [] ts e = e
@@ -121,6 +282,11 @@ begun_put (pieces.Link l) ts = refl
 begun_put (pieces.Transparent f n) ts = refl
 begun_put (pieces.Opening d m) ts = refl
 begun_put (pieces.MadeOpening d m) ts = refl
+begun_put (pieces.Begin d m) ts = refl
+begun_put (pieces.MadeBegin d m) ts = refl
+begun_put pieces.BareBegin ts = refl
+begun_put pieces.End ts = refl
+begun_put pieces.BareEnd ts = refl
 begun_put pieces.Closing ts = refl
 begun_put pieces.Mark ts = refl
 begun_put pieces.Unmark ts = refl
@@ -137,10 +303,6 @@ begun_from (p ∷ ps) ts =
 -- something was put down by one of the pieces
 pub begun_any : (ps : List Piece) → list_any is_something ps ≡ is_begun (tokens_of ps)
 begun_any ps = sym (begun_from ps [] ∙ or_none (list_any is_something ps))
-
--- an element may begin with a piece or not
-pub prefix_more : (ps : List Piece) (i j : ℕ) (p : Piece) → i + 1 ≡ j → j ≤ length ps → p ≡ get_or ps i p → before_prefix (tokens_of (take j ps)) ≡ before_prefix (put (tokens_of (take i ps)) p)
-prefix_more ps i j p next low at = ap before_prefix (tokens_more ps i j p next low at)
 
 -- a piece more, with which nothing begins
 and_true : (a b : Bool) → a ≡ true → b ≡ true → (a && b) ≡ true
@@ -180,25 +342,37 @@ after_last (suc i) (p ∷ ps) low = after_last i ps (omega (arith, low))
 pub since_last : (i : ℕ) (ps : List Piece) → length ps ≤ i + 1 → none_begins_since (Some i) ps ≡ true
 since_last i ps low = after_last i ps low
 
--- where a piece prints, and nothing begins after it
-still_prints : (k : Kind) (n : ℕ) (ts : List Token) → goes_on k ≡ true → ((m : ℕ) → prints m ts ≡ true) → prints_by k n ts ≡ true
-still_prints kinds.Begin n ts g e = cc
-still_prints kinds.End n ts g e = e (suc n)
-still_prints kinds.Print n ts g e = refl
-still_prints kinds.Other n ts g e = e n
+or_true : (a b : Bool) → b ≡ true → (a || b) ≡ true
+or_true true b e = refl
+or_true false b e = e
+
+-- where all prints, and nothing begins with a piece
+still_prints : (p : Piece) (n : ℕ) (ts : List Token) → begins_nothing p ≡ true → ((m : ℕ) → prints m ts ≡ true) → prints n (put ts p) ≡ true
+still_prints (pieces.Text f w) n ts g e = prints_letters f (letters w) n ts ∙ or_true (list_any (λ c. not (is_whitespace c)) (letters w)) (prints n ts) (e n)
+still_prints (pieces.Markup w) n ts g e = refl
+still_prints (pieces.Link l) n ts g e = refl
+still_prints (pieces.Transparent f k) n ts g e = refl
+still_prints (pieces.Opening d m) n ts g e = e n
+still_prints (pieces.MadeOpening d m) n ts g e = e n
+still_prints (pieces.Begin d m) n ts g e = cc
+still_prints (pieces.MadeBegin d m) n ts g e = cc
+still_prints pieces.BareBegin n ts g e = cc
+still_prints pieces.End n ts g e = e (suc n)
+still_prints pieces.BareEnd n ts g e = e (suc (suc n))
+still_prints pieces.Closing n ts g e = e n
+still_prints pieces.Mark n ts g e = cc
+still_prints pieces.Unmark n ts g e = e (suc n)
 
 all_print : (ps : List Piece) (ts : List Token) → none_begins ps ≡ true → ((m : ℕ) → prints m ts ≡ true) → (n : ℕ) → prints n (fold put ts ps) ≡ true
 all_print [] ts g e n = e n
 all_print (p ∷ ps) ts g e n =
-    all_print ps (put ts p) (and_second (begins_nothing p) (none_begins ps) g)
-    (λ m. prints_put p m ts ∙ still_prints (kind_of p) m ts (and_first (begins_nothing p) (none_begins ps) g) e) n
+    all_print ps (put ts p) (and_second (begins_nothing p) (none_begins ps) g) (λ m. still_prints p m ts (and_first (begins_nothing p) (none_begins ps) g) e) n
 
-printed_after : (ps : List Piece) (i : ℕ) (p : Piece) (ts : List Token) → i < length ps → p ≡ get_or ps i p → kind_of p ≡ kinds.Print → none_begins_after i ps ≡ true
+printed_after : (ps : List Piece) (i : ℕ) (p : Piece) (ts : List Token) → i < length ps → p ≡ get_or ps i p → prints_itself p ≡ true → none_begins_after i ps ≡ true
     → (n : ℕ) → prints n (fold put ts ps) ≡ true
 printed_after [] i p ts inside at is g n = absurd (omega (arith, inside))
-printed_after (q ∷ ps) zero p ts inside at is g n =
-    all_print ps (put ts q) g (λ m. prints_put q m ts ∙ ap (λ r. prints_by (kind_of r) m ts) (sym at) ∙ ap (λ k. prints_by k m ts) is) n
+printed_after (q ∷ ps) zero p ts inside at is g n = all_print ps (put ts q) g (λ m. printed q m ts (ap prints_itself (sym at) ∙ is)) n
 printed_after (q ∷ ps) (suc i) p ts inside at is g n = printed_after ps i p (put ts q) (omega (arith, inside)) at is g n
 
-pub printed_since : (ps : List Piece) (i : ℕ) (p : Piece) → i < length ps → p ≡ get_or ps i p → kind_of p ≡ kinds.Print → none_begins_since (Some i) ps ≡ true → prints 0 (tokens_of ps) ≡ true
+pub printed_since : (ps : List Piece) (i : ℕ) (p : Piece) → i < length ps → p ≡ get_or ps i p → prints_itself p ≡ true → none_begins_since (Some i) ps ≡ true → prints 0 (tokens_of ps) ≡ true
 printed_since ps i p inside at is g = printed_after ps i p [] inside at is g 0

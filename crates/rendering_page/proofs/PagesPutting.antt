@@ -2,9 +2,11 @@
 use Rattle.std.proofs.Common.{◌≡◌, ◌&&◌, ◌||◌, ℕ, Bool, true, false, not, List, [], ◌∷◌, refl, sym, ap, ◌∙◌, Option, Some, None}
 use Rattle.std.specs.Prelude.{if◌then◌else◌}
 use Rattle.rendering_taxonomy.specs.Formats.{plain}
-use Rattle.rendering_tree.specs.Tokens.{Token, last_backwards}
-use Rattle.rendering_page.specs.Pages.{Page, Manner, Quotes, appended, ends_spaced, is_begun, normal_put, punctuated, quote_at_end, space_put, verbatim_put}
-use Rattle.rendering_page.specs.Tail.{is_punctuation}
+use Rattle.rendering_taxonomy.specs.declared.formatting.Display.{Display}
+use Rattle.rendering_tree.specs.Metas.{Meta}
+use Rattle.rendering_tree.specs.Tokens.{Token, last_backwards, last_text, unmark}
+use Rattle.rendering_page.specs.Pages.{Page, Manner, Frame, Quotes, appended, before_mark, before_prefix, closed_off, end_token, ended, ended_as, ends_spaced, is_begun, last_token, normal_put, prints, punctuated, quote_at_end, space_put, suffix_put, verbatim_put}
+use Rattle.rendering_page.specs.Tail.{ends_in, is_punctuation}
 
 -- after punctuation no close quote is the last text
 pub no_more_quote : (m : Manner) (c : ℕ) (cs : List ℕ) (o : Option (List ℕ)) (p : Page) → (punctuated m c cs o p).after_quote ≡ false
@@ -34,3 +36,38 @@ pub space_there : (p : Page) (cs : List ℕ) → cs ≡ 32 ∷ [] → is_begun p
 space_there p cs is begun none =
     let test : (not (is_begun p.tokens) || ends_spaced (last_backwards p.tokens)) ≡ false = λ i. not (begun i) || none i in
     ap (λ xs. verbatim_put plain xs p) is ∙ sym (ap (λ b. if b then p else verbatim_put plain (32 ∷ []) p) test)
+
+-- an element ends where the last text ends with its suffix
+pub suffix_there : (quotes : Quotes) (m : Manner) (cs : List ℕ) (is_element : Bool) (p q : Page) → ends_in cs (last_text p.tokens) ≡ true → q ≡ record p { tokens = end_token is_element ∷ unmark ∷ p.tokens } → q ≡ ended_as quotes m cs is_element p
+suffix_there quotes m cs is_element p q there is =
+    let inside : Page = record p { tokens = unmark ∷ p.tokens } in
+    is ∙ sym (ap (λ b. let r = if b then inside else normal_put quotes m cs inside in record r { tokens = end_token is_element ∷ r.tokens }) there)
+
+-- or after the suffix
+pub suffix_added : (quotes : Quotes) (m : Manner) (cs : List ℕ) (is_element : Bool) (p q r s : Page) → ends_in cs (last_text p.tokens) ≡ false → q ≡ record p { tokens = unmark ∷ p.tokens } → r ≡ normal_put quotes m cs q
+    → s ≡ record r { tokens = end_token is_element ∷ r.tokens } → s ≡ ended_as quotes m cs is_element p
+suffix_added quotes m cs is_element p q r s none first second third =
+    let inside : Page = record p { tokens = unmark ∷ p.tokens } in
+    let put : r ≡ normal_put quotes m cs inside = second ∙ ap (normal_put quotes m cs) first in
+    third
+    ∙ ap (λ (t : Page). record t { tokens = end_token is_element ∷ t.tokens }) put
+    ∙ sym (ap (λ b. let t = if b then inside else normal_put quotes m cs inside in record t { tokens = end_token is_element ∷ t.tokens }) none)
+
+-- an element that is part of the tree, or is only marked, ends
+pub ended_by : (quotes : Quotes) (f : Frame) (is_element : Bool) (p q : Page) → end_token is_element ≡ last_token f.display f.meta → prints 0 p.tokens ≡ true → q ≡ ended_as quotes f.manner f.suffix is_element p → q ≡ ended quotes f p
+ended_by quotes f is_element p q last printed is =
+    let inside = suffix_put quotes f.manner f.suffix (record p { tokens = unmark ∷ p.tokens }) in
+    is
+    ∙ ap (λ t. record inside { tokens = t ∷ inside.tokens }) last
+    ∙ sym (ap (λ b. if b then closed_off f inside else record p { tokens = before_prefix (before_mark 0 p.tokens) }) printed)
+
+-- where nothing was printed it goes
+pub undone : (quotes : Quotes) (f : Frame) (p q : Page) → prints 0 p.tokens ≡ false → q ≡ record p { tokens = before_prefix (before_mark 0 p.tokens) } → q ≡ ended quotes f p
+undone quotes f p q none is =
+    let inside = suffix_put quotes f.manner f.suffix (record p { tokens = unmark ∷ p.tokens }) in
+    is ∙ sym (ap (λ b. if b then closed_off f inside else record p { tokens = before_prefix (before_mark 0 p.tokens) }) none)
+
+-- what stands for something is part of the tree
+pub last_of_some : (d : Option Display) (m : Meta) → end_token true ≡ last_token d (Some m)
+last_of_some None m = refl
+last_of_some (Some d) m = refl

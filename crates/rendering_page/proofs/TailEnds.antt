@@ -1,5 +1,5 @@
 -- Ends of texts.
-use Rattle.std.proofs.Common.{◌≡◌, ◌-◌, ℕ, true, false, true≢false, not, ◌==◌, List, [], ◌∷◌, ◌++◌, length, take, drop, reverse, refl, sym, ap, ◌∙◌, arith}
+use Rattle.std.proofs.Common.{◌≡◌, ◌-◌, ℕ, true, false, true≢false, not, ◌==◌, List, [], ◌∷◌, ◌++◌, length, take, drop, reverse, append-nil, refl, sym, ap, ◌∙◌, arith}
 use Rattle.std.proofs.Math.Seq.{drop-append_seam}
 use Rattle.std.proofs.lemmas.Bool.{and_parts, and_from, eqb-true, eq-eqb}
 use Rattle.std.proofs.lemmas.Bool.Decides.{same_from_decides}
@@ -20,6 +20,11 @@ pub end_there : (end cs front : List ℕ) → cs ≡ front ++ end → ends_in en
 end_there end cs front e =
     let long : length cs - length end ≡ length front = omega (arith, ap length e, length-append front end) in
     (bytes_eq-Decides end (drop (length cs - length end) cs)).1 (sym (ap (λ (n : ℕ). drop n cs) long ∙ ap (drop (length front)) e ∙ drop-append_seam front end))
+
+-- a text ends in nothing
+pub nothing_ends : (end cs : List ℕ) → is_filled end ≡ false → true ≡ ends_in end cs
+nothing_ends [] cs e = sym (end_there [] cs cs (sym (append-nil cs)))
+nothing_ends (c ∷ end) cs e = absurd (true≢false e)
 
 begins_more : (cs : List ℕ) (c : ℕ) → begins (cs ++ c ∷ []) [] ≡ false
 begins_more [] c = refl

@@ -1,52 +1,74 @@
 -- What pieces are to the marks of a page.
-use Rattle.std.specs.Prelude.{ℕ, zero, suc, Bool, true, false, not, ◌&&◌, List, [], ◌∷◌, Option, Some, None}
+use Rattle.std.specs.Prelude.{ℕ, zero, suc, Bool, true, false, not, ◌&&◌, ◌==◌, List, [], ◌∷◌, if◌then◌else◌, Option, Some, None}
 use Rattle.std.specs.Char.{is_whitespace}
 use Rattle.std.specs.List.{list_any}
 use Rattle.laws.specs.Text.{is_filled}
-use Rattle.rendering_page.specs.Views.{letters}
-use Rattle.rendering_page.specs.declared.marks.Kind.{Kind}
-use Rattle.rendering_page.specs.declared.marks.Kind.TheVariants as kinds
+use Rattle.rendering_tree.specs.Tokens.{Token}
+use Rattle.rendering_page.specs.Views.{letters, put}
 use Rattle.rendering_page.specs.declared.piece.Piece.{Piece}
 use Rattle.rendering_page.specs.declared.piece.Piece.TheVariants as pieces
 
--- what a text is, by whether it prints
-abbrev pub kind_by : Bool → Kind
-kind_by true = kinds.Print
-kind_by false = kinds.Other
+-- whether a piece prints more than white space
+abbrev pub prints_itself : Piece → Bool
+prints_itself (pieces.Text f w) = list_any (λ c. not (is_whitespace c)) (letters w)
+prints_itself (pieces.Markup w) = true
+prints_itself (pieces.Link l) = true
+prints_itself (pieces.Transparent f n) = true
+prints_itself p = false
 
--- what a piece is to what began before it
-abbrev pub kind_of : Piece → Kind
-kind_of (pieces.Text f w) = kind_by (list_any (λ c. not (is_whitespace c)) (letters w))
-kind_of (pieces.Markup w) = kinds.Print
-kind_of (pieces.Link l) = kinds.Print
-kind_of (pieces.Transparent f n) = kinds.Print
-kind_of (pieces.Opening d m) = kinds.Other
-kind_of (pieces.MadeOpening d m) = kinds.Other
-kind_of pieces.Closing = kinds.Other
-kind_of pieces.Mark = kinds.Begin
-kind_of pieces.Unmark = kinds.End
+-- how many marks it has where something begins
+abbrev pub opens : Piece → ℕ
+opens pieces.Mark = 1
+opens (pieces.Begin d m) = 1
+opens (pieces.MadeBegin d m) = 1
+opens pieces.BareBegin = 2
+opens p = 0
 
--- whether a piece is something that was put down, and not only marked
+-- how many it has where something ends
+abbrev pub closes : Piece → ℕ
+closes pieces.Unmark = 1
+closes pieces.End = 1
+closes pieces.BareEnd = 2
+closes p = 0
+
+-- whether it is something that was put down, and not only marked
 abbrev pub is_something : Piece → Bool
 is_something (pieces.Text f w) = is_filled (letters w)
+is_something pieces.BareBegin = false
+is_something pieces.BareEnd = false
 is_something pieces.Mark = false
 is_something pieces.Unmark = false
 is_something p = true
 
--- whether an element may begin with a piece
+-- whether an element may begin with it
 abbrev pub is_first : Piece → Bool
 is_first (pieces.Opening d m) = true
 is_first (pieces.MadeOpening d m) = true
+is_first (pieces.Begin d m) = true
+is_first (pieces.MadeBegin d m) = true
+is_first pieces.BareBegin = true
 is_first pieces.Mark = true
 is_first p = false
 
--- whether nothing begins with a piece
-abbrev pub goes_on : Kind → Bool
-goes_on kinds.Begin = false
-goes_on k = true
+-- what of a piece stands before its last mark, if it has one
+abbrev pub first_part : Piece → Option Piece
+first_part (pieces.Begin d m) = Some (pieces.Opening d m)
+first_part (pieces.MadeBegin d m) = Some (pieces.MadeOpening d m)
+first_part pieces.BareBegin = Some pieces.Mark
+first_part p = None
 
+-- what of it stands before its mark that is open, after so many that are closed
+abbrev pub before_open : Piece → ℕ → Option Piece
+before_open p n = if n == 0 then first_part p else None
+
+-- a part of a piece after what was put down, if there is one
+abbrev pub with_part : List Token → Option Piece → List Token
+with_part ts None = ts
+with_part ts (Some p) = put ts p
+
+-- whether nothing begins with a piece
 abbrev pub begins_nothing : Piece → Bool
-begins_nothing p = goes_on (kind_of p)
+begins_nothing p = opens p == 0
 
 -- whether nothing begins with any of the pieces
 abbrev pub none_begins : List Piece → Bool

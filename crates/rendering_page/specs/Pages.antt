@@ -122,6 +122,17 @@ begun f p = record p { tokens = mark ∷ with_letters f.manner.formatting f.pref
 abbrev pub closed_off : Frame → Page → Page
 closed_off f p = record p { tokens = last_token f.display f.meta ∷ p.tokens }
 
+-- where an element ends that is part of the tree, or is only marked
+abbrev pub end_token : Bool → Token
+end_token true = closing
+end_token false = unmark
+
+-- what an element contains ends with its suffix, and then the element
+abbrev pub ended_as : Quotes → Manner → List ℕ → Bool → Page → Page
+ended_as quotes m suffix is_element p =
+    let q = suffix_put quotes m suffix (record p { tokens = unmark ∷ p.tokens }) in
+    record q { tokens = end_token is_element ∷ q.tokens }
+
 -- an element ends: with its suffix, or, where it prints nothing, by going whole
 abbrev pub ended : Quotes → Frame → Page → Page
 ended quotes f p =

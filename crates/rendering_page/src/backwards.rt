@@ -21,8 +21,13 @@ pub(crate) fn text_in<'p>(piece: &'p Piece<'_>, met: &mut Option<Formatting>) ->
 {
     match piece {
         Piece::Text { formatting, words } => text_that_goes_on(*formatting, words.as_str(), met),
-        Piece::Opening { .. } | Piece::MadeOpening { .. } | Piece::Closing => text_before_all(*met),
-        Piece::Mark | Piece::Unmark => Some(""),
+        Piece::Opening { .. }
+        | Piece::MadeOpening { .. }
+        | Piece::Begin { .. }
+        | Piece::MadeBegin { .. }
+        | Piece::End
+        | Piece::Closing => text_before_all(*met),
+        Piece::Mark | Piece::Unmark | Piece::BareBegin | Piece::BareEnd => Some(""),
         Piece::Markup(_) | Piece::Link(_) | Piece::Transparent { .. } => None,
     }
 }
@@ -84,7 +89,18 @@ fn end_before<'e>(end: &'e str, text: &str) -> Option<&'e str>
 }
 
 /// Whether the last text ends in that.
+#[tactic(auto, using(crate::proofs::TailEnds::nothing_ends))]
 pub(crate) fn ends_in(pieces: &[Piece<'_>], end: &str) -> bool
+    ensures { result ≡ ends_in (chars end.now) (last_text (tokens_of pieces.now)) }
+{
+    if !has_text(end) {
+        return true;
+    }
+    ends_in_text(pieces, end)
+}
+
+/// The same of a text that is read from its end, piece by piece.
+fn ends_in_text(pieces: &[Piece<'_>], end: &str) -> bool
     ensures { result ≡ ends_in (chars end.now) (last_text (tokens_of pieces.now)) }
 {
     let mut met = None;

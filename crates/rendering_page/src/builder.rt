@@ -72,10 +72,14 @@ impl<'a> Builder<'a> {
                 cite_idx,
                 format: formatting,
             }),
-            Piece::Opening { display, meta } => self.take_opening(display, owned_meaning(meta)?),
-            Piece::MadeOpening { display, meta } => self.take_opening(display, Some(meta)),
-            Piece::Closing => self.take_closing(),
-            Piece::Mark | Piece::Unmark => Ok(()),
+            Piece::Opening { display, meta } | Piece::Begin { display, meta } => {
+                self.take_opening(display, owned_meaning(meta)?)
+            }
+            Piece::MadeOpening { display, meta } | Piece::MadeBegin { display, meta } => {
+                self.take_opening(display, Some(meta))
+            }
+            Piece::Closing | Piece::End => self.take_closing(),
+            Piece::Mark | Piece::Unmark | Piece::BareBegin | Piece::BareEnd => Ok(()),
         }
     }
 
@@ -118,8 +122,9 @@ impl<'a> Builder<'a> {
         ensures { OnOk result (nest_of self.new ≡ (record { inside = nothing; around = (nest_of self.old).inside ∷ (nest_of self.old).around })) }
     {
         self.end_text()?;
-        let alloc = *self.children.allocator();
-        let children = mem::replace(&mut self.children, Vec::new(alloc));
+        // Most elements contain one child.
+        let inside = Vec::with_capacity(*self.children.allocator(), 1)?;
+        let children = mem::replace(&mut self.children, inside);
         self.around.push(children)?;
         Ok(())
     }

@@ -56,6 +56,17 @@ impl<'a> Clone for Piece<'a> {
                 display: *display,
                 meta: meta.clone()?,
             }),
+            Piece::Begin { display, meta } => Ok(Piece::Begin {
+                display: *display,
+                meta: *meta,
+            }),
+            Piece::MadeBegin { display, meta } => Ok(Piece::MadeBegin {
+                display: *display,
+                meta: meta.clone()?,
+            }),
+            Piece::BareBegin => Ok(Piece::BareBegin),
+            Piece::End => Ok(Piece::End),
+            Piece::BareEnd => Ok(Piece::BareEnd),
             Piece::Closing => Ok(Piece::Closing),
             Piece::Mark => Ok(Piece::Mark),
             Piece::Unmark => Ok(Piece::Unmark),

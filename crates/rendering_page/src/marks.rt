@@ -1,51 +1,133 @@
 //! Whether something was printed since something began, and where that is.
 
-ghost use Rattle.std.specs.Prelude.{◌≡◌, not, true, false, MatchOption, Some, take};
+ghost use Rattle.std.specs.Prelude.{◌≡◌, ◌≤◌, not, true, OnOk, Some};
 ghost use Rattle.std.specs.Char.{is_whitespace};
 ghost use Rattle.std.specs.List.{list_any};
 ghost use Rattle.rendering_page.specs.Marks as specs;
-ghost use Rattle.rendering_page.specs.Marks.{none_begins_since};
+ghost use Rattle.rendering_page.specs.Marks.{before_open, closes, first_part, none_begins_since, opens, prints_itself, with_part};
 ghost use Rattle.rendering_page.specs.Pages.{before_mark, before_prefix, is_begun, prints};
 ghost use Rattle.rendering_page.specs.Views.{letters, tokens_of};
 
 use crate::piece::{Piece, Words};
+use std::alloc::AllocError;
 use texts::has_text;
 
-/// What a piece is to what began before it.
-#[derive(Clone, Copy)]
-pub(crate) enum Kind {
-    /// The mark where something begins.
-    Begin,
-    /// The mark where something ends.
-    End,
-    /// Something that prints.
-    Print,
-    /// Nothing that prints.
-    Other,
-}
-
-/// Where what began last begins, if it has printed nothing: the place of its mark among the pieces. It is 0 where nothing has
-/// begun.
-pub(crate) fn begin_of_nothing(pieces: &[Piece<'_>]) -> Option<usize>
-    ensures { MatchOption result (prints 0 (tokens_of pieces.now) ≡ true) (λ i. (prints 0 (tokens_of pieces.now) ≡ false) × (tokens_of (take i pieces.now) ≡ before_mark 0 (tokens_of pieces.now))) }
+/// Whether what began last has printed anything but white space.
+pub(crate) fn prints(pieces: &Vec<Piece<'_>>) -> bool
+    ensures { result ≡ prints 0 (tokens_of pieces.now.items) }
 {
     let mut closed: usize = 0;
     let mut i = pieces.len();
     while i > 0 {
         i -= 1;
-        match kind_of(&pieces[i]) {
-            Kind::End => closed += 1,
-            Kind::Begin => {
-                if closed == 0 {
-                    return Some(i);
-                }
-                closed -= 1;
-            }
-            Kind::Print => return None,
-            Kind::Other => {}
+        let piece = &pieces[i];
+        if prints_itself(piece) {
+            return true;
+        }
+        let opened = opens(piece);
+        if closed < opened {
+            return false;
+        }
+        closed = closed - opened + closes(piece);
+    }
+    false
+}
+
+/// Cuts all from the mark on where what began last begins.
+pub(crate) fn cut_to_mark(pieces: &mut Vec<Piece<'_>>) -> Result<(), AllocError>
+    ensures { OnOk result (tokens_of pieces.new.items ≡ before_mark 0 (tokens_of pieces.old.items)) }
+{
+    let mut closed: usize = 0;
+    while let Some(piece) = pieces.pop() {
+        let opened = opens(&piece);
+        if closed < opened {
+            return put_part(pieces, before_open(piece, closed));
+        }
+        closed = closed - opened + closes(&piece);
+    }
+    Ok(())
+}
+
+/// Cuts all from where an element begins on of which there is only the prefix.
+pub(crate) fn cut_prefix(pieces: &mut Vec<Piece<'_>>) -> Result<(), AllocError>
+    ensures { OnOk result (tokens_of pieces.new.items ≡ before_prefix (tokens_of pieces.old.items)) }
+{
+    while let Some(piece) = pieces.pop() {
+        if is_first(&piece) {
+            return put_part(pieces, first_part(piece));
         }
     }
-    Some(0)
+    Ok(())
+}
+
+/// Puts a part of a piece back, if there is one.
+fn put_part<'a>(pieces: &mut Vec<Piece<'a>>, part: Option<Piece<'a>>) -> Result<(), AllocError>
+    ensures { OnOk result (tokens_of pieces.new.items ≡ with_part (tokens_of pieces.old.items) part.entry) }
+{
+    match part {
+        Some(part) => {
+            pieces.push(part)?;
+            Ok(())
+        }
+        None => Ok(()),
+    }
+}
+
+/// What of a piece stands before its mark that is open, after so many that are closed.
+fn before_open(piece: Piece<'_>, closed: usize) -> Option<Piece<'_>>
+    ensures { result ≡ before_open piece.entry closed }
+{
+    if closed == 0 { first_part(piece) } else { None }
+}
+
+/// What of a piece stands before its last mark, if it has one.
+fn first_part(piece: Piece<'_>) -> Option<Piece<'_>>
+    ensures { result ≡ first_part piece.entry }
+{
+    match piece {
+        Piece::Begin { display, meta } => Some(Piece::Opening { display, meta }),
+        Piece::MadeBegin { display, meta } => Some(Piece::MadeOpening { display, meta }),
+        Piece::BareBegin => Some(Piece::Mark),
+        _ => None,
+    }
+}
+
+/// Whether an element may begin with a piece.
+fn is_first(piece: &Piece<'_>) -> bool
+    ensures { result ≡ specs.is_first piece.now }
+{
+    matches!(
+        piece,
+        Piece::Opening { .. }
+            | Piece::MadeOpening { .. }
+            | Piece::Mark
+            | Piece::Begin { .. }
+            | Piece::MadeBegin { .. }
+            | Piece::BareBegin
+    )
+}
+
+/// How many marks a piece has where something begins.
+fn opens(piece: &Piece<'_>) -> usize
+    ensures { result ≡ opens piece.now }
+{
+    match piece {
+        Piece::Mark | Piece::Begin { .. } | Piece::MadeBegin { .. } => 1,
+        Piece::BareBegin => 2,
+        _ => 0,
+    }
+}
+
+/// How many marks a piece has where something ends.
+fn closes(piece: &Piece<'_>) -> usize
+    ensures marks { result ≡ closes piece.now }
+    ensures few { result ≤ 2 }
+{
+    match piece {
+        Piece::Unmark | Piece::End => 1,
+        Piece::BareEnd => 2,
+        _ => 0,
+    }
 }
 
 /// The last place, where there are pieces.
@@ -63,61 +145,17 @@ pub(crate) fn prints_at(pieces: &[Piece<'_>], place: usize) -> bool
     if place >= pieces.len() {
         return false;
     }
-    prints_by_itself(&pieces[place])
+    prints_itself(&pieces[place])
 }
 
-/// Whether a piece prints.
-fn prints_by_itself(piece: &Piece<'_>) -> bool
-    ensures { result ≡ true → specs.kind_of piece.now ≡ Kind.Print }
-{
-    matches!(kind_of(piece), Kind::Print)
-}
-
-/// Where an element begins of which there is only the prefix.
-pub(crate) fn begin_of_prefix(pieces: &[Piece<'_>]) -> usize
-    ensures { tokens_of (take result pieces.now) ≡ before_prefix (tokens_of pieces.now) }
-{
-    let mut i = pieces.len();
-    while i > 0 {
-        i -= 1;
-        if is_first(&pieces[i]) {
-            return i;
-        }
-    }
-    0
-}
-
-/// Whether an element may begin with a piece.
-fn is_first(piece: &Piece<'_>) -> bool
-    ensures { result ≡ specs.is_first piece.now }
-{
-    matches!(
-        piece,
-        Piece::Opening { .. } | Piece::MadeOpening { .. } | Piece::Mark
-    )
-}
-
-/// What a piece is.
-fn kind_of(piece: &Piece<'_>) -> Kind
-    ensures { result ≡ specs.kind_of piece.now }
+/// Whether a piece prints more than white space.
+fn prints_itself(piece: &Piece<'_>) -> bool
+    ensures { result ≡ prints_itself piece.now }
 {
     match piece {
-        Piece::Text { words, .. } => kind_of_words(words),
-        Piece::Markup(_) | Piece::Link(_) | Piece::Transparent { .. } => Kind::Print,
-        Piece::Opening { .. } | Piece::MadeOpening { .. } | Piece::Closing => Kind::Other,
-        Piece::Mark => Kind::Begin,
-        Piece::Unmark => Kind::End,
-    }
-}
-
-/// What a text is.
-fn kind_of_words(words: &Words<'_>) -> Kind
-    ensures { result ≡ specs.kind_by (list_any (λ c. not (is_whitespace c)) (letters words.now)) }
-{
-    if prints_words(words) {
-        Kind::Print
-    } else {
-        Kind::Other
+        Piece::Text { words, .. } => prints_words(words),
+        Piece::Markup(_) | Piece::Link(_) | Piece::Transparent { .. } => true,
+        _ => false,
     }
 }
 
@@ -141,7 +179,7 @@ fn is_something(piece: &Piece<'_>) -> bool
 {
     match piece {
         Piece::Text { words, .. } => has_text(words.as_str()),
-        Piece::Mark | Piece::Unmark => false,
+        Piece::BareBegin | Piece::BareEnd | Piece::Mark | Piece::Unmark => false,
         _ => true,
     }
 }

@@ -1,15 +1,15 @@
 //! Pages.
 
-ghost use Rattle.std.specs.Prelude.{◌≡◌, ◌∷◌, ◌++◌, true, false, OnOk, IfOk, Some, map, if◌then◌else◌};
+ghost use Rattle.std.specs.Prelude.{◌≡◌, ◌++◌, true, false, OnOk, IfOk, Some, map};
 ghost use Rattle.std.specs.Str.{bytes_eq, chars};
 ghost use Rattle.laws.specs.Text.{characters};
 ghost use Rattle.literature_values.specs.TextViews.{chunk as chunk_of, chunks as chunks_of};
 ghost use Rattle.rendering_tree.specs.Metas.{Meta};
-ghost use Rattle.rendering_tree.specs.Tokens.{formula, link, transparent, unmark};
+ghost use Rattle.rendering_tree.specs.Tokens.{formula, link, transparent};
 ghost use Rattle.rendering_tree.specs.Trees.{tree_of};
 ghost use Rattle.rendering_tree.specs.Views.{meaning, tree};
 ghost use Rattle.rendering_page.specs.Marks.{begins_nothing};
-ghost use Rattle.rendering_page.specs.Pages.{before_mark, before_prefix, begun, empty_page, ended, normal_put, prints, quote_put, space_put, suffix_put, token_put, verbatim_put};
+ghost use Rattle.rendering_page.specs.Pages.{before_mark, before_prefix, begun, empty_page, ended, ended_as, normal_put, prints, quote_put, space_put, token_put, verbatim_put};
 ghost use Rattle.rendering_page.specs.Pieces.{all_down, chunk_by, chunk_piece, chunk_pieces, put_down};
 ghost use Rattle.rendering_page.specs.Shown.{page_text};
 ghost use Rattle.rendering_page.specs.Views as views;
@@ -19,9 +19,11 @@ use crate::backwards::{ends_in, ends_spaced};
 use crate::builder::build;
 use crate::copies::copied_pieces;
 use crate::manner::{Frame, Manner};
-use crate::marks::{begin_of_nothing, begin_of_prefix, is_begun, last_place, prints_at};
+use crate::marks::{cut_prefix, cut_to_mark, is_begun, last_place, prints, prints_at};
 use crate::piece::{Link, Piece, Words};
-use crate::putting::{append, append_after_quote, begin, first_piece, last_piece, put_words};
+use crate::putting::{
+    append, append_after_quote, begin, begin_made, is_element, last_piece, last_pieces, put_words,
+};
 use crate::shown::{push_shown, show_the_same};
 use crate::tail::is_punctuation;
 use literature_values::{ChunkKind, ChunkedString, StringChunk};
@@ -215,7 +217,7 @@ impl<'a> Page<'a> {
         ensures { OnOk result (self.new ≡ begun (views.frame frame.now) self.old) }
     {
         self.last_put = None;
-        begin(&mut self.pieces, first_piece(frame), frame)
+        begin(&mut self.pieces, frame)
     }
 
     /// Begins an element that stands for what was made on the way, whatever the frame says that it stands for.
@@ -225,12 +227,8 @@ impl<'a> Page<'a> {
     pub fn begin_element(&mut self, frame: &Frame<'a>, meta: ElemMeta) -> Result<(), AllocError>
         ensures { OnOk result (self.new ≡ begun (record (views.frame frame.now) { meta = Some (meaning meta) }) self.old) }
     {
-        let first = Piece::MadeOpening {
-            display: frame.display,
-            meta,
-        };
         self.last_put = None;
-        begin(&mut self.pieces, first, frame)
+        begin_made(&mut self.pieces, frame, meta)
     }
 
     /// Ends the element that was begun last. Where it has printed nothing but white space, all of it goes, with its affixes.
@@ -240,10 +238,10 @@ impl<'a> Page<'a> {
     pub fn end(&mut self, quotes: &[&str], frame: &Frame<'a>) -> Result<(), AllocError>
         ensures { OnOk result (self.new ≡ ended (quotes_of quotes.now) (views.frame frame.now) self.old) }
     {
-        if self.end_content(quotes, frame)? {
-            self.push_end(last_piece(frame))?;
+        if !self.has_printed() {
+            return self.undo();
         }
-        Ok(())
+        self.end_as(quotes, frame.manner, frame.suffix, is_element(frame))
     }
 
     /// Ends the element that was begun last and stands for what was made on the way.
@@ -253,10 +251,10 @@ impl<'a> Page<'a> {
     pub fn end_element(&mut self, quotes: &[&str], frame: &Frame<'a>) -> Result<(), AllocError>
         ensures { (m : Meta) → OnOk result (self.new ≡ ended (quotes_of quotes.now) (record (views.frame frame.now) { meta = Some m }) self.old) }
     {
-        if self.end_content(quotes, frame)? {
-            self.push_end(Piece::Closing)?;
+        if !self.has_printed() {
+            return self.undo();
         }
-        Ok(())
+        self.end_as(quotes, frame.manner, frame.suffix, true)
     }
 
     /// A space at the end, in characters as they look of themselves and after all elements. There is none where nothing was put
@@ -313,7 +311,7 @@ impl<'a> Page<'a> {
     pub fn has_printed(&self) -> bool
         ensures { result ≡ prints 0 self.now.tokens }
     {
-        begin_of_nothing(&self.pieces).is_none()
+        self.is_known_to_print() || prints(&self.pieces)
     }
 
     /// Whether two pages show the same characters, however they look and whatever element they stand in.
@@ -475,29 +473,32 @@ impl<'a> Page<'a> {
         self.push(Piece::Link(link))
     }
 
-    /// Ends what an element contains, with its suffix. Where it has printed nothing but white space, the element goes whole.
-    /// Returns whether it is still there.
-    fn end_content(&mut self, quotes: &[&str], frame: &Frame<'a>) -> Result<bool, AllocError>
-        ensures prints { IfOk result (λ b. b ≡ prints 0 self.old.tokens) }
-        ensures page { IfOk result (λ b. self.new ≡ (if b then suffix_put (quotes_of quotes.now) (views.manner frame.now.manner) (chars frame.now.suffix.now) (record self.old { tokens = unmark ∷ self.old.tokens }) else record self.old { tokens = before_prefix (before_mark 0 self.old.tokens) })) }
+    /// Ends what an element contains that has printed something, with its suffix, and the element, which is part of the tree or is
+    /// only marked.
+    fn end_as(
+        &mut self,
+        quotes: &[&str],
+        manner: Manner,
+        suffix: &'a str,
+        is_element: bool,
+    ) -> Result<(), AllocError>
+        ensures { OnOk result (self.new ≡ ended_as (quotes_of quotes.now) (views.manner manner) (chars suffix.now) is_element self.old) }
     {
-        if self.is_known_to_print() {
-            self.put_suffix(quotes, frame)?;
-            return Ok(true);
+        if ends_in(&self.pieces, suffix) {
+            return self.push_end(last_pieces(is_element));
         }
-        match begin_of_nothing(&self.pieces) {
-            Some(place) => {
-                self.last_put = None;
-                self.pieces.truncate(place);
-                let place = begin_of_prefix(&self.pieces);
-                self.pieces.truncate(place);
-                Ok(false)
-            }
-            None => {
-                self.put_suffix(quotes, frame)?;
-                Ok(true)
-            }
-        }
+        self.push_end(Piece::Unmark)?;
+        self.push_text(quotes, manner, suffix)?;
+        self.push_end(last_piece(is_element))
+    }
+
+    /// Takes the element off that was begun last, with its prefix.
+    fn undo(&mut self) -> Result<(), AllocError>
+        ensures { OnOk result (self.new ≡ record self.old { tokens = before_prefix (before_mark 0 self.old.tokens) }) }
+    {
+        self.last_put = None;
+        cut_to_mark(&mut self.pieces)?;
+        cut_prefix(&mut self.pieces)
     }
 
     /// Whether what was begun last is known to have printed something, without a look at what was put down before.
@@ -508,16 +509,5 @@ impl<'a> Page<'a> {
             Some(place) => prints_at(&self.pieces, place),
             None => false,
         }
-    }
-
-    /// Puts the suffix of an element down that has printed something.
-    fn put_suffix(&mut self, quotes: &[&str], frame: &Frame<'a>) -> Result<(), AllocError>
-        ensures { OnOk result (self.new ≡ suffix_put (quotes_of quotes.now) (views.manner frame.now.manner) (chars frame.now.suffix.now) (record self.old { tokens = unmark ∷ self.old.tokens })) }
-    {
-        self.push_end(Piece::Unmark)?;
-        if !ends_in(&self.pieces, frame.suffix) {
-            self.push_text(quotes, frame.manner, frame.suffix)?;
-        }
-        Ok(())
     }
 }

@@ -53,6 +53,22 @@ pub(crate) enum Piece<'a> {
         display: Option<Display>,
         meta: ElemMeta,
     },
+    /// Where an element without a prefix begins, and what it contains: an opening and a mark.
+    Begin {
+        display: Option<Display>,
+        meta: Option<&'a ElemMeta>,
+    },
+    /// The same of an element that stands for what was made on the way.
+    MadeBegin {
+        display: Option<Display>,
+        meta: ElemMeta,
+    },
+    /// Where something without a prefix begins that is no element, and what it contains: two marks.
+    BareBegin,
+    /// Where what an element contains ends, and the element.
+    End,
+    /// Where what is no element ends, and what it contains.
+    BareEnd,
     /// Where an element ends.
     Closing,
     /// Where something begins that goes if it prints nothing.

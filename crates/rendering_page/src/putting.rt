@@ -3,7 +3,8 @@
 ghost use Rattle.std.specs.Prelude.{◌≡◌, ◌∷◌, true, List, ℕ, Bool, OnOk, length, Option, Some, None};
 ghost use Rattle.std.specs.Option.{option_map};
 ghost use Rattle.std.specs.Str.{chars};
-ghost use Rattle.rendering_tree.specs.Tokens.{Token, mark, with_letters};
+ghost use Rattle.rendering_tree.specs.Tokens.{Token, mark, opening, unmark, with_letters};
+ghost use Rattle.rendering_tree.specs.Views.{meaning};
 ghost use Rattle.rendering_page.specs.Marks.{begins_nothing};
 ghost use Rattle.rendering_page.specs.Pages as pages;
 ghost use Rattle.rendering_page.specs.Tail.{remaining};
@@ -16,6 +17,7 @@ use crate::manner::{Frame, Manner};
 use crate::piece::{Piece, Words};
 use crate::tail::{in_manner, length, make_room};
 use rendering_taxonomy::Formatting;
+use rendering_tree::ElemMeta;
 use std::alloc::AllocError;
 use texts::has_text;
 
@@ -79,18 +81,53 @@ fn quote_at_end(pieces: &[Piece<'_>], quotes: &[&str]) -> Option<usize>
 }
 
 /// Puts down where an element begins, its prefix and a mark.
-pub(crate) fn begin<'a>(
+pub(crate) fn begin<'a>(pieces: &mut Vec<Piece<'a>>, frame: &Frame<'a>) -> Result<(), AllocError>
+    ensures { OnOk result (tokens_of pieces.new.items ≡ mark ∷ with_letters frame.now.manner.formatting (chars frame.now.prefix.now) (pages.first_token (views.frame frame.now).display (views.frame frame.now).meta ∷ tokens_of pieces.old.items)) }
+{
+    reserve(pieces)?;
+    if has_text(frame.prefix) {
+        return begin_with_prefix(pieces, first_piece(frame), frame);
+    }
+    pieces.push(first_pieces(frame))?;
+    Ok(())
+}
+
+/// The same of an element that stands for what was made on the way.
+pub(crate) fn begin_made<'a>(
+    pieces: &mut Vec<Piece<'a>>,
+    frame: &Frame<'a>,
+    meta: ElemMeta,
+) -> Result<(), AllocError>
+    ensures { OnOk result (tokens_of pieces.new.items ≡ mark ∷ with_letters frame.now.manner.formatting (chars frame.now.prefix.now) (opening frame.now.display (Some (meaning meta)) ∷ tokens_of pieces.old.items)) }
+{
+    reserve(pieces)?;
+    let display = frame.display;
+    if has_text(frame.prefix) {
+        return begin_with_prefix(pieces, Piece::MadeOpening { display, meta }, frame);
+    }
+    pieces.push(Piece::MadeBegin { display, meta })?;
+    Ok(())
+}
+
+/// Makes room for as many pieces as a short page has, such as that of a cite.
+fn reserve(pieces: &mut Vec<Piece<'_>>) -> Result<(), AllocError>
+    ensures { OnOk result (pieces.new.items ≡ pieces.old.items) }
+{
+    let room = 24;
+    if pieces.capacity() < room {
+        pieces.reserve(room)?;
+    }
+    Ok(())
+}
+
+/// Puts down where an element begins, its prefix and a mark.
+fn begin_with_prefix<'a>(
     pieces: &mut Vec<Piece<'a>>,
     first: Piece<'a>,
     frame: &Frame<'a>,
 ) -> Result<(), AllocError>
     ensures { OnOk result (tokens_of pieces.new.items ≡ mark ∷ with_letters frame.now.manner.formatting (chars frame.now.prefix.now) (views.put (tokens_of pieces.old.items) first.entry)) }
 {
-    // As many as a short page has, such as that of a cite.
-    let room = 64;
-    if pieces.capacity() < room {
-        pieces.reserve(room)?;
-    }
     pieces.push(first)?;
     put_words(
         pieces,
@@ -102,7 +139,7 @@ pub(crate) fn begin<'a>(
 }
 
 /// Where an element begins.
-pub(crate) fn first_piece<'a>(frame: &Frame<'a>) -> Piece<'a>
+fn first_piece<'a>(frame: &Frame<'a>) -> Piece<'a>
     ensures { (ts : List Token) → views.put ts result ≡ pages.first_token (views.frame frame.now).display (views.frame frame.now).meta ∷ ts }
 {
     match (frame.meta, frame.display) {
@@ -118,14 +155,53 @@ pub(crate) fn first_piece<'a>(frame: &Frame<'a>) -> Piece<'a>
     }
 }
 
-/// Where an element ends.
-pub(crate) fn last_piece<'a>(frame: &Frame<'_>) -> Piece<'a>
-    ensures token { (ts : List Token) → views.put ts result ≡ pages.last_token (views.frame frame.now).display (views.frame frame.now).meta ∷ ts }
+/// Where an element without a prefix begins, and what it contains.
+fn first_pieces<'a>(frame: &Frame<'a>) -> Piece<'a>
+    ensures { (ts : List Token) → views.put ts result ≡ mark ∷ pages.first_token (views.frame frame.now).display (views.frame frame.now).meta ∷ ts }
+{
+    match (frame.meta, frame.display) {
+        (Some(meta), display) => Piece::Begin {
+            display,
+            meta: Some(meta),
+        },
+        (None, Some(display)) => Piece::Begin {
+            display: Some(display),
+            meta: None,
+        },
+        (None, None) => Piece::BareBegin,
+    }
+}
+
+/// Whether an element is part of the tree, and not only marked.
+pub(crate) fn is_element(frame: &Frame<'_>) -> bool
+    ensures { pages.end_token result ≡ pages.last_token (views.frame frame.now).display (views.frame frame.now).meta }
+{
+    match (frame.meta, frame.display) {
+        (Some(_), _) | (None, Some(_)) => true,
+        (None, None) => false,
+    }
+}
+
+/// Where an element ends that is part of the tree, or is only marked.
+pub(crate) fn last_piece<'a>(is_element: bool) -> Piece<'a>
+    ensures token { (ts : List Token) → views.put ts result ≡ pages.end_token is_element ∷ ts }
     ensures end { begins_nothing result ≡ true }
 {
-    if frame.display.is_some() || frame.meta.is_some() {
+    if is_element {
         Piece::Closing
     } else {
         Piece::Unmark
+    }
+}
+
+/// Where what such an element contains ends, and the element.
+pub(crate) fn last_pieces<'a>(is_element: bool) -> Piece<'a>
+    ensures tokens { (ts : List Token) → views.put ts result ≡ pages.end_token is_element ∷ unmark ∷ ts }
+    ensures end { begins_nothing result ≡ true }
+{
+    if is_element {
+        Piece::End
+    } else {
+        Piece::BareEnd
     }
 }

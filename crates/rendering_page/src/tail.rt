@@ -15,7 +15,7 @@ use crate::cutting::{cut, trim_end};
 use crate::manner::Manner;
 use crate::piece::{Piece, Words, trimmed};
 use std::alloc::{AllocError, Global};
-use texts::{empty_text, push_character, split_first};
+use texts::{empty_text, has_text, push_character, split_first};
 
 /// Cuts from the last text what goes before the next one.
 pub(crate) fn make_room(pieces: &mut Vec<Piece<'_>>, next: &str)
@@ -44,9 +44,13 @@ fn drop_repeated(pieces: &mut Vec<Piece<'_>>, next: &str)
 }
 
 /// Cuts that end of the last text, where it has it.
+#[tactic(auto, using(crate::proofs::CutsEnds::no_end))]
 fn drop_end(pieces: &mut Vec<Piece<'_>>, end: &str)
     ensures { tokens_of pieces.new.items ≡ specs.without_end (chars end.now) (tokens_of pieces.old.items) }
 {
+    if !has_text(end) {
+        return;
+    }
     if ends_in(pieces, end) {
         cut(pieces, length(end));
     }

@@ -2,7 +2,7 @@ use Rattle.std.proofs.Common.{ℕ, ◌-◌, suc, map, List, ◌++◌, Option, sy
 use Rattle.std.specs.Str.{chars}
 use Rattle.std.proofs.lemmas.Result.{IfOk-weaker}
 use Rattle.rendering_nodes.specs.Admission.{Survey, both, survey, surveys}
-use Rattle.rendering_nodes.specs.Findings.{all_asked, found, found_inside, node_asked}
+use Rattle.rendering_nodes.specs.Findings.{all_asked, found, found_inside, node_asked, nothing_found}
 use Rattle.rendering_nodes.specs.Views.{macros_of, stage_by, survey_by}
 use Rattle.rendering_style.specs.Nodes as nodes
 use Rattle.rendering_style.specs.Nodes.{Nodes}
@@ -129,9 +129,9 @@ survey_text-returns-in-Value g t c =
 pub survey_next-returns : goal.survey_next-returns
 survey_next-returns g t c =
     let before = c.args.findings.now.items in
-    next_is (stage_by (g.E.EntryLike.answers c.args.entry.now) c.args.self.now) before c.push.new.self.items c.survey_node.new.findings.items c.put_finding.new.findings.items c.nothing_found.result (survey_by c.in_ok-survey.survey)
-    (open_node c.args.levels (macros_of c.args.self.now.walk.now) (node_seen c.args.node.now)) c.in_ok-push.ensures.items c.in_ok-survey.ensures
-    (λ inside is. c.put_finding.ensures before c.nothing_found.result inside (c.len-place.ensures ∙ c.args.findings.now.ok.0) is)
+    next_is (stage_by (g.E.EntryLike.answers c.args.entry.now) c.args.self.now) before c.push_nothing_found.new.findings.items c.survey_node.new.findings.items c.put_finding.new.findings.items nothing_found (survey_by c.in_ok-survey.survey)
+    (open_node c.args.levels (macros_of c.args.self.now.walk.now) (node_seen c.args.node.now)) c.in_ok-push_nothing_found.ensures c.in_ok-survey.ensures
+    (λ inside is. c.put_finding.ensures before nothing_found inside (c.len-place.ensures ∙ c.args.findings.now.ok.0) is)
 
 pub survey_all-loop-node-init : goal.survey_all-loop-node-init
 survey_all-loop-node-init g t c =
@@ -155,8 +155,8 @@ survey_all-returns g t c =
 
 pub survey_next-put_finding-requires : goal.survey_next-put_finding-requires
 survey_next-put_finding-requires g t c =
-    next_there (stage_by (g.E.EntryLike.answers c.args.entry.now) c.args.self.now) c.args.findings.now.items c.push.new.self.items c.survey_node.new.findings.items c.nothing_found.result (survey_by c.in_ok-survey.survey)
-    (open_node c.args.levels (macros_of c.args.self.now.walk.now) (node_seen c.args.node.now)) c.len-place.result (c.len-place.ensures ∙ c.args.findings.now.ok.0) c.in_ok-push.ensures.items c.in_ok-survey.ensures
+    next_there (stage_by (g.E.EntryLike.answers c.args.entry.now) c.args.self.now) c.args.findings.now.items c.push_nothing_found.new.findings.items c.survey_node.new.findings.items nothing_found (survey_by c.in_ok-survey.survey)
+    (open_node c.args.levels (macros_of c.args.self.now.walk.now) (node_seen c.args.node.now)) c.len-place.result (c.len-place.ensures ∙ c.args.findings.now.ok.0) c.in_ok-push_nothing_found.ensures c.in_ok-survey.ensures
 
 pub survey_node-returns-then-levels-eq0 : goal.survey_node-returns-then-levels-eq0
 survey_node-returns-then-levels-eq0 g t c =

@@ -1,4 +1,4 @@
-use Rattle.std.proofs.Common.{◌≡◌, ℕ, ◌+◌, ◌-◌, suc, not, ◌&&◌, map, drop, List, sym, ap, ◌∙◌, rules}
+use Rattle.std.proofs.Common.{◌≡◌, ℕ, ◌+◌, ◌-◌, suc, not, ◌&&◌, map, drop, List, refl, sym, ap, ◌∙◌, rules}
 use Rattle.std.specs.Option.{option_map}
 use Rattle.std.proofs.lemmas.Result.{IfOk-weaker, on_ok_weaker}
 use Rattle.rendering_leaves.specs.Settings.{Setting, State}
@@ -199,6 +199,7 @@ push_all-push_next-requires g t c =
     let s = setting_by c.args.setting.now in
     let f = open_node c.args.levels (macros_of c.args.self.now) in
     let known = c.first-finding.ensures k s (f (node_seen c.node-item.result)) (each_node f (nodes_seen (drop (c.loop-node.node-index + 1) c.args.nodes.now)))
+    refl
     (known_more k s.form c.loop-node.rest f c.args.nodes.now c.loop-node.node-index c.node-item.result c.loop-node-test.true c.node-item.is c.loop-node.invariant.1) in
     search rules
 
@@ -223,6 +224,7 @@ push_first-push_standing-requires g t c =
     let s = setting_by c.args.setting.now in
     let f = open_node c.args.levels (macros_of c.args.self.now) in
     let known = c.first-finding.ensures k s (f (node_seen c.node-item.result)) (each_node f (nodes_seen (drop (c.loop-node.node-index + 1) c.args.substitute.now)))
+    refl
     (known_more k s.form c.loop-node.rest f c.args.substitute.now c.loop-node.node-index c.node-item.result c.loop-node-test.true c.node-item.is c.loop-node.invariant.1) in
     search rules
 

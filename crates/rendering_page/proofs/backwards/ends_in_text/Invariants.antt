@@ -6,7 +6,7 @@ use Rattle.rendering_tree.specs.Tokens.{last_text}
 use Rattle.rendering_page.specs.Cursors.{backwards_from, begins}
 use Rattle.rendering_page.specs.Tail.{ends_in}
 use Rattle.rendering_page.specs.Views.{tokens_of}
-use Rattle.rendering_page.proofs.backwards.ends_in.Given as goal
+use Rattle.rendering_page.proofs.backwards.ends_in_text.Given as goal
 
 abbrev pub invariant-loop-i : goal.invariant-loop-i
 invariant-loop-i l =

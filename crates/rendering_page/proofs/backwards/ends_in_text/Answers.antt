@@ -7,7 +7,7 @@ use Rattle.rendering_page.specs.Cursors.{begins}
 use Rattle.rendering_page.specs.Views.{tokens_of}
 use Rattle.rendering_page.proofs.CursorsBackwards.{at_start, read_down}
 use Rattle.rendering_page.proofs.TailEnds.{begins_nothing, ends_backwards}
-use Rattle.rendering_page.proofs.backwards.ends_in.Goals as goal
+use Rattle.rendering_page.proofs.backwards.ends_in_text.Goals as goal
 
 pub loop-i-init : goal.loop-i-init
 loop-i-init c =
