@@ -11,3 +11,7 @@ pub mod NamesPeople
 pub mod NamesDistinguished
 pub mod Numbering
 pub mod CitesFit
+pub mod Counting
+pub mod KeysAlike
+pub mod NamesShared
+pub mod SharedStill

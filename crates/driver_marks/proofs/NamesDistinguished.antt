@@ -23,7 +23,7 @@ any_cond t true x xs = refl
 any_cond t false x xs = refl
 
 -- whether a test finds one of those that pass another one
-any-filter : {X : Type 0} (t p : X → Bool) (xs : List X) → list_any t (filter p xs) ≡ list_any (λ x. p x && t x) xs
+pub any-filter : {X : Type 0} (t p : X → Bool) (xs : List X) → list_any t (filter p xs) ≡ list_any (λ x. p x && t x) xs
 any-filter t p [] = refl
 any-filter t p (x ∷ xs) = any_cond t (p x) x (filter p xs) ∙ ap (λ b. (p x && t x) || b) (any-filter t p xs)
 
@@ -39,7 +39,7 @@ filled-filter : {X : Type 0} (p : X → Bool) (xs : List X) → is_filled (filte
 filled-filter p [] = refl
 filled-filter p (x ∷ xs) = filled_cond (p x) x (filter p xs) ∙ ap (λ b. p x || b) (filled-filter p xs)
 
-any-map : {X Y : Type 0} (t : Y → Bool) (f : X → Y) (xs : List X) → list_any t (map f xs) ≡ list_any (λ x. t (f x)) xs
+pub any-map : {X Y : Type 0} (t : Y → Bool) (f : X → Y) (xs : List X) → list_any t (map f xs) ≡ list_any (λ x. t (f x)) xs
 any-map t f [] = refl
 any-map t f (x ∷ xs) = ap (λ b. t (f x) || b) (any-map t f xs)
 
@@ -53,11 +53,15 @@ any_of_people : (t : Named → Bool) (ms : List Member) (m : names.Member)
     → list_any t (flat_map (λ o. o.people) (others (members_by ms) m)) ≡ list_any (λ o. not (o.place == m.place) && list_any t o.people.items) ms
 any_of_people t ms m = any-flat t (λ o. o.people) (others (members_by ms) m) ∙ any_of_others (λ o. list_any t o.people) ms m
 
--- whether the first people newly tell a cite apart that they may tell apart
-pub newly_is : (n : ℕ) (ms : List Member) (m : names.Member) (may agrees : Bool) → may ≡ (not m.is_distinguished && names_may_change m)
-    → agrees ≡ list_any (λ o. not (o.place == m.place) && agrees_on n m (member_by o)) ms → may ≡ true → not agrees ≡ is_newly_distinguished n (members_by ms) m
-newly_is n ms m may agrees is_may is_agrees may_be =
-    (λ k. (sym may_be ∙ is_may) k && not ((is_agrees ∙ sym (any_of_others (agrees_on n m) ms m)) k))
+-- what is told of a cite that is newly told apart
+pub told_apart : (ms : List names.Member) (place : ℕ) (m : names.Member) (told : Bool) (form : Option DisambiguatedNameForm) → told ≡ is_newly_distinguished (place + 1) ms m → told ≡ true → form ≡ form_raised ms place m
+    → Some (record { form = form }) ≡ distinction ms place m
+told_apart ms place m told form is so found =
+    (λ k. Some (record { form = found k })) ∙ sym (ap (λ b. cond b (Some (record { form = form_raised ms place m })) None) (sym is ∙ so))
+
+-- nothing is told of another one
+pub not_told : (ms : List names.Member) (place : ℕ) (m : names.Member) (told : Bool) → told ≡ is_newly_distinguished (place + 1) ms m → told ≡ false → None ≡ distinction ms place m
+not_told ms place m told is so = sym (ap (λ b. cond b (Some (record { form = form_raised ms place m })) None) (sym is ∙ so))
 
 -- the form by whether there are namesakes with the same initials, and whether there are any
 abbrev form_by : Bool → Bool → Option DisambiguatedNameForm

@@ -10,3 +10,5 @@ pub mod Grouping
 pub mod Gathered
 pub mod Joining
 pub mod Lettered
+pub mod Keys
+pub mod Shared

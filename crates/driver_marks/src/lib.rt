@@ -13,10 +13,12 @@ mod names_compared;
 mod names_members;
 mod names_people;
 mod names_raised;
+mod names_shared;
 mod numbers;
 mod printed;
 mod printed_cites;
 mod round;
+mod same_keys;
 
 pub use given::Given;
 pub use given_suffixes::suffixes;

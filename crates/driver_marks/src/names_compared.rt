@@ -1,80 +1,95 @@
 //! How people of the cites of a class are compared.
 
-ghost use Rattle.std.specs.Prelude.{◌≡◌, ◌&&◌, bytes_eq, map, take};
-ghost use Rattle.std.specs.List.{enumerate_from};
-ghost use Rattle.std.specs.Cmp.Lexicographic.{pointwise};
-ghost use Rattle.std.specs.Option.{option_eq, option_map};
+ghost use Rattle.std.specs.Prelude.{◌≡◌, ◌&&◌, bytes_eq};
+ghost use Rattle.std.specs.Option.{option_copied, option_eq, option_map};
 ghost use Rattle.laws.specs.Text.{characters};
 ghost use Rattle.rendering_tree.specs.Metas.{is_person};
-ghost use Rattle.driver_marks.specs.Names.{compared, compared_first, initialed, initials, is_namesake, ungiven};
+ghost use Rattle.driver_marks.specs.Names.{compared, initialed, initials, is_namesake, ungiven};
 ghost use Rattle.driver_marks.specs.NamesViews.{is_alike_namesake};
+ghost use Rattle.driver_marks.specs.Shared.{named};
 
 use crate::names_people::CitedPerson;
 use rendering_taxonomy::DisambiguationRule;
 
-/// Whether the first people of two cites are the same, so many of each, by a rule.
-pub(crate) fn agree_on(
-    rule: Option<DisambiguationRule>,
-    count: usize,
-    people: &[CitedPerson],
-    others: &[CitedPerson],
-) -> bool
-    ensures { result ≡ pointwise is_person (compared_first rule count people.now) (compared_first rule count others.now) }
-{
-    are_same(rule, first(count, people), first(count, others))
-}
-
-/// The first people, at most so many.
-fn first<'p, 'a>(count: usize, people: &'p [CitedPerson<'a>]) -> &'p [CitedPerson<'a>]
-    ensures { result.now ≡ take count people.now }
-{
-    &people[..people.len().min(count)]
-}
-
-/// Whether people are the same one after the other, by a rule.
-fn are_same(
-    rule: Option<DisambiguationRule>,
-    people: &[CitedPerson],
-    others: &[CitedPerson],
-) -> bool
-    ensures { result ≡ pointwise is_person (map (λ p. compared rule p.0 p.1) (enumerate_from 0 people.now)) (map (λ p. compared rule p.0 p.1) (enumerate_from 0 others.now)) }
-{
-    if people.len() != others.len() {
-        return false;
-    }
-    for place in 0..people.len() {
-        if !people[place].is_same(rule, place, &others[place]) {
-            return false;
-        }
-    }
-    true
+/// A name as it is compared.
+#[derive(Clone, Copy, PartialEq, Eq, Hash)]
+pub(crate) struct ComparedName<'p> {
+    pub(crate) name: &'p String,
+    pub(crate) given_name: Option<&'p String>,
+    pub(crate) prefix: Option<&'p String>,
+    pub(crate) suffix: Option<&'p String>,
 }
 
 impl<'a> CitedPerson<'a> {
-    /// Whether two people at a place are the same, by a rule.
-    fn is_same(&self, rule: Option<DisambiguationRule>, place: usize, other: &CitedPerson) -> bool
-        ensures { result ≡ is_person (compared rule place self.now) (compared rule place other.now) }
+    /// The name as a rule compares it, of a person at a place.
+    pub(crate) fn compared(
+        &self,
+        rule: Option<DisambiguationRule>,
+        place: usize,
+    ) -> ComparedName<'_>
+        ensures { named result ≡ compared rule place self.now }
     {
         match rule {
-            None => self.has_same_family(other),
-            Some(DisambiguationRule::ByCite | DisambiguationRule::AllNames) => {
-                self.is_person(other)
-            }
-            Some(DisambiguationRule::AllNamesWithInitials) => self.is_person_by_initials(other),
+            None => self.ungiven(),
+            Some(DisambiguationRule::ByCite | DisambiguationRule::AllNames) => self.whole(),
+            Some(DisambiguationRule::AllNamesWithInitials) => self.initialed(),
             Some(DisambiguationRule::PrimaryName) => {
                 if place == 0 {
-                    self.is_person(other)
+                    self.whole()
                 } else {
-                    self.has_same_family(other)
+                    self.ungiven()
                 }
             }
             Some(DisambiguationRule::PrimaryNameWithInitials) => {
                 if place == 0 {
-                    self.is_person_by_initials(other)
+                    self.initialed()
                 } else {
-                    self.has_same_family(other)
+                    self.ungiven()
                 }
             }
+        }
+    }
+
+    /// The name with its given name.
+    fn whole(&self) -> ComparedName<'_>
+        ensures { named result ≡ self.now }
+    {
+        self.with_given_name(self.person.given_name.as_ref())
+    }
+
+    /// The name with initials in place of its given name.
+    fn initialed(&self) -> ComparedName<'_>
+        ensures { named result ≡ initialed self.now }
+    {
+        self.with_given_name(self.given_initials())
+    }
+
+    /// The name without its given name.
+    fn ungiven(&self) -> ComparedName<'_>
+        ensures { named result ≡ ungiven self.now }
+    {
+        self.with_given_name(None)
+    }
+
+    /// The name with another given name.
+    fn with_given_name<'p>(&'p self, given_name: Option<&'p String>) -> ComparedName<'p>
+        ensures { named result ≡ record (self.now) { given_name = option_map characters (option_copied given_name.entry) } }
+    {
+        ComparedName {
+            name: &self.person.name,
+            given_name,
+            prefix: self.person.prefix.as_ref(),
+            suffix: self.person.suffix.as_ref(),
+        }
+    }
+
+    /// The initials, where there is a given name.
+    fn given_initials(&self) -> Option<&String>
+        ensures { option_map characters (option_copied result) ≡ (initialed self.now).given_name }
+    {
+        match &self.person.given_name {
+            Some(_) => Some(&self.initials),
+            None => None,
         }
     }
 
@@ -84,15 +99,6 @@ impl<'a> CitedPerson<'a> {
     {
         self.has_same_family(other)
             && is_same_part(&self.person.given_name, &other.person.given_name)
-    }
-
-    /// Whether two people have one name, if only the initials of given names are looked at.
-    fn is_person_by_initials(&self, other: &CitedPerson) -> bool
-        ensures { result ≡ is_person (initialed self.now) (initialed other.now) }
-    {
-        self.has_same_family(other)
-            && self.person.given_name.is_some() == other.person.given_name.is_some()
-            && self.has_same_initials(other)
     }
 
     /// Whether two people have one name, if given names are not looked at.

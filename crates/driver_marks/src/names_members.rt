@@ -1,16 +1,16 @@
 //! The cites of a class, and what people tell of them.
 
-ghost use Rattle.std.specs.Prelude.{◌≡◌, ◌+◌, ◌<◌, ◌^◌, ◌==◌, ◌&&◌, not, Some, is_some, ◌++◌, fold, length, map, max, zip, if◌then◌else◌, IfOk, OnOk};
+ghost use Rattle.std.specs.Prelude.{◌≡◌, ◌+◌, ◌<◌, ◌^◌, ◌&&◌, nat_lt, not, Some, is_some, ◌++◌, fold, length, map, max, zip, if◌then◌else◌, IfOk, OnOk};
 ghost use Rattle.std.specs.List.{flat_map, list_any};
 ghost use Rattle.std.specs.Option.{option_map};
 ghost use Rattle.driver_requests.specs.SuffixViews.{origin_by};
 ghost use Rattle.driver_marks.specs.Names as names;
-ghost use Rattle.driver_marks.specs.Names.{agrees_on, is_newly_distinguished, marks_by_names_of, names_may_change, own_names, people_compared, showing_up_to};
+ghost use Rattle.driver_marks.specs.Names.{marks_by_names_of, names_may_change, own_names, people_compared, rule_for, showing_up_to};
 ghost use Rattle.driver_marks.specs.NamesViews.{distinction, mark_of_member, member_by, members_by, shown_with, with_distinction};
+ghost use Rattle.driver_marks.specs.Shared.{AreShared, shares};
 ghost use Rattle.driver_marks.specs.Views.{class_by, givens_by, printed_seen};
 
 use crate::given::Given;
-use crate::names_compared::agree_on;
 use crate::names_people::{CitedPerson, people_in};
 use crate::names_raised::{form_raised, raise, show_names};
 use crate::printed::Printed;
@@ -109,60 +109,43 @@ fn most_people(members: &[Member]) -> usize
     most
 }
 
-/// What the people up to a place tell of each cite.
+/// What the people up to a place tell of each cite, by how many first people it shares with another one.
 pub(crate) fn distinctions(
     alloc: Global,
     members: &[Member],
+    shared: &[usize],
     place: usize,
 ) -> Result<Vec<Option<Distinction>>, AllocError>
-    requires { place + 1 < 2 ^ 64 }
+    requires room { place + 1 < 2 ^ 64 }
+    requires len { length shared.now ≡ length members.now }
+    requires shared { AreShared place (members_by members.now) shared.now }
     ensures { IfOk result (λ ds. ds.items ≡ map (distinction (members_by members.now) place) (members_by members.now)) }
 {
     let mut distinctions = Vec::with_capacity(alloc, members.len())?;
-    for member in members {
-        distinctions.push(distinction_of(members, place, member))?;
+    for (at, member) in members.iter().enumerate() {
+        distinctions.push(distinction_of(members, place, member, shared[at]))?;
     }
     Ok(distinctions)
 }
 
 /// What the people up to a place tell of a cite, where they newly tell it apart.
-fn distinction_of(members: &[Member], place: usize, member: &Member) -> Option<Distinction>
-    requires { place + 1 < 2 ^ 64 }
+fn distinction_of(
+    members: &[Member],
+    place: usize,
+    member: &Member,
+    shared: usize,
+) -> Option<Distinction>
+    requires room { place + 1 < 2 ^ 64 }
+    requires shared { nat_lt place shared ≡ shares (rule_for (member_by member.now)) (members_by members.now) (member_by member.now) place }
     ensures { result ≡ distinction (members_by members.now) place (member_by member.now) }
 {
-    if is_newly_distinguished(place + 1, members, member) {
+    if member.is_told_apart(place, shared) {
         Some(Distinction {
             form: form_raised(members, place, member),
         })
     } else {
         None
     }
-}
-
-/// Whether the first people of a cite tell it apart from each other one, and fewer did not.
-fn is_newly_distinguished(count: usize, members: &[Member], member: &Member) -> bool
-    ensures { result ≡ is_newly_distinguished count (members_by members.now) (member_by member.now) }
-{
-    member.may_be_distinguished() && !agrees_with_other(count, members, member)
-}
-
-/// Whether the first people of a cite are the same as those of another one.
-fn agrees_with_other(count: usize, members: &[Member], member: &Member) -> bool
-    ensures { result ≡ list_any (λ o. not (o.place == member.now.place) && agrees_on count (member_by member.now) (member_by o)) members.now }
-{
-    members.iter().any(|other| other.place != member.place && agrees_on(count, member, other))
-}
-
-/// Whether the first people of two cites are the same, by the rule of the first cite.
-fn agrees_on(count: usize, member: &Member, other: &Member) -> bool
-    ensures { result ≡ agrees_on count (member_by member.now) (member_by other.now) }
-{
-    agree_on(
-        member.cite.cite.rule,
-        count,
-        member.people.as_slice(),
-        other.people.as_slice(),
-    )
 }
 
 /// Where the people up to a place tell some cite apart, shows the names of each up to it, with what these people tell of each.
@@ -195,6 +178,13 @@ fn show_all(members: &mut [Member], place: usize, distinctions: &[Option<Distinc
 }
 
 impl<'a> Member<'a> {
+    /// Whether the people up to a place newly tell it apart, where it shares so many first people with another cite.
+    fn is_told_apart(&self, place: usize, shared: usize) -> bool
+        ensures { result ≡ (not (member_by self.now).is_distinguished && names_may_change (member_by self.now) && not (nat_lt place shared)) }
+    {
+        self.may_be_distinguished() && shared <= place
+    }
+
     /// Whether names have not told it apart, and may still change what it prints.
     fn may_be_distinguished(&self) -> bool
         ensures { result ≡ not (member_by self.now).is_distinguished && names_may_change (member_by self.now) }

@@ -1,11 +1,18 @@
-use Rattle.std.proofs.Common.{arith, ◌≡◌, length, map, ap, ◌∙◌, cond}
+use Rattle.std.proofs.Common.{arith, ◌≡◌, length, map, ap, sym, subst, ◌∙◌, cond}
 use Rattle.std.specs.Prelude.{is_some, zip}
 use Rattle.std.specs.List.{list_any}
 use Rattle.std.specs.Vec.{with_items}
 use Rattle.std.proofs.lemmas.List.{with_items_is}
 use Rattle.driver_marks.specs.NamesViews.{distinction, members_by, shown_with}
+use Rattle.driver_marks.specs.Shared.{AreShared}
 use Rattle.driver_marks.proofs.NamesDistinguished.{distinguished_is}
 use Rattle.driver_marks.proofs.names.distinguish_by.Goals as goal
+
+pub distinctions-requires-clause-len : goal.distinctions-requires-clause-len
+distinctions-requires-clause-len c = c.requires.len ∙ ap length (sym c.as_slice.ensures.value)
+
+pub distinctions-requires-clause-shared : goal.distinctions-requires-clause-shared
+distinctions-requires-clause-shared c = subst (λ ms. AreShared c.args.place (members_by ms) c.args.shared.now) (sym c.as_slice.ensures.value) c.requires.shared
 
 pub returns : goal.returns
 returns c =

@@ -2,7 +2,7 @@ use Rattle.std.proofs.Common.{◌≡◌, ◌++◌, map, drop}
 use Rattle.driver_marks.specs.NamesViews.{distinction, members_by}
 use Rattle.driver_marks.proofs.names_members.distinctions.Given as goal
 
-abbrev pub invariant-loop-member : goal.invariant-loop-member
-invariant-loop-member l =
-    l.distinctions.items ++ map (distinction (members_by l.members) l.place) (members_by (drop l.member-index l.members))
+abbrev pub invariant-loop-at : goal.invariant-loop-at
+invariant-loop-at l =
+    l.distinctions.items ++ map (distinction (members_by l.members) l.place) (members_by (drop l.at l.members))
     ≡ map (distinction (members_by l.members) l.place) (members_by l.members)

@@ -1,0 +1,69 @@
+-- What cites share stays while the cites of a class are told apart.
+use Rattle.std.proofs.Common.{◌≡◌, ℕ, ◌+◌, Bool, true, false, cond, not, ◌&&◌, List, [], ◌∷◌, map, length, refl, sym, ap, ◌∙◌, Option, None}
+use Rattle.std.specs.Prelude.{◌==◌}
+use Rattle.std.specs.List.{enumerate_from, list_any, range_with_len}
+use Rattle.std.specs.Option.{option_map, option_map_or}
+use Rattle.std.proofs.Math.Path.{fun_ext}
+use Rattle.std.proofs.lemmas.Simd.{map-map}
+use Rattle.rendering_names.specs.Properties.{Properties, with_name}
+use Rattle.rendering_taxonomy.specs.declared.style.DisambiguationRule.{DisambiguationRule}
+use Rattle.driver_marks.specs.Classes.{Printed}
+use Rattle.driver_marks.specs.Names.{Member, all_shown_up_to, distinguished_at, distinguished_by, form_wanted, is_newly_distinguished, member, members, names_may_change, raised_names, raises, rule_for, showing_up_to}
+use Rattle.driver_marks.specs.Shared.{AreInOrder, agrees_by, last_passing, shared_people, shares}
+use Rattle.driver_marks.proofs.NamesDistinguished.{any-filter, any-map}
+
+-- a cite without what is told of it
+abbrev bare : Member → Member
+bare m = record m { names = None; is_distinguished = false }
+
+places_from : (a : ℕ) (ss : List Printed) → map (λ m. m.place) (map member (enumerate_from a ss)) ≡ range_with_len a (length (map member (enumerate_from a ss)))
+places_from a [] = refl
+places_from a (s ∷ ss) = ap (λ ns. a ∷ ns) (places_from (a + 1) ss)
+
+-- the cites of a class are at their places
+pub in_order : (ss : List Printed) → AreInOrder (members ss)
+in_order ss = places_from 0 ss
+
+shares_bare : (r : Option DisambiguationRule) (ms : List Member) (m : Member) (n : ℕ) → shares r (map bare ms) (bare m) n ≡ shares r ms m n
+shares_bare r ms m n =
+    any-filter (agrees_by r (n + 1) (bare m)) (λ o. not (o.place == m.place)) (map bare ms)
+    ∙ any-map (λ o. not (o.place == m.place) && agrees_by r (n + 1) (bare m) o) bare ms
+    ∙ sym (any-filter (agrees_by r (n + 1) m) (λ o. not (o.place == m.place)) ms)
+
+shared_bare : (most : ℕ) (ms : List Member) → map (shared_people most (map bare ms)) (map bare ms) ≡ map (shared_people most ms) ms
+shared_bare most ms =
+    map-map (shared_people most (map bare ms)) bare ms
+    ∙ ap (λ f. map f ms) (fun_ext (λ m. ap (λ t. last_passing 0 t most) (fun_ext (λ n. shares_bare (rule_for m) ms m n))))
+
+bare_raised : (b : Bool) (m : Member) (ns : Option Properties) → bare (record (cond b (record m { names = ns }) m) { is_distinguished = true }) ≡ bare m
+bare_raised true m ns = refl
+bare_raised false m ns = refl
+
+bare_told : (b c : Bool) (m : Member) (ns : Option Properties) → bare (cond b (record (cond c (record m { names = ns }) m) { is_distinguished = true }) m) ≡ bare m
+bare_told true c m ns = bare_raised c m ns
+bare_told false c m ns = refl
+
+bare_shown : (b : Bool) (m : Member) (ns : Option Properties) → bare (cond b (record m { names = ns }) m) ≡ bare m
+bare_shown true m ns = refl
+bare_shown false m ns = refl
+
+bare_each : (ms : List Member) (place : ℕ) (m : Member) → bare (showing_up_to (place + 1) (distinguished_at ms place m)) ≡ bare m
+bare_each ms place m =
+    let told : Member = distinguished_at ms place m in
+    bare_shown (names_may_change told) told (option_map (with_name (place + 1)) told.names)
+    ∙ bare_told (is_newly_distinguished (place + 1) ms m) (raises (rule_for m)) m (option_map (λ ps. option_map_or (λ g. raised_names place g ps) (form_wanted ms m place) ps) m.names)
+
+bare_all : (b : Bool) (ms : List Member) (place : ℕ) → map bare (cond b (all_shown_up_to ms place) ms) ≡ map bare ms
+bare_all true ms place =
+    map-map bare (λ m. showing_up_to (place + 1) (distinguished_at ms place m)) ms ∙ ap (λ f. map f ms) (fun_ext (bare_each ms place))
+bare_all false ms place = refl
+
+-- what cites share, after some of them were told apart
+pub shared_still : (most place : ℕ) (ms new : List Member) (shared : List ℕ) → shared ≡ map (shared_people most ms) ms → new ≡ distinguished_by ms place → shared ≡ map (shared_people most new) new
+shared_still most place ms new shared is told =
+    let all : List Member → List ℕ = λ os. map (shared_people most os) os in
+    is
+    ∙ sym (shared_bare most ms)
+    ∙ ap all (sym (bare_all (list_any (is_newly_distinguished (place + 1) ms) ms) ms place))
+    ∙ shared_bare most (distinguished_by ms place)
+    ∙ ap all (sym told)

@@ -1,0 +1,21 @@
+use Rattle.std.proofs.Common.{◌≡◌, ◌&&◌, length, ap, sym, ◌∙◌, arith}
+use Rattle.std.proofs.lemmas.List.{get_or-map, length-map}
+use Rattle.driver_marks.specs.Names.{rule_for}
+use Rattle.driver_marks.specs.NamesViews.{member_by, members_by}
+use Rattle.driver_marks.specs.Shared.{is_rule, shares}
+use Rattle.driver_marks.proofs.NamesShared.{push_step, shares_in_group}
+use Rattle.driver_marks.proofs.names_shared.are_sharing.Goals as goal
+
+pub loop-at-preserved : goal.loop-at-preserved
+loop-at-preserved c =
+    let ms = members_by c.args.members.now in
+    let rule = c.args.rule in
+    let i = c.loop-at.at in
+    let m = c.index-members-at.result in
+    let seen : length ms ≡ length c.args.members.now = length-map c.args.members.now member_by in
+    let low = c.loop-at-test.true in
+    let size : c.count.result ≡ _ = c.count.ensures ∙ c.in_ok-sizes.ensures _ in
+    push_step member_by (λ o. is_rule (rule_for o) rule && shares rule ms o c.args.place) c.args.members.now i m c.loop-at.sharing.items c.push.new.self.items c.is_sharing.result low c.index-members-at.is c.loop-at.invariant
+    (c.is_sharing.ensures
+    ∙ ap (λ b. is_rule (rule_for (member_by m)) rule && b) (shares_in_group rule ms c.args.place i (member_by m) c.args.groups.now c.count.result c.requires.order (omega (arith, seen, low)) (ap member_by c.index-members-at.is ∙ sym (get_or-map member_by c.args.members.now i m (member_by m) low)) c.requires.groups size))
+    c.in_ok-push.ensures.items

@@ -1,0 +1,8 @@
+use Rattle.std.proofs.Common.{◌≡◌, ◌&&◌, map, take}
+use Rattle.driver_marks.specs.Names.{rule_for}
+use Rattle.driver_marks.specs.NamesViews.{members_by}
+use Rattle.driver_marks.specs.Shared.{is_rule, shares}
+use Rattle.driver_marks.proofs.names_shared.are_sharing.Given as goal
+
+abbrev pub invariant-loop-at : goal.invariant-loop-at
+invariant-loop-at l = l.sharing.items ≡ map (λ m. is_rule (rule_for m) l.rule && shares l.rule (members_by l.members) m l.place) (members_by (take l.at l.members))
