@@ -29,7 +29,7 @@ use Rattle.driver_blocks.specs.Rows.{Arranged}
 use Rattle.driver_bibliography.specs.Items.{items_of}
 use Rattle.driver.specs.Citations.{citation_of}
 use Rattle.driver.specs.Documents.{Document, document_with, item_with, order_in, request_with, requests_named}
-use Rattle.driver.specs.Finish.{Rendered, citation_in, finish, is_final_of, item_of_cite, item_of_entry, item_properties, rendered_from, shown}
+use Rattle.driver.specs.Finish.{citation_in, finish, is_final_of, item_of_cite, item_of_entry, item_properties, rendered_from, shown}
 use Rattle.driver.specs.Laws.{AlikeEntriesGiveOne}
 use Rattle.driver.specs.Renaming.{arranged_as, gathered_as}
 use Rattle.driver.specs.Stages.{Final, FirstPrint, arranged_for, candidate, cite_of, disambiguated_in, final, finals_in, first_print, first_print_of, first_prints_in, flattened, gathered_by, has_letter_date, has_purpose, located, mark_for, numbered_after, printed_at_last, printed_by, purpose_at_first}

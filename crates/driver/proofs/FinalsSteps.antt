@@ -33,8 +33,8 @@ use Rattle.driver.specs.Joining.{shown_seen}
 use Rattle.driver.specs.Rounding.{AreWithin}
 use Rattle.driver.specs.Finish.{Citation as Printed, citation_in, shown}
 use Rattle.driver.specs.Renaming.{arranged_as}
-use Rattle.driver.specs.Stages.{FirstPrint, arranged_for, counts_at_last, first_print, printed_at_last}
-use Rattle.driver.specs.Views.{numbered_seen, properties_with, row_seen, rows_seen, usage_of}
+use Rattle.driver.specs.Stages.{FirstPrint, arranged_for, counts_at_last, first_print, printed_at_last, printed_by, purpose_at_first}
+use Rattle.driver.specs.Views.{marked_by, numbered_seen, properties_with, row_seen, rows_seen, usage_of}
 use Rattle.driver.specs.declared.cite.NumberedCite.{NumberedCite}
 use Rattle.driver.specs.declared.citation.ShownCite.{ShownCite}
 use Rattle.driver.specs.declared.finals.FinalCite.{FinalCite}
@@ -110,6 +110,10 @@ module _ {T P : Type 0} (answers : T → Answers) where
   row_long x [] ks e = refl
   row_long x (i ∷ is) [] e = e
   row_long x (i ∷ is) (k ∷ ks) e = let f : length ks ≡ length is = omega (arith, e) in ap suc (row_long x is ks f)
+
+  -- there is a print for each item
+  pub prints_long : {A : Type 0} (seen : A → marks.Printed) → (x : StyleContext) (ms : Marks) (is : List (CitationItem T P)) (ks : List NumberedCite) (ss : List A) → length ks ≡ length is → map seen ss ≡ map (marked_by ms) (row_seen answers x is ks) → length ss ≡ length is
+  prints_long seen x ms is ks ss long e = sym (length-map ss seen) ∙ ap length e ∙ length-map (row_seen answers x is ks) (marked_by ms) ∙ row_long x is ks long
 
   -- the cite of an item
   pub row_at : (x : StyleContext) (is : List (CitationItem T P)) (ks : List NumberedCite) (n : ℕ) (i : CitationItem T P) (k : NumberedCite) → n < length is → n < length ks → i ≡ get_or is n i → k ≡ get_or ks n k
@@ -196,6 +200,14 @@ pub printed_is : {T P : Type 0} (answers : T → Answers) (x : StyleContext) (c 
 printed_is answers x c marks f a mark locator properties r is_mark is_locator is e =
     ap (λ s. s.tree) e
     ∙ ap (λ p. (citation x (answers f.item.now.entry.now) p None f.item.now.purpose a.verdict).tree) (is ∙ (λ j. properties_with f.cite (is_mark j) (is_locator j) f.ibid usages.None))
+
+-- what a cite prints of which nothing is asked but what it has printed
+pub printed_before : {T P : Type 0} (answers : T → Answers) (x : StyleContext) (c : Citation) (marks : Marks) (f : FinalCite T P) (a : arranged.Arranged) (t : Children) → f.item.now.locator ≡ None → f.ibid ≡ f.cite.ibid → purpose_at_first f.item.now.purpose ≡ f.item.now.purpose → a.verdict ≡ None
+    → t ≡ (printed_by (numbered_seen answers x f.item.now f.cite) (mark_of marks f.cite.entry)).tree → t ≡ printed_at_last (final_seen answers x c marks f a)
+printed_before answers x c marks f a t no_locator is_ibid is_purpose no_verdict e =
+    let mark = mark_of marks f.cite.entry in
+    e
+    ∙ (λ j. (citation x (answers f.item.now.entry.now) (properties_with f.cite mark (option_map plain_locator (option_map locator_by (sym no_locator j))) (sym is_ibid j) usages.None) None (is_purpose j) (sym no_verdict j)).tree)
 
 -- an entry is listed that was not
 pub listed_first : {A : Type 0} (view : A → Listed) (xs : List (Option A)) (x : Option A) (one : A) (l : Listed) (b : Bool) → l.place < length xs → x ≡ get_or xs l.place x → is_some (get_or xs l.place x) ≡ not b → b ≡ true → view one ≡ l

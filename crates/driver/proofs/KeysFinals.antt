@@ -1,5 +1,5 @@
 -- The entries that a bibliography prints by their first cites have the keys of the cited entries, in the order of these.
-use Rattle.std.proofs.Common.{◌≡◌, ℕ, ◌+◌, Bool, true, false, true≢false, cond, eqb-true, find, is_some, unwrap_or, List, [], ◌∷◌, ◌++◌, map, refl, sym, ap, subst, ◌∙◌, Option, Some, None}
+use Rattle.std.proofs.Common.{◌≡◌, ℕ, Bool, true, false, true≢false, cond, eqb-true, find, is_some, unwrap_or, List, [], ◌∷◌, ◌++◌, map, refl, sym, ap, subst, ◌∙◌, Option, Some, None}
 use Rattle.std.specs.Prelude.{filter_map}
 use Rattle.std.specs.List.{AllByRecursion, cons_option, enumerate_from, flat_map, list_any}
 use Rattle.std.specs.Option.{option_and_then, option_map}

@@ -140,12 +140,12 @@ fn finish_requests<'r, T: EntryLike + Hash, P: PartialEq>(
         &known.rows,
         &known.order,
         &usages,
-        &marked,
+        marked,
         &mut effort,
     )
 }
 
-/// Citations and bibliography of requests by the final marks.
+/// Citations and bibliography of requests by the final marks. The bibliography is printed once what cites have printed is let go.
 fn render<'r, T: EntryLike, P: PartialEq>(
     alloc: Global,
     requests: &'r [CitationRequest<'r, T, P>],
@@ -154,17 +154,17 @@ fn render<'r, T: EntryLike, P: PartialEq>(
     rows: &[Vec<NumberedCite>],
     order: &[usize],
     usages: &[IdentifierUsage],
-    marked: &Marked,
+    marked: Marked,
     effort: &mut Effort,
 ) -> Result<Rendered, DriverError>
     requires contexts { map context_seen contexts.now ≡ map context_of requests.now }
     requires rows { map (λ v. length v.items) rows.now ≡ map (λ r. length r.items.items) requests.now }
-    requires within { AreWithin (length marked.now.marks.items) rows.now }
-    requires order { All (λ p. p < length marked.now.marks.items) order.now }
+    requires within { AreWithin (length marked.marks.items) rows.now }
+    requires order { All (λ p. p < length marked.marks.items) order.now }
     requires usages { usages.now ≡ map usage_of (flattened (rows_seen T.answers requests.now rows.now)) }
-    requires printed { cites_seen marked.now.printed ≡ map (marked_by (map state_by marked.now.marks.items)) (flattened (rows_seen T.answers requests.now rows.now)) }
-    ensures rendered { (place : T → ℕ) → GivesBack overflow_of rendered_by result (rendered_of (bibliography_context_of request.now) order.now (map (request_by place T.answers) requests.now) (finals_from P.eq (marked_seen marked.now).0 (map (request_by place T.answers) requests.now) (firsts (rows_seen T.answers requests.now rows.now)))) }
-    ensures keys { (place : T → ℕ) → IfOk result (λ r. option_map keys_by r.bibliography ≡ option_map (λ s. keys_first (bibliography_context_of request.now) (flattened (finals_from P.eq (marked_seen marked.now).0 (map (request_by place T.answers) requests.now) (firsts (rows_seen T.answers requests.now rows.now)))) order.now) (bibliography_context_of request.now).style.bibliography) }
+    requires printed { cites_seen marked.printed ≡ map (marked_by (map state_by marked.marks.items)) (flattened (rows_seen T.answers requests.now rows.now)) }
+    ensures rendered { (place : T → ℕ) → GivesBack overflow_of rendered_by result (rendered_of (bibliography_context_of request.now) order.now (map (request_by place T.answers) requests.now) (finals_from P.eq (marked_seen marked).0 (map (request_by place T.answers) requests.now) (firsts (rows_seen T.answers requests.now rows.now)))) }
+    ensures keys { (place : T → ℕ) → IfOk result (λ r. option_map keys_by r.bibliography ≡ option_map (λ s. keys_first (bibliography_context_of request.now) (flattened (finals_from P.eq (marked_seen marked).0 (map (request_by place T.answers) requests.now) (firsts (rows_seen T.answers requests.now rows.now)))) order.now) (bibliography_context_of request.now).style.bibliography) }
     ensures effort { IfOk result (λ r. r.effort ≤ effort.old + length (flattened (rows_seen T.answers requests.now rows.now)) + option_map_or (λ s. length order.now) (bibliography_context_of request.now).style.bibliography 0) }
 {
     let letters = suffixes(alloc, &marked.marks, &marked.given)?;
@@ -175,12 +175,13 @@ fn render<'r, T: EntryLike, P: PartialEq>(
         contexts,
         rows,
         usages,
-        marked,
+        &marked,
         &letters,
         &mut listed,
         effort,
     )?;
-    let bibliography = bibliography(alloc, request, order, &marked.marks, &listed, effort)?;
+    let marks = marked.into_marks();
+    let bibliography = bibliography(alloc, request, order, &marks, &listed, effort)?;
     Ok(Rendered {
         bibliography,
         citations,

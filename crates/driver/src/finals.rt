@@ -1,6 +1,6 @@
 //! Last prints of cites, and citations from them.
 
-ghost use Rattle.std.specs.Prelude.{◌≡◌, ℕ, ◌+◌, ◌<◌, ◌≤◌, ◌++◌, [], All, None, fold, length, map, zip, replicate, is_some, IfOk, OnOk};
+ghost use Rattle.std.specs.Prelude.{◌≡◌, ℕ, ◌+◌, ◌<◌, ◌≤◌, ◌++◌, [], All, None, fold, length, map, zip, replicate, is_some, true, IfOk, OnOk};
 ghost use Rattle.std.specs.List.{range_with_len};
 ghost use Rattle.std.specs.Option.{option_map};
 ghost use Rattle.rendering.specs.Views.{context_seen};
@@ -11,7 +11,7 @@ ghost use Rattle.rendering_tree.specs.Trees.{element_with};
 ghost use Rattle.rendering_tree.specs.Views.{tree};
 ghost use Rattle.driver_blocks.specs.Views.{arranged_seen, gathered_seen};
 ghost use Rattle.driver_marks.specs.Lettered.{suffixes_by};
-ghost use Rattle.driver_marks.specs.Marks.{Marks};
+ghost use Rattle.driver_marks.specs.Marks.{Marks, mark_of};
 ghost use Rattle.driver_marks.specs.CitesViews.{cites_seen};
 ghost use Rattle.driver_marks.specs.Views.{givens_by, printed_seen};
 ghost use Rattle.driver_requests.specs.Positions as positions;
@@ -25,7 +25,7 @@ ghost use Rattle.driver.specs.RenderedViews.{citation_by};
 ghost use Rattle.driver.specs.Rounding.{AreWithin, marked_seen};
 ghost use Rattle.driver.specs.Stages as stages;
 ghost use Rattle.driver.specs.Stages.{arranged_for, counts_at_last, first_print, flattened};
-ghost use Rattle.driver.specs.Views.{marked_by, row_seen, rows_seen, usage_of};
+ghost use Rattle.driver.specs.Views.{marked_by, numbered_seen, row_seen, rows_seen, usage_of};
 
 use crate::citation::{ShownCite, citation_of};
 use crate::cite::{NumberedCite, plain_locator};
@@ -38,7 +38,7 @@ use rendering::{Effort, StyleContext};
 use rendering_context::DisambiguateState;
 use rendering_entries::EntryLike;
 use rendering_style::Citation;
-use rendering_taxonomy::{CollapseVerdict, IbidState, IdentifierUsage};
+use rendering_taxonomy::{CitePurpose, CollapseVerdict, IbidState, IdentifierUsage};
 use rendering_tree::{ElemChildren, ElemMeta};
 use std::alloc::{AllocError, Global};
 
@@ -247,6 +247,7 @@ fn print_arranged<'r, 'c, T: EntryLike, P: PartialEq>(
 ) -> Result<Vec<ShownCite<'c>>, AllocError>
     requires row { length cites.row.now ≡ length request.now.items.items }
     requires within { All (λ n. n.entry < length printing.marks.now) cites.row.now }
+    requires printed { map printed_seen cites.printed.now ≡ map (marked_by (map state_by printing.marks.now)) (row_seen T.answers (context_seen printing.context.now) request.now.items.items cites.row.now) }
     requires usages { cites.usages.now ≡ map usage_of (row_seen T.answers (context_seen printing.context.now) request.now.items.items cites.row.now) }
     requires listed { length listed.old ≡ length printing.marks.now }
     requires places { All (λ a. a.cite.cite < length request.now.items.items) arranged.now }
@@ -265,7 +266,8 @@ fn print_arranged<'r, 'c, T: EntryLike, P: PartialEq>(
             usage: cites.usages[place],
         };
         list(&next, listed);
-        print_shown(printing, &next, cite, &mut shown, effort)?;
+        let printed = cites.printed[place].tree();
+        print_shown(printing, &next, cite, printed, &mut shown, effort)?;
         *last = Some(LastCite {
             item,
             entry: own.entry,
@@ -304,22 +306,24 @@ fn list<'r, T: EntryLike, P>(next: &FinalCite<'r, T, P>, listed: &mut [Option<Li
     }
 }
 
-/// Appends what a cite prints, if it is shown.
+/// Appends what a cite prints, if it is shown. By its final mark and without its locator it has printed this tree.
 fn print_shown<'c, T: EntryLike, P>(
     printing: Printing<'c>,
     next: &FinalCite<'_, T, P>,
     cite: &Arranged<'_>,
+    printed: &ElemChildren,
     shown: &mut Vec<ShownCite<'c>>,
     effort: &mut Effort,
 ) -> Result<(), AllocError>
-    requires { next.now.cite.entry < length printing.marks.now }
+    requires within { next.now.cite.entry < length printing.marks.now }
+    requires printed { tree printed.now ≡ (stages.printed_by (numbered_seen T.answers (context_seen printing.context.now) next.now.item.now next.now.cite) (mark_of (map state_by printing.marks.now) next.now.cite.entry)).tree }
     ensures shown { OnOk result (map shown_seen shown.new.items ≡ map shown_seen shown.old.items ++ finish.shown (final_seen T.answers (context_seen printing.entry.context.now) (citation_seen printing.entry.style.now) (map state_by printing.entry.marks.now) next.now cite.now)) }
     ensures effort { OnOk result (effort.new ≤ effort.old + 1) }
 {
     if !cite.is_shown {
         return Ok(());
     }
-    let tree = printed_at_last(printing, next, cite, effort)?;
+    let tree = printed_at_last(printing, next, cite, printed, effort)?;
     shown.push(ShownCite {
         delimiter: cite.before.text(printing.style),
         index: next.cite.index,
@@ -328,17 +332,23 @@ fn print_shown<'c, T: EntryLike, P>(
     Ok(())
 }
 
-/// What a cite prints.
+/// What a cite prints. By its final mark and without its locator it has printed this tree, which is not printed again where nothing else
+/// is asked for.
 fn printed_at_last<T: EntryLike, P>(
     printing: Printing<'_>,
     next: &FinalCite<'_, T, P>,
     cite: &Arranged<'_>,
+    printed: &ElemChildren,
     effort: &mut Effort,
 ) -> Result<ElemChildren, AllocError>
-    requires { next.now.cite.entry < length printing.marks.now }
+    requires within { next.now.cite.entry < length printing.marks.now }
+    requires printed { tree printed.now ≡ (stages.printed_by (numbered_seen T.answers (context_seen printing.context.now) next.now.item.now next.now.cite) (mark_of (map state_by printing.marks.now) next.now.cite.entry)).tree }
     ensures printed { IfOk result (λ t. tree t ≡ stages.printed_at_last (final_seen T.answers (context_seen printing.entry.context.now) (citation_seen printing.entry.style.now) (map state_by printing.entry.marks.now) next.now cite.now)) }
     ensures effort { OnOk result (effort.new ≤ effort.old + 1) }
 {
+    if prints_as_before(next, cite) {
+        return printed.clone();
+    }
     let mark = printing.marks[next.cite.entry].clone()?;
     let locator = plain_locator(next.item);
     let properties = next
@@ -353,4 +363,18 @@ fn printed_at_last<T: EntryLike, P>(
         effort,
     )?;
     Ok(rendering.tree)
+}
+
+/// Whether a cite prints what it has printed without its locator: it has none, is not collapsed and no cite for its year, and stands to the
+/// cite before it as it does in the text.
+fn prints_as_before<T: EntryLike, P>(next: &FinalCite<'_, T, P>, cite: &Arranged<'_>) -> bool
+    ensures locator { result ≡ true → next.now.item.now.locator ≡ None }
+    ensures verdict { result ≡ true → cite.now.verdict ≡ None }
+    ensures purpose { result ≡ true → stages.purpose_at_first next.now.item.now.purpose ≡ next.now.item.now.purpose }
+    ensures ibid { result ≡ true → next.now.ibid ≡ next.now.cite.ibid }
+{
+    next.item.locator.is_none()
+        && cite.verdict.is_none()
+        && next.item.purpose != Some(CitePurpose::Year)
+        && next.ibid == next.cite.ibid
 }

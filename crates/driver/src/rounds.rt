@@ -36,6 +36,15 @@ pub(crate) struct Marked {
     pub(crate) printed: PrintedCites,
 }
 
+impl Marked {
+    /// The marks alone. What cites print is let go.
+    pub(crate) fn into_marks(self) -> Vec<DisambiguateState>
+        ensures { result ≡ self.marks }
+    {
+        self.marks
+    }
+}
+
 /// What tells cites apart, from what they print without marks.
 ///
 /// # Errors

@@ -8,8 +8,9 @@ use Rattle.rendering_taxonomy.specs.declared.cite.IdentifierUsage.TheVariants as
 use Rattle.driver_blocks.specs.Views.{arranged_seen}
 use Rattle.driver.specs.Finals.{arranged_in, placed_seen, placed_with}
 use Rattle.driver.specs.Stages.{first_print}
-use Rattle.driver.specs.Views.{numbered_seen, row_seen, usage_of}
-use Rattle.driver.proofs.FinalsSteps.{element_plain, no_cite, placed_goes_on, print_at, row_at, row_long}
+use Rattle.driver_marks.specs.Views.{printed_seen}
+use Rattle.driver.specs.Views.{marked_by, numbered_seen, row_seen, usage_of}
+use Rattle.driver.proofs.FinalsSteps.{element_plain, element_seen, no_cite, placed_goes_on, print_at, prints_long, row_at, row_long}
 use Rattle.driver.proofs.finals.print_arranged.Goals as goal
 
 pub bounds-cites-place-in-loop-cite : goal.bounds-cites-place-in-loop-cite
@@ -20,6 +21,46 @@ bounds-cites-place-in-loop-cite g c =
     let long : length c.args.cites.usages.now ≡ length c.args.request.now.items.items =
     ap length c.requires.usages ∙ length-map ns usage_of ∙ row_long g.T.EntryLike.answers (context_seen c.args.printing.context.now) c.args.request.now.items.items c.args.cites.row.now c.requires.row in
     omega (arith, place, low, long)
+
+pub offset_bounds-cites-place-in-loop-cite : goal.offset_bounds-cites-place-in-loop-cite
+offset_bounds-cites-place-in-loop-cite g c =
+    let marks = map state_by c.args.printing.marks.now in
+    let ns = row_seen g.T.EntryLike.answers (context_seen c.args.printing.context.now) c.args.request.now.items.items c.args.cites.row.now in
+    let place : c.cite-item.result.cite.cite ≡ (get_or c.args.arranged.now c.loop-cite.cite-index c.cite-item.result).cite.cite = ap (λ a. a.cite.cite) c.cite-item.is in
+    let low = c.requires.places c.loop-cite.cite-index c.cite-item.result c.loop-cite-test.true in
+    let long = prints_long g.T.EntryLike.answers printed_seen (context_seen c.args.printing.context.now) marks c.args.request.now.items.items c.args.cites.row.now c.args.cites.printed.now c.requires.row c.requires.printed in
+    omega (arith, place, low, long)
+
+pub bounds-cites-place-in-loop-cite-2 : goal.bounds-cites-place-in-loop-cite-2
+bounds-cites-place-in-loop-cite-2 g c =
+    let marks = map state_by c.args.printing.marks.now in
+    let place : c.cite-item.result.cite.cite ≡ (get_or c.args.arranged.now c.loop-cite.cite-index c.cite-item.result).cite.cite = ap (λ a. a.cite.cite) c.cite-item.is in
+    let low = c.requires.places c.loop-cite.cite-index c.cite-item.result c.loop-cite-test.true in
+    let long = prints_long g.T.EntryLike.answers printed_seen (context_seen c.args.printing.context.now) marks c.args.request.now.items.items c.args.cites.row.now c.args.cites.printed.now c.requires.row c.requires.printed in
+    omega (arith, place, low, long)
+
+pub print_shown-requires-clause-printed : goal.print_shown-requires-clause-printed
+print_shown-requires-clause-printed g c =
+    let answers = g.T.EntryLike.answers in
+    let x = context_seen c.args.printing.context.now in
+    let items = c.args.request.now.items.items in
+    let row = c.args.cites.row.now in
+    let prints = c.args.cites.printed.now in
+    let marks = map state_by c.args.printing.marks.now in
+    let a = c.cite-item.result in
+    let place = a.cite.cite in
+    let item = c.index-item.result.now in
+    let own = get_or row place no_cite in
+    let is_place : place ≡ (get_or c.args.arranged.now c.loop-cite.cite-index a).cite.cite = ap (λ b. b.cite.cite) c.cite-item.is in
+    let low = c.requires.places c.loop-cite.cite-index a c.loop-cite-test.true in
+    let in_items : place < length items = omega (arith, is_place, low) in
+    let in_row : place < length row = omega (arith, in_items, c.requires.row) in
+    let long = prints_long answers printed_seen x marks items row prints c.requires.row c.requires.printed in
+    let in_prints : place < length prints = omega (arith, in_items, long) in
+    c.tree-printed.ensures
+    ∙ ap (λ s. s.tree)
+    (element_seen printed_seen (marked_by marks) prints (row_seen answers x items row) place (get_or prints place c.index-cites-place.result) (numbered_seen answers x item own) c.requires.printed (slice_get-get_or prints place c.index-cites-place.result in_prints)
+    (row_at answers x items row place item own in_items in_row c.index-item.ensures (get_or_default row place no_cite own in_row)))
 
 pub loop-cite-preserved : goal.loop-cite-preserved
 loop-cite-preserved g c =

@@ -1,4 +1,4 @@
-use Rattle.std.proofs.Common.{◌+◌, length, map, drop, sym, ap, ◌∙◌, arith}
+use Rattle.std.proofs.Common.{◌+◌, length, map, drop, arith}
 use Rattle.rendering_context.specs.Views.{state_by}
 use Rattle.rendering.specs.Views.{context_seen}
 use Rattle.driver_marks.proofs.CitesFit.{cites_fit}

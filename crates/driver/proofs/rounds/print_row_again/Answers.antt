@@ -1,7 +1,6 @@
 use Rattle.std.proofs.Common.{◌+◌, ◌<◌, length, map, drop, get_or, ap, ◌∙◌, arith}
 use Rattle.rendering_context.specs.Views.{state_by}
 use Rattle.rendering.specs.Views.{context_seen}
-use Rattle.driver_marks.proofs.CitesFit.{cites_fit}
 use Rattle.driver_marks.specs.CitesViews.{cites_seen}
 use Rattle.driver_requests.specs.Views.{context_of}
 use Rattle.driver.specs.Views.{numbered_seen, row_seen}
