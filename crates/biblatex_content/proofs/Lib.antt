@@ -10,3 +10,6 @@ pub mod TidyTexts
 pub mod TidyPlaces
 pub mod WritingRows
 pub mod WritingPieces
+pub mod TidyFronts
+pub mod TidyRests
+pub mod VerbatimLiteral

@@ -1,9 +1,10 @@
 -- A chunk after others.
-use Rattle.std.proofs.Common.{◌≡◌, Bool, true, false, ◌&&◌, List, [], ◌∷◌, ◌++◌, Option, Some, None, refl, sym}
+use Rattle.std.proofs.Common.{◌≡◌, ℕ, Bool, true, false, ◌&&◌, List, [], ◌∷◌, ◌++◌, Option, Some, None, refl, sym}
 use Rattle.biblatex_content.specs.declared.chunk.Kind.{Kind}
 use Rattle.biblatex_content.specs.declared.chunk.Kind.TheVariants.{Normal, Verbatim}
 use Rattle.biblatex_content.specs.declared.chunk.Chunk.{Chunk}
 use Rattle.biblatex_text.specs.declared.spanned.Spanned.{Spanned}
+use Rattle.laws.specs.Text.{is_filled}
 use Rattle.biblatex_content.specs.Parted.{is_full, kind_of, is_apart, are_parted, last_kind, IsLastOrNone}
 
 pub last_kind_after : (cs : List (Spanned Chunk)) (c : Spanned Chunk) → last_kind (cs ++ c ∷ []) ≡ kind_of c.v
@@ -49,3 +50,9 @@ apart_from_last kind Normal (Some Normal) e differ = absurd (differ (sym e))
 apart_from_last kind Verbatim (Some Normal) e differ = refl
 apart_from_last kind Normal (Some Verbatim) e differ = refl
 apart_from_last kind Verbatim (Some Verbatim) e differ = absurd (differ (sym e))
+
+-- something is there after a text
+pub filled_after : (cs ds : List ℕ) → is_filled ds ≡ true → cs ++ ds ≡ [] → ⊥
+filled_after [] [] filled e = absurd cc
+filled_after [] (d ∷ ds) filled e = absurd cc
+filled_after (c ∷ cs) ds filled e = absurd cc

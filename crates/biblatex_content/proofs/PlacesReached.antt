@@ -3,10 +3,11 @@ use Rattle.std.proofs.Common.{◌≡◌, ℕ, max, Bool, true, false, not, List,
 use Rattle.biblatex_text.specs.Raw.{At}
 use Rattle.biblatex_content.specs.declared.chunk.Kind.{Kind}
 use Rattle.biblatex_content.specs.declared.chunk.Kind.TheVariants.{Normal, Verbatim}
+use Rattle.biblatex_content.specs.declared.joining.Joining.{Joining}
 use Rattle.biblatex_content.specs.Styled.{Member, Letter, letters}
 use Rattle.biblatex_content.specs.Parted.{is_apart}
 use Rattle.laws.specs.Text.{is_filled}
-use Rattle.biblatex_content.specs.Places.{all_at, kind_in, goes_on, before, places_of, begun_with}
+use Rattle.biblatex_content.specs.Places.{all_at, kind_in, goes_on, before, places_of, begun_with, places_with}
 
 -- a character of the kind at the place
 abbrev letter : Kind → ℕ → ℕ → ℕ → At Member
@@ -50,6 +51,32 @@ pub pushed : (run : List ℕ) (kind : Kind) (s e c start end : ℕ) (ms : List (
 pushed [] kind s e c start end ms = letter_same kind 0 c start end ms
 pushed (x ∷ run) kind s e c start end ms = more kind s e c start end ms
 
+-- a text that goes on with what was begun
+more_text : (kind : Kind) (s e c start end : ℕ) (cs : List ℕ) (ms : List (At Member))
+    → places_of (letter kind 0 s (max e end) ∷ ms) ≡ places_of (letter kind 0 s e ∷ (all_at start end (letters kind (c ∷ cs)) ++ ms))
+more_text kind s e c start end [] ms = more kind s e c start end ms
+more_text kind s e c start end (d ∷ cs) ms =
+    let h : max e end ≡ max (max e end) end = omega arith in
+    ap (λ (x : ℕ). places_of (letter kind 0 s x ∷ ms)) h
+    ∙ (more_text kind s (max e end) d start end cs ms ∙ more kind s e c start end (all_at start end (letters kind (d ∷ cs)) ++ ms))
+
+-- a text that begins
+first_text : (kind : Kind) (c start end : ℕ) (cs : List ℕ) (ms : List (At Member))
+    → places_of (letter kind 0 start end ∷ ms) ≡ places_of (all_at start end (letters kind (c ∷ cs)) ++ ms)
+first_text kind c start end [] ms = letter_same kind 0 c start end ms
+first_text kind c start end (d ∷ cs) ms =
+    let h : end ≡ max end end = omega arith in
+    ap (λ (x : ℕ). places_of (letter kind 0 start x ∷ ms)) h
+    ∙ (more_text kind start end d start end cs ms ∙ letter_same kind 0 c start end (all_at start end (letters kind (d ∷ cs)) ++ ms))
+
+-- a text put after what was begun, if anything was
+pub pushed_text : (run : List ℕ) (kind : Kind) (s e start end : ℕ) (cs : List ℕ) (ms : List (At Member)) → is_filled cs ≡ true
+    → begun_with (is_filled (run ++ cs)) (letter kind 0 (if is_filled run then s else start) (if is_filled run then max e end else end)) ms
+    ≡ begun_with (is_filled run) (letter kind 0 s e) (all_at start end (letters kind cs) ++ ms)
+pushed_text run kind s e start end [] ms filled = absurd cc
+pushed_text [] kind s e start end (c ∷ cs) ms filled = first_text kind c start end cs ms
+pushed_text (x ∷ run) kind s e start end (c ∷ cs) ms filled = more_text kind s e c start end cs ms
+
 -- what was begun ends before a member of another kind
 pub ended : (is_begun : Bool) (run m : At Member) (ms : List (At Member)) → is_apart (kind_in run.v) (kind_in m.v) ≡ true
     → begun_with is_begun run [] ++ places_of (m ∷ ms) ≡ begun_with is_begun run (m ∷ ms)
@@ -75,3 +102,12 @@ one_place kind start end c [] = refl
 one_place kind start end c (d ∷ cs) =
     let h : max end end ≡ end = omega arith in
     rw (alike kind, one_place kind start end d cs, h) refl
+
+-- a text of the kind that a content has turned to
+pub reached_text : (turned old : Joining) (kind : Kind) (start end : ℕ) (cs : List ℕ) (ms : List (At Member)) → turned.kind ≡ kind → is_filled cs ≡ true
+    → ((m : At Member) (rest : List (At Member)) → kind_in m.v ≡ Some kind → places_with turned (m ∷ rest) ≡ places_with old (m ∷ rest))
+    → places_with turned (all_at start end (letters turned.kind cs) ++ ms) ≡ places_with old (all_at start end (letters kind cs) ++ ms)
+reached_text turned old kind start end [] ms same filled turns = absurd cc
+reached_text turned old kind start end (c ∷ cs) ms same filled turns =
+    ap (λ (k : Kind). places_with turned (all_at start end (letters k (c ∷ cs)) ++ ms)) same
+    ∙ turns (record { v = Letter kind c; start = start; end = end }) (all_at start end (letters kind cs) ++ ms) refl

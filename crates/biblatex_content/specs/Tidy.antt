@@ -1,5 +1,5 @@
 -- Tidying: blanks become spaces, of neighbouring spaces the first stays, and none stays at an end.
-use Rattle.std.specs.Prelude.{ℕ, not, ◌&&◌, ◌||◌, Bool, true, false, ◌==◌, List, [], ◌∷◌, ◌++◌, map, if◌then◌else◌}
+use Rattle.std.specs.Prelude.{◌≡◌, length, ℕ, not, ◌&&◌, ◌||◌, Bool, true, false, ◌==◌, List, [], ◌∷◌, ◌++◌, map, if◌then◌else◌}
 use Rattle.biblatex_content.specs.declared.tidy.Gap.{Gap}
 use Rattle.biblatex_content.specs.declared.tidy.Gap.TheVariants.{Beginning, Nothing, Space}
 use Rattle.biblatex_content.specs.declared.tidy.Tidying.{Tidying}
@@ -8,7 +8,8 @@ use Rattle.biblatex_content.specs.Styled.{Member, Letter, Math}
 use Rattle.biblatex_content.specs.declared.chunk.Chunk.{Chunk}
 use Rattle.biblatex_content.specs.declared.chunk.Chunk.TheVariants as chunks
 use Rattle.biblatex_content.specs.Views.{joined}
-use Rattle.laws.specs.Text.{characters}
+use Rattle.std.specs.Str.{chars, IsUtf8}
+use Rattle.laws.specs.Text.{characters, is_filled}
 
 -- a blank becomes a space of its kind
 abbrev pub spaced : Member → Member
@@ -43,6 +44,16 @@ stays after_space c = not (is_blank c && (after_space || not (c == 32)))
 abbrev pub is_tidy : Bool → List ℕ → Bool
 is_tidy after_space [] = not after_space
 is_tidy after_space (c ∷ cs) = stays after_space c && is_tidy (c == 32) cs
+
+-- A text has a front of this length that is empty, or that tidying leaves as it is.
+pub record EndsTidily (whole : List ℕ) (end : ℕ) : Type 0 where
+  pub front : List ℕ
+  pub rest : List ℕ
+  pub parts : whole ≡ front ++ rest
+  pub long : length front ≡ end
+  pub front_utf8 : IsUtf8 front
+  pub rest_utf8 : IsUtf8 rest
+  pub tidy : is_filled (chars front) ≡ true → is_tidy true (chars front) ≡ true
 
 -- whether a chunk is text that tidying leaves as it is
 abbrev pub is_tidy_text : Chunk → Bool

@@ -1,9 +1,6 @@
 -- What the code holds, as plain lists.
-use Rattle.std.specs.Global.{Global}
-use Rattle.std.specs.Prelude.{ℕ, ◌-◌, max, length, slice_get, List, [], ◌∷◌, ◌++◌, flat_map, map, Result, Ok, string_bytes, String}
+use Rattle.std.specs.Prelude.{ℕ, ◌-◌, max, length, slice_get, List, [], ◌∷◌, ◌++◌, flat_map, map, Result, Ok}
 use Rattle.std.specs.Option.{option_map_or}
-use Rattle.std.specs.Str.{chars}
-use Rattle.std.specs.Borrow.{Bor}
 use Rattle.std.specs.declared.ops.Range.{Range}
 use Rattle.laws.specs.Text.{characters}
 use Rattle.biblatex_content.specs.declared.chunk.Kind.TheVariants.{Normal, Verbatim}

@@ -13,10 +13,11 @@ ghost use Rattle.biblatex_content.specs.Views.{so_far, styled, members, followin
 ghost use Rattle.biblatex_tex.specs.Results.{refusal_of};
 ghost use Rattle.laws.specs.Results.{Gives};
 
-use crate::chunk::{Chunk, Chunks, Span};
+use crate::chunk::{Chunk, Chunks, Kind, Span};
+use crate::joining::chunk_of;
 use crate::ordinary::{is_plain, read_ordinary};
 use crate::tidy::{are_done, tidy};
-use crate::verbatim::read_verbatim;
+use crate::verbatim::{is_literal, read_verbatim};
 use biblatex_tex::ContentError;
 use biblatex_text::Spanned;
 use std::alloc::{AllocError, Global};
@@ -97,13 +98,13 @@ impl Contents {
         Ok(())
     }
 
-    /// Appends a piece of plain characters.
-    fn push_plain(&mut self, piece: Spanned<&str>) -> Result<(), AllocError>
-        ensures styled { OnOk result (so_far self.new ≡ so_far self.old ++ letters Normal (chars piece.entry.v.now)) }
-        ensures placed { OnOk result (placed_so_far self.new ≡ placed_so_far self.old ++ all_at piece.entry.span.start piece.entry.span.end (letters Normal (chars piece.entry.v.now))) }
+    /// Appends a piece whose characters stand for themselves, in the kind.
+    fn push_plain(&mut self, kind: Kind, piece: Spanned<&str>) -> Result<(), AllocError>
+        ensures styled { OnOk result (so_far self.new ≡ so_far self.old ++ letters kind (chars piece.entry.v.now)) }
+        ensures placed { OnOk result (placed_so_far self.new ≡ placed_so_far self.old ++ all_at piece.entry.span.start piece.entry.span.end (letters kind (chars piece.entry.v.now))) }
     {
         let text = String::from_str(self.alloc, piece.v)?;
-        self.push_chunk(&piece.span, Chunk::Normal(text))
+        self.push_chunk(&piece.span, chunk_of(kind, text))
     }
 
     /// These contents with a piece of an ordinary field after them, whose first row that fits counts: `---`, `--` and `~` are
@@ -122,7 +123,7 @@ impl Contents {
         ensures placed { Gives refusal_of placed_so_far result (after_at piece.entry.span.start piece.entry.span.end (placed_so_far self) (ordinary (chars piece.entry.v.now))) }
     {
         if is_plain(piece.v) {
-            self.push_plain(piece)?;
+            self.push_plain(Kind::Normal, piece)?;
             return Ok(self);
         }
         let chunks = read_ordinary(self.alloc, piece.v)?;
@@ -136,6 +137,10 @@ impl Contents {
         ensures read { IfOk result (λ c. so_far c ≡ so_far self ++ letters Verbatim (verbatim_text (chars piece.entry.v.now))) }
         ensures placed { IfOk result (λ c. placed_so_far c ≡ placed_so_far self ++ all_at piece.entry.span.start piece.entry.span.end (letters Verbatim (verbatim_text (chars piece.entry.v.now)))) }
     {
+        if is_literal(piece.v) {
+            self.push_plain(Kind::Verbatim, piece)?;
+            return Ok(self);
+        }
         let chunks = read_verbatim(self.alloc, piece.v)?;
         self.push_chunks(&piece.span, chunks)?;
         Ok(self)

@@ -5,7 +5,7 @@ ghost use Rattle.std.specs.Str.{chars};
 ghost use Rattle.biblatex_text.specs.Raw.{At};
 ghost use Rattle.biblatex_content.specs.Styled.{Member, Letter, Math, letters};
 ghost use Rattle.biblatex_content.specs.Parted.{is_full, kind_of, is_apart, are_parted, last_kind, IsTurned, IsReady, IsLastOrNone};
-ghost use Rattle.biblatex_content.specs.Places.{kind_in, places, places_of, places_with};
+ghost use Rattle.biblatex_content.specs.Places.{all_at, kind_in, places, places_of, places_with};
 ghost use Rattle.biblatex_content.specs.Views.{members, joined, styled};
 ghost use Rattle.laws.specs.Text.{characters, is_filled};
 
@@ -29,7 +29,7 @@ pub(crate) struct Joining {
 }
 
 /// A chunk of text of the kind.
-fn chunk_of(kind: Kind, text: String) -> Chunk
+pub(crate) fn chunk_of(kind: Kind, text: String) -> Chunk
     ensures members { members result ≡ letters kind (characters text) }
     ensures kind { kind_of result ≡ Some kind }
     ensures full { is_full result ≡ is_filled (characters text) }
@@ -48,6 +48,14 @@ fn make_room(text: &mut String) -> Result<(), AllocError>
         return text.reserve(SHORT_RUN);
     }
     Ok(())
+}
+
+/// Appends a text to a text of a run, with room for a short one.
+fn push_text_to_run(text: &mut String, more: &str) -> Result<(), AllocError>
+    ensures { OnOk result (characters text.new ≡ characters text.old ++ chars more.now) }
+{
+    make_room(text)?;
+    push_text(text, more)
 }
 
 /// Appends a character to a text of a run, with room for a short one.
@@ -152,6 +160,25 @@ impl Joining {
         self.turn(kind)?;
         self.reach(span);
         push_to_run(&mut self.run, c)?;
+        Ok(())
+    }
+
+    /// Appends a text of the kind, which stands at the span.
+    #[tactic(auto, using(crate::proofs::PartedNeighbours::filled_after))]
+    pub(crate) fn push_str_at(
+        &mut self,
+        span: &Span,
+        kind: Kind,
+        text: &str,
+    ) -> Result<(), AllocError>
+        requires { is_filled (chars text.now) ≡ true }
+        ensures joined { OnOk result (joined self.new ≡ joined self.old ++ letters kind (chars text.now)) }
+        ensures places { OnOk result ((ms : List (At Member)) → places_with self.new ms ≡ places_with self.old (all_at span.now.start span.now.end (letters kind (chars text.now)) ++ ms)) }
+        ensures ready { IsReady self.old → OnOk result (IsReady self.new) }
+    {
+        self.turn(kind)?;
+        self.reach(span);
+        push_text_to_run(&mut self.run, text)?;
         Ok(())
     }
 

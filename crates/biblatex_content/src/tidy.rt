@@ -1,7 +1,7 @@
 //! Tidying: blanks become spaces, of neighbouring spaces the first stays, and none stays at an end.
 
-ghost use Rattle.std.specs.Prelude.{◌≡◌, ◌++◌, ◌∷◌, [], true, List, IfOk, OnOk};
-ghost use Rattle.std.specs.Str.{chars};
+ghost use Rattle.std.specs.Prelude.{◌≡◌, ◌<◌, ◌++◌, ◌∷◌, [], true, length, List, IfOk, OnOk};
+ghost use Rattle.std.specs.Str.{chars, IsUtf8};
 ghost use Rattle.biblatex_text.specs.Raw.{At};
 ghost use Rattle.biblatex_text.specs.declared.spanned.Spanned.{Spanned};
 ghost use Rattle.biblatex_content.specs.declared.tidy.Gap.TheVariants.{Nothing};
@@ -9,15 +9,16 @@ ghost use Rattle.biblatex_tex.specs.Character.{is_blank};
 ghost use Rattle.biblatex_content.specs.Styled.{Member, Letter, Math, letters};
 ghost use Rattle.biblatex_content.specs.Parted.{IsReady};
 ghost use Rattle.biblatex_content.specs.Places.{all_at, placed, placed_in, places_of, tidied_at, places_with, owed_at, places_to_come, AreDone};
-ghost use Rattle.biblatex_content.specs.Tidy.{tidied, is_tidy, is_tidy_text, stays, owed, to_come};
+ghost use Rattle.biblatex_content.specs.Tidy.{tidied, is_tidy, is_tidy_text, stays, owed, to_come, EndsTidily};
 ghost use Rattle.biblatex_content.specs.Views.{joined, styled, members};
-ghost use Rattle.laws.specs.Text.{characters};
+ghost use Rattle.laws.specs.Text.{characters, is_filled};
 
 use crate::chunk::{Chunk, Chunks, Kind, Span};
 use crate::joining::Joining;
 use biblatex_tex::is_blank;
 use biblatex_text::Spanned;
 use std::alloc::{AllocError, Global};
+use texts::{has_text, split_first};
 
 /// What stands between the last member that is no blank and the next one.
 #[derive(Clone, Copy)]
@@ -95,14 +96,55 @@ impl Tidying {
         self.contents.push_at(span, kind, c)
     }
 
+    /// Appends a text of the kind that tidying leaves as it is.
+    fn push_tidy(&mut self, span: &Span, kind: Kind, text: &str) -> Result<(), AllocError>
+        requires { is_tidy true (chars text.now) ≡ true }
+        ensures to_come { OnOk result ((ms : List Member) → to_come self.new ms ≡ to_come self.old (letters kind (chars text.now) ++ ms)) }
+        ensures places { OnOk result ((ms : List (At Member)) → places_to_come self.new ms ≡ places_to_come self.old (all_at span.now.start span.now.end (letters kind (chars text.now)) ++ ms)) }
+        ensures ready { IsReady self.old.contents → OnOk result (IsReady self.new.contents) }
+    {
+        self.close_gap()?;
+        self.contents.push_str_at(span, kind, text)?;
+        Ok(())
+    }
+
+    /// Appends what stands first in a text of the kind, and returns what follows it: all that tidying leaves as it is, or else
+    /// a character.
+    fn push_front<'t>(
+        &mut self,
+        span: &Span,
+        kind: Kind,
+        text: &'t str,
+    ) -> Result<&'t str, AllocError>
+        ensures to_come { IfOk result (λ rest. (ms : List Member) → to_come self.new (letters kind (chars rest.now) ++ ms) ≡ to_come self.old (letters kind (chars text.now) ++ ms)) }
+        ensures places { IfOk result (λ rest. (ms : List (At Member)) → places_to_come self.new (all_at span.now.start span.now.end (letters kind (chars rest.now)) ++ ms) ≡ places_to_come self.old (all_at span.now.start span.now.end (letters kind (chars text.now)) ++ ms)) }
+        ensures ready { IsReady self.old.contents → IfOk result (λ rest. IsReady self.new.contents) }
+        ensures utf8 { IfOk result (λ rest. IsUtf8 rest.now) }
+        ensures shorter { is_filled (chars text.now) ≡ true → IfOk result (λ rest. length (chars rest.now) < length (chars text.now)) }
+    {
+        let (front, rest) = split_tidy(text);
+        if has_text(front) {
+            self.push_tidy(span, kind, front)?;
+            return Ok(rest);
+        }
+        match split_first(text) {
+            Some((c, rest)) => {
+                self.push(span, kind, c)?;
+                Ok(rest)
+            }
+            None => Ok(text),
+        }
+    }
+
     /// Appends a text of the kind.
     fn push_str(&mut self, span: &Span, kind: Kind, text: &str) -> Result<(), AllocError>
         ensures to_come { OnOk result ((ms : List Member) → to_come self.new ms ≡ to_come self.old (letters kind (chars text.now) ++ ms)) }
         ensures places { OnOk result ((ms : List (At Member)) → places_to_come self.new ms ≡ places_to_come self.old (all_at span.now.start span.now.end (letters kind (chars text.now)) ++ ms)) }
         ensures ready { IsReady self.old.contents → OnOk result (IsReady self.new.contents) }
     {
-        for c in text.chars() {
-            self.push(span, kind, c)?;
+        let mut rest = text;
+        while has_text(rest) {
+            rest = self.push_front(span, kind, rest)?;
         }
         Ok(())
     }
@@ -150,6 +192,41 @@ fn stays(is_after_space: bool, c: char) -> bool
     ensures { result ≡ stays is_after_space c }
 {
     !is_blank(c) || (c == ' ' && !is_after_space)
+}
+
+/// Where the longest front ends that tidying leaves as it is; at the beginning, where there is none.
+fn tidy_end(text: &str) -> usize
+    ensures { EndsTidily text.now result }
+{
+    let mut end = 0;
+    let mut is_after_space = true;
+    for (i, c) in text.char_indices() {
+        if !is_blank(c) {
+            is_after_space = false;
+            continue;
+        }
+        if is_after_space {
+            return end;
+        }
+        if c != ' ' {
+            return i;
+        }
+        end = i;
+        is_after_space = true;
+    }
+    if is_after_space {
+        return end;
+    }
+    text.len()
+}
+
+/// The longest front that tidying leaves as it is, and what follows it.
+fn split_tidy(text: &str) -> (&str, &str)
+    ensures parts { chars text.now ≡ chars result.0.now ++ chars result.1.now }
+    ensures utf8 { IsUtf8 result.1.now }
+    ensures tidy { is_filled (chars result.0.now) ≡ true → is_tidy true (chars result.0.now) ≡ true }
+{
+    text.split_at(tidy_end(text))
 }
 
 /// Whether tidying leaves the text as it is, where it is not empty.

@@ -1,10 +1,10 @@
 //! Verbatim fields.
 
-ghost use Rattle.std.specs.Prelude.{◌≡◌, ◌++◌, ◌==◌, IfOk, OnOk};
+ghost use Rattle.std.specs.Prelude.{◌≡◌, ◌++◌, ◌==◌, ◌||◌, not, true, IfOk, OnOk};
 ghost use Rattle.std.specs.Str.{chars, str_to_ascii_lowercase};
 ghost use Rattle.biblatex_content.specs.declared.chunk.Kind.TheVariants.{Verbatim};
 ghost use Rattle.biblatex_content.specs.Styled.{letters};
-ghost use Rattle.biblatex_content.specs.Verbatim.{is_escapable, verbatim_piece, is_verbatim_escape, verbatim_text, is_verbatim_name};
+ghost use Rattle.biblatex_content.specs.Verbatim.{is_brace, is_escapable, verbatim_piece, is_verbatim_escape, verbatim_text, is_verbatim_name};
 ghost use Rattle.biblatex_content.specs.Views.{joined, styled};
 
 use crate::chunk::{Chunks, Kind};
@@ -34,6 +34,25 @@ pub fn is_verbatim_field(key: &str) -> bool
         key,
         "file" | "doi" | "uri" | "eprint" | "verba" | "verbb" | "verbc" | "pdf" | "url" | "urlraw"
     )
+}
+
+/// Whether the character is no backslash and no brace.
+fn is_literal_character(c: char) -> bool
+    ensures { result ≡ not (c == 92 || is_brace c) }
+{
+    !matches!(c, '\\' | '{' | '}')
+}
+
+/// Whether each character of a piece of a verbatim field is itself: none is a backslash or a brace.
+pub(crate) fn is_literal(piece: &str) -> bool
+    ensures { result ≡ true → verbatim_text (chars piece.now) ≡ chars piece.now }
+{
+    for c in piece.chars() {
+        if !is_literal_character(c) {
+            return false;
+        }
+    }
+    true
 }
 
 impl Joining {

@@ -108,8 +108,9 @@ pub fn read_fields<'s>(
 {
     let mut read = Fields::new(alloc);
     for pair in entry.fields.iter() {
-        let value = abbreviations.read(alloc, pair)?;
-        read.insert(lowered(alloc, pair.key.v)?, value)?;
+        let name = lowered(alloc, pair.key.v)?;
+        let value = abbreviations.value_named(alloc, name.as_str(), pair.value.v.as_slice())?;
+        read.insert(name, value)?;
     }
     Ok(read)
 }

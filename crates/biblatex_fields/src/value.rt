@@ -1,6 +1,6 @@
 //! The values of fields: pieces are read in order, and abbreviations are opened.
 
-ghost use Rattle.std.specs.Prelude.{[], map};
+ghost use Rattle.std.specs.Prelude.{◌≡◌, ℕ, List, [], map};
 ghost use Rattle.std.specs.Str.{chars};
 ghost use Rattle.biblatex_text.specs.Views.{field, piece};
 ghost use Rattle.biblatex_content.specs.Places.{placed_so_far};
@@ -8,6 +8,7 @@ ghost use Rattle.biblatex_fields.specs.Abbreviations.{pieces_at};
 ghost use Rattle.biblatex_fields.specs.Value.{in_order, read, value_seen, value_in, value_of};
 ghost use Rattle.biblatex_fields.specs.Views.{refusal_of};
 ghost use Rattle.laws.specs.Results.{Gives};
+ghost use Rattle.laws.specs.Text.{lowered};
 
 use crate::abbreviations::Abbreviations;
 use crate::error::FieldError;
@@ -85,7 +86,6 @@ impl<'r, 's> Abbreviations<'r, 's> {
     /// # Errors
     ///
     /// The first fault in the order of pieces. A name is found to be circular before its pieces are read.
-    #[tactic(auto, using(crate::proofs::ValueWhole::value_given, crate::proofs::ValueWhole::value_refused))]
     pub fn parse_field(
         &self,
         alloc: Global,
@@ -95,8 +95,20 @@ impl<'r, 's> Abbreviations<'r, 's> {
         ensures { Gives refusal_of (λ cs. value_seen cs.items) result (value_in self.now (chars key.now) (map piece field.now)) }
     {
         let name = lowered(alloc, key)?;
-        let is_verbatim = is_verbatim_field(name.as_str());
-        let contents = self.contents(alloc, is_verbatim, field)?;
+        self.value_named(alloc, name.as_str(), field)
+    }
+
+    /// The value of a field of that name in lower case, as `parse_field` gives it.
+    #[tactic(auto, using(crate::proofs::ValueWhole::value_given, crate::proofs::ValueWhole::value_refused))]
+    pub(crate) fn value_named(
+        &self,
+        alloc: Global,
+        name: &str,
+        field: &[Spanned<RawChunk<'s>>],
+    ) -> Result<Chunks, FieldError<'s>>
+        ensures { (key : List ℕ) → name.now ≡ lowered key → Gives refusal_of (λ cs. value_seen cs.items) result (value_in self.now key (map piece field.now)) }
+    {
+        let contents = self.contents(alloc, is_verbatim_field(name), field)?;
         Ok(contents.finish()?)
     }
 
