@@ -1,19 +1,17 @@
 -- What reading a page from its end on makes.
-use Rattle.std.proofs.Common.{◌≡◌, ℕ, Bool, true, false, true≢false, List, [], ◌∷◌, ◌++◌, refl, sym, ap, ◌∙◌}
+use Rattle.std.proofs.Common.{◌≡◌, ◌<◌, ℕ, Bool, true, false, true≢false, List, [], ◌∷◌, ◌++◌, length, reverse, refl, sym, ap, ◌∙◌, arith, Bor}
 use Rattle.std.specs.Prelude.{if◌then◌else◌}
 use Rattle.std.specs.List.{fold, flat_map}
+use Rattle.std.specs.Str.{chars}
 use Rattle.std.proofs.lemmas.List.{reverse-append}
-use Rattle.laws.specs.Text.{characters, is_filled}
+use Rattle.laws.specs.Text.{is_filled}
 use Rattle.rendering_taxonomy.specs.Formats.{looks_like}
 use Rattle.rendering_taxonomy.specs.declared.formatting.Formatting.{Formatting}
 use Rattle.rendering_tree.specs.Tokens.{Token, letter, with_letters}
 use Rattle.rendering_tree.specs.Trees.{Child, Children, Text, Elem, Markup, Link, Transparent, nothing, before, Nest, before_text, take_token}
 use Rattle.rendering_tree.specs.Views.{child, row}
 use Rattle.rendering_tree.specs.declared.element.ElemChild.{ElemChild}
-use Rattle.rendering_tree.specs.declared.element.ElemChild.TheVariants as parts
-use Rattle.rendering_tree.specs.declared.element.Formatted.{Formatted}
-use Rattle.rendering_tree.proofs.ViewsLevels.{child-Text}
-use Rattle.rendering_page.specs.Building.{backwards, joined, text_before, text_on}
+use Rattle.rendering_page.specs.Building.{backwards, joined, joins, text_before, text_on}
 use Rattle.rendering_page.specs.Views.{letters}
 use Rattle.rendering_page.specs.declared.piece.Words.{Words}
 use Rattle.rendering_page.proofs.ViewsLetters.{like_itself}
@@ -44,19 +42,14 @@ stands : (f : Formatting) (c : ℕ) (cs : List ℕ) (xs : Children) → ((d : �
 stands f c [] xs e = e c
 stands f c (d ∷ cs) xs e = ap (before_text f c) (stands f d cs xs e) ∙ joins_itself f c (d ∷ cs) xs
 
--- a text before nothing
-pub text_alone : (f : Formatting) (cs : List ℕ) → is_filled cs ≡ true → text_before f cs nothing ≡ before (Text f cs) nothing
-text_alone f [] e = absurd (true≢false (sym e))
-text_alone f (c ∷ cs) e = stands f c cs nothing (λ d. refl)
-
-joins : (f g : Formatting) (cs ds : List ℕ) (xs : Children) → looks_like f g ≡ true → text_before f cs (before (Text g ds) xs) ≡ before (Text g (cs ++ ds)) xs
-joins f g [] ds xs e = refl
-joins f g (c ∷ cs) ds xs e =
-    ap (before_text f c) (joins f g cs ds xs e) ∙ ap (λ b. if b then before (Text g (c ∷ cs ++ ds)) xs else before (Text f (c ∷ [])) (before (Text g (cs ++ ds)) xs)) e
+alike : (f g : Formatting) (cs ds : List ℕ) (xs : Children) → looks_like f g ≡ true → text_before f cs (before (Text g ds) xs) ≡ before (Text g (cs ++ ds)) xs
+alike f g [] ds xs e = refl
+alike f g (c ∷ cs) ds xs e =
+    ap (before_text f c) (alike f g cs ds xs e) ∙ ap (λ b. if b then before (Text g (c ∷ cs ++ ds)) xs else before (Text f (c ∷ [])) (before (Text g (cs ++ ds)) xs)) e
 
 by_look : (f g : Formatting) (c : ℕ) (cs ds : List ℕ) (xs : Children) (b : Bool) → looks_like f g ≡ b
     → text_before f (c ∷ cs) (before (Text g ds) xs) ≡ (if b then before (Text g (c ∷ cs ++ ds)) xs else before (Text f (c ∷ cs)) (before (Text g ds) xs))
-by_look f g c cs ds xs true e = joins f g (c ∷ cs) ds xs e
+by_look f g c cs ds xs true e = alike f g (c ∷ cs) ds xs e
 by_look f g c cs ds xs false e =
     stands f c cs (before (Text g ds) xs) (λ d. ap (λ b. if b then before (Text g (d ∷ ds)) xs else before (Text f (d ∷ [])) (before (Text g ds) xs)) e)
 
@@ -69,28 +62,47 @@ text_before_child f (c ∷ cs) (Markup ds) xs e = stands f c cs (before (Markup 
 text_before_child f (c ∷ cs) (Link g ds url) xs e = stands f c cs (before (Link g ds url) xs) (λ d. refl)
 text_before_child f (c ∷ cs) (Transparent g n) xs e = stands f c cs (before (Transparent g n) xs) (λ d. refl)
 
--- a text before the last child that was read
-pub before_last : (f : Formatting) (cs : List ℕ) (xs ys : List ElemChild) (x : ElemChild) → is_filled cs ≡ true → ys ≡ xs ++ x ∷ [] → text_on f cs (child x) (backwards xs) ≡ text_before f cs (backwards ys)
-before_last f cs xs ys x i e = sym (ap (text_before f cs) (ap backwards e ∙ backwards_push xs x) ∙ text_before_child f cs (child x) (backwards xs) i)
-
--- a text before nothing
-pub before_none : (t : Formatted) (xs ys zs : List ElemChild) → is_filled (characters t.text) ≡ true → xs ≡ [] → ys ≡ [] → zs ≡ ys ++ parts.Text t ∷ []
-    → backwards zs ≡ text_before t.formatting (characters t.text) (backwards xs)
-before_none t xs ys zs i none still e =
-    ap backwards (e ∙ ap (λ ws. ws ++ parts.Text t ∷ []) still)
-    ∙ ap (λ y. before y nothing) (child-Text t)
-    ∙ sym (text_alone t.formatting (characters t.text) i)
-    ∙ ap (λ ws. text_before t.formatting (characters t.text) (backwards ws)) (sym none)
+-- a text before children that it does not join
+pub unjoined : (f : Formatting) (cs : List ℕ) (xs : Children) → is_filled cs ≡ true → joins f xs ≡ false → text_before f cs xs ≡ before (Text f cs) xs
+unjoined f [] xs i e = absurd (true≢false (sym i))
+unjoined f (c ∷ cs) nothing i e = stands f c cs nothing (λ d. refl)
+unjoined f (c ∷ cs) (before (Text g ds) xs) i e = by_look f g c cs ds xs false e
+unjoined f (c ∷ cs) (before (Elem d m ys) xs) i e = stands f c cs (before (Elem d m ys) xs) (λ d. refl)
+unjoined f (c ∷ cs) (before (Markup ds) xs) i e = stands f c cs (before (Markup ds) xs) (λ d. refl)
+unjoined f (c ∷ cs) (before (Link g ds url) xs) i e = stands f c cs (before (Link g ds url) xs) (λ d. refl)
+unjoined f (c ∷ cs) (before (Transparent g n) xs) i e = stands f c cs (before (Transparent g n) xs) (λ d. refl)
 
 -- what was read of an element and around it
 abbrev pub nest : Children → List Children → Nest
 nest xs around = record { inside = xs; around = around }
 
 -- a part more of the text that is being read
-pub words_taken : (f g : Formatting) (ps qs : List Words) (w : Words) (xs : Children) (around : List Children) (n : Nest) → f ≡ g → qs ≡ ps ++ w ∷ [] → nest (text_before f (joined ps) xs) around ≡ n
-    → nest (text_before f (joined qs) xs) around ≡ record n { inside = text_before g (letters w) n.inside }
-words_taken f g ps qs w xs around n look e is =
-    ap (λ cs. nest (text_before f cs xs) around) (ap joined e ∙ joined_push ps w)
-    ∙ ap (λ ys. nest ys around) (text_before-append f (letters w) (joined ps) xs)
-    ∙ ap (λ h. nest (text_before h (letters w) (text_before f (joined ps) xs)) around) look
-    ∙ ap (λ (m : Nest). nest (text_before g (letters w) m.inside) m.around) is
+pub words_taken : (f g : Formatting) (cs ds es : List ℕ) (xs : Children) (around : List Children) (n : Nest) → f ≡ g → es ≡ ds ++ cs → nest (text_before f cs xs) around ≡ n
+    → nest (text_before f es xs) around ≡ record n { inside = text_before g ds n.inside }
+words_taken f g cs ds es xs around n look e is =
+    ap (λ bs. nest (text_before f bs xs) around) e
+    ∙ ap (λ ys. nest ys around) (text_before-append f ds cs xs)
+    ∙ ap (λ h. nest (text_before h ds (text_before f cs xs)) around) look
+    ∙ ap (λ (m : Nest). nest (text_before g ds m.inside) m.around) is
+
+-- no text
+nothing_of : (cs : List ℕ) → is_filled cs ≡ false → cs ≡ []
+nothing_of [] e = refl
+nothing_of (c ∷ cs) e = absurd (true≢false e)
+
+-- a part more, after which those stand that were read
+pub part_more : (w old u v : Words) (ps qs : List Words) → v ≡ w → u ≡ old → qs ≡ ps ++ u ∷ [] → letters v ++ joined qs ≡ letters w ++ (letters old ++ joined ps)
+part_more w old u v ps qs is was e =
+    ap (λ x. letters x ++ joined qs) is ∙ ap (λ cs. letters w ++ cs) (ap joined e ∙ joined_push ps u ∙ ap (λ x. letters x ++ joined ps) was)
+
+-- where none was read last
+pub part_none : (w old u v : Words) (ps : List Words) (s : Bor (List ℕ)) → v ≡ w → u ≡ old → chars s.now ≡ letters u → is_filled (chars s.now) ≡ false → letters v ++ joined ps ≡ letters w ++ (letters old ++ joined ps)
+part_none w old u v ps s is was same none =
+    ap (λ x. letters x ++ joined ps) is
+    ∙ ap (λ cs. letters w ++ cs) (sym (ap (λ cs. cs ++ joined ps) (ap letters (sym was) ∙ sym same ∙ nothing_of (chars s.now) none)))
+
+-- fewer than two children stand in order
+pub short_reversed : (xs : List ElemChild) → length xs < 2 → xs ≡ reverse xs
+short_reversed [] low = refl
+short_reversed (x ∷ []) low = refl
+short_reversed (x ∷ y ∷ zs) low = absurd (omega (arith, low))

@@ -10,4 +10,5 @@ pub mod PagesMarks
 pub mod PagesPutting
 pub mod ShownPages
 pub mod BuildingReading
+pub mod BuildingLevels
 pub mod CutsTexts

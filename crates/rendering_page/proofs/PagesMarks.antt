@@ -4,7 +4,7 @@ use Rattle.std.specs.List.{fold, list_any}
 use Rattle.std.specs.Char.{is_whitespace}
 use Rattle.laws.specs.Text.{is_filled}
 use Rattle.rendering_taxonomy.specs.declared.formatting.Formatting.{Formatting}
-use Rattle.rendering_tree.specs.Tokens.{Token, letter, formula, link, transparent, closing, mark, unmark, with_letters}
+use Rattle.rendering_tree.specs.Tokens.{Token, letter, formula, link, transparent, closing, unmark, with_letters}
 use Rattle.rendering_page.specs.Marks.{before_open, begins_nothing, closes, first_part, is_first, is_something, none_begins, none_begins_after, none_begins_since, opens, prints_itself, with_part}
 use Rattle.rendering_page.specs.Pages.{prints, before_mark, before_prefix, is_begun}
 use Rattle.rendering_page.specs.Views.{letters, put, tokens_of}

@@ -6,7 +6,9 @@ use Rattle.rendering_taxonomy.specs.declared.formatting.Display.{Display}
 use Rattle.rendering_tree.specs.Metas.{Meta}
 use Rattle.rendering_tree.specs.Tokens.{Token, last_backwards, last_text, unmark}
 use Rattle.rendering_page.specs.Pages.{Page, Manner, Frame, Quotes, appended, before_mark, before_prefix, closed_off, end_token, ended, ended_as, ends_spaced, is_begun, last_token, normal_put, prints, punctuated, quote_at_end, space_put, suffix_put, verbatim_put}
+use Rattle.laws.specs.Text.{is_filled}
 use Rattle.rendering_page.specs.Tail.{ends_in, is_punctuation}
+use Rattle.rendering_page.proofs.TailEnds.{nothing_ends}
 
 -- after punctuation no close quote is the last text
 pub no_more_quote : (m : Manner) (c : ℕ) (cs : List ℕ) (o : Option (List ℕ)) (p : Page) → (punctuated m c cs o p).after_quote ≡ false
@@ -42,6 +44,12 @@ pub suffix_there : (quotes : Quotes) (m : Manner) (cs : List ℕ) (is_element : 
 suffix_there quotes m cs is_element p q there is =
     let inside : Page = record p { tokens = unmark ∷ p.tokens } in
     is ∙ sym (ap (λ b. let r = if b then inside else normal_put quotes m cs inside in record r { tokens = end_token is_element ∷ r.tokens }) there)
+
+-- an element without a suffix ends
+pub ended_without : (quotes : Quotes) (m : Manner) (cs : List ℕ) (is_element : Bool) (p q : Page) (ts : List Token) → is_filled cs ≡ false → q ≡ record p { tokens = ts } → ts ≡ end_token is_element ∷ unmark ∷ p.tokens
+    → q ≡ ended_as quotes m cs is_element p
+ended_without quotes m cs is_element p q ts none is same =
+    suffix_there quotes m cs is_element p q (sym (nothing_ends cs (last_text p.tokens) none)) (is ∙ ap (λ (us : List Token). record p { tokens = us }) same)
 
 -- or after the suffix
 pub suffix_added : (quotes : Quotes) (m : Manner) (cs : List ℕ) (is_element : Bool) (p q r s : Page) → ends_in cs (last_text p.tokens) ≡ false → q ≡ record p { tokens = unmark ∷ p.tokens } → r ≡ normal_put quotes m cs q

@@ -1,10 +1,9 @@
 -- A tree that is read from the end of a page on.
-use Rattle.std.specs.Global.{Global}
-use Rattle.std.specs.Prelude.{ℕ, List, [], ◌∷◌, ◌++◌, map, reverse, if◌then◌else◌, Vec}
+use Rattle.std.specs.Prelude.{◌≡◌, ℕ, ◌≤◌, Bool, false, List, [], ◌∷◌, ◌++◌, drop, length, reverse, take, if◌then◌else◌, min}
 use Rattle.std.specs.List.{flat_map}
 use Rattle.rendering_taxonomy.specs.declared.formatting.Formatting.{Formatting}
 use Rattle.rendering_taxonomy.specs.Formats.{looks_like}
-use Rattle.rendering_tree.specs.Trees.{Child, Children, Text, before, Nest, before_text}
+use Rattle.rendering_tree.specs.Trees.{Child, Children, Text, nothing, before, Nest, before_text}
 use Rattle.rendering_tree.specs.Views.{row}
 use Rattle.rendering_tree.specs.declared.element.ElemChild.{ElemChild}
 use Rattle.rendering_page.specs.Views.{letters}
@@ -29,13 +28,45 @@ joined parts = flat_map letters (reverse parts)
 abbrev pub backwards : List ElemChild → Children
 backwards xs = row (reverse xs)
 
--- the children of an element around
-abbrev pub level : Vec ElemChild Global → Children
-level v = backwards v.items
+-- the children from a place on
+abbrev pub level : ℕ → List ElemChild → Children
+level start xs = backwards (drop start xs)
+
+-- the children of elements around, which begin at these places, the innermost first
+abbrev pub levels : List ElemChild → List ℕ → List Children
+levels xs [] = []
+levels xs (start ∷ starts) = level start xs ∷ levels (take start xs) starts
+
+-- the text that is being read
+abbrev pub text_read : Builder → List ℕ
+text_read b = letters b.words ++ joined b.after.items
 
 -- what was read
 abbrev pub nest_of : Builder → Nest
 nest_of b = record {
-  inside = text_before b.formatting (joined b.parts.items) (backwards b.children.items);
-  around = map level (reverse b.around.items);
+  inside = text_before b.formatting (text_read b) (level b.start b.children.items);
+  around = levels (take b.start b.children.items) (reverse b.around.items);
 }
+
+-- the children of the innermost element begin where there are children, or after them
+abbrev pub IsWithin : Builder → Type 0
+IsWithin b = b.start ≤ length b.children.items
+
+-- whether a text that looks so joins a child: that is a text that looks like it
+abbrev pub joins_child : Formatting → Child → Bool
+joins_child f (Text g ds) = looks_like f g
+joins_child f x = false
+
+-- whether it joins the first of these children
+abbrev pub joins : Formatting → Children → Bool
+joins f nothing = false
+joins f (before x xs) = joins_child f x
+
+-- the children from a place on with a text before them, and those before that place
+abbrev pub IsJoined : Formatting → List ℕ → ℕ → List ElemChild → List ElemChild → Type 0
+IsJoined f cs start xs ys = (level start ys ≡ text_before f cs (level start xs)) × (take start ys ≡ take start xs) × (start ≤ length ys)
+
+-- where the children of the next element around begin, at the end where there is none
+abbrev pub next_start : List ℕ → ℕ → ℕ
+next_start [] end = end
+next_start (start ∷ starts) end = min start end

@@ -1,15 +1,15 @@
 //! Pages.
 
-ghost use Rattle.std.specs.Prelude.{◌≡◌, ◌++◌, true, false, OnOk, IfOk, Some, map};
+ghost use Rattle.std.specs.Prelude.{◌≡◌, ◌++◌, true, false, List, ℕ, OnOk, IfOk, Some, map};
 ghost use Rattle.std.specs.Str.{bytes_eq, chars};
-ghost use Rattle.laws.specs.Text.{characters};
+ghost use Rattle.laws.specs.Text.{characters, is_filled};
 ghost use Rattle.literature_values.specs.TextViews.{chunk as chunk_of, chunks as chunks_of};
 ghost use Rattle.rendering_tree.specs.Metas.{Meta};
 ghost use Rattle.rendering_tree.specs.Tokens.{formula, link, transparent};
 ghost use Rattle.rendering_tree.specs.Trees.{tree_of};
 ghost use Rattle.rendering_tree.specs.Views.{meaning, tree};
 ghost use Rattle.rendering_page.specs.Marks.{begins_nothing};
-ghost use Rattle.rendering_page.specs.Pages.{before_mark, before_prefix, begun, empty_page, ended, ended_as, normal_put, prints, quote_put, space_put, token_put, verbatim_put};
+ghost use Rattle.rendering_page.specs.Pages.{Manner as Manners, Quotes, before_mark, before_prefix, begun, empty_page, ended, ended_as, normal_put, prints, quote_put, space_put, token_put, verbatim_put};
 ghost use Rattle.rendering_page.specs.Pieces.{all_down, chunk_by, chunk_piece, chunk_pieces, put_down};
 ghost use Rattle.rendering_page.specs.Shown.{page_text};
 ghost use Rattle.rendering_page.specs.Views as views;
@@ -241,7 +241,11 @@ impl<'a> Page<'a> {
         if !self.has_printed() {
             return self.undo();
         }
-        self.end_as(quotes, frame.manner, frame.suffix, is_element(frame))
+        let is_part = is_element(frame);
+        if !has_text(frame.suffix) {
+            return self.end_without_suffix(is_part);
+        }
+        self.end_as(quotes, frame.manner, frame.suffix, is_part)
     }
 
     /// Ends the element that was begun last and stands for what was made on the way.
@@ -253,6 +257,9 @@ impl<'a> Page<'a> {
     {
         if !self.has_printed() {
             return self.undo();
+        }
+        if !has_text(frame.suffix) {
+            return self.end_without_suffix(true);
         }
         self.end_as(quotes, frame.manner, frame.suffix, true)
     }
@@ -490,6 +497,14 @@ impl<'a> Page<'a> {
         self.push_end(Piece::Unmark)?;
         self.push_text(quotes, manner, suffix)?;
         self.push_end(last_piece(is_element))
+    }
+
+    /// Ends what an element without a suffix contains that has printed something, and the element.
+    #[tactic(auto, using(crate::proofs::PagesPutting::ended_without))]
+    fn end_without_suffix(&mut self, is_element: bool) -> Result<(), AllocError>
+        ensures { (quotes : Quotes) (m : Manners) (suffix : List ℕ) → is_filled suffix ≡ false → OnOk result (self.new ≡ ended_as quotes m suffix is_element self.old) }
+    {
+        self.push_end(last_pieces(is_element))
     }
 
     /// Takes the element off that was begun last, with its prefix.

@@ -133,6 +133,13 @@ impl<'a> Words<'a> {
     }
 }
 
+/// No text.
+pub(crate) fn no_words<'a>() -> Words<'a>
+    ensures { letters result ≡ [] }
+{
+    Words::Borrowed("")
+}
+
 /// A text without its first character.
 fn rest_of(text: &str) -> &str
     ensures { (c : _) (cs : _) → chars text.now ≡ c ∷ cs → chars result.now ≡ cs }

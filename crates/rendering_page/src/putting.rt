@@ -7,7 +7,7 @@ ghost use Rattle.rendering_tree.specs.Tokens.{Token, mark, opening, unmark, with
 ghost use Rattle.rendering_tree.specs.Views.{meaning};
 ghost use Rattle.rendering_page.specs.Marks.{begins_nothing};
 ghost use Rattle.rendering_page.specs.Pages as pages;
-ghost use Rattle.rendering_page.specs.Tail.{remaining};
+ghost use Rattle.rendering_page.specs.Tail.{remaining, stripped};
 ghost use Rattle.rendering_page.specs.Views as views;
 ghost use Rattle.rendering_page.specs.Views.{letters, quotes_of, tokens_of};
 
@@ -15,7 +15,7 @@ use crate::backwards::ends_in;
 use crate::cutting::put_before;
 use crate::manner::{Frame, Manner};
 use crate::piece::{Piece, Words};
-use crate::tail::{in_manner, length, make_room};
+use crate::tail::{length, make_room, stripped};
 use rendering_taxonomy::Formatting;
 use rendering_tree::ElemMeta;
 use std::alloc::AllocError;
@@ -44,8 +44,22 @@ pub(crate) fn append<'a>(
     ensures { OnOk result (tokens_of pieces.new.items ≡ with_letters manner.formatting (pages.in_manner (views.manner manner) (letters words.entry)) (remaining (letters words.entry) (tokens_of pieces.old.items))) }
 {
     make_room(pieces, words.as_str());
-    let words = in_manner(*pieces.allocator(), manner, words)?;
+    if manner.strips_periods {
+        return put_stripped(pieces, manner.formatting, words.as_str());
+    }
     put_words(pieces, manner.formatting, words)
+}
+
+/// Puts a text down without its full stops, but for those after a full stop.
+fn put_stripped<'a>(
+    pieces: &mut Vec<Piece<'a>>,
+    formatting: Formatting,
+    text: &str,
+) -> Result<(), AllocError>
+    ensures { OnOk result (tokens_of pieces.new.items ≡ with_letters formatting (stripped (chars text.now)) (tokens_of pieces.old.items)) }
+{
+    let words = stripped(*pieces.allocator(), text)?;
+    put_words(pieces, formatting, Words::Made(words))
 }
 
 /// Puts a text down that begins with punctuation, after a close quote: its first character goes inside a quote that ends the last

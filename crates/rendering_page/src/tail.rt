@@ -5,15 +5,12 @@ ghost use Rattle.std.specs.List.{list_any};
 ghost use Rattle.std.specs.Char.Unicode.Alphabetic.{is_alphabetic};
 ghost use Rattle.std.specs.Str.{chars};
 ghost use Rattle.laws.specs.Text.{characters};
-ghost use Rattle.rendering_page.specs.Pages.{in_manner};
 ghost use Rattle.rendering_page.specs.Tail as specs;
-ghost use Rattle.rendering_page.specs.Views as views;
-ghost use Rattle.rendering_page.specs.Views.{letters, tokens_of};
+ghost use Rattle.rendering_page.specs.Views.{tokens_of};
 
 use crate::backwards::ends_in;
 use crate::cutting::{cut, trim_end};
-use crate::manner::Manner;
-use crate::piece::{Piece, Words, trimmed};
+use crate::piece::{Piece, trimmed};
 use std::alloc::{AllocError, Global};
 use texts::{empty_text, has_text, push_character, split_first};
 
@@ -94,22 +91,8 @@ fn has_letters(text: &str) -> bool
     text.chars().any(|c| c.is_alphabetic())
 }
 
-/// A text as it is put down in that manner.
-pub(crate) fn in_manner<'a>(
-    alloc: Global,
-    manner: Manner,
-    words: Words<'a>,
-) -> Result<Words<'a>, AllocError>
-    ensures { IfOk result (λ w. letters w ≡ in_manner (views.manner manner) (letters words.entry)) }
-{
-    if !manner.strips_periods {
-        return Ok(words);
-    }
-    Ok(Words::Made(stripped(alloc, words.as_str())?))
-}
-
 /// A text without its full stops, but for those after a full stop.
-fn stripped(alloc: Global, text: &str) -> Result<String, AllocError>
+pub(crate) fn stripped(alloc: Global, text: &str) -> Result<String, AllocError>
     ensures { IfOk result (λ s. characters s ≡ specs.stripped (chars text.now)) }
 {
     let mut stripped = empty_text(alloc);

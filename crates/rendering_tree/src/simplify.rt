@@ -32,7 +32,7 @@ pub fn simplify_children(parts: ElemChildren) -> Result<ElemChildren, AllocError
 fn simplified(parts: ElemChildren) -> Result<ElemChildren, AllocError>
     ensures { IfOk result (λ t. tree t ≡ simplified (tree parts)) }
 {
-    let mut simple = Vec::new(*parts.0.allocator());
+    let mut simple = Vec::with_capacity(*parts.0.allocator(), parts.0.len())?;
     push_all(parts, &mut simple)?;
     Ok(ElemChildren(simple))
 }

@@ -8,5 +8,5 @@ use Rattle.rendering_page.proofs.builder.element.Goals as goal
 
 pub returns : goal.returns
 returns c =
-    child_rolled (record { children = roll-ElemChildren (record { 0 = c.reverse.new.self }); display = c.args.display; meta = c.args.meta })
-    ∙ ap (Elem c.args.display (option_map meaning c.args.meta)) (tree_rolled (record { 0 = c.reverse.new.self }) ∙ ap row c.reverse.ensures.items)
+    child_rolled (record { children = roll-ElemChildren (record { 0 = c.in_order.result }); display = c.args.display; meta = c.args.meta })
+    ∙ ap (Elem c.args.display (option_map meaning c.args.meta)) (tree_rolled (record { 0 = c.in_order.result }) ∙ ap row c.in_order.ensures)

@@ -53,4 +53,4 @@ push_element-returns t c =
 pub simplified-returns : goal.simplified-returns
 simplified-returns t c =
     tree_rolled (record { 0 = c.push_all.new.simple })
-    ∙ puts_all (tree c.args.parts) (row c.new-simple.result.items) (row c.push_all.new.simple.items) (ap row c.new-simple.ensures.items) c.in_ok-push_all.ensures
+    ∙ puts_all (tree c.args.parts) (row c.in_ok-simple.simple.items) (row c.push_all.new.simple.items) (ap row c.in_ok-simple.ensures.items) c.in_ok-push_all.ensures

@@ -7,12 +7,12 @@ use Rattle.rendering_page.specs.Views.{letters, put}
 use Rattle.rendering_page.proofs.BuildingReading.{read_text}
 use Rattle.rendering_page.proofs.builder.Builder.take.Goals as goal
 
-pub returns-in-Text : goal.returns-in-Text
-returns-in-Text c =
+pub returns-in-Text-clause-read : goal.returns-in-Text-clause-read
+returns-in-Text-clause-read c =
     let old = nest_of c.args.self.now in
     on_ok_weaker c.take_words.result
     (λ e ts.
     ap (λ p. fold take_token old (put ts p)) c.in-Text.is
     ∙ read_text c.in-Text.formatting (letters c.in-Text.words) ts old
     ∙ ap (λ n. fold take_token n ts) (sym e))
-    c.take_words.ensures
+    c.take_words.ensures.read
