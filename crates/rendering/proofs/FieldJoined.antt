@@ -1,5 +1,5 @@
 -- A field before other children.
-use Rattle.std.proofs.Common.{◌≡◌, true≢false, List, ◌∷◌, ◌++◌, sym, ap, ◌∙◌, Option, Some, None, is_some}
+use Rattle.std.proofs.Common.{◌≡◌, true≢false, List, ◌∷◌, ◌++◌, sym, ap, ◌∙◌, Some, None, is_some}
 use Rattle.std.specs.Option.{option_map}
 use Rattle.rendering_tree.specs.Parting.{taken, left}
 use Rattle.rendering_tree.specs.Tokens.{Token}

@@ -79,6 +79,10 @@ context_of x term_locale is_bibliography answers properties = record {
 abbrev pub layout_manner : Layout → Manner
 layout_manner l = record { formatting = changed l.formatting plain; strips_periods = false }
 
+-- the options for names in the citation
+abbrev pub citation_options : Style → NameOptions
+citation_options s = options_over s.citation.name_options s.name_options
+
 -- what a layout hands down, with its options for names over those of the style
 abbrev pub setting_of : Style → Layout → NameOptions → Form → Setting
 setting_of s l options form = record {

@@ -85,6 +85,7 @@ impl<'s, 'a> Call<'s, 'a> {
         let call = Call {
             walk,
             authors: self.authors,
+            options: self.options,
         };
         if call.admits_citation(entry, form, state)? {
             call.push_citation(entry, form, state)

@@ -4,31 +4,38 @@ ghost use Rattle.std.specs.Prelude.{◌≡◌, true, map, IfOk, OnOk};
 ghost use Rattle.laws.specs.Text.{spelled};
 ghost use Rattle.rendering_leaves.specs.Settings.{noted};
 ghost use Rattle.rendering_leaves.specs.Views.{form_by};
+ghost use Rattle.rendering_names.specs.Views.{options_by};
 ghost use Rattle.rendering_nodes.specs.Content.{contents};
 ghost use Rattle.rendering_page.specs.Pages.{normal_put};
 ghost use Rattle.rendering_page.specs.Views.{quotes_of};
 ghost use Rattle.rendering_style.specs.Opening.{opened_nodes};
-ghost use Rattle.rendering_style.specs.Options.{open_options};
-ghost use Rattle.rendering_style.specs.Views.{bibliography_seen, layout_seen, node_seen, options_seen};
-ghost use Rattle.rendering.specs.Purposes.{bibliography_put, citation_put, citation_survey, layout_manner, layout_put, layout_survey, made_put, setting_of};
-ghost use Rattle.rendering.specs.Views.{context_in, style_of};
+ghost use Rattle.rendering_style.specs.Options.{NameOptions, open_options, options_over};
+ghost use Rattle.rendering_style.specs.StyleViews.{style_seen};
+ghost use Rattle.rendering_style.specs.Views.{bibliography_seen, layout_seen, node_seen};
+ghost use Rattle.rendering.specs.Purposes.{bibliography_put, citation_options, citation_put, citation_survey, layout_manner, layout_put, layout_survey, made_put, setting_of};
 
 use crate::author_node::AuthorNode;
-use crate::layout::{layout_manner, setting_of};
+use crate::layout::{layout_manner, layout_options, setting_of};
 use rendering_entries::EntryLike;
 use rendering_leaves::{Form, State};
+use rendering_names::ResolvedNameOptions;
 use rendering_nodes::Walk;
-use rendering_style::{Bibliography, Layout, NameOptions, Node};
+use rendering_style::{Bibliography, Layout, Node};
 use std::alloc::AllocError;
 
-/// A call: what it prints from, and the node for authors. Its functions take the entry beside it.
+/// A call: what it prints from, the node for authors, and the options for names in the citation. Its functions take the entry
+/// beside it.
 #[derive(Clone, Copy)]
 pub(crate) struct Call<'s, 'a> {
     pub(crate) walk: Walk<'s, 'a>,
     pub(crate) authors: &'a AuthorNode,
+    pub(crate) options: &'a ResolvedNameOptions<'a>,
+    ghost resolved: { options_by options.now ≡ citation_options (style_seen walk.style.now) },
 }
 
 impl<'s, 'a> Call<'s, 'a> {
+    ghost use Rattle.rendering.specs.Views.{context_in, style_of};
+
     /// Puts the layout of the citation down in a form, without its affixes.
     pub(crate) fn push_citation<E: EntryLike>(
         &self,
@@ -39,7 +46,7 @@ impl<'s, 'a> Call<'s, 'a> {
         ensures { OnOk result (state.new ≡ citation_put (style_of self.now) (context_in (E.answers entry.entry.now) self.now) (form_by form) state.old) }
     {
         let citation = &self.walk.style.parts().citation;
-        self.push_layout(entry, &citation.layout, &citation.name_options, form, state)
+        self.push_layout(entry, &citation.layout, self.options, form, state)
     }
 
     /// Puts the layout of the bibliography down in a form, without its affixes.
@@ -52,8 +59,8 @@ impl<'s, 'a> Call<'s, 'a> {
     ) -> Result<(), AllocError>
         ensures { OnOk result (state.new ≡ bibliography_put (style_of self.now) (context_in (E.answers entry.entry.now) self.now) (form_by form) (bibliography_seen bibliography.now) state.old) }
     {
-        let options = &bibliography.name_options;
-        self.push_layout(entry, &bibliography.layout, options, form, state)
+        let options = layout_options(self.walk.style.parts(), &bibliography.name_options);
+        self.push_layout(entry, &bibliography.layout, &options, form, state)
     }
 
     /// Puts the node for the authors down as the layout of the citation would have it.
@@ -67,8 +74,7 @@ impl<'s, 'a> Call<'s, 'a> {
     {
         let citation = &self.walk.style.parts().citation;
         let nodes = self.authors.nodes();
-        let options = &citation.name_options;
-        self.push_nodes(entry, &citation.layout, options, nodes, form, state)
+        self.push_nodes(entry, &citation.layout, self.options, nodes, form, state)
     }
 
     /// Puts a text of the citation's own down, which looks as its layout does.
@@ -109,33 +115,33 @@ impl<'s, 'a> Call<'s, 'a> {
         Ok(asked.is_admitted)
     }
 
-    /// Puts a layout down in a form, without its affixes.
+    /// Puts a layout down in a form, with its options for names, without its affixes.
     fn push_layout<E: EntryLike>(
         &self,
         entry: &'a E,
         layout: &'a Layout,
-        options: &'a NameOptions,
+        options: &ResolvedNameOptions<'a>,
         form: Form,
         state: &mut State<'a>,
     ) -> Result<(), AllocError>
-        ensures { OnOk result (state.new ≡ layout_put (style_of self.now) (context_in (E.answers entry.entry.now) self.now) (layout_seen layout.now) (options_seen options.now) (form_by form) state.old) }
+        ensures { (own : NameOptions) → options_by options.now ≡ options_over own (style_of self.now).name_options → OnOk result (state.new ≡ layout_put (style_of self.now) (context_in (E.answers entry.entry.now) self.now) (layout_seen layout.now) own (form_by form) state.old) }
     {
         self.push_nodes(entry, layout, options, &layout.nodes, form, state)
     }
 
-    /// Puts nodes down in a form as a layout would have them.
+    /// Puts nodes down in a form as a layout would have them, with its options for names.
     fn push_nodes<E: EntryLike>(
         &self,
         entry: &'a E,
         layout: &'a Layout,
-        options: &'a NameOptions,
+        options: &ResolvedNameOptions<'a>,
         nodes: &'a [Node],
         form: Form,
         state: &mut State<'a>,
     ) -> Result<(), AllocError>
-        ensures { OnOk result (state.new ≡ contents (context_in (E.answers entry.entry.now) self.now) (setting_of (style_of self.now) (layout_seen layout.now) (options_seen options.now) (form_by form)) true (opened_nodes (style_of self.now).macros (map node_seen nodes.now)) state.old) }
+        ensures { (own : NameOptions) → options_by options.now ≡ options_over own (style_of self.now).name_options → OnOk result (state.new ≡ contents (context_in (E.answers entry.entry.now) self.now) (setting_of (style_of self.now) (layout_seen layout.now) own (form_by form)) true (opened_nodes (style_of self.now).macros (map node_seen nodes.now)) state.old) }
     {
-        let setting = setting_of(self.walk.style.parts(), layout, options, form);
+        let setting = setting_of(layout, options, form);
         self.walk.push_nodes(entry, &setting, nodes, state)
     }
 }

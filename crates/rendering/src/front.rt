@@ -16,6 +16,7 @@ use std::alloc::AllocError;
 use texts::{has_text, push_character};
 
 /// The tree of a page. Where the second field is aligned the first one stands in front.
+#[inline(never)]
 pub(crate) fn joined_tree(
     page: Page<'_>,
     align: Option<SecondFieldAlign>,

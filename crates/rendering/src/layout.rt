@@ -3,11 +3,14 @@
 ghost use Rattle.std.specs.Prelude.{◌≡◌, [], false, None};
 ghost use Rattle.std.specs.Option.{option_map_or, option_map};
 ghost use Rattle.rendering_leaves.specs.Views.{form_by, setting_by};
+ghost use Rattle.rendering_names.specs.Views.{options_by};
 ghost use Rattle.rendering_nodes.specs.Named.{has_suffix};
 ghost use Rattle.rendering_page.specs.Views.{frame as frame_seen, manner as manner_seen};
+ghost use Rattle.rendering_style.specs.Options.{NameOptions as Options, options_over};
+ghost use Rattle.rendering_style.specs.Styles.{Style as Styled};
 ghost use Rattle.rendering_style.specs.StyleViews.{style_seen};
 ghost use Rattle.rendering_style.specs.Views.{bibliography_seen, layout_seen, options_seen, parts_seen};
-ghost use Rattle.rendering.specs.Purposes.{layout_frame, layout_manner, layout_nodes, prints_suffix, setting_of};
+ghost use Rattle.rendering.specs.Purposes.{citation_options, layout_frame, layout_manner, layout_nodes, prints_suffix, setting_of};
 
 use crate::texts_of::text_or_empty;
 use rendering_leaves::{Form, Setting};
@@ -27,21 +30,38 @@ pub(crate) fn layout_manner(layout: &Layout) -> Manner
     }
 }
 
-/// What a layout hands down in a form, with its options for names over those of the style.
-pub(crate) fn setting_of<'a>(
+/// The options of a layout for names, over those of the style.
+pub(crate) fn layout_options<'a>(
     parts: &'a StyleParts,
-    layout: &'a Layout,
     options: &'a NameOptions,
-    form: Form,
-) -> Setting<'a>
-    ensures { setting_by result ≡ setting_of (parts_seen parts.now) (layout_seen layout.now) (options_seen options.now) (form_by form) }
+) -> ResolvedNameOptions<'a>
+    ensures { options_by result ≡ options_over (options_seen options.now) (parts_seen parts.now).name_options }
 {
     let around = ResolvedNameOptions::new(&parts.name_options);
+    ResolvedNameOptions::new(options).over(&around)
+}
+
+/// The options for names in the citation.
+pub(crate) fn citation_options<'a>(style: &'a Style) -> ResolvedNameOptions<'a>
+    ensures { options_by result ≡ citation_options (style_seen style.now) }
+{
+    let parts = style.parts();
+    layout_options(parts, &parts.citation.name_options)
+}
+
+/// What a layout hands down in a form, with its options for names, which are over those of the style.
+pub(crate) fn setting_of<'a>(
+    layout: &'a Layout,
+    options: &ResolvedNameOptions<'a>,
+    form: Form,
+) -> Setting<'a>
+    ensures { (s : Styled) (own : Options) → options_by options.now ≡ options_over own s.name_options → setting_by result ≡ setting_of s (layout_seen layout.now) own (form_by form) }
+{
     Setting {
         manner: layout_manner(layout),
         inside_quotes: false,
         delimiter: None,
-        options: ResolvedNameOptions::new(options).over(&around),
+        options: *options,
         stands_in: false,
         form,
     }

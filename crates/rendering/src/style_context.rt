@@ -6,19 +6,21 @@ ghost use Rattle.laws.specs.Text.{characters};
 ghost use Rattle.rendering_locale.specs.CodeViews.{borrowed_code};
 ghost use Rattle.rendering_locale.specs.Lookup.{close_quotes};
 ghost use Rattle.rendering_locale.specs.Views.{locale_seen};
+ghost use Rattle.rendering_names.specs.Views.{options_by};
 ghost use Rattle.rendering_page.specs.Views.{quotes_of};
 ghost use Rattle.rendering_style.specs.StyleViews.{style_seen};
-ghost use Rattle.rendering.specs.Purposes.{locales_of, prints_suffix};
+ghost use Rattle.rendering.specs.Purposes.{citation_options, locales_of, prints_suffix};
 
 use crate::author_node::AuthorNode;
 use crate::call::Call;
 use crate::effort::Effort;
-use crate::layout::prints_suffix;
+use crate::layout::{citation_options, prints_suffix};
 use crate::rendered::Rendering;
 use crate::words::{Letters, Words};
 use rendering_context::{CiteProperties, Context};
 use rendering_entries::EntryLike;
 use rendering_locale::{AskedLocales, Locale, LocaleCode, language};
+use rendering_names::ResolvedNameOptions;
 use rendering_nodes::Walk;
 use rendering_style::{Bibliography, Style};
 use rendering_taxonomy::{CitePurpose, CollapseVerdict};
@@ -34,10 +36,13 @@ pub struct StyleContext<'a> {
     /// Whether a layout of the style prints the letters after a year by themselves.
     has_suffix_node: bool,
     authors: AuthorNode,
+    /// The options for names in the citation.
+    options: ResolvedNameOptions<'a>,
     /// The words of a call that asks for no language.
     own_words: Words<'a>,
     ghost locales: { own_words.locales ≡ locales_of (record { style = style_seen style.now; locale = option_map borrowed_code locale; locale_files = map locale_seen locale_files.now }) None },
     ghost quotes: { quotes_of own_words.quotes.items ≡ close_quotes (locales_of (record { style = style_seen style.now; locale = option_map borrowed_code locale; locale_files = map locale_seen locale_files.now }) None) },
+    ghost resolved: { options_by options ≡ citation_options (style_seen style.now) },
     ghost suffix: { has_suffix_node ≡ prints_suffix (style_seen style.now) },
 }
 
@@ -72,6 +77,7 @@ impl<'a> StyleContext<'a> {
             locale_files,
             has_suffix_node: prints_suffix(style),
             authors,
+            options: citation_options(style),
             own_words,
         })
     }
@@ -272,6 +278,7 @@ impl<'a> StyleContext<'a> {
         Call {
             walk: self.walk(words, letters, properties, is_bibliography),
             authors: &self.authors,
+            options: &self.options,
         }
     }
 }

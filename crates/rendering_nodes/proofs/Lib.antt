@@ -13,6 +13,7 @@ pub mod OpenedPut
 pub mod StandingPut
 pub mod DatesUnasked
 pub mod PeopleThere
+pub mod LocatorsLacked
 pub mod FindingsKnown
 pub mod FindingsSteps
 pub mod FindingsPut

@@ -1,5 +1,5 @@
 -- Whether variables have people.
-use Rattle.std.proofs.Common.{◌≡◌, Bool, true, false, ◌||◌, List, [], ◌∷◌, filter, map, refl, sym, ap, ◌∙◌}
+use Rattle.std.proofs.Common.{◌≡◌, Bool, true, false, ◌||◌, List, [], ◌∷◌, refl}
 use Rattle.std.specs.Prelude.{if◌then◌else◌}
 use Rattle.rendering_context.specs.Answering as answering
 use Rattle.rendering_context.specs.Answering.{all_people, people_answer, with_people}

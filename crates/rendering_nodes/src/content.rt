@@ -61,12 +61,11 @@ impl<'a> Walk<'_, 'a> {
         let mut is_first = true;
         let mut rest = findings;
         for node in nodes {
-            let finding = rest.first(setting.form, state);
+            let finding = rest.take_first(setting.form, state);
             let is_admitted = self.push_next(
                 entry, setting, levels, is_first, node, finding, state,
             )?;
             is_first = is_first && !is_admitted;
-            rest = rest.others();
         }
         Ok(())
     }
@@ -360,11 +359,10 @@ impl<'a> Walk<'_, 'a> {
     {
         let mut rest = findings;
         for node in substitute {
-            let finding = rest.first(setting.form, state);
+            let finding = rest.take_first(setting.form, state);
             if self.push_standing(entry, setting, levels, names, node, finding, state)? {
                 return Ok(());
             }
-            rest = rest.others();
         }
         Ok(())
     }

@@ -99,15 +99,21 @@ impl<'t> Findings<'t> {
         }
     }
 
-    /// What is known of the first node, unless the call has come further.
-    pub(crate) fn first(&self, form: Form, state: &State<'_>) -> Option<NodeFinding<'t>>
-        ensures { (c : Context) (s : settings.Setting) (x : Node) (xs : Nodes) → s.form ≡ form_by form → AreFound c s.form self.now (node x xs) → IfSome result (λ n. IsFound c s state.now n x) }
+    /// Takes what is known of the first node, and returns it unless the call has come further. What is known of the nodes after it
+    /// remains.
+    #[inline(always)]
+    pub(crate) fn take_first(&mut self, form: Form, state: &State<'_>) -> Option<NodeFinding<'t>>
+        ensures first { (c : Context) (s : settings.Setting) (x : Node) (xs : Nodes) → s.form ≡ form_by form → AreFound c s.form self.old (node x xs) → IfSome result (λ n. IsFound c s state.now n x) }
+        ensures others { (c : Context) (s : settings.Setting) (x : Node) (xs : Nodes) → AreFound c s.form self.old (node x xs) → AreFound c s.form self.new xs }
     {
+        let Some((first, others)) = self.nodes.split_first() else {
+            return None;
+        };
+        let (inside, after) = split(others, first.inside);
+        self.nodes = after;
         if !self.hold(form, state) {
             return None;
         }
-        let (first, others) = self.nodes.split_first()?;
-        let (inside, _) = split(others, first.inside);
         Some(NodeFinding {
             is_admitted: first.is_admitted,
             met: first.met,
@@ -116,19 +122,6 @@ impl<'t> Findings<'t> {
                 ..*self
             },
         })
-    }
-
-    /// What is known of the nodes after the first.
-    pub(crate) fn others(&self) -> Findings<'t>
-        ensures { (c : Context) (s : settings.Setting) (x : Node) (xs : Nodes) → AreFound c s.form self.now (node x xs) → AreFound c s.form result xs }
-    {
-        match self.nodes.split_first() {
-            Some((first, others)) => Findings {
-                nodes: split(others, first.inside).1,
-                ..*self
-            },
-            None => *self,
-        }
     }
 
     /// Whether the call has come no further, as far as nodes are asked for it in the form.
@@ -153,8 +146,20 @@ fn asks_for_date(form: Form) -> bool
     }
 }
 
-/// Whether variables are the same, in the same order.
+/// Whether variables are the same, in the same order. Most calls have none.
 fn are_same(some: &[Variable], others: &[Variable]) -> bool
+    ensures { result ≡ true → some.now ≡ others.now }
+{
+    match (some.is_empty(), others.is_empty()) {
+        (true, true) => true,
+        (false, false) => are_all_same(some, others),
+        (true, false) | (false, true) => false,
+    }
+}
+
+/// The same where there are some. It stands apart, so that the code of most calls is small.
+#[inline(never)]
+fn are_all_same(some: &[Variable], others: &[Variable]) -> bool
     ensures { result ≡ true → some.now ≡ others.now }
 {
     some == others

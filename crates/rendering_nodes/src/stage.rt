@@ -1,9 +1,10 @@
 //! What is asked of nodes that contain no others.
 
-ghost use Rattle.std.specs.Prelude.{◌≡◌, ◌&&◌, IfOk, false, not, true};
+ghost use Rattle.std.specs.Prelude.{◌≡◌, ◌&&◌, IfOk, List, false, not, true};
 ghost use Rattle.std.specs.Option.{option_map_or};
 ghost use Rattle.std.specs.Str.{chars};
 ghost use Rattle.rendering_context.specs.Answering.{answer_to, date_answer, is_missing};
+ghost use Rattle.rendering_context.specs.Views.{context_by};
 ghost use Rattle.rendering_entries.specs.Answers.{Answers};
 ghost use Rattle.rendering_leaves.specs.Views.{form_by};
 ghost use Rattle.rendering_nodes.specs.Admission.{allows_date, allows_variable, has_people, leaf_survey, source_survey};
@@ -14,10 +15,11 @@ ghost use Rattle.rendering_style.specs.Views.{date_seen, label_seen, names_seen,
 use crate::forms::{allows_variable, allows_words};
 use crate::survey::Survey;
 use crate::walk::Walk;
+use rendering_context::Context;
 use rendering_entries::EntryLike;
 use rendering_leaves::Form;
 use rendering_style::{Date, Label, Names, Number};
-use rendering_taxonomy::{DateVariable, LongShortForm, Term, TermForm, Variable};
+use rendering_taxonomy::{DateVariable, LongShortForm, NumberVariable, Term, TermForm, Variable};
 use std::alloc::AllocError;
 use texts::has_text;
 
@@ -125,6 +127,9 @@ impl<'a> Stage<'_, '_, 'a> {
             return Ok(false);
         }
         let context = &self.walk.context;
+        if lacks_locator(context, variable) {
+            return Ok(false);
+        }
         let answer = context.answer(entry, self.suppressed, form, variable)?;
         Ok(answer.is_some())
     }
@@ -149,5 +154,16 @@ impl<'a> Stage<'_, '_, 'a> {
             Form::FirstDateOnly => !self.has_date,
             Form::SuffixOnly => !self.has_date && !self.walk.context.has_suffix_node,
         }
+    }
+}
+
+/// Whether the variable is the locator of a cite that has none. Most cites have none, and many styles ask each of them for one.
+#[tactic(auto, using(crate::proofs::LocatorsLacked::no_locator))]
+fn lacks_locator(context: &Context<'_, '_>, variable: Variable) -> bool
+    ensures { (a : Answers) (suppressed : List Variable) (form : LongShortForm) → result ≡ true → is_missing (answer_to (context_by a context.now) suppressed form variable) ≡ true }
+{
+    match variable {
+        Variable::Number(NumberVariable::Locator) => context.properties.locator.is_none(),
+        _ => false,
     }
 }

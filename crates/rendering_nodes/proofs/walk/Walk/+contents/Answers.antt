@@ -198,7 +198,7 @@ push_all-push_next-requires g t c =
     let k = walk_context (g.E.EntryLike.answers c.args.entry.now) c.args.self.now in
     let s = setting_by c.args.setting.now in
     let f = open_node c.args.levels (macros_of c.args.self.now) in
-    let known = c.first-finding.ensures k s (f (node_seen c.node-item.result)) (each_node f (nodes_seen (drop (c.loop-node.node-index + 1) c.args.nodes.now)))
+    let known = c.take_first-finding.ensures.first k s (f (node_seen c.node-item.result)) (each_node f (nodes_seen (drop (c.loop-node.node-index + 1) c.args.nodes.now)))
     refl
     (known_more k s.form c.loop-node.rest f c.args.nodes.now c.loop-node.node-index c.node-item.result c.loop-node-test.true c.node-item.is c.loop-node.invariant.1) in
     search rules
@@ -214,7 +214,7 @@ push_all-loop-node-preserved g t c =
     let f = open_node c.args.levels (macros_of c.args.self.now) in (
       contents_more k s f c.args.nodes.now c.loop-node.node-index c.node-item.result c.loop-node.is_first c.in_ok-is_admitted.is_admitted c.if-is_first.is_first c.loop-node.state c.push_next.new.state _
           c.loop-node-test.true c.node-item.is c.in_ok-is_admitted.ensures.admitted next c.in_ok-is_admitted.ensures.state c.loop-node.invariant.0,
-      c.others-rest.ensures k s (f (node_seen c.node-item.result)) (each_node f (nodes_seen (drop (c.loop-node.node-index + 1) c.args.nodes.now)))
+      c.take_first-finding.ensures.others k s (f (node_seen c.node-item.result)) (each_node f (nodes_seen (drop (c.loop-node.node-index + 1) c.args.nodes.now)))
           (known_more k s.form c.loop-node.rest f c.args.nodes.now c.loop-node.node-index c.node-item.result c.loop-node-test.true c.node-item.is c.loop-node.invariant.1),
     )
 
@@ -223,7 +223,7 @@ push_first-push_standing-requires g t c =
     let k = walk_context (g.E.EntryLike.answers c.args.entry.now) c.args.self.now in
     let s = setting_by c.args.setting.now in
     let f = open_node c.args.levels (macros_of c.args.self.now) in
-    let known = c.first-finding.ensures k s (f (node_seen c.node-item.result)) (each_node f (nodes_seen (drop (c.loop-node.node-index + 1) c.args.substitute.now)))
+    let known = c.take_first-finding.ensures.first k s (f (node_seen c.node-item.result)) (each_node f (nodes_seen (drop (c.loop-node.node-index + 1) c.args.substitute.now)))
     refl
     (known_more k s.form c.loop-node.rest f c.args.substitute.now c.loop-node.node-index c.node-item.result c.loop-node-test.true c.node-item.is c.loop-node.invariant.1) in
     search rules
@@ -235,7 +235,7 @@ push_first-loop-node-preserved g t c =
     let f = open_node c.args.levels (macros_of c.args.self.now) in (
       standing_more k (node_by c.args.names.now) s f c.args.substitute.now c.loop-node.node-index c.node-item.result c.in_ok-push_standing.field-0 c.loop-node.state c.push_standing.new.state _
           c.loop-node-test.true c.node-item.is c.in_ok-push_standing.ensures.printed c.if-branch.false c.in_ok-push_standing.ensures.state c.loop-node.invariant.0,
-      c.others-rest.ensures k s (f (node_seen c.node-item.result)) (each_node f (nodes_seen (drop (c.loop-node.node-index + 1) c.args.substitute.now)))
+      c.take_first-finding.ensures.others k s (f (node_seen c.node-item.result)) (each_node f (nodes_seen (drop (c.loop-node.node-index + 1) c.args.substitute.now)))
           (known_more k s.form c.loop-node.rest f c.args.substitute.now c.loop-node.node-index c.node-item.result c.loop-node-test.true c.node-item.is c.loop-node.invariant.1),
     )
 
