@@ -15,3 +15,5 @@ pub mod Counting
 pub mod KeysAlike
 pub mod NamesShared
 pub mod SharedStill
+pub mod NamesakesCounted
+pub mod FormsOnTime

@@ -1,22 +1,17 @@
 -- Cites that people tell apart, as the code finds them.
-use Rattle.std.proofs.Common.{arith, ◌≡◌, ℕ, suc, ◌+◌, ◌-◌, ◌<◌, ◌≤◌, Bool, true, false, cond, not, ◌&&◌, ◌||◌, List, [], ◌∷◌, ◌++◌, map, take, drop, length, get_or, refl, sym, ap, ◌∙◌, Option, Some, None}
-use Rattle.std.specs.Prelude.{◌==◌, filter, fold, is_some, slice_set, zip}
-use Rattle.std.specs.List.{flat_map, list_any, range_with_len}
+use Rattle.std.proofs.Common.{arith, ◌≡◌, ℕ, suc, ◌+◌, ◌-◌, ◌<◌, ◌≤◌, Bool, true, false, cond, ◌&&◌, ◌||◌, List, [], ◌∷◌, ◌++◌, map, take, drop, length, get_or, refl, sym, ap, ◌∙◌, Option, Some, None}
+use Rattle.std.specs.Prelude.{filter, fold, is_some, slice_set, zip}
+use Rattle.std.specs.List.{list_any, range_with_len}
 use Rattle.std.specs.Option.{option_map, option_map_or}
-use Rattle.std.specs.Str.{bytes_eq}
 use Rattle.std.proofs.lemmas.Iterator.Adapters.{option_map_id}
 use Rattle.std.proofs.lemmas.List.{append-nil, append_assoc, drop_all, drop_more, get_or-map, get_or_at, get_or_default, length-map, length-take-le, map_more, map-set, set_at, take_all}
-use Rattle.std.proofs.lemmas.List.Folds.{list_any-append}
 use Rattle.std.proofs.lemmas.Slice.Zip.{get_or-zip, length-zip}
-use Rattle.laws.specs.Text.{is_filled}
-use Rattle.literature_values.specs.PersonViews.{Named}
 use Rattle.driver_marks.specs.Names as names
 use Rattle.driver_marks.specs.Names.{agrees_on, all_shown_up_to, distinguished_at, distinguished_by, form_against, form_wanted, initials, is_namesake, is_newly_distinguished, names_may_change, namesakes, others, raised_names, raises, rule_for, showing_up_to, with_raised}
-use Rattle.driver_marks.specs.NamesViews.{distinction, form_raised, is_alike_namesake, member_by, members_by, raised_if, shown_with, with_distinction}
+use Rattle.driver_marks.specs.NamesViews.{distinction, form_raised, member_by, members_by, raised_if, shown_with, with_distinction}
 use Rattle.driver_marks.specs.declared.names_members.Distinction.{Distinction}
 use Rattle.driver_marks.specs.declared.names_members.Member.{Member}
 use Rattle.rendering_taxonomy.specs.declared.name.DisambiguatedNameForm.{DisambiguatedNameForm}
-use Rattle.rendering_taxonomy.specs.declared.name.DisambiguatedNameForm.TheVariants as forms
 
 any_cond : {X : Type 0} (t : X → Bool) (b : Bool) (x : X) (xs : List X) → list_any t (cond b (x ∷ xs) xs) ≡ ((b && t x) || list_any t xs)
 any_cond t true x xs = refl
@@ -27,79 +22,9 @@ pub any-filter : {X : Type 0} (t p : X → Bool) (xs : List X) → list_any t (f
 any-filter t p [] = refl
 any-filter t p (x ∷ xs) = any_cond t (p x) x (filter p xs) ∙ ap (λ b. (p x && t x) || b) (any-filter t p xs)
 
-any-flat : {X Y : Type 0} (t : Y → Bool) (h : X → List Y) (xs : List X) → list_any t (flat_map h xs) ≡ list_any (λ x. list_any t (h x)) xs
-any-flat t h [] = refl
-any-flat t h (x ∷ xs) = list_any-append t (h x) (flat_map h xs) ∙ ap (λ b. list_any t (h x) || b) (any-flat t h xs)
-
-filled_cond : {X : Type 0} (b : Bool) (x : X) (xs : List X) → is_filled (cond b (x ∷ xs) xs) ≡ (b || is_filled xs)
-filled_cond true x xs = refl
-filled_cond false x xs = refl
-
-filled-filter : {X : Type 0} (p : X → Bool) (xs : List X) → is_filled (filter p xs) ≡ list_any p xs
-filled-filter p [] = refl
-filled-filter p (x ∷ xs) = filled_cond (p x) x (filter p xs) ∙ ap (λ b. p x || b) (filled-filter p xs)
-
 pub any-map : {X Y : Type 0} (t : Y → Bool) (f : X → Y) (xs : List X) → list_any t (map f xs) ≡ list_any (λ x. t (f x)) xs
 any-map t f [] = refl
 any-map t f (x ∷ xs) = ap (λ b. t (f x) || b) (any-map t f xs)
-
--- whether a test finds one of the other members
-any_of_others : (t : names.Member → Bool) (ms : List Member) (m : names.Member) → list_any t (others (members_by ms) m) ≡ list_any (λ o. not (o.place == m.place) && t (member_by o)) ms
-any_of_others t ms m =
-    any-filter t (λ o. not (o.place == m.place)) (members_by ms) ∙ any-map (λ o. not (o.place == m.place) && t o) member_by ms
-
--- whether a test finds one of the people of the other members
-any_of_people : (t : Named → Bool) (ms : List Member) (m : names.Member)
-    → list_any t (flat_map (λ o. o.people) (others (members_by ms) m)) ≡ list_any (λ o. not (o.place == m.place) && list_any t o.people.items) ms
-any_of_people t ms m = any-flat t (λ o. o.people) (others (members_by ms) m) ∙ any_of_others (λ o. list_any t o.people) ms m
-
--- what is told of a cite that is newly told apart
-pub told_apart : (ms : List names.Member) (place : ℕ) (m : names.Member) (told : Bool) (form : Option DisambiguatedNameForm) → told ≡ is_newly_distinguished (place + 1) ms m → told ≡ true → form ≡ form_raised ms place m
-    → Some (record { form = form }) ≡ distinction ms place m
-told_apart ms place m told form is so found =
-    (λ k. Some (record { form = found k })) ∙ sym (ap (λ b. cond b (Some (record { form = form_raised ms place m })) None) (sym is ∙ so))
-
--- nothing is told of another one
-pub not_told : (ms : List names.Member) (place : ℕ) (m : names.Member) (told : Bool) → told ≡ is_newly_distinguished (place + 1) ms m → told ≡ false → None ≡ distinction ms place m
-not_told ms place m told is so = sym (ap (λ b. cond b (Some (record { form = form_raised ms place m })) None) (sym is ∙ so))
-
--- the form by whether there are namesakes with the same initials, and whether there are any
-abbrev form_by : Bool → Bool → Option DisambiguatedNameForm
-form_by same some = cond same (Some forms.LongFull) (cond some (Some forms.LongInitialized) None)
-
-form_cases : (b : Bool) → Some (cond b forms.LongFull forms.LongInitialized) ≡ form_by b true
-form_cases true = refl
-form_cases false = refl
-
-form_against_is : (p : Named) (qs : List Named) → form_against p qs ≡ form_by (list_any (λ q. bytes_eq (initials q) (initials p)) qs) (is_filled qs)
-form_against_is p [] = refl
-form_against_is p (q ∷ qs) = form_cases (list_any (λ r. bytes_eq (initials r) (initials p)) (q ∷ qs))
-
--- whether a person has a namesake in other cites
-abbrev pub has_namesake : List Member → names.Member → Named → Bool
-has_namesake ms m p = list_any (λ o. not (o.place == m.place) && list_any (is_namesake p) o.people.items) ms
-
--- whether some of them has the same initials
-abbrev pub has_namesake_by_initials : List Member → names.Member → Named → Bool
-has_namesake_by_initials ms m p = list_any (λ o. not (o.place == m.place) && list_any (is_alike_namesake p) o.people.items) ms
-
-form_is : (ms : List Member) (m : names.Member) (p : Named) → form_against p (namesakes (members_by ms) m p) ≡ form_by (has_namesake_by_initials ms m p) (has_namesake ms m p)
-form_is ms m p =
-    let all : List Named = flat_map (λ o. o.people) (others (members_by ms) m) in
-    form_against_is p (namesakes (members_by ms) m p)
-    ∙ (λ k. form_by
-    ((any-filter (λ q. bytes_eq (initials q) (initials p)) (is_namesake p) all ∙ any_of_people (is_alike_namesake p) ms m) k)
-    ((filled-filter (is_namesake p) all ∙ any_of_people (is_namesake p) ms m) k))
-
--- the form against namesakes of whom some has the same initials
-pub form_full : (ms : List Member) (m : names.Member) (p : Named) (same : Bool) → same ≡ has_namesake_by_initials ms m p → same ≡ true
-    → Some forms.LongFull ≡ form_against p (namesakes (members_by ms) m p)
-form_full ms m p same is_same so = sym (form_is ms m p ∙ ap (λ b. form_by b (has_namesake ms m p)) (sym is_same ∙ so))
-
--- the form against others, if there are any
-pub form_less : (ms : List Member) (m : names.Member) (p : Named) (same some : Bool) → same ≡ has_namesake_by_initials ms m p → some ≡ has_namesake ms m p → same ≡ false
-    → cond some (Some forms.LongInitialized) None ≡ form_against p (namesakes (members_by ms) m p)
-form_less ms m p same some is_same is_some none = sym (form_is ms m p ∙ (λ k. form_by ((sym is_same ∙ none) k) (sym is_some k)))
 
 raised_cases : (b : Bool) (g : Option DisambiguatedNameForm) (place : ℕ) (m : names.Member)
     → record m { names = raised_if place (cond b g None) m.names; is_distinguished = true }

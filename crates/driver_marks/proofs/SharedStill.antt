@@ -13,7 +13,7 @@ use Rattle.driver_marks.specs.Shared.{AreInOrder, agrees_by, last_passing, share
 use Rattle.driver_marks.proofs.NamesDistinguished.{any-filter, any-map}
 
 -- a cite without what is told of it
-abbrev bare : Member → Member
+abbrev pub bare : Member → Member
 bare m = record m { names = None; is_distinguished = false }
 
 places_from : (a : ℕ) (ss : List Printed) → map (λ m. m.place) (map member (enumerate_from a ss)) ≡ range_with_len a (length (map member (enumerate_from a ss)))
@@ -30,10 +30,12 @@ shares_bare r ms m n =
     ∙ any-map (λ o. not (o.place == m.place) && agrees_by r (n + 1) (bare m) o) bare ms
     ∙ sym (any-filter (agrees_by r (n + 1) m) (λ o. not (o.place == m.place)) ms)
 
+-- what a cite shares with others stays without what is told of them
+pub shared_one : (most : ℕ) (ms : List Member) (m : Member) → shared_people most (map bare ms) (bare m) ≡ shared_people most ms m
+shared_one most ms m = ap (λ t. last_passing 0 t most) (fun_ext (λ n. shares_bare (rule_for m) ms m n))
+
 shared_bare : (most : ℕ) (ms : List Member) → map (shared_people most (map bare ms)) (map bare ms) ≡ map (shared_people most ms) ms
-shared_bare most ms =
-    map-map (shared_people most (map bare ms)) bare ms
-    ∙ ap (λ f. map f ms) (fun_ext (λ m. ap (λ t. last_passing 0 t most) (fun_ext (λ n. shares_bare (rule_for m) ms m n))))
+shared_bare most ms = map-map (shared_people most (map bare ms)) bare ms ∙ ap (λ f. map f ms) (fun_ext (shared_one most ms))
 
 bare_raised : (b : Bool) (m : Member) (ns : Option Properties) → bare (record (cond b (record m { names = ns }) m) { is_distinguished = true }) ≡ bare m
 bare_raised true m ns = refl
@@ -47,13 +49,13 @@ bare_shown : (b : Bool) (m : Member) (ns : Option Properties) → bare (cond b (
 bare_shown true m ns = refl
 bare_shown false m ns = refl
 
-bare_each : (ms : List Member) (place : ℕ) (m : Member) → bare (showing_up_to (place + 1) (distinguished_at ms place m)) ≡ bare m
+pub bare_each : (ms : List Member) (place : ℕ) (m : Member) → bare (showing_up_to (place + 1) (distinguished_at ms place m)) ≡ bare m
 bare_each ms place m =
     let told : Member = distinguished_at ms place m in
     bare_shown (names_may_change told) told (option_map (with_name (place + 1)) told.names)
     ∙ bare_told (is_newly_distinguished (place + 1) ms m) (raises (rule_for m)) m (option_map (λ ps. option_map_or (λ g. raised_names place g ps) (form_wanted ms m place) ps) m.names)
 
-bare_all : (b : Bool) (ms : List Member) (place : ℕ) → map bare (cond b (all_shown_up_to ms place) ms) ≡ map bare ms
+pub bare_all : (b : Bool) (ms : List Member) (place : ℕ) → map bare (cond b (all_shown_up_to ms place) ms) ≡ map bare ms
 bare_all true ms place =
     map-map bare (λ m. showing_up_to (place + 1) (distinguished_at ms place m)) ms ∙ ap (λ f. map f ms) (fun_ext (bare_each ms place))
 bare_all false ms place = refl

@@ -12,3 +12,4 @@ pub mod Joining
 pub mod Lettered
 pub mod Keys
 pub mod Shared
+pub mod Namesakes

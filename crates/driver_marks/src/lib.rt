@@ -14,6 +14,7 @@ mod names_members;
 mod names_people;
 mod names_raised;
 mod names_shared;
+mod namesakes;
 mod numbers;
 mod printed;
 mod printed_cites;

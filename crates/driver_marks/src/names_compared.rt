@@ -51,7 +51,7 @@ impl<'a> CitedPerson<'a> {
     }
 
     /// The name with its given name.
-    fn whole(&self) -> ComparedName<'_>
+    pub(crate) fn whole(&self) -> ComparedName<'_>
         ensures { named result ≡ self.now }
     {
         self.with_given_name(self.person.given_name.as_ref())

@@ -5,14 +5,15 @@ ghost use Rattle.std.specs.List.{flat_map, list_any};
 ghost use Rattle.std.specs.Option.{option_map};
 ghost use Rattle.driver_requests.specs.SuffixViews.{origin_by};
 ghost use Rattle.driver_marks.specs.Names as names;
-ghost use Rattle.driver_marks.specs.Names.{marks_by_names_of, names_may_change, own_names, people_compared, rule_for, showing_up_to};
+ghost use Rattle.driver_marks.specs.Names.{marks_by_names_of, own_names, people_compared, showing_up_to};
+ghost use Rattle.driver_marks.specs.Namesakes.{AreFormsAt, may_be_distinguished, told};
 ghost use Rattle.driver_marks.specs.NamesViews.{distinction, mark_of_member, member_by, members_by, shown_with, with_distinction};
-ghost use Rattle.driver_marks.specs.Shared.{AreShared, shares};
+ghost use Rattle.driver_marks.specs.Shared.{AreShared};
 ghost use Rattle.driver_marks.specs.Views.{class_by, givens_by, printed_seen};
 
 use crate::given::Given;
 use crate::names_people::{CitedPerson, people_in};
-use crate::names_raised::{form_raised, raise, show_names};
+use crate::names_raised::{raise, show_names};
 use crate::printed::Printed;
 use driver_requests::Origin;
 use rendering_context::DisambiguateState;
@@ -109,43 +110,27 @@ fn most_people(members: &[Member]) -> usize
     most
 }
 
-/// What the people up to a place tell of each cite, by how many first people it shares with another one.
+/// What the people up to a place tell of each cite, by how many first people it shares with another one, and by the form to which the
+/// name of the next one is raised.
 pub(crate) fn distinctions(
     alloc: Global,
     members: &[Member],
     shared: &[usize],
+    forms: &[Option<DisambiguatedNameForm>],
     place: usize,
 ) -> Result<Vec<Option<Distinction>>, AllocError>
     requires room { place + 1 < 2 ^ 64 }
     requires len { length shared.now ≡ length members.now }
     requires shared { AreShared place (members_by members.now) shared.now }
+    requires form_len { length forms.now ≡ length members.now }
+    requires forms { AreFormsAt place (members_by members.now) forms.now }
     ensures { IfOk result (λ ds. ds.items ≡ map (distinction (members_by members.now) place) (members_by members.now)) }
 {
     let mut distinctions = Vec::with_capacity(alloc, members.len())?;
     for (at, member) in members.iter().enumerate() {
-        distinctions.push(distinction_of(members, place, member, shared[at]))?;
+        distinctions.push(member.distinction(place, shared[at], forms[at]))?;
     }
     Ok(distinctions)
-}
-
-/// What the people up to a place tell of a cite, where they newly tell it apart.
-fn distinction_of(
-    members: &[Member],
-    place: usize,
-    member: &Member,
-    shared: usize,
-) -> Option<Distinction>
-    requires room { place + 1 < 2 ^ 64 }
-    requires shared { nat_lt place shared ≡ shares (rule_for (member_by member.now)) (members_by members.now) (member_by member.now) place }
-    ensures { result ≡ distinction (members_by members.now) place (member_by member.now) }
-{
-    if member.is_told_apart(place, shared) {
-        Some(Distinction {
-            form: form_raised(members, place, member),
-        })
-    } else {
-        None
-    }
 }
 
 /// Where the people up to a place tell some cite apart, shows the names of each up to it, with what these people tell of each.
@@ -178,16 +163,33 @@ fn show_all(members: &mut [Member], place: usize, distinctions: &[Option<Distinc
 }
 
 impl<'a> Member<'a> {
+    /// What the people up to a place tell of it, where it shares so many first people with another cite, by the form to which the name
+    /// at that place is raised.
+    fn distinction(
+        &self,
+        place: usize,
+        shared: usize,
+        form: Option<DisambiguatedNameForm>,
+    ) -> Option<Distinction>
+        ensures { result ≡ told place shared form (member_by self.now) }
+    {
+        if self.is_told_apart(place, shared) {
+            Some(Distinction { form })
+        } else {
+            None
+        }
+    }
+
     /// Whether the people up to a place newly tell it apart, where it shares so many first people with another cite.
     fn is_told_apart(&self, place: usize, shared: usize) -> bool
-        ensures { result ≡ (not (member_by self.now).is_distinguished && names_may_change (member_by self.now) && not (nat_lt place shared)) }
+        ensures { result ≡ (may_be_distinguished (member_by self.now) && not (nat_lt place shared)) }
     {
         self.may_be_distinguished() && shared <= place
     }
 
     /// Whether names have not told it apart, and may still change what it prints.
     fn may_be_distinguished(&self) -> bool
-        ensures { result ≡ not (member_by self.now).is_distinguished && names_may_change (member_by self.now) }
+        ensures { result ≡ may_be_distinguished (member_by self.now) }
     {
         !self.is_distinguished && self.cite.may_change()
     }

@@ -1,29 +1,138 @@
 //! How much of names is printed where people tell cites apart.
 
-ghost use Rattle.std.specs.Prelude.{◌≡◌, ◌==◌, ◌&&◌, not};
+ghost use Rattle.std.specs.Prelude.{◌≡◌, ◌==◌, List, None, length, map, replicate, IfOk};
 ghost use Rattle.std.specs.List.{list_any};
 ghost use Rattle.std.specs.Option.{option_map};
+ghost use Rattle.literature_values.specs.PersonViews.{Named};
 ghost use Rattle.rendering_names.specs.Properties.{with_name};
-ghost use Rattle.driver_marks.specs.Names.{form_against, form_wanted, is_namesake, namesakes, raised_form, raised_names, raises};
-ghost use Rattle.driver_marks.specs.NamesViews.{form_raised, is_alike_namesake, member_by, members_by, raised_if};
+ghost use Rattle.driver_marks.specs.Names.{raised_form, raised_names, raises};
+ghost use Rattle.driver_marks.specs.Namesakes as namesakes_specs;
+ghost use Rattle.driver_marks.specs.Namesakes.{AreCounts, form_among, form_at, form_counted, is_raised, is_raised_after};
+ghost use Rattle.driver_marks.specs.NamesViews.{member_by, members_by, raised_if};
+ghost use Rattle.driver_marks.specs.Shared.{AreInOrder, shared_people};
 
 use crate::names_members::Member;
 use crate::names_people::CitedPerson;
+use crate::namesakes::NameCounts;
 use rendering_names::NameDisambiguationProperties;
 use rendering_taxonomy::{DisambiguatedNameForm, DisambiguationRule};
+use std::alloc::{AllocError, Global};
 
-/// The form to which the name of the person at a place is raised, where the rule raises names and the person has a namesake.
-pub(crate) fn form_raised(
+/// For each cite the form to which the name is raised of the first person that it shares with no other one, where its rule raises
+/// names and the person is among so many and has a namesake in another cite. The cost is a few look-ups for each person of all cites.
+pub(crate) fn forms_after(
+    alloc: Global,
     members: &[Member],
-    place: usize,
-    member: &Member,
-) -> Option<DisambiguatedNameForm>
-    ensures { result ≡ form_raised (members_by members.now) place (member_by member.now) }
+    shared: &[usize],
+    most: usize,
+) -> Result<Vec<Option<DisambiguatedNameForm>>, AllocError>
+    requires order { AreInOrder (members_by members.now) }
+    requires len { length shared.now ≡ length members.now }
+    requires shared { shared.now ≡ map (shared_people most (members_by members.now)) (members_by members.now) }
+    ensures { IfOk result (λ forms. forms.items ≡ namesakes_specs.forms_after most (members_by members.now)) }
 {
-    if raises(member.cite.cite.rule) {
-        form_wanted(members, place, member)
+    if are_raised(members, shared, most) {
+        counted_forms(alloc, members, shared, most)
+    } else {
+        no_forms(alloc, members.len())
+    }
+}
+
+/// Whether a name of some cite may be raised.
+fn are_raised(members: &[Member], shared: &[usize], most: usize) -> bool
+    requires len { length shared.now ≡ length members.now }
+    requires shared { shared.now ≡ map (shared_people most (members_by members.now)) (members_by members.now) }
+    ensures { result ≡ list_any (is_raised_after most (members_by members.now)) (members_by members.now) }
+{
+    for (at, member) in members.iter().enumerate() {
+        if member.is_raised(most, shared[at]) {
+            return true;
+        }
+    }
+    false
+}
+
+/// No form so many times.
+fn no_forms(alloc: Global, count: usize) -> Result<Vec<Option<DisambiguatedNameForm>>, AllocError>
+    ensures { IfOk result (λ forms. forms.items ≡ replicate count None) }
+{
+    vec![in alloc; None; count]
+}
+
+/// The same, by how many people have each name.
+fn counted_forms(
+    alloc: Global,
+    members: &[Member],
+    shared: &[usize],
+    most: usize,
+) -> Result<Vec<Option<DisambiguatedNameForm>>, AllocError>
+    requires order { AreInOrder (members_by members.now) }
+    requires len { length shared.now ≡ length members.now }
+    requires shared { shared.now ≡ map (shared_people most (members_by members.now)) (members_by members.now) }
+    ensures { IfOk result (λ forms. forms.items ≡ namesakes_specs.forms_after most (members_by members.now)) }
+{
+    let counts = NameCounts::new(alloc, members)?;
+    let mut forms = Vec::with_capacity(alloc, members.len())?;
+    for (at, member) in members.iter().enumerate() {
+        forms.push(form_after(&counts, member, shared[at], most))?;
+    }
+    Ok(forms)
+}
+
+/// The form to which the name is raised of the first person that a cite shares with no other one, by how many it shares.
+fn form_after<'m>(
+    counts: &NameCounts<'m>,
+    member: &'m Member,
+    shared: usize,
+    most: usize,
+) -> Option<DisambiguatedNameForm>
+    ensures { (all : List Named) → AreCounts counts.now all → result ≡ form_counted all most shared (member_by member.now) }
+{
+    if member.is_raised(most, shared) {
+        form_at(counts, member, shared)
     } else {
         None
+    }
+}
+
+/// The form that tells the person at a place apart from namesakes in other cites.
+fn form_at<'m>(
+    counts: &NameCounts<'m>,
+    member: &'m Member,
+    place: usize,
+) -> Option<DisambiguatedNameForm>
+    ensures { (all : List Named) → AreCounts counts.now all → result ≡ form_at all place (member_by member.now) }
+{
+    match member.people.get(place) {
+        Some(person) => form_among(counts, member, person),
+        None => None,
+    }
+}
+
+/// The form that tells a person apart from namesakes in other cites: whole where one of them has the same initials, else with
+/// initials.
+fn form_among<'m>(
+    counts: &NameCounts<'m>,
+    member: &Member,
+    person: &'m CitedPerson,
+) -> Option<DisambiguatedNameForm>
+    ensures { (all : List Named) → AreCounts counts.now all → result ≡ form_among all (member_by member.now) person.now }
+{
+    if counts.has_alike_namesake(member, person) {
+        Some(DisambiguatedNameForm::LongFull)
+    } else if counts.has_namesake(member, person) {
+        Some(DisambiguatedNameForm::LongInitialized)
+    } else {
+        None
+    }
+}
+
+impl<'a> Member<'a> {
+    /// Whether its rule raises names, and the first person that it shares with no other one is among so many.
+    fn is_raised(&self, most: usize, shared: usize) -> bool
+        ensures { result ≡ is_raised most shared (member_by self.now) }
+    {
+        raises(self.cite.cite.rule) && shared < most
     }
 }
 
@@ -32,64 +141,6 @@ fn raises(rule: Option<DisambiguationRule>) -> bool
     ensures { result ≡ raises rule }
 {
     matches!(rule, Some(DisambiguationRule::ByCite))
-}
-
-/// The form to which the name of the person at a place is to be raised.
-fn form_wanted(members: &[Member], place: usize, member: &Member) -> Option<DisambiguatedNameForm>
-    ensures { result ≡ form_wanted (members_by members.now) (member_by member.now) place }
-{
-    match member.people.get(place) {
-        Some(person) => form_against(members, member, person),
-        None => None,
-    }
-}
-
-/// The form that tells a person apart from namesakes in other cites: whole where one of them has the same initials, else with
-/// initials.
-fn form_against(
-    members: &[Member],
-    member: &Member,
-    person: &CitedPerson,
-) -> Option<DisambiguatedNameForm>
-    ensures { result ≡ form_against person.now (namesakes (members_by members.now) (member_by member.now) person.now) }
-{
-    if has_namesake_by_initials(members, member, person) {
-        Some(DisambiguatedNameForm::LongFull)
-    } else if has_namesake(members, member, person) {
-        Some(DisambiguatedNameForm::LongInitialized)
-    } else {
-        None
-    }
-}
-
-/// Whether a person has a namesake in other cites.
-fn has_namesake(members: &[Member], member: &Member, person: &CitedPerson) -> bool
-    ensures { result ≡ list_any (λ o. not (o.place == member.now.place) && list_any (is_namesake person.now) o.people.items) members.now }
-{
-    members.iter().any(|other| other.place != member.place
-        && is_namesake_of_any(person, other.people.as_slice()))
-}
-
-/// Whether a person has a namesake with the same initials in other cites.
-fn has_namesake_by_initials(members: &[Member], member: &Member, person: &CitedPerson) -> bool
-    ensures { result ≡ list_any (λ o. not (o.place == member.now.place) && list_any (is_alike_namesake person.now) o.people.items) members.now }
-{
-    members.iter().any(|other| other.place != member.place
-        && is_alike_to_any(person, other.people.as_slice()))
-}
-
-/// Whether a person is a namesake of some people.
-fn is_namesake_of_any(person: &CitedPerson, people: &[CitedPerson]) -> bool
-    ensures { result ≡ list_any (is_namesake person.now) people.now }
-{
-    people.iter().any(|other| person.is_namesake(other))
-}
-
-/// Whether a person is a namesake of some people who have the same initials.
-fn is_alike_to_any(person: &CitedPerson, people: &[CitedPerson]) -> bool
-    ensures { result ≡ list_any (is_alike_namesake person.now) people.now }
-{
-    people.iter().any(|other| person.is_alike_namesake(other))
 }
 
 /// Raises the form of the name at a place to another one, where there are both.

@@ -5,7 +5,7 @@ ghost use Rattle.rendering_context.specs.Views.{state_by};
 ghost use Rattle.rendering_context.specs.Cites as cites;
 ghost use Rattle.rendering_context.specs.Cites.{allows_suffix, may_change};
 ghost use Rattle.rendering_style.specs.Views.{citation_seen};
-ghost use Rattle.rendering_tree.specs.Trees.{Children};
+ghost use Rattle.rendering_tree.specs.Trees.{Children, nothing};
 ghost use Rattle.rendering_tree.specs.Views as trees;
 ghost use Rattle.rendering_tree.specs.Views.{tree};
 ghost use Rattle.rendering_tree.specs.Writing.{plain_text};
@@ -20,6 +20,7 @@ use rendering_style::Citation;
 use rendering_taxonomy::DisambiguationRule;
 use rendering_tree::{ElemChildren, ElemMeta};
 use std::alloc::{AllocError, Global};
+use std::mem;
 
 /// What is known of a cite before it is told apart from others.
 #[derive(Debug, Drop)]
@@ -121,6 +122,14 @@ impl Printed {
         ensures { tree result.now ≡ (printed_seen self.now).tree }
     {
         &self.tree
+    }
+
+    /// Takes what it prints by its mark, without its locator, and leaves nothing in its place.
+    pub fn take_tree(&mut self, alloc: Global) -> ElemChildren
+        ensures tree { tree result ≡ (printed_seen self.old).tree }
+        ensures nothing { (printed_seen self.new).tree ≡ nothing }
+    {
+        mem::replace(&mut self.tree, ElemChildren::new(alloc))
     }
 
     /// Whether letters may still be given to it.

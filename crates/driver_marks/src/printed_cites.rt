@@ -59,6 +59,13 @@ impl PrintedCites {
         self.cites.as_slice()
     }
 
+    /// All cites in their order, without their classes.
+    pub fn into_cites(self) -> Vec<Printed>
+        ensures { map printed_seen result.items ≡ cites_seen self }
+    {
+        self.cites
+    }
+
     /// What a round gives to the entries of cites, class by class.
     ///
     /// # Errors

@@ -3,6 +3,7 @@ use Rattle.std.specs.Prelude.{is_some, zip}
 use Rattle.std.specs.List.{list_any}
 use Rattle.std.specs.Vec.{with_items}
 use Rattle.std.proofs.lemmas.List.{with_items_is}
+use Rattle.driver_marks.specs.Namesakes.{AreFormsAt}
 use Rattle.driver_marks.specs.NamesViews.{distinction, members_by, shown_with}
 use Rattle.driver_marks.specs.Shared.{AreShared}
 use Rattle.driver_marks.proofs.NamesDistinguished.{distinguished_is}
@@ -13,6 +14,12 @@ distinctions-requires-clause-len c = c.requires.len ∙ ap length (sym c.as_slic
 
 pub distinctions-requires-clause-shared : goal.distinctions-requires-clause-shared
 distinctions-requires-clause-shared c = subst (λ ms. AreShared c.args.place (members_by ms) c.args.shared.now) (sym c.as_slice.ensures.value) c.requires.shared
+
+pub distinctions-requires-clause-form_len : goal.distinctions-requires-clause-form_len
+distinctions-requires-clause-form_len c = c.requires.form_len ∙ ap length (sym c.as_slice.ensures.value)
+
+pub distinctions-requires-clause-forms : goal.distinctions-requires-clause-forms
+distinctions-requires-clause-forms c = subst (λ ms. AreFormsAt c.args.place (members_by ms) c.args.forms.now) (sym c.as_slice.ensures.value) c.requires.forms
 
 pub returns : goal.returns
 returns c =
