@@ -1,6 +1,6 @@
 -- What a bibliography prints of entries that are listed.
 use Rattle.std.proofs.Common.{◌≡◌, ℕ, ◌+◌, ◌<◌, ◌≤◌, Bool, true, false, All, List, [], ◌∷◌, ◌++◌, append_assoc, append-nil, cond, drop, eqb-true, get_or, length, ltb-true, ltb-false, map, nat_lt, refl, sym, ap, subst, ◌∙◌, arith, zero-add, Option, Some, None}
-use Rattle.std.specs.Prelude.{filter_map, find, option_to_list, slice_index_or, IfSome}
+use Rattle.std.specs.Prelude.{filter_map, find, option_to_list, slice_index_or, IfOk, IfSome, Result}
 use Rattle.std.specs.List.{cons_option, range_with_len}
 use Rattle.std.specs.Option.{option_and_then, option_map}
 use Rattle.std.proofs.lemmas.List.{drop_all, drop_more, get_or-map}
@@ -10,17 +10,32 @@ use Rattle.std.proofs.lemmas.List.FromFn.{get_or-map-range_with_len, length-map-
 use Rattle.rendering_context.specs.Cites.{undisturbed}
 use Rattle.rendering_context.specs.Views.{state_by}
 use Rattle.rendering_context.specs.declared.cite.DisambiguateState.{DisambiguateState as CodeState}
+use Rattle.rendering.specs.Purposes.{StyleContext}
 use Rattle.rendering_entries.specs.Answers.{Answers}
+use Rattle.rendering_style.specs.Styles as styles
+use Rattle.rendering_tree.specs.Trees.{Children}
 use Rattle.driver_marks.specs.Marks.{mark_of}
 use Rattle.driver.specs.Finals.{Listed, first_listed, listed_as, listed_by}
 use Rattle.driver.specs.Finish.{is_final_of}
-use Rattle.driver.specs.Listing.{StandAtPlaces, listed_marked}
+use Rattle.driver.specs.Listing.{StandAtPlaces, bibliography_from, keys_listed, listed_marked, trees_listed}
+use Rattle.driver.specs.RenderedViews.{bibliography_by, key_by}
 use Rattle.driver.specs.Stages.{Final, cite_of}
 use Rattle.driver.specs.declared.finals.ListedCite.{ListedCite}
+use Rattle.driver.specs.declared.rendered.RenderedBibliography.{RenderedBibliography}
 
 consed : {B : Type 0} (o : Option B) (bs cs : List B) → bs ++ cons_option o cs ≡ (bs ++ option_to_list o) ++ cs
 consed None bs cs = ap (λ ds. ds ++ cs) (sym (append-nil bs))
 consed (Some b) bs cs = sym (append_assoc bs (b ∷ []) cs)
+
+-- the bibliography of what is printed of entries in a context
+pub bibliography_in : {E : Type 0} (r : Result RenderedBibliography E) (s : styles.Bibliography) (ts : List Children) (x y : StyleContext) (ls : List (Option Listed)) (order : List ℕ)
+    → IfOk r (λ b. bibliography_by b ≡ bibliography_from s ts) → ts ≡ trees_listed x ls order → x ≡ y → IfOk r (λ b. bibliography_by b ≡ bibliography_from s (trees_listed y ls order))
+bibliography_in r s ts x y ls order is at same = subst (λ us. IfOk r (λ b. bibliography_by b ≡ bibliography_from s us)) (at ∙ ap (λ z. trees_listed z ls order) same) is
+
+-- its keys
+pub keys_in_order : {E : Type 0} (r : Result RenderedBibliography E) (ks : List (List ℕ)) (x y : StyleContext) (ls : List (Option Listed)) (order : List ℕ)
+    → IfOk r (λ b. map key_by b.items.items ≡ ks) → ks ≡ keys_listed x ls order → x ≡ y → IfOk r (λ b. map key_by b.items.items ≡ keys_listed y ls order)
+keys_in_order r ks x y ls order is at same = subst (λ us. IfOk r (λ b. map key_by b.items.items ≡ us)) (at ∙ ap (λ z. keys_listed z ls order) same) is
 
 -- one more is tried
 pub tried_goes_on : {A B : Type 0} (f : A → Option B) (es : List A) (old new : List B) (n : ℕ) (e : A) (o : Option B) (all : List B) → n < length es → e ≡ get_or es n e → o ≡ f e
