@@ -5,7 +5,8 @@
 
 N articles, 10,000 where no other number is said, each cited once in a marker of its own, by authors and years: all of other authors; in
 groups of 100 of one author and year, which letters tell apart; and in pairs, of which every other one needs letters and the others names:
-half of these a given name, half the second of four authors. All come of a fixed seed. It prints the bytes of input, the instructions (by
+half of these a given name, half the second of four authors; and all by one first author of four, where the second ones differ, so that every
+cite prints the same until names tell it apart. All come of a fixed seed. It prints the bytes of input, the instructions (by
 `valgrind --tool=callgrind`), the seconds, the peak memory less that of a run on two empty files, and how many times the instructions of
 the first case each case takes. What was found is written down where no number is said.
 """
@@ -39,7 +40,12 @@ def paired(place):
     return f"{unlike(pair)} and {'Poe, Cy' if is_second else 'Kwan, Bo'} and Lee, Di and Ng, Ed"
 
 
-CASES = {"nothing alike": unlike, "groups of 100": grouped, "pairs": paired}
+def crowded(place):
+    """Four authors of which the second one is of one work alone."""
+    return f"Roe, Ann and Kwan{place}, Bo and Lee, Di and Ng, Ed"
+
+
+CASES = {"nothing alike": unlike, "groups of 100": grouped, "pairs": paired, "all alike": crowded}
 
 
 def writer(authors):
