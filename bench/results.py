@@ -181,7 +181,7 @@ def few_table(found):
 
 def alike_table(found):
     """The part of the page about cites that print alike."""
-    first = next(iter(found["rows"].values()))
+    first = found["rows"]["nothing alike"]
     rows = []
     for name, row in found["rows"].items():
         rate, times = per_byte(row)
@@ -189,11 +189,11 @@ def alike_table(found):
                     f"| {row['instructions'] / first['instructions']:.2f} | {row['seconds']} | {times} |")
     return "\n".join([
         ALIKE,
-        "| articles | N | bytes of input | instructions | for each byte | times the first | seconds | memory, times the input |",
+        "| articles | N | bytes of input | instructions | for each byte | times those of nothing alike | seconds | memory, times the input |",
         "|---|---|---|---|---|---|---|---|",
         *rows,
         "",
-        f"Wanted: at most {found['wanted']} times the first. {measured(found)}",
+        f"Wanted: at most {found['wanted']} times those of nothing alike. {measured(found)}",
         "",
     ])
 
