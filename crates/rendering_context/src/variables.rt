@@ -7,11 +7,11 @@ ghost use Rattle.rendering_context.specs.Answering as answering;
 
 use rendering_taxonomy::{IdentifierUsage, Locator, NumberVariable, StandardVariable, Variable};
 
-/// Whether a variable is among some.
+/// Whether a variable is among some. Mostly there are none.
 pub(crate) fn is_among(variables: &[Variable], variable: Variable) -> bool
     ensures { result ≡ is_among variables.now variable }
 {
-    variables.contains(&variable)
+    !variables.is_empty() && variables.contains(&variable)
 }
 
 /// Whether two labels of locators are one.

@@ -68,6 +68,7 @@ impl<'a> ResolvedNameOptions<'a> {
     }
 
     /// Each option as it is said here, or else around.
+    #[inline(always)]
     pub fn over(&self, around: &ResolvedNameOptions<'a>) -> ResolvedNameOptions<'a>
         ensures { options_by result ≡ options_over (options_by self.now) (options_by around.now) }
     {

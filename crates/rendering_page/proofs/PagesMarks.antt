@@ -2,11 +2,14 @@
 use Rattle.std.proofs.Common.{◌≡◌, ◌+◌, ◌<◌, ◌≤◌, ℕ, zero, suc, Bool, true, false, not, ◌&&◌, ◌||◌, List, [], ◌∷◌, ◌++◌, length, take, get_or, refl, sym, ap, ◌∙◌, arith, Option, Some, None}
 use Rattle.std.specs.List.{fold, list_any}
 use Rattle.std.specs.Char.{is_whitespace}
+use Rattle.std.specs.Prelude.{if◌then◌else◌}
 use Rattle.laws.specs.Text.{is_filled}
 use Rattle.rendering_taxonomy.specs.declared.formatting.Formatting.{Formatting}
-use Rattle.rendering_tree.specs.Tokens.{Token, letter, formula, link, transparent, closing, unmark, with_letters}
-use Rattle.rendering_page.specs.Marks.{before_open, begins_nothing, closes, first_part, is_first, is_something, none_begins, none_begins_after, none_begins_since, opens, prints_itself, with_part}
+use Rattle.rendering_tree.specs.Tokens.{Token, letter, formula, link, transparent, opening, closing, mark, unmark, with_letters}
+use Rattle.std.proofs.lemmas.Bool.{false≢true}
+use Rattle.rendering_page.specs.Marks.{before_open, begins_nothing, closes, first_part, is_first, is_something, known_to_print, opens, prints_itself, with_part}
 use Rattle.rendering_page.specs.Pages.{prints, before_mark, before_prefix, is_begun}
+use Rattle.rendering_page.specs.Tail.{stripped}
 use Rattle.rendering_page.specs.Views.{letters, put, tokens_of}
 use Rattle.rendering_page.specs.declared.piece.Piece.{Piece}
 use Rattle.rendering_page.specs.declared.piece.Piece.TheVariants as pieces
@@ -304,75 +307,55 @@ begun_from (p ∷ ps) ts =
 pub begun_any : (ps : List Piece) → list_any is_something ps ≡ is_begun (tokens_of ps)
 begun_any ps = sym (begun_from ps [] ∙ or_none (list_any is_something ps))
 
--- a piece more, with which nothing begins
-and_true : (a b : Bool) → a ≡ true → b ≡ true → (a && b) ≡ true
-and_true true b e f = f
-and_true false b e f = e
-
-and_first : (a b : Bool) → (a && b) ≡ true → a ≡ true
-and_first true b e = refl
-and_first false b e = e
-
-and_second : (a b : Bool) → (a && b) ≡ true → b ≡ true
-and_second true b e = e
-and_second false b e = cc
-
-none_push : (ps : List Piece) (p : Piece) → begins_nothing p ≡ true → none_begins ps ≡ true → none_begins (ps ++ p ∷ []) ≡ true
-none_push [] p g e = and_true (begins_nothing p) true g refl
-none_push (q ∷ ps) p g e =
-    and_true (begins_nothing q) (none_begins (ps ++ p ∷ [])) (and_first (begins_nothing q) (none_begins ps) e) (none_push ps p g (and_second (begins_nothing q) (none_begins ps) e))
-
-after_push : (i : ℕ) (ps : List Piece) (p : Piece) → begins_nothing p ≡ true → none_begins_after i ps ≡ true → none_begins_after i (ps ++ p ∷ []) ≡ true
-after_push zero [] p g e = refl
-after_push (suc i) [] p g e = refl
-after_push zero (q ∷ ps) p g e = none_push ps p g e
-after_push (suc i) (q ∷ ps) p g e = after_push i ps p g e
-
-pub since_push : (o : Option ℕ) (ps qs : List Piece) (p : Piece) → begins_nothing p ≡ true → none_begins_since o ps ≡ true → qs ≡ ps ++ p ∷ [] → none_begins_since o qs ≡ true
-since_push None ps qs p g e f = refl
-since_push (Some i) ps qs p g e f = ap (none_begins_after i) f ∙ after_push i ps p g e
-
--- nothing stands after the last place
-after_last : (i : ℕ) (ps : List Piece) → length ps ≤ i + 1 → none_begins_after i ps ≡ true
-after_last i [] low = refl
-after_last zero (p ∷ []) low = refl
-after_last zero (p ∷ q ∷ ps) low = absurd (omega (arith, low))
-after_last (suc i) (p ∷ ps) low = after_last i ps (omega (arith, low))
-
-pub since_last : (i : ℕ) (ps : List Piece) → length ps ≤ i + 1 → none_begins_since (Some i) ps ≡ true
-since_last i ps low = after_last i ps low
-
 or_true : (a b : Bool) → b ≡ true → (a || b) ≡ true
 or_true true b e = refl
 or_true false b e = e
 
--- where all prints, and nothing begins with a piece
-still_prints : (p : Piece) (n : ℕ) (ts : List Token) → begins_nothing p ≡ true → ((m : ℕ) → prints m ts ≡ true) → prints n (put ts p) ≡ true
-still_prints (pieces.Text f w) n ts g e = prints_letters f (letters w) n ts ∙ or_true (list_any (λ c. not (is_whitespace c)) (letters w)) (prints n ts) (e n)
-still_prints (pieces.Markup w) n ts g e = refl
-still_prints (pieces.Link l) n ts g e = refl
-still_prints (pieces.Transparent f k) n ts g e = refl
-still_prints (pieces.Opening d m) n ts g e = e n
-still_prints (pieces.MadeOpening d m) n ts g e = e n
-still_prints (pieces.Begin d m) n ts g e = cc
-still_prints (pieces.MadeBegin d m) n ts g e = cc
-still_prints pieces.BareBegin n ts g e = cc
-still_prints pieces.End n ts g e = e (suc n)
-still_prints pieces.BareEnd n ts g e = e (suc (suc n))
-still_prints pieces.Closing n ts g e = e n
-still_prints pieces.Mark n ts g e = cc
-still_prints pieces.Unmark n ts g e = e (suc n)
+or_more : (a b d : Bool) → (b ≡ true → d ≡ true) → (a || b) ≡ true → (a || d) ≡ true
+or_more true b d f e = refl
+or_more false b d f e = f e
 
-all_print : (ps : List Piece) (ts : List Token) → none_begins ps ≡ true → ((m : ℕ) → prints m ts ≡ true) → (n : ℕ) → prints n (fold put ts ps) ≡ true
-all_print [] ts g e n = e n
-all_print (p ∷ ps) ts g e n =
-    all_print ps (put ts p) (and_second (begins_nothing p) (none_begins ps) g) (λ m. still_prints p m ts (and_first (begins_nothing p) (none_begins ps) g) e) n
+-- what prints after the marks that are passed prints after more of them
+prints_more : (m n : ℕ) (ts : List Token) → m ≤ n → prints m ts ≡ true → prints n ts ≡ true
+prints_more m n [] h e = e
+prints_more m n (letter f c ∷ ts) h e = or_more (not (is_whitespace c)) (prints m ts) (prints n ts) (prints_more m n ts h) e
+prints_more m n (formula cs ∷ ts) h e = refl
+prints_more m n (link f cs url ∷ ts) h e = refl
+prints_more m n (transparent f k ∷ ts) h e = refl
+prints_more m n (opening d i ∷ ts) h e = prints_more m n ts h e
+prints_more m n (closing ∷ ts) h e = prints_more m n ts h e
+prints_more m n (unmark ∷ ts) h e = prints_more (suc m) (suc n) ts (omega (arith, h)) e
+prints_more zero n (mark ∷ ts) h e = absurd (false≢true e)
+prints_more (suc m) zero (mark ∷ ts) h e = absurd (omega (arith, h))
+prints_more (suc m) (suc n) (mark ∷ ts) h e = prints_more m n ts (omega (arith, h)) e
 
-printed_after : (ps : List Piece) (i : ℕ) (p : Piece) (ts : List Token) → i < length ps → p ≡ get_or ps i p → prints_itself p ≡ true → none_begins_after i ps ≡ true
-    → (n : ℕ) → prints n (fold put ts ps) ≡ true
-printed_after [] i p ts inside at is g n = absurd (omega (arith, inside))
-printed_after (q ∷ ps) zero p ts inside at is g n = all_print ps (put ts q) g (λ m. printed q m ts (ap prints_itself (sym at) ∙ is)) n
-printed_after (q ∷ ps) (suc i) p ts inside at is g n = printed_after ps i p (put ts q) (omega (arith, inside)) at is g n
+-- and it does after a piece with which nothing begins
+still_prints : (p : Piece) (ts : List Token) → begins_nothing p ≡ true → prints 0 ts ≡ true → prints 0 (put ts p) ≡ true
+still_prints (pieces.Text f w) ts g e = prints_letters f (letters w) 0 ts ∙ or_true (list_any (λ c. not (is_whitespace c)) (letters w)) (prints 0 ts) e
+still_prints (pieces.Markup w) ts g e = refl
+still_prints (pieces.Link l) ts g e = refl
+still_prints (pieces.Transparent f k) ts g e = refl
+still_prints (pieces.Opening d m) ts g e = e
+still_prints (pieces.MadeOpening d m) ts g e = e
+still_prints (pieces.Begin d m) ts g e = cc
+still_prints (pieces.MadeBegin d m) ts g e = cc
+still_prints pieces.BareBegin ts g e = cc
+still_prints pieces.End ts g e = prints_more 0 1 ts (omega arith) e
+still_prints pieces.BareEnd ts g e = prints_more 0 2 ts (omega arith) e
+still_prints pieces.Closing ts g e = e
+still_prints pieces.Mark ts g e = cc
+still_prints pieces.Unmark ts g e = prints_more 0 1 ts (omega arith) e
 
-pub printed_since : (ps : List Piece) (i : ℕ) (p : Piece) → i < length ps → p ≡ get_or ps i p → prints_itself p ≡ true → none_begins_since (Some i) ps ≡ true → prints 0 (tokens_of ps) ≡ true
-printed_since ps i p inside at is g = printed_after ps i p [] inside at is g 0
+-- what is known stays known after such a piece
+pub known_push : (b : Bool) (ps qs : List Piece) (p : Piece) → begins_nothing p ≡ true → known_to_print b (tokens_of ps) ≡ true → qs ≡ ps ++ p ∷ [] → known_to_print b (tokens_of qs) ≡ true
+known_push false ps qs p g e f = refl
+known_push true ps qs p g e f = ap (λ rs. prints 0 (tokens_of rs)) f ∙ ap (prints 0) (tokens_push ps p) ∙ still_prints p (tokens_of ps) g e
+
+-- a text prints that does not begin with white space, where no full stops go
+pub known_by : (strips w b : Bool) (f : Formatting) (c : ℕ) (cs : List ℕ) (ts : List Token) → w ≡ is_whitespace c → b ≡ (not strips && not w)
+    → known_to_print b (with_letters f (if strips then stripped (c ∷ cs) else c ∷ cs) ts) ≡ true
+known_by strips w false f c cs ts white is = refl
+known_by true w true f c cs ts white is = absurd (false≢true (sym is))
+known_by false true true f c cs ts white is = absurd (false≢true (sym is))
+known_by false false true f c cs ts white is =
+    prints_letters f (c ∷ cs) 0 ts ∙ ap (λ (a : Bool). (not a || list_any (λ d. not (is_whitespace d)) cs) || prints 0 ts) (sym white)

@@ -4,6 +4,7 @@ use Rattle.std.specs.Char.{is_whitespace}
 use Rattle.std.specs.List.{list_any}
 use Rattle.laws.specs.Text.{is_filled}
 use Rattle.rendering_tree.specs.Tokens.{Token}
+use Rattle.rendering_page.specs.Pages.{prints}
 use Rattle.rendering_page.specs.Views.{letters, put}
 use Rattle.rendering_page.specs.declared.piece.Piece.{Piece}
 use Rattle.rendering_page.specs.declared.piece.Piece.TheVariants as pieces
@@ -70,18 +71,7 @@ with_part ts (Some p) = put ts p
 abbrev pub begins_nothing : Piece → Bool
 begins_nothing p = opens p == 0
 
--- whether nothing begins with any of the pieces
-abbrev pub none_begins : List Piece → Bool
-none_begins [] = true
-none_begins (p ∷ ps) = begins_nothing p && none_begins ps
-
--- the same of those after a place
-abbrev pub none_begins_after : ℕ → List Piece → Bool
-none_begins_after i [] = true
-none_begins_after zero (p ∷ ps) = none_begins ps
-none_begins_after (suc i) (p ∷ ps) = none_begins_after i ps
-
--- the same of those after a place that is known
-abbrev pub none_begins_since : Option ℕ → List Piece → Bool
-none_begins_since None ps = true
-none_begins_since (Some i) ps = none_begins_after i ps
+-- that what was begun last has printed something, where that is known
+abbrev pub known_to_print : Bool → List Token → Bool
+known_to_print false ts = true
+known_to_print true ts = prints 0 ts

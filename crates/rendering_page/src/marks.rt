@@ -1,13 +1,16 @@
 //! Whether something was printed since something began, and where that is.
 
-ghost use Rattle.std.specs.Prelude.{◌≡◌, ◌≤◌, not, true, OnOk, Some};
+ghost use Rattle.std.specs.Prelude.{◌≡◌, ◌∷◌, ◌≤◌, not, true, List, ℕ, OnOk};
 ghost use Rattle.std.specs.Char.{is_whitespace};
 ghost use Rattle.std.specs.List.{list_any};
 ghost use Rattle.rendering_page.specs.Marks as specs;
-ghost use Rattle.rendering_page.specs.Marks.{before_open, closes, first_part, none_begins_since, opens, prints_itself, with_part};
-ghost use Rattle.rendering_page.specs.Pages.{before_mark, before_prefix, is_begun, prints};
+ghost use Rattle.rendering_page.specs.Marks.{before_open, closes, first_part, known_to_print, opens, prints_itself, with_part};
+ghost use Rattle.rendering_page.specs.Pages.{before_mark, before_prefix, in_manner, is_begun, prints};
+ghost use Rattle.rendering_page.specs.Views as views;
 ghost use Rattle.rendering_page.specs.Views.{letters, tokens_of};
+ghost use Rattle.rendering_tree.specs.Tokens.{Token, with_letters};
 
+use crate::manner::Manner;
 use crate::piece::{Piece, Words};
 use std::alloc::AllocError;
 use texts::has_text;
@@ -130,24 +133,6 @@ fn closes(piece: &Piece<'_>) -> usize
     }
 }
 
-/// The last place, where there are pieces.
-#[tactic(auto, using(crate::proofs::PagesMarks::since_last))]
-pub(crate) fn last_place(pieces: &[Piece<'_>]) -> Option<usize>
-    ensures { none_begins_since result pieces.now ≡ true }
-{
-    pieces.len().checked_sub(1)
-}
-
-/// Whether there is a piece at the place that prints.
-pub(crate) fn prints_at(pieces: &[Piece<'_>], place: usize) -> bool
-    ensures { result ≡ true → none_begins_since (Some place) pieces.now ≡ true → prints 0 (tokens_of pieces.now) ≡ true }
-{
-    if place >= pieces.len() {
-        return false;
-    }
-    prints_itself(&pieces[place])
-}
-
 /// Whether a piece prints more than white space.
 fn prints_itself(piece: &Piece<'_>) -> bool
     ensures { result ≡ prints_itself piece.now }
@@ -164,6 +149,14 @@ fn prints_words(words: &Words<'_>) -> bool
     ensures { result ≡ list_any (λ c. not (is_whitespace c)) (letters words.now) }
 {
     words.as_str().chars().any(|c| !c.is_whitespace())
+}
+
+/// Whether a text is known to print by the character that it begins with, without a look at the others.
+#[tactic(auto, using(crate::proofs::PagesMarks::known_by))]
+pub(crate) fn is_known_by(manner: Manner, first: char) -> bool
+    ensures { (cs : List ℕ) (ts : List Token) → known_to_print result (with_letters manner.formatting (in_manner (views.manner manner) (first ∷ cs)) ts) ≡ true }
+{
+    !manner.strips_periods && !first.is_whitespace()
 }
 
 /// Whether anything was put down.

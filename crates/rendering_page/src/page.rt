@@ -19,10 +19,11 @@ use crate::backwards::{ends_in, ends_spaced};
 use crate::builder::build;
 use crate::copies::copied_pieces;
 use crate::manner::{Frame, Manner};
-use crate::marks::{cut_prefix, cut_to_mark, is_begun, last_place, prints, prints_at};
+use crate::marks::{cut_prefix, cut_to_mark, is_begun, is_known_by, prints};
 use crate::piece::{Link, Piece, Words};
 use crate::putting::{
-    append, append_after_quote, begin, begin_made, is_element, last_piece, last_pieces, put_words,
+    append, append_after_quote, begin, begin_made, is_element, last_piece, last_pieces, push_piece,
+    put_words,
 };
 use crate::shown::{push_shown, show_the_same};
 use crate::tail::is_punctuation;
@@ -47,8 +48,8 @@ use texts::{has_text, split_first};
 pub struct Page<'a> {
     pieces: Vec<Piece<'a>>,
     after_quote: bool,
-    /// The place of the piece that was put down last, where nothing has begun after it.
-    last_put: Option<usize>,
+    /// Whether what was begun last is known to have printed something.
+    is_known_to_print: bool,
 }
 
 impl<'a> Model for Page<'a> {
@@ -57,12 +58,12 @@ impl<'a> Model for Page<'a> {
     ghost Value = { pages.Page };
 
     ghost use Rattle.std.specs.Prelude.{◌≡◌, true};
-    ghost use Rattle.rendering_page.specs.Marks.{none_begins_since};
+    ghost use Rattle.rendering_page.specs.Marks.{known_to_print};
     ghost use Rattle.rendering_page.specs.Views.{tokens_of};
 
     ghost view = { λ p. record { tokens = tokens_of p.pieces.items; after_quote = p.after_quote } };
 
-    ghost invariant = { λ p. none_begins_since p.last_put p.pieces.items ≡ true };
+    ghost invariant = { λ p. known_to_print p.is_known_to_print (tokens_of p.pieces.items) ≡ true };
 }
 
 impl<'a> Clone for Page<'a> {
@@ -76,7 +77,7 @@ impl<'a> Clone for Page<'a> {
         Ok(Page {
             pieces: copied_pieces(&self.pieces)?,
             after_quote: self.after_quote,
-            last_put: None,
+            is_known_to_print: false,
         })
     }
 }
@@ -89,7 +90,7 @@ impl<'a> Page<'a> {
         Page {
             pieces: Vec::new(alloc),
             after_quote: false,
-            last_put: None,
+            is_known_to_print: false,
         }
     }
 
@@ -216,7 +217,7 @@ impl<'a> Page<'a> {
     pub fn begin(&mut self, frame: &Frame<'a>) -> Result<(), AllocError>
         ensures { OnOk result (self.new ≡ begun (views.frame frame.now) self.old) }
     {
-        self.last_put = None;
+        self.is_known_to_print = false;
         begin(&mut self.pieces, frame)
     }
 
@@ -227,7 +228,7 @@ impl<'a> Page<'a> {
     pub fn begin_element(&mut self, frame: &Frame<'a>, meta: ElemMeta) -> Result<(), AllocError>
         ensures { OnOk result (self.new ≡ begun (record (views.frame frame.now) { meta = Some (meaning meta) }) self.old) }
     {
-        self.last_put = None;
+        self.is_known_to_print = false;
         begin_made(&mut self.pieces, frame, meta)
     }
 
@@ -238,7 +239,7 @@ impl<'a> Page<'a> {
     pub fn end(&mut self, quotes: &[&str], frame: &Frame<'a>) -> Result<(), AllocError>
         ensures { OnOk result (self.new ≡ ended (quotes_of quotes.now) (views.frame frame.now) self.old) }
     {
-        if !self.has_printed() {
+        if !self.finds_printed() {
             return self.undo();
         }
         let is_part = is_element(frame);
@@ -255,7 +256,7 @@ impl<'a> Page<'a> {
     pub fn end_element(&mut self, quotes: &[&str], frame: &Frame<'a>) -> Result<(), AllocError>
         ensures { (m : Meta) → OnOk result (self.new ≡ ended (quotes_of quotes.now) (record (views.frame frame.now) { meta = Some m }) self.old) }
     {
-        if !self.has_printed() {
+        if !self.finds_printed() {
             return self.undo();
         }
         if !has_text(frame.suffix) {
@@ -318,7 +319,7 @@ impl<'a> Page<'a> {
     pub fn has_printed(&self) -> bool
         ensures { result ≡ prints 0 self.now.tokens }
     {
-        self.is_known_to_print() || prints(&self.pieces)
+        self.is_known_to_print || prints(&self.pieces)
     }
 
     /// Whether two pages show the same characters, however they look and whatever element they stand in.
@@ -348,27 +349,24 @@ impl<'a> Page<'a> {
         let Page {
             pieces,
             after_quote: _,
-            last_put: _,
+            is_known_to_print: _,
         } = self;
         build(pieces)
     }
 
-    /// Puts an ordinary text down.
-    fn put(&mut self, quotes: &[&str], manner: Manner, words: Words<'a>) -> Result<(), AllocError>
-        ensures { OnOk result (self.new ≡ normal_put (quotes_of quotes.now) (views.manner manner) (letters words.entry) self.old) }
+    /// The same. What is found is remembered, so that the pieces of what is inside are looked at once.
+    fn finds_printed(&mut self) -> bool
+        ensures printed { result ≡ prints 0 self.old.tokens }
+        ensures page { self.new ≡ self.old }
     {
-        self.put_at_end(quotes, manner, words)?;
-        self.last_put = last_place(&self.pieces);
-        Ok(())
+        if !self.is_known_to_print {
+            self.is_known_to_print = prints(&self.pieces);
+        }
+        self.is_known_to_print
     }
 
-    /// Puts an ordinary text down after the others.
-    fn put_at_end(
-        &mut self,
-        quotes: &[&str],
-        manner: Manner,
-        words: Words<'a>,
-    ) -> Result<(), AllocError>
+    /// Puts an ordinary text down.
+    fn put(&mut self, quotes: &[&str], manner: Manner, words: Words<'a>) -> Result<(), AllocError>
         ensures { OnOk result (self.new ≡ normal_put (quotes_of quotes.now) (views.manner manner) (letters words.entry) self.old) }
     {
         let Some((first, _)) = split_first(words.as_str()) else {
@@ -376,32 +374,32 @@ impl<'a> Page<'a> {
         };
         let after_quote = self.after_quote;
         self.after_quote = false;
-        self.last_put = None;
+        self.is_known_to_print = false;
         if after_quote && is_punctuation(first) {
-            append_after_quote(&mut self.pieces, quotes, manner, first, words)
-        } else {
-            append(&mut self.pieces, manner, words)
+            return append_after_quote(&mut self.pieces, quotes, manner, first, words);
         }
+        append(&mut self.pieces, manner, words)?;
+        self.is_known_to_print = is_known_by(manner, first);
+        Ok(())
     }
 
     /// Puts down what is no text.
     fn push(&mut self, piece: Piece<'a>) -> Result<(), AllocError>
         ensures { OnOk result ((self.new.tokens ≡ views.put self.old.tokens piece.entry) × (self.new.after_quote ≡ false)) }
     {
-        self.last_put = None;
-        self.pieces.push(piece)?;
+        self.is_known_to_print = false;
+        push_piece(&mut self.pieces, piece)?;
         self.after_quote = false;
-        self.last_put = last_place(&self.pieces);
         Ok(())
     }
 
     /// Puts down a piece with which nothing begins.
-    #[tactic(auto, using(crate::proofs::PagesMarks::since_push))]
+    #[tactic(auto, using(crate::proofs::PagesMarks::known_push))]
     fn push_end(&mut self, piece: Piece<'a>) -> Result<(), AllocError>
         requires { begins_nothing piece ≡ true }
         ensures { OnOk result (self.new ≡ record self.old { tokens = views.put self.old.tokens piece.entry }) }
     {
-        self.pieces.push(piece)?;
+        push_piece(&mut self.pieces, piece)?;
         Ok(())
     }
 
@@ -453,10 +451,9 @@ impl<'a> Page<'a> {
         ensures { OnOk result (self.new ≡ verbatim_put formatting (letters words.entry) self.old) }
     {
         if has_text(words.as_str()) {
-            self.last_put = None;
+            self.is_known_to_print = false;
             put_words(&mut self.pieces, formatting, words)?;
             self.after_quote = false;
-            self.last_put = last_place(&self.pieces);
         }
         Ok(())
     }
@@ -511,18 +508,8 @@ impl<'a> Page<'a> {
     fn undo(&mut self) -> Result<(), AllocError>
         ensures { OnOk result (self.new ≡ record self.old { tokens = before_prefix (before_mark 0 self.old.tokens) }) }
     {
-        self.last_put = None;
+        self.is_known_to_print = false;
         cut_to_mark(&mut self.pieces)?;
         cut_prefix(&mut self.pieces)
-    }
-
-    /// Whether what was begun last is known to have printed something, without a look at what was put down before.
-    fn is_known_to_print(&self) -> bool
-        ensures { result ≡ true → prints 0 self.now.tokens ≡ true }
-    {
-        match self.last_put {
-            Some(place) => prints_at(&self.pieces, place),
-            None => false,
-        }
     }
 }

@@ -1,6 +1,6 @@
 //! What is put down on a page.
 
-ghost use Rattle.std.specs.Prelude.{◌≡◌, ◌∷◌, true, List, ℕ, Bool, OnOk, length, Option, Some, None};
+ghost use Rattle.std.specs.Prelude.{◌≡◌, ◌∷◌, ◌++◌, ◌<◌, [], true, List, ℕ, Bool, OnErr, OnOk, length, Option, Some, None, vec_capacity, vec_len};
 ghost use Rattle.std.specs.Option.{option_map};
 ghost use Rattle.std.specs.Str.{chars};
 ghost use Rattle.rendering_tree.specs.Tokens.{Token, mark, opening, unmark, with_letters};
@@ -21,6 +21,33 @@ use rendering_tree::ElemMeta;
 use std::alloc::AllocError;
 use texts::has_text;
 
+/// Puts a piece down. Where there is room, as there mostly is, no call is made.
+#[inline(always)]
+pub(crate) fn push_piece<'a>(
+    pieces: &mut Vec<Piece<'a>>,
+    piece: Piece<'a>,
+) -> Result<(), AllocError>
+    ensures pushed { OnOk result (pieces.new.items ≡ pieces.old.items ++ piece.entry ∷ []) }
+    ensures same { OnErr result (pieces.new.items ≡ pieces.old.items) }
+{
+    if pieces.len() == pieces.capacity() {
+        make_place(pieces)?;
+    }
+    pieces.push_reserved(piece);
+    Ok(())
+}
+
+/// Makes room for a piece more, and as many as there are.
+#[cold]
+#[inline(never)]
+fn make_place(pieces: &mut Vec<Piece<'_>>) -> Result<(), AllocError>
+    ensures items { pieces.new.items ≡ pieces.old.items }
+    ensures place { OnOk result (vec_len pieces.new < vec_capacity pieces.new) }
+{
+    pieces.reserve(1)?;
+    Ok(())
+}
+
 /// Puts a text down as it is.
 pub(crate) fn put_words<'a>(
     pieces: &mut Vec<Piece<'a>>,
@@ -30,12 +57,13 @@ pub(crate) fn put_words<'a>(
     ensures { OnOk result (tokens_of pieces.new.items ≡ with_letters formatting (letters words.entry) (tokens_of pieces.old.items)) }
 {
     if has_text(words.as_str()) {
-        pieces.push(Piece::Text { formatting, words })?;
+        push_piece(pieces, Piece::Text { formatting, words })?;
     }
     Ok(())
 }
 
 /// Puts a text down after what remains of the page.
+#[inline(always)]
 pub(crate) fn append<'a>(
     pieces: &mut Vec<Piece<'a>>,
     manner: Manner,
@@ -102,8 +130,7 @@ pub(crate) fn begin<'a>(pieces: &mut Vec<Piece<'a>>, frame: &Frame<'a>) -> Resul
     if has_text(frame.prefix) {
         return begin_with_prefix(pieces, first_piece(frame), frame);
     }
-    pieces.push(first_pieces(frame))?;
-    Ok(())
+    push_piece(pieces, first_pieces(frame))
 }
 
 /// The same of an element that stands for what was made on the way.
@@ -119,8 +146,7 @@ pub(crate) fn begin_made<'a>(
     if has_text(frame.prefix) {
         return begin_with_prefix(pieces, Piece::MadeOpening { display, meta }, frame);
     }
-    pieces.push(Piece::MadeBegin { display, meta })?;
-    Ok(())
+    push_piece(pieces, Piece::MadeBegin { display, meta })
 }
 
 /// Makes room for as many pieces as a short page has, such as that of a cite.

@@ -4,5 +4,5 @@ use Rattle.rendering_taxonomy.specs.declared.variable.Variable.{Variable}
 use Rattle.rendering_context.proofs.VariablesPlaces.{same_variable}
 use Rattle.rendering_context.proofs.variables.is_among.Goals as goal
 
-pub returns : goal.returns
-returns c = c.contains.ensures.value ∙ (λ i. list_any (λ (w : Variable). same_variable c.args.variable w i) c.args.variables.now)
+pub returns-then-not-is_empty : goal.returns-then-not-is_empty
+returns-then-not-is_empty c = c.contains.ensures.value ∙ (λ i. list_any (λ (w : Variable). same_variable c.args.variable w i) c.args.variables.now)

@@ -4,7 +4,7 @@ use Rattle.std.proofs.lemmas.Result.{on_ok_weaker}
 use Rattle.rendering_page.specs.Pages.{normal_put}
 use Rattle.rendering_page.specs.Views.{letters, manner, quotes_of, tokens_of}
 use Rattle.rendering_page.proofs.PagesPutting.{page, punctuation_put}
-use Rattle.rendering_page.proofs.page.Page.put_at_end.Goals as goal
+use Rattle.rendering_page.proofs.page.Page.put.Goals as goal
 
 pub returns-then-is_punctuation : goal.returns-then-is_punctuation
 returns-then-is_punctuation c =
