@@ -1,12 +1,13 @@
 -- Cutting a text before the next mark, character by character.
-use Rattle.std.proofs.Common.{◌≡◌, ℕ, zero, suc, ◌+◌, ◌<◌, true, false, ◌&&◌, List, [], ◌∷◌, ◌++◌, length, take, drop, refl, sym, ap, ◌∙◌, subst, append_assoc, ltb, arith}
+use Rattle.std.proofs.Common.{◌≡◌, ℕ, zero, suc, ◌+◌, ◌<◌, Bool, true, false, true≢false, ◌==◌, ◌&&◌, ◌||◌, List, [], ◌∷◌, ◌++◌, length, take, drop, refl, sym, ap, ◌∙◌, subst, append_assoc, ltb, arith}
 use Rattle.std.specs.Prelude.{encode_utf8}
 use Rattle.std.specs.Str.{chars, IsUtf8}
 use Rattle.std.proofs.lemmas.Bool.{lt-ltb, ltb-true, and_parts}
 use Rattle.std.proofs.lemmas.Str.{chars_past_char, chars-append, chars-nil, IsUtf8-past_char, IsUtf8-append, IsUtf8-nil, length-encode, len_utf8_bounds}
 use Rattle.std.proofs.lemmas.List.{length-append, append-nil, nil_from_length, take_at, drop_at}
 use Rattle.laws.proofs.Cut.{IsUtf8-first}
-use Rattle.cite_markers.specs.Document.{is_mark, plain, from_mark, front_text, after_text}
+use Rattle.cite_markers.specs.Document.{is_mark, is_opening, may_begin_mark, plain, from_mark, front_text, after_text}
+use Rattle.cite_markers.specs.Marker.{opening_at}
 
 -- what a front of so many bytes goes on with, and what is left after that: the first character needs no test
 abbrev pub onward : ℕ → List ℕ → List ℕ
@@ -34,6 +35,14 @@ onward_on (suc n) cs more = refl
 beyond_on : (n : ℕ) (cs : List ℕ) → 0 < n → beyond n cs ≡ from_mark cs
 beyond_on zero cs more = absurd (omega arith)
 beyond_on (suc n) cs more = refl
+
+and_false : (a b : Bool) → b ≡ false → a && b ≡ false
+and_false true b h = h
+and_false false b h = refl
+
+or_false : (a b : Bool) → a || b ≡ false → (a ≡ false) × (b ≡ false)
+or_false true b h = absurd (true≢false h)
+or_false false b h = (refl, h)
 
 unmarked : (n : ℕ) (cs : List ℕ) → ltb 0 (suc n) && is_mark cs ≡ false → is_mark cs ≡ false
 unmarked n cs h =
@@ -80,6 +89,21 @@ fronts_more whole rest more end c r e h =
       front = r.front ∙ (ap (λ x. chars r.passed ++ x) goes ∙ (sym (append_assoc (chars r.passed) (c ∷ []) (onward (end + length (encode_utf8 c)) (chars more))) ∙ ap (λ x. x ++ onward (end + length (encode_utf8 c)) (chars more)) (sym longer)));
       rest_is = r.rest_is ∙ leaves;
     }
+
+-- no mark begins with another character than a bracket or a backslash
+unmarked_by : (c : ℕ) (cs : List ℕ) → may_begin_mark c ≡ false → is_mark (c ∷ cs) ≡ false
+unfolding is_opening opening_at
+unmarked_by c cs h =
+    let t = or_false (c == 91) (c == 92) h in
+    rw t.0 (rw t.1 refl)
+
+-- one more character is passed, with which no mark begins
+pub fronts_plain : (whole rest more : List ℕ) (end c : ℕ) → Fronts whole rest end → rest ≡ encode_utf8 c ++ more → may_begin_mark c ≡ false
+    → Fronts whole more (end + length (encode_utf8 c))
+fronts_plain whole rest more end c r e h =
+    let back : drop end whole ≡ rest = rw r.parts (drop_at r.passed rest end r.long) in
+    let next : chars rest ≡ c ∷ chars more = chars_past_char rest more c r.rest_utf8 e in
+    fronts_more whole rest more end c r e (and_false (ltb 0 end) (is_mark (chars (drop end whole))) (ap is_mark (ap chars back ∙ next) ∙ unmarked_by c (chars more) h))
 
 -- where a text is cut
 pub record CutsFront (whole front back : List ℕ) : Type 0 where

@@ -25,6 +25,10 @@ escaped (c ∷ cs) = if c == 92 && is_opening cs then Some cs else None
 abbrev pub is_mark : List ℕ → Bool
 is_mark cs = is_some (escaped cs) || is_opening cs
 
+-- whether a mark may begin with a character: a bracket or a backslash
+abbrev pub may_begin_mark : ℕ → Bool
+may_begin_mark c = c == 91 || c == 92
+
 -- the characters before the first mark, and those from it on
 abbrev pub plain : List ℕ → List ℕ
 plain [] = []

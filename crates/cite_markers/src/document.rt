@@ -6,7 +6,7 @@ ghost use Rattle.std.specs.Str.{chars};
 ghost use Rattle.laws.specs.Results.{Gives};
 ghost use Rattle.laws.specs.Text.{spelled, text as text_of};
 ghost use Rattle.texts.specs.Views.{left};
-ghost use Rattle.cite_markers.specs.Document.{escaped, is_mark, front_text, after_text, text_at, piece_at, document_of};
+ghost use Rattle.cite_markers.specs.Document.{escaped, is_mark, may_begin_mark, front_text, after_text, text_at, piece_at, document_of};
 ghost use Rattle.cite_markers.specs.Views.{piece, pieces_of, Finds, place};
 
 use crate::error::{DocumentError, Stop};
@@ -97,13 +97,23 @@ fn split_front(text: &str) -> (&str, &str)
     ensures front { spelled result.0 ≡ front_text (chars text.now) }
     ensures rest { spelled result.1 ≡ after_text (chars text.now) }
 {
-    for (i, _) in text.char_indices() {
-        let (front, rest) = text.split_at(i);
-        if ends_front(i, rest) {
-            return (front, rest);
+    for (i, c) in text.char_indices() {
+        if may_begin_mark(c) {
+            let (front, rest) = text.split_at(i);
+            if ends_front(i, rest) {
+                return (front, rest);
+            }
         }
     }
     text.split_at(text.len())
+}
+
+/// Whether a mark may begin with a character.
+#[inline(always)]
+fn may_begin_mark(c: char) -> bool
+    ensures { result ≡ may_begin_mark c }
+{
+    matches!(c, '[' | '\\')
 }
 
 /// Whether a text that has so many bytes ends before what follows it.

@@ -1,7 +1,7 @@
 use Rattle.std.proofs.Common.{◌≡◌, ◌&&◌, true, false, length, take, drop, sym, ◌∙◌, ltb}
 use Rattle.std.specs.Str.{chars}
 use Rattle.cite_markers.specs.Document.{is_mark}
-use Rattle.cite_markers.proofs.Fronts.{CutsFront, fronts_none, fronts_more, stops_before, stops_at_end}
+use Rattle.cite_markers.proofs.Fronts.{CutsFront, fronts_none, fronts_more, fronts_plain, stops_before, stops_at_end}
 use Rattle.cite_markers.proofs.document.split_front.Goals as goal
 
 pub loop-i-init : goal.loop-i-init
@@ -11,9 +11,14 @@ loop-i-init c =
 pub loop-i-preserved : goal.loop-i-preserved
 loop-i-preserved c =
     let s = c.in-Some.ensures.steps in
+    rw s.2 (fronts_plain c.args.text.now _ _ _ c.in-Some.c c.loop-i.invariant s.1 (sym c.may_begin_mark.ensures ∙ c.if-may_begin_mark.false))
+
+pub loop-i-preserved-else-ends_front : goal.loop-i-preserved-else-ends_front
+loop-i-preserved-else-ends_front c =
+    let s = c.in-Some.ensures.steps in
     let t : ltb 0 c.in-Some.i && is_mark (chars (drop c.in-Some.i c.args.text.now)) ≡ false = rw c.split_at.ensures.back at (sym c.ends_front.ensures ∙ c.if-ends_front.false) in
     let u = rw s.0 at t in
-    rw s.2 (fronts_more c.args.text.now _ _ _ c.in-Some.field-0-1 c.loop-i.invariant s.1 u)
+    rw s.2 (fronts_more c.args.text.now _ _ _ c.in-Some.c c.loop-i.invariant s.1 u)
 
 pub returns-then-ends_front-clause-front : goal.returns-then-ends_front-clause-front
 returns-then-ends_front-clause-front c =
