@@ -1,6 +1,7 @@
 pub mod Character
 pub mod Token
 pub mod Run
+pub mod States
 pub mod Raw
 pub mod Reading
 pub mod Value

@@ -9,8 +9,9 @@ ghost use Rattle.biblatex_text.specs.Reading.{place, token_at, after_blanks, run
 
 use crate::character::is_id_start;
 use crate::cursor::Reader;
-use crate::run::{Run, byte_len, split_run};
+use crate::run::{Run, split_run};
 use crate::spanned::Spanned;
+use crate::state::byte_len;
 use crate::token::{Fault, Token};
 use texts::split_first;
 

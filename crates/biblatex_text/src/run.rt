@@ -1,11 +1,14 @@
 //! Runs of characters, and texts cut where they end.
 
-ghost use Rattle.std.specs.Prelude.{◌≡◌, ◌+◌, ◌^◌, ◌<◌, ◌≤◌, ◌++◌, ◌∷◌, [], length, IfSome, MatchOption, encode_utf8};
+ghost use Rattle.std.specs.Prelude.{◌≡◌, ◌+◌, ◌^◌, ◌<◌, ◌≤◌, ◌++◌, IfSome};
 ghost use Rattle.std.specs.Str.{chars, IsUtf8};
-ghost use Rattle.laws.specs.Text.{text as text_of};
-ghost use Rattle.biblatex_text.specs.Run.{depth_of, depth_after, only_if, next, front_of, after};
+ghost use Rattle.biblatex_text.specs.Run.{depth_of, only_if, next, front_of, after};
 
+use crate::blank::BlankRun;
 use crate::character::{is_id_continue, is_key};
+use crate::piece::{BracedPiece, QuotedPiece, depth_after};
+use crate::state::{RunState, split_states};
+use crate::word::{IdentifierRun, KeyRun};
 
 /// What a run of characters is part of, and how far it has come. A depth is the number of braces that are open.
 #[derive(Clone, Copy)]
@@ -47,22 +50,9 @@ fn only_if(test: bool, run: Run) -> Option<Run>
     if test { Some(run) } else { None }
 }
 
-/// The depth after a character, or none after a brace that closes no brace of the text.
-fn depth_after(depth: usize, c: char) -> Option<usize>
-    requires { depth + 1 < 2 ^ 64 }
-    ensures value { result ≡ depth_after depth c }
-    ensures grows { IfSome result (λ d. d ≤ depth + 1) }
-{
-    match c {
-        '{' => Some(depth + 1),
-        '}' => depth.checked_sub(1),
-        _ => Some(depth),
-    }
-}
-
 impl Run {
     /// The run after one more character, or none where it ends before the character.
-    fn next(self, c: char) -> Option<Run>
+    fn after(self, c: char) -> Option<Run>
         requires { depth_of self + 1 < 2 ^ 64 }
         ensures value { result ≡ next self c }
         ensures grows { IfSome result (λ run. depth_of run ≤ depth_of self + 1) }
@@ -71,9 +61,8 @@ impl Run {
             Run::Outside if c == '%' => Some(Run::Hidden),
             Run::Outside => only_if(c != '@', Run::Outside),
             Run::Hidden => Some(if c == '\n' { Run::Outside } else { Run::Hidden }),
-            Run::Blank if c == '%' => Some(Run::Comment),
-            Run::Blank => only_if(c.is_whitespace(), Run::Blank),
-            Run::Comment => Some(if c == '\n' { Run::Blank } else { Run::Comment }),
+            Run::Blank => Some(BlankRun::Spaces.next(c)?.run()),
+            Run::Comment => Some(BlankRun::CommentLine.next(c)?.run()),
             Run::Identifier => only_if(is_id_continue(c), Run::Identifier),
             Run::Key => only_if(is_key(c), Run::Key),
             Run::RoundKey => only_if(is_key(c) && c != ')', Run::RoundKey),
@@ -81,24 +70,20 @@ impl Run {
             Run::Number => only_if(c.is_ascii_digit(), Run::Number),
             Run::Fraction => only_if(c.is_ascii_digit(), Run::Fraction),
             Run::Remark(depth) => Some(Run::Remark(depth_after(depth, c)?)),
-            Run::Braced(depth) if c == '\\' => Some(Run::BracedEscape(depth)),
-            Run::Braced(depth) => Some(Run::Braced(depth_after(depth, c)?)),
-            Run::BracedEscape(depth) => Some(Run::Braced(depth)),
-            Run::Quoted(depth) if c == '\\' => Some(Run::QuotedEscape(depth)),
-            Run::Quoted(0) if c == '"' => None,
-            Run::Quoted(depth) => Some(Run::Quoted(depth_after(depth, c)?)),
-            Run::QuotedEscape(depth) => Some(Run::Quoted(depth)),
+            Run::Braced(depth) => Some(BracedPiece::Braces(depth).next(c)?.run()),
+            Run::BracedEscape(depth) => Some(BracedPiece::BracesEscape(depth).next(c)?.run()),
+            Run::Quoted(depth) => Some(QuotedPiece::Quotes(depth).next(c)?.run()),
+            Run::QuotedEscape(depth) => Some(QuotedPiece::QuotesEscape(depth).next(c)?.run()),
         }
     }
 }
 
-/// How many bytes the text has, which spell its characters.
-pub(crate) fn byte_len(text: &str) -> usize
-    ensures bytes { result ≡ length text.now }
-    ensures spelled { result ≡ length (text_of (chars text.now)) }
-    ensures fits { result < 2 ^ 64 }
-{
-    text.len()
+impl RunState for Run {
+    ghost run = { λ state. state };
+
+    fn next(self, c: char) -> Option<Run> {
+        Some(self.after(c)?)
+    }
 }
 
 /// The longest front that goes on with the run, and what follows it.
@@ -109,13 +94,12 @@ pub(crate) fn split_run(text: &str, start: Run) -> (&str, &str)
     ensures front { chars result.0.now ≡ front_of start (chars text.now) }
     ensures rest { chars result.1.now ≡ after start (chars text.now) }
 {
-    let end = byte_len(text);
-    let mut run = start;
-    for (i, c) in text.char_indices() {
-        match run.next(c) {
-            Some(more) => run = more,
-            None => return text.split_at(i),
-        }
+    match start {
+        Run::Braced(0) => split_states(text, BracedPiece::Braces(0)),
+        Run::Quoted(0) => split_states(text, QuotedPiece::Quotes(0)),
+        Run::Blank => split_states(text, BlankRun::Spaces),
+        Run::Identifier => split_states(text, IdentifierRun),
+        Run::Key => split_states(text, KeyRun),
+        _ => split_states(text, start),
     }
-    text.split_at(end)
 }
