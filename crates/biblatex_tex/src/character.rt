@@ -3,7 +3,7 @@
 ghost use Rattle.std.specs.Prelude.{◌≡◌, ◌++◌, ◌∷◌, [], MatchOption};
 ghost use Rattle.std.specs.Str.{chars};
 ghost use Rattle.laws.specs.Runs.{front_of, after};
-ghost use Rattle.biblatex_tex.specs.Character.{is_blank, passes};
+ghost use Rattle.biblatex_tex.specs.Character.{is_blank, is_plain, passes};
 
 use texts::CharacterClass;
 
@@ -29,7 +29,7 @@ impl CharacterClass for Class {
             Class::Blank => is_blank(c),
             Class::Letter => c.is_ascii_alphabetic(),
             Class::Hyphen => c == '-',
-            Class::Plain => !matches!(c, '\\' | '{' | '}' | '$' | '~' | '-'),
+            Class::Plain => is_plain(c),
         }
     }
 }
@@ -39,4 +39,14 @@ pub fn is_blank(c: char) -> bool
     ensures { result ≡ is_blank c }
 {
     matches!(c, ' ' | '\t' | '\n' | '\x0c' | '\r')
+}
+
+/// Whether the character begins nothing but itself. Most characters of a field are small letters, which are told first.
+fn is_plain(c: char) -> bool
+    ensures { result ≡ is_plain c }
+{
+    match c {
+        'a'..='z' => true,
+        _ => !matches!(c, '\\' | '{' | '}' | '$' | '~' | '-'),
+    }
 }
