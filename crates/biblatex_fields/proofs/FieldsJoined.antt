@@ -1,8 +1,8 @@
 -- The chunks of fields that are read are joined.
-use Rattle.std.proofs.Common.{◌≡◌, ℕ, Bool, true, false, cond, List, [], ◌∷◌, Option, Some, None, Result, Ok, Err, bytes_eq, refl, sym, ap, subst}
+use Rattle.std.proofs.Common.{◌≡◌, ℕ, Bool, true, false, cond, List, [], ◌∷◌, Some, Result, Ok, Err, bytes_eq, refl, sym, ap, subst}
 use Rattle.laws.specs.Results.{◌>>=◌}
 use Rattle.laws.specs.Text.{lowered}
-use Rattle.biblatex_text.specs.Raw.{At, Piece, Field}
+use Rattle.biblatex_text.specs.Raw.{At, Field}
 use Rattle.biblatex_content.specs.Styled.{Member}
 use Rattle.biblatex_fields.specs.Abbreviations.{Refusal, Glossary}
 use Rattle.biblatex_fields.specs.Fields.{Named, value_named, with_field, fields_after, fields_of, IsJoined, AreJoined}

@@ -5,4 +5,4 @@ use Rattle.biblatex_fields.specs.Fields.{AreInOrder}
 
 -- as every value of `Fields` promises
 pub in_order : (fields : Inside) → the_invariant fields → AreInOrder (the_view fields)
-in_order fields h = h
+in_order fields h = h.0

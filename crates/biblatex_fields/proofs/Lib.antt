@@ -15,3 +15,5 @@ pub mod FieldsJoined
 pub mod ValueWhole
 pub mod ValueCopies
 pub mod NamesRefused
+pub mod SlotsMarks
+pub mod SlotsFields

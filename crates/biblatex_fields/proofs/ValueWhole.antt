@@ -1,12 +1,11 @@
 -- The value of a field once all of its pieces are read.
-use Rattle.std.proofs.Common.{◌≡◌, ℕ, true, List, Ok, Err, refl, sym, ap, ◌∙◌}
+use Rattle.std.proofs.Common.{◌≡◌, ℕ, true, List, Ok, Err, refl, ap}
 use Rattle.biblatex_text.specs.Raw.{At, Piece}
 use Rattle.biblatex_text.specs.declared.spanned.Spanned.{Spanned}
 use Rattle.biblatex_content.specs.declared.chunk.Chunk.{Chunk}
 use Rattle.biblatex_content.specs.declared.contents.Contents.{Contents}
 use Rattle.biblatex_content.specs.Parted.{are_parted}
 use Rattle.biblatex_content.specs.Places.{placed_so_far, tidied_at, places, places_of}
-use Rattle.biblatex_content.specs.Styled.{Member}
 use Rattle.biblatex_content.specs.Tidy.{tidied}
 use Rattle.biblatex_content.specs.Views.{so_far, styled}
 use Rattle.biblatex_content.proofs.PlacesForgotten.{so_far_forgotten}

@@ -4,3 +4,4 @@ pub mod Value
 pub mod Openings
 pub mod Fields
 pub mod Views
+pub mod Slots

@@ -5,6 +5,7 @@ ghost use Rattle.std.specs.Option.{option_map};
 ghost use Rattle.std.specs.Str.{bytes_eq};
 ghost use Rattle.biblatex_text.specs.Views.{fields};
 ghost use Rattle.biblatex_fields.specs.Fields.{Named, named_of, value_named, with_field, without_field, AreInOrder, fields_of};
+ghost use Rattle.biblatex_fields.specs.Slots.{AreMarked};
 ghost use Rattle.biblatex_fields.specs.Value.{value_seen};
 ghost use Rattle.biblatex_fields.specs.Views.{refusal_of};
 ghost use Rattle.laws.specs.Results.{Gives};
@@ -12,6 +13,7 @@ ghost use Rattle.laws.specs.Results.{Gives};
 use crate::abbreviations::Abbreviations;
 use crate::error::FieldError;
 use crate::glossary::lowered;
+use crate::slots::Slots;
 use biblatex_content::Chunks;
 use biblatex_text::RawEntry;
 use std::alloc::{AllocError, Global};
@@ -23,6 +25,8 @@ use std::marker::Model;
 #[derive(Drop)]
 pub struct Fields {
     values: BTreeMap<String, Chunks>,
+    /// The slot of each name is marked.
+    slots: Slots,
 }
 
 impl Model for Fields {
@@ -30,7 +34,7 @@ impl Model for Fields {
 
     ghost view = { λ f. named_of f.values.entries };
 
-    ghost invariant = { λ f. AreInOrder (named_of f.values.entries) };
+    ghost invariant = { λ f. AreInOrder (named_of f.values.entries) × AreMarked f.slots.marks (named_of f.values.entries) };
 }
 
 impl Fields {
@@ -40,6 +44,7 @@ impl Fields {
     {
         Fields {
             values: BTreeMap::new(alloc),
+            slots: Slots::new(),
         }
     }
 
@@ -61,6 +66,9 @@ impl Fields {
     pub fn get(&self, name: &str) -> Option<&Chunks>
         ensures { option_map (λ v. value_seen v.now.items) result ≡ value_named name.now self.now }
     {
+        if !self.slots.is_marked(name) {
+            return None;
+        }
         self.values.get(name)
     }
 
@@ -71,6 +79,7 @@ impl Fields {
         ensures found { OnOk result ((q : List ℕ) → value_named q self.new ≡ (if bytes_eq q (string_bytes name) then Some (value_seen value.items) else value_named q self.old)) }
         ensures err { OnErr result (self.new ≡ self.old) }
     {
+        self.slots.mark(name.as_str());
         self.values.insert(name, value)?;
         Ok(())
     }
@@ -81,6 +90,9 @@ impl Fields {
         ensures rest { self.new ≡ without_field name.now self.old }
         ensures found { (q : List ℕ) → value_named q self.new ≡ (if bytes_eq q name.now then None else value_named q self.old) }
     {
+        if !self.slots.is_marked(name) {
+            return None;
+        }
         self.values.remove(name)
     }
 

@@ -8,6 +8,7 @@ mod glossary;
 mod month;
 mod openings;
 mod references;
+mod slots;
 mod text;
 mod value;
 
