@@ -12,6 +12,7 @@ use std::alloc::{AllocError, Global};
 use texts::has_text;
 
 /// The date under a name, or why its text is none; nothing where there is no text.
+#[inline(always)]
 pub fn date_under(
     alloc: Global,
     fields: &Fields,

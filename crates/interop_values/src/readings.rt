@@ -18,7 +18,7 @@ ghost use Rattle.literature_values.specs.TypedViews.{value_or_text};
 ghost use Rattle.interop_values.specs.Values.{values, first_or};
 ghost use Rattle.interop_values.specs.Pieces.{pieces_of};
 ghost use Rattle.interop_values.specs.Views.{Grows};
-ghost use Rattle.interop_values.specs.Readings.{format_of, with_subtitle, title_of, format_under, part, person_of, people_of, people_under, number_under, pages_under, bytes_of, bytes_under, publishing_of, publisher_of, url_or, address_of};
+ghost use Rattle.interop_values.specs.Readings.{format_of, with_subtitle, title_of, format_under, part, person_of, people_of, people_under, number_of, number_under, pages_under, bytes_of, bytes_under, publishing_of, publisher_of, url_or, address_of};
 
 use crate::pieces::Pieces;
 use crate::values::{text, value};
@@ -80,6 +80,7 @@ pub fn format_if(
 }
 
 /// The text under a name.
+#[inline(always)]
 pub fn format_under(
     alloc: Global,
     fields: &Fields,
@@ -129,6 +130,7 @@ fn push_subtitle(pieces: &mut Pieces, subtitle: Option<&[Spanned<Chunk>]>) -> Re
 }
 
 /// The people under a name, if there are any.
+#[inline(always)]
 pub fn people_under(
     alloc: Global,
     fields: &Fields,
@@ -143,6 +145,7 @@ pub fn people_under(
 }
 
 /// The people that a content names, if there are any.
+#[inline(never)]
 fn people_in(alloc: Global, value: &[Spanned<Chunk>]) -> Result<Option<Vec<Person>>, AllocError>
     ensures { IfOk result (λ p. option_map (λ v. people v.items) p ≡ people_of (Some (styled value.now))) }
 {
@@ -187,6 +190,7 @@ fn part(text: String) -> Option<String>
 }
 
 /// The numbers under a name, or the text where it spells none.
+#[inline(always)]
 pub fn number_under(
     alloc: Global,
     fields: &Fields,
@@ -195,12 +199,18 @@ pub fn number_under(
     ensures { IfOk result (λ n. option_map (value_or_text numeral) n ≡ number_under name.now (values fields.now)) }
 {
     match value(fields, name) {
-        Some(value) => {
-            let text = plain_text(alloc, value)?;
-            Ok(Some(MaybeTyped::<Numeric>::read(alloc, text.as_str())?))
-        }
+        Some(value) => Ok(Some(number_of(alloc, value)?)),
         None => Ok(None),
     }
+}
+
+/// The numbers that a content spells, or its text.
+#[inline(never)]
+fn number_of(alloc: Global, value: &[Spanned<Chunk>]) -> Result<MaybeTyped<Numeric>, AllocError>
+    ensures { IfOk result (λ n. value_or_text numeral n ≡ number_of (styled value.now)) }
+{
+    let text = plain_text(alloc, value)?;
+    MaybeTyped::<Numeric>::read(alloc, text.as_str())
 }
 
 /// The page ranges under a name, or the text where it spells none.
@@ -221,6 +231,7 @@ pub fn pages_under(
 }
 
 /// The characters under a name.
+#[inline(always)]
 pub fn text_under(alloc: Global, fields: &Fields, name: &str) -> Result<Option<String>, AllocError>
     ensures { IfOk result (λ s. option_map string_bytes s ≡ bytes_under name.now (values fields.now)) }
 {

@@ -18,6 +18,7 @@ use texts::{empty_text, has_text};
 
 /// The content under a written name. Of two fields that are written as one, the one that was read under that name counts; an
 /// empty one is absent.
+#[inline(always)]
 pub fn value<'f>(fields: &'f Fields, name: &str) -> Option<&'f [Spanned<Chunk>]>
     ensures { option_map (λ v. styled v.now) result ≡ values fields.now name.now }
 {
@@ -29,16 +30,26 @@ pub fn value<'f>(fields: &'f Fields, name: &str) -> Option<&'f [Spanned<Chunk>]>
 }
 
 /// The content of a field by its name, else by its other name.
+#[inline(always)]
 fn by_either_name<'f>(fields: &'f Fields, name: &str) -> Option<&'f [Spanned<Chunk>]>
     ensures { option_map (λ v. styled v.now) result ≡ first_or (filled (text_named name.now fields.now)) (by_other_name name.now fields.now) }
 {
-    match filled(fields.get(name)) {
+    match by_name(fields, name) {
         Some(value) => Some(value),
         None => by_other_name(fields, name),
     }
 }
 
+/// The content of a field by its name.
+#[inline(never)]
+fn by_name<'f>(fields: &'f Fields, name: &str) -> Option<&'f [Spanned<Chunk>]>
+    ensures { option_map (λ v. styled v.now) result ≡ filled (text_named name.now fields.now) }
+{
+    filled(fields.get(name))
+}
+
 /// The characters under a written name; none where nothing stands there.
+#[inline(always)]
 pub fn text(alloc: Global, fields: &Fields, name: &str) -> Result<String, AllocError>
     ensures { IfOk result (λ s. characters s ≡ text_under name.now (values fields.now)) }
 {
@@ -49,11 +60,12 @@ pub fn text(alloc: Global, fields: &Fields, name: &str) -> Result<String, AllocE
 }
 
 /// The content of a field by its other name, where it has one.
+#[inline(always)]
 fn by_other_name<'f>(fields: &'f Fields, name: &str) -> Option<&'f [Spanned<Chunk>]>
     ensures { option_map (λ v. styled v.now) result ≡ by_other_name name.now fields.now }
 {
     let other = other_name(name)?;
-    filled(fields.get(other))
+    by_name(fields, other)
 }
 
 /// The content, unless it is empty.
@@ -90,6 +102,7 @@ fn is_filled(chunk: &Chunk) -> bool
 }
 
 /// The other name under which a field may be read that is written under a name.
+#[inline(always)]
 fn other_name(name: &str) -> Option<&'static str>
     ensures { option_map (λ s. s.now) result ≡ lookup (bytes_eq name.now) other_names }
 {
@@ -107,6 +120,7 @@ fn other_name(name: &str) -> Option<&'static str>
 }
 
 /// Whether no field is written under a name.
+#[inline(always)]
 fn is_never_written(name: &str) -> bool
     ensures { result ≡ is_never_written name.now }
 {
