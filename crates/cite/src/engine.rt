@@ -31,7 +31,7 @@ use rendering_locale::Locale;
 use rendering_output::BufWriteFormat;
 use rendering_style::Style;
 use sinks::Sink;
-use std::alloc::{AllocError, Global};
+use std::alloc::Global;
 use std::slice;
 
 /// The pieces of a document.
@@ -84,28 +84,13 @@ fn finish<'x>(
 ) -> Result<Rendered, CiteError>
     ensures { Gives rendered_by result (finished ⟦<Entry as PartialEq>⟧.eq (context_of (style_seen style.now) (locale_seen locale.now)) requests.entry.items (lent chosen.now)) }
 {
-    let driver = driver_of(alloc, requests)?;
+    let driver = BibliographyDriver::from_citations(alloc, requests);
     let request = BibliographyRequest::new(style, language(locale)?, slice::from_ref(locale));
     match driver.finish(request.with_order(chosen)) {
         Ok(rendered) => Ok(rendered),
         Err(DriverError::Memory) => Err(CiteError::Memory),
         Err(DriverError::Overflow) => Err(CiteError::Overflow),
     }
-}
-
-/// A driver with requests.
-fn driver_of<'x>(
-    alloc: Global,
-    requests: Vec<MarkerRequest<'x>>,
-) -> Result<BibliographyDriver<'x, Entry, ()>, AllocError>
-    ensures requests { IfOk result (λ d. d.citations.items ≡ requests.entry.items) }
-    ensures offset { IfOk result (λ d. d.offset ≡ 0) }
-{
-    let mut driver = BibliographyDriver::new(alloc);
-    for request in requests {
-        driver.citation(request)?;
-    }
-    Ok(driver)
 }
 
 /// The output of a call, before any of it is written.

@@ -37,4 +37,5 @@ pub mod RoundSteps
 pub mod RoundsNames
 pub mod RowsSteps
 pub mod StandaloneSteps
+pub mod TakenTrees
 pub mod UncitedEntries

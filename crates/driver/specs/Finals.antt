@@ -1,12 +1,12 @@
 -- Cites in their final order, each after the one before it, and the first of each entry.
-use Rattle.std.specs.Prelude.{ℕ, ◌+◌, Bool, not, List, [], ◌∷◌, ◌++◌, map, zip, find, filter_map, fold, is_some, slice_index_or, slice_set, Option, Some, None}
+use Rattle.std.specs.Prelude.{◌≡◌, ◌⊎◌, ℕ, ◌+◌, Bool, not, List, [], ◌∷◌, ◌++◌, map, zip, find, filter_map, fold, is_some, slice_index_or, slice_set, Option, Some, None}
 use Rattle.std.specs.List.{slice_get}
 use Rattle.std.specs.Option.{option_map, option_or}
 use Rattle.rendering_context.specs.Cites.{CiteProperties}
 use Rattle.rendering_entries.specs.Answers.{Answers}
 use Rattle.rendering_style.specs.Styles as styles
 use Rattle.rendering_tree.specs.Metas as metas
-use Rattle.rendering_tree.specs.Trees.{Children, element_with, names_element}
+use Rattle.rendering_tree.specs.Trees.{Children, element_with, names_element, nothing}
 use Rattle.rendering.specs.Purposes.{StyleContext}
 use Rattle.driver_requests.specs.Cites.{Numbered, properties_of}
 use Rattle.driver_requests.specs.Requests.{Item, Request}
@@ -96,6 +96,14 @@ arranged_at ys a = option_map (λ y. arranged_as (λ n. y) a) (slice_get ys a.ci
 -- the same of cites in a row
 abbrev pub arranged_in : {Y : Type 0} → List Y → List (Arranged ℕ) → List (Arranged Y)
 arranged_in ys xs = filter_map (arranged_at ys) xs
+
+-- a cite in its citation without the names by which it was put there
+abbrev pub nameless : {Y : Type 0} → Arranged Y → Arranged Y
+nameless a = record a { cite = record a.cite { names = None } }
+
+-- what is left of a tree that was taken or not
+abbrev pub IsLeft : Children → Children → Type 0
+IsLeft left t = (left ≡ nothing) ⊎ (left ≡ t)
 
 -- a cite with its final mark, after an item
 abbrev pub final_after : {P : Type 0} → (P → P → Bool) → Marks → Option (Item P) → Arranged (FirstPrint P) → Final P

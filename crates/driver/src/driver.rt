@@ -23,7 +23,7 @@ use crate::first::{FirstPrints, first_prints};
 use crate::known::known_of;
 use crate::listed::bibliography;
 use crate::rendered::Rendered;
-use crate::rounds::{Marked, disambiguated};
+use crate::rounds::{FinalMarks, Marked, disambiguated};
 use driver_marks::suffixes;
 use driver_requests::{BibliographyRequest, CitationRequest, DriverError};
 use rendering::{Effort, StyleContext};
@@ -48,9 +48,20 @@ impl<'a, T, P: Drop> BibliographyDriver<'a, T, P> {
         ensures requests { result.citations.items ≡ [] }
         ensures offset { result.offset ≡ 0 }
     {
+        BibliographyDriver::from_citations(alloc, Vec::new(alloc))
+    }
+
+    /// A driver with these requests, which numbers entries from one on. It takes memory from the given allocator.
+    pub fn from_citations(
+        alloc: Global,
+        citations: Vec<CitationRequest<'a, T, P>>,
+    ) -> BibliographyDriver<'a, T, P>
+        ensures requests { result.citations.items ≡ citations.entry.items }
+        ensures offset { result.offset ≡ 0 }
+    {
         BibliographyDriver {
             alloc,
-            citations: Vec::new(alloc),
+            citations,
             offset: 0,
         }
     }
@@ -167,8 +178,14 @@ fn render<'r, T: EntryLike, P: PartialEq>(
     ensures keys { (place : T → ℕ) → IfOk result (λ r. option_map keys_by r.bibliography ≡ option_map (λ s. keys_first (bibliography_context_of request.now) (flattened (finals_from P.eq (marked_seen marked).0 (map (request_by place T.answers) requests.now) (firsts (rows_seen T.answers requests.now rows.now)))) order.now) (bibliography_context_of request.now).style.bibliography) }
     ensures effort { IfOk result (λ r. r.effort ≤ effort.old + length (flattened (rows_seen T.answers requests.now rows.now)) + option_map_or (λ s. length order.now) (bibliography_context_of request.now).style.bibliography 0) }
 {
-    let letters = suffixes(alloc, &marked.marks, &marked.given)?;
-    let mut listed = unlisted(alloc, marked.marks.len())?;
+    let Marked {
+        marks,
+        given,
+        printed,
+    } = marked;
+    let letters = suffixes(alloc, &marks, &given)?;
+    let mut listed = unlisted(alloc, marks.len())?;
+    let marked = FinalMarks { marks, given };
     let citations = citations(
         alloc,
         requests,
@@ -176,12 +193,12 @@ fn render<'r, T: EntryLike, P: PartialEq>(
         rows,
         usages,
         &marked,
+        printed.into_cites(),
         &letters,
         &mut listed,
         effort,
     )?;
-    let marks = marked.into_marks();
-    let bibliography = bibliography(alloc, request, order, &marks, &listed, effort)?;
+    let bibliography = bibliography(alloc, request, order, &marked.marks, &listed, effort)?;
     Ok(Rendered {
         bibliography,
         citations,

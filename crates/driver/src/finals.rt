@@ -5,10 +5,12 @@ ghost use Rattle.std.specs.List.{range_with_len};
 ghost use Rattle.std.specs.Option.{option_map};
 ghost use Rattle.rendering.specs.Views.{context_seen};
 ghost use Rattle.rendering_context.specs.Views.{state_by};
+ghost use Rattle.rendering_style.specs.Styles as styles;
 ghost use Rattle.rendering_style.specs.Views.{citation_seen};
 ghost use Rattle.rendering_tree.specs.Metas as metas;
 ghost use Rattle.rendering_tree.specs.Trees.{element_with};
 ghost use Rattle.rendering_tree.specs.Views.{tree};
+ghost use Rattle.driver_blocks.specs.Collapsing.{arranged};
 ghost use Rattle.driver_blocks.specs.Views.{arranged_seen, gathered_seen};
 ghost use Rattle.driver_marks.specs.Lettered.{suffixes_by};
 ghost use Rattle.driver_marks.specs.Marks.{Marks, mark_of};
@@ -17,12 +19,12 @@ ghost use Rattle.driver_marks.specs.Views.{givens_by, printed_seen};
 ghost use Rattle.driver_requests.specs.Positions as positions;
 ghost use Rattle.driver_requests.specs.SuffixViews.{suffix_by};
 ghost use Rattle.driver_requests.specs.Views.{context_of, item_by, request_by};
-ghost use Rattle.driver.specs.Finals.{all_gathered, arranged_in, final_seen, finals_from, first_listed, firsts, gathered_from, last_arranged, last_seen, listed_as, listed_by, listed_seen, listed_with, placed_seen, placed_with, row_finals};
+ghost use Rattle.driver.specs.Finals.{IsLeft, all_gathered, arranged_in, final_seen, finals_from, first_listed, firsts, gathered_from, last_arranged, last_seen, listed_as, listed_by, listed_seen, listed_with, nameless, placed_seen, placed_with, row_finals};
 ghost use Rattle.driver.specs.Finish as finish;
 ghost use Rattle.driver.specs.Finish.{citation_in};
 ghost use Rattle.driver.specs.Joining.{shown_seen};
 ghost use Rattle.driver.specs.RenderedViews.{citation_by};
-ghost use Rattle.driver.specs.Rounding.{AreWithin, marked_seen};
+ghost use Rattle.driver.specs.Rounding.{AreWithin, disambiguation_seen};
 ghost use Rattle.driver.specs.Stages as stages;
 ghost use Rattle.driver.specs.Stages.{arranged_for, counts_at_last, first_print, flattened};
 ghost use Rattle.driver.specs.Views.{marked_by, numbered_seen, row_seen, rows_seen, usage_of};
@@ -30,7 +32,7 @@ ghost use Rattle.driver.specs.Views.{marked_by, numbered_seen, row_seen, rows_se
 use crate::citation::{ShownCite, citation_of};
 use crate::cite::{NumberedCite, plain_locator};
 use crate::rendered::RenderedCitation;
-use crate::rounds::Marked;
+use crate::rounds::FinalMarks;
 use driver_blocks::{Arranged, Gathered, arrange};
 use driver_marks::Printed;
 use driver_requests::{CitationItem, CitationRequest, Suffix, ibid_after};
@@ -68,12 +70,10 @@ struct FinalCite<'r, T, P> {
     usage: IdentifierUsage,
 }
 
-/// The cites of a request in the order of its items, what they print by their final marks without locators, and which identifiers they
-/// printed at first.
+/// The cites of a request in the order of its items, and which identifiers they printed at first.
 #[derive(Clone, Copy)]
 struct RequestCites<'c> {
     row: &'c [NumberedCite],
-    printed: &'c [Printed],
     usages: &'c [IdentifierUsage],
 }
 
@@ -85,14 +85,16 @@ struct Printing<'c> {
     marks: &'c [DisambiguateState],
 }
 
-/// The citations of requests, and of each entry its first cite in the final order.
+/// The citations of requests, and of each entry its first cite in the final order. What cites have printed by their final marks goes into
+/// them.
 pub(crate) fn citations<'r, T: EntryLike, P: PartialEq>(
     alloc: Global,
     requests: &'r [CitationRequest<'r, T, P>],
     contexts: &[StyleContext<'_>],
     rows: &[Vec<NumberedCite>],
     usages: &[IdentifierUsage],
-    marked: &Marked,
+    marked: &FinalMarks,
+    mut printed: Vec<Printed>,
     letters: &[Option<Suffix>],
     listed: &mut [Option<ListedCite<'r, T>>],
     effort: &mut Effort,
@@ -101,32 +103,40 @@ pub(crate) fn citations<'r, T: EntryLike, P: PartialEq>(
     requires rows { map (λ v. length v.items) rows.now ≡ map (λ r. length r.items.items) requests.now }
     requires within { AreWithin (length marked.now.marks.items) rows.now }
     requires usages { usages.now ≡ map usage_of (flattened (rows_seen T.answers requests.now rows.now)) }
-    requires printed { cites_seen marked.now.printed ≡ map (marked_by (map state_by marked.now.marks.items)) (flattened (rows_seen T.answers requests.now rows.now)) }
+    requires printed { map printed_seen printed.items ≡ map (marked_by (map state_by marked.now.marks.items)) (flattened (rows_seen T.answers requests.now rows.now)) }
     requires letters { map (option_map suffix_by) letters.now ≡ suffixes_by (map state_by marked.now.marks.items) (givens_by marked.now.given.items) }
     requires unlisted { listed.old ≡ replicate (length marked.now.marks.items) None }
-    ensures citations { (place : T → ℕ) → IfOk result (λ v. map citation_by v.items ≡ map citation_in (zip (map (request_by place T.answers) requests.now) (finals_from P.eq (marked_seen marked.now).0 (map (request_by place T.answers) requests.now) (firsts (rows_seen T.answers requests.now rows.now))))) }
-    ensures listed { (place : T → ℕ) → OnOk result (map (option_map (listed_by T.answers (map state_by marked.now.marks.items))) listed.new ≡ map (first_listed (flattened (finals_from P.eq (marked_seen marked.now).0 (map (request_by place T.answers) requests.now) (firsts (rows_seen T.answers requests.now rows.now))))) (range_with_len 0 (length marked.now.marks.items))) }
+    ensures citations { (place : T → ℕ) → IfOk result (λ v. map citation_by v.items ≡ map citation_in (zip (map (request_by place T.answers) requests.now) (finals_from P.eq (disambiguation_seen marked.now) (map (request_by place T.answers) requests.now) (firsts (rows_seen T.answers requests.now rows.now))))) }
+    ensures listed { (place : T → ℕ) → OnOk result (map (option_map (listed_by T.answers (map state_by marked.now.marks.items))) listed.new ≡ map (first_listed (flattened (finals_from P.eq (disambiguation_seen marked.now) (map (request_by place T.answers) requests.now) (firsts (rows_seen T.answers requests.now rows.now))))) (range_with_len 0 (length marked.now.marks.items))) }
     ensures effort { OnOk result (effort.new ≤ effort.old + length (flattened (rows_seen T.answers requests.now rows.now))) }
 {
     let mut citations = Vec::with_capacity(alloc, requests.len())?;
     let mut last: Option<LastCite<'r, T, P>> = None;
-    let mut printed = marked.printed.as_slice();
+    let mut left = printed.as_mut_slice();
     let mut usages = usages;
     for (index, request) in requests.iter().enumerate() {
         let context = &contexts[index];
         let row = rows[index].as_slice();
-        let (own_printed, other_printed) = printed.split_at(row.len());
+        let (own_printed, other_printed) = left.split_at_mut(row.len());
         let (own_usages, other_usages) = usages.split_at(row.len());
         let cites = RequestCites {
             row,
-            printed: own_printed,
             usages: own_usages,
         };
         let citation = request_citation(
-            alloc, request, context, cites, marked, letters, &mut last, listed, effort,
+            alloc,
+            request,
+            context,
+            cites,
+            own_printed,
+            marked,
+            letters,
+            &mut last,
+            listed,
+            effort,
         )?;
         citations.push(citation)?;
-        printed = other_printed;
+        left = other_printed;
         usages = other_usages;
     }
     Ok(citations)
@@ -138,7 +148,8 @@ fn request_citation<'r, T: EntryLike, P: PartialEq>(
     request: &'r CitationRequest<'r, T, P>,
     context: &StyleContext<'_>,
     cites: RequestCites<'_>,
-    marked: &Marked,
+    printed: &mut [Printed],
+    marked: &FinalMarks,
     letters: &[Option<Suffix>],
     last: &mut Option<LastCite<'r, T, P>>,
     listed: &mut [Option<ListedCite<'r, T>>],
@@ -148,25 +159,32 @@ fn request_citation<'r, T: EntryLike, P: PartialEq>(
     requires row { length cites.row.now ≡ length request.now.items.items }
     requires within { All (λ n. n.entry < length marked.now.marks.items) cites.row.now }
     requires usages { cites.usages.now ≡ map usage_of (row_seen T.answers (context_of request.now) request.now.items.items cites.row.now) }
-    requires printed { map printed_seen cites.printed.now ≡ map (marked_by (map state_by marked.now.marks.items)) (row_seen T.answers (context_of request.now) request.now.items.items cites.row.now) }
+    requires printed { map printed_seen printed.old ≡ map (marked_by (map state_by marked.now.marks.items)) (row_seen T.answers (context_of request.now) request.now.items.items cites.row.now) }
     requires letters { map (option_map suffix_by) letters.now ≡ suffixes_by (map state_by marked.now.marks.items) (givens_by marked.now.given.items) }
     requires listed { length listed.old ≡ length marked.now.marks.items }
-    ensures citation { IfOk result (λ c. citation_by c ≡ citation_in (request_by (λ e. 0) T.answers request.now, row_finals P.eq (map state_by marked.now.marks.items) (last_seen T.answers last.old) (arranged_for (marked_seen marked.now).0 (request_by (λ e. 0) T.answers request.now, map first_print (row_seen T.answers (context_of request.now) request.now.items.items cites.entry.row.now))))) }
-    ensures listed { OnOk result (map (option_map (listed_by T.answers (map state_by marked.now.marks.items))) listed.new ≡ fold listed_with (map (option_map (listed_by T.answers (map state_by marked.now.marks.items))) listed.old) (map listed_as (row_finals P.eq (map state_by marked.now.marks.items) (last_seen T.answers last.old) (arranged_for (marked_seen marked.now).0 (request_by (λ e. 0) T.answers request.now, map first_print (row_seen T.answers (context_of request.now) request.now.items.items cites.entry.row.now)))))) }
-    ensures last { OnOk result (last_seen T.answers last.new ≡ last_arranged (last_seen T.answers last.old) (arranged_for (marked_seen marked.now).0 (request_by (λ e. 0) T.answers request.now, map first_print (row_seen T.answers (context_of request.now) request.now.items.items cites.entry.row.now)))) }
+    ensures citation { IfOk result (λ c. citation_by c ≡ citation_in (request_by (λ e. 0) T.answers request.now, row_finals P.eq (map state_by marked.now.marks.items) (last_seen T.answers last.old) (arranged_for (disambiguation_seen marked.now) (request_by (λ e. 0) T.answers request.now, map first_print (row_seen T.answers (context_of request.now) request.now.items.items cites.entry.row.now))))) }
+    ensures listed { OnOk result (map (option_map (listed_by T.answers (map state_by marked.now.marks.items))) listed.new ≡ fold listed_with (map (option_map (listed_by T.answers (map state_by marked.now.marks.items))) listed.old) (map listed_as (row_finals P.eq (map state_by marked.now.marks.items) (last_seen T.answers last.old) (arranged_for (disambiguation_seen marked.now) (request_by (λ e. 0) T.answers request.now, map first_print (row_seen T.answers (context_of request.now) request.now.items.items cites.entry.row.now)))))) }
+    ensures last { OnOk result (last_seen T.answers last.new ≡ last_arranged (last_seen T.answers last.old) (arranged_for (disambiguation_seen marked.now) (request_by (λ e. 0) T.answers request.now, map first_print (row_seen T.answers (context_of request.now) request.now.items.items cites.entry.row.now)))) }
     ensures effort { OnOk result (effort.new ≤ effort.old + length cites.entry.row.now) }
 {
     let style = &request.style().parts().citation;
     let some_purpose = has_purpose(request);
-    let gathered = gathered_cites(alloc, request, cites, letters)?;
-    let arranged = arrange(alloc, style, some_purpose, &gathered)?;
+    let arranged = arranged_cites(
+        alloc,
+        request,
+        style,
+        some_purpose,
+        cites.row,
+        printed,
+        letters,
+    )?;
     let printing = Printing {
         context,
         style,
         marks: &marked.marks,
     };
     let shown = print_arranged(
-        alloc, request, printing, cites, &arranged, last, listed, effort,
+        alloc, request, printing, cites, printed, &arranged, last, listed, effort,
     )?;
     let citation = citation_of(alloc, &style.layout, some_purpose, shown)?;
     Ok(RenderedCitation {
@@ -182,22 +200,76 @@ fn has_purpose<T: EntryLike, P>(request: &CitationRequest<'_, T, P>) -> bool
     request.items.iter().any(|item| item.purpose.is_some())
 }
 
+/// The cites of a request as they are arranged, without the names by which they were.
+fn arranged_cites<T, P>(
+    alloc: Global,
+    request: &CitationRequest<'_, T, P>,
+    style: &Citation,
+    some_purpose: bool,
+    row: &[NumberedCite],
+    printed: &[Printed],
+    letters: &[Option<Suffix>],
+) -> Result<Vec<Arranged<'static>>, AllocError>
+    requires row { length row.now ≡ length request.now.items.items }
+    requires printed { length printed.now ≡ length request.now.items.items }
+    requires within { All (λ n. n.entry < length letters.now) row.now }
+    ensures { IfOk result (λ v. map (arranged_seen (citation_seen style.now)) v.items ≡ map nameless (arranged (citation_seen style.now) some_purpose (all_gathered (map (option_map suffix_by) letters.now) 0 request.now.items.items row.now (map printed_seen printed.now)))) }
+{
+    let gathered = gathered_cites(alloc, request, row, printed, letters)?;
+    let arranged = arrange(alloc, style, some_purpose, &gathered)?;
+    without_names(alloc, &arranged)
+}
+
+/// Arranged cites without their names.
+fn without_names(
+    alloc: Global,
+    arranged: &[Arranged<'_>],
+) -> Result<Vec<Arranged<'static>>, AllocError>
+    ensures { (c : styles.Citation) → IfOk result (λ v. map (arranged_seen c) v.items ≡ map nameless (map (arranged_seen c) arranged.now)) }
+{
+    let mut places = Vec::with_capacity(alloc, arranged.len())?;
+    for cite in arranged {
+        places.push(without_name(cite))?;
+    }
+    Ok(places)
+}
+
+/// An arranged cite without its names.
+fn without_name(cite: &Arranged<'_>) -> Arranged<'static>
+    ensures { (c : styles.Citation) → arranged_seen c result ≡ nameless (arranged_seen c cite.now) }
+{
+    Arranged {
+        cite: Gathered {
+            cite: cite.cite.cite,
+            names: None,
+            number: cite.cite.number,
+            is_shown: cite.cite.is_shown,
+            has_locator: cite.cite.has_locator,
+            suffix: cite.cite.suffix,
+        },
+        is_shown: cite.is_shown,
+        before: cite.before,
+        verdict: cite.verdict,
+    }
+}
+
 /// The cites of a request as they are gathered and collapsed.
 fn gathered_cites<'p, T, P>(
     alloc: Global,
     request: &CitationRequest<'_, T, P>,
-    cites: RequestCites<'p>,
+    row: &[NumberedCite],
+    printed: &'p [Printed],
     letters: &[Option<Suffix>],
 ) -> Result<Vec<Gathered<'p>>, AllocError>
-    requires row { length cites.row.now ≡ length request.now.items.items }
-    requires printed { length cites.printed.now ≡ length request.now.items.items }
-    requires within { All (λ n. n.entry < length letters.now) cites.row.now }
-    ensures { IfOk result (λ v. map gathered_seen v.items ≡ all_gathered (map (option_map suffix_by) letters.now) 0 request.now.items.items cites.entry.row.now (map printed_seen cites.entry.printed.now)) }
+    requires row { length row.now ≡ length request.now.items.items }
+    requires printed { length printed.now ≡ length request.now.items.items }
+    requires within { All (λ n. n.entry < length letters.now) row.now }
+    ensures { IfOk result (λ v. map gathered_seen v.items ≡ all_gathered (map (option_map suffix_by) letters.now) 0 request.now.items.items row.now (map printed_seen printed.entry.now)) }
 {
-    let mut gathered = Vec::with_capacity(alloc, cites.row.len())?;
+    let mut gathered = Vec::with_capacity(alloc, row.len())?;
     for (place, item) in request.items.iter().enumerate() {
-        let cite = cites.row[place];
-        let tree = cites.printed[place].tree();
+        let cite = row[place];
+        let tree = printed[place].tree();
         let suffix = letters[cite.entry];
         gathered.push(gathered_cite(item, place, cite.number, tree, suffix))?;
     }
@@ -240,6 +312,7 @@ fn print_arranged<'r, 'c, T: EntryLike, P: PartialEq>(
     request: &'r CitationRequest<'r, T, P>,
     printing: Printing<'c>,
     cites: RequestCites<'_>,
+    printed: &mut [Printed],
     arranged: &[Arranged<'_>],
     last: &mut Option<LastCite<'r, T, P>>,
     listed: &mut [Option<ListedCite<'r, T>>],
@@ -247,7 +320,7 @@ fn print_arranged<'r, 'c, T: EntryLike, P: PartialEq>(
 ) -> Result<Vec<ShownCite<'c>>, AllocError>
     requires row { length cites.row.now ≡ length request.now.items.items }
     requires within { All (λ n. n.entry < length printing.marks.now) cites.row.now }
-    requires printed { map printed_seen cites.printed.now ≡ map (marked_by (map state_by printing.marks.now)) (row_seen T.answers (context_seen printing.context.now) request.now.items.items cites.row.now) }
+    requires printed { map printed_seen printed.old ≡ map (marked_by (map state_by printing.marks.now)) (row_seen T.answers (context_seen printing.context.now) request.now.items.items cites.row.now) }
     requires usages { cites.usages.now ≡ map usage_of (row_seen T.answers (context_seen printing.context.now) request.now.items.items cites.row.now) }
     requires listed { length listed.old ≡ length printing.marks.now }
     requires places { All (λ a. a.cite.cite < length request.now.items.items) arranged.now }
@@ -266,8 +339,8 @@ fn print_arranged<'r, 'c, T: EntryLike, P: PartialEq>(
             usage: cites.usages[place],
         };
         list(&next, listed);
-        let printed = cites.printed[place].tree();
-        print_shown(printing, &next, cite, printed, &mut shown, effort)?;
+        let tree = printed[place].take_tree(alloc);
+        print_shown(printing, &next, cite, tree, &mut shown, effort)?;
         *last = Some(LastCite {
             item,
             entry: own.entry,
@@ -306,17 +379,18 @@ fn list<'r, T: EntryLike, P>(next: &FinalCite<'r, T, P>, listed: &mut [Option<Li
     }
 }
 
-/// Appends what a cite prints, if it is shown. By its final mark and without its locator it has printed this tree.
+/// Appends what a cite prints, if it is shown. By its final mark and without its locator it has printed this tree, unless nothing is left
+/// of that.
 fn print_shown<'c, T: EntryLike, P>(
     printing: Printing<'c>,
     next: &FinalCite<'_, T, P>,
     cite: &Arranged<'_>,
-    printed: &ElemChildren,
+    printed: ElemChildren,
     shown: &mut Vec<ShownCite<'c>>,
     effort: &mut Effort,
 ) -> Result<(), AllocError>
     requires within { next.now.cite.entry < length printing.marks.now }
-    requires printed { tree printed.now ≡ (stages.printed_by (numbered_seen T.answers (context_seen printing.context.now) next.now.item.now next.now.cite) (mark_of (map state_by printing.marks.now) next.now.cite.entry)).tree }
+    requires printed { IsLeft (tree printed) (stages.printed_by (numbered_seen T.answers (context_seen printing.context.now) next.now.item.now next.now.cite) (mark_of (map state_by printing.marks.now) next.now.cite.entry)).tree }
     ensures shown { OnOk result (map shown_seen shown.new.items ≡ map shown_seen shown.old.items ++ finish.shown (final_seen T.answers (context_seen printing.entry.context.now) (citation_seen printing.entry.style.now) (map state_by printing.entry.marks.now) next.now cite.now)) }
     ensures effort { OnOk result (effort.new ≤ effort.old + 1) }
 {
@@ -332,22 +406,22 @@ fn print_shown<'c, T: EntryLike, P>(
     Ok(())
 }
 
-/// What a cite prints. By its final mark and without its locator it has printed this tree, which is not printed again where nothing else
-/// is asked for.
+/// What a cite prints. By its final mark and without its locator it has printed this tree, unless nothing is left of that; it is not printed
+/// again where nothing else is asked for.
 fn printed_at_last<T: EntryLike, P>(
     printing: Printing<'_>,
     next: &FinalCite<'_, T, P>,
     cite: &Arranged<'_>,
-    printed: &ElemChildren,
+    printed: ElemChildren,
     effort: &mut Effort,
 ) -> Result<ElemChildren, AllocError>
     requires within { next.now.cite.entry < length printing.marks.now }
-    requires printed { tree printed.now ≡ (stages.printed_by (numbered_seen T.answers (context_seen printing.context.now) next.now.item.now next.now.cite) (mark_of (map state_by printing.marks.now) next.now.cite.entry)).tree }
+    requires printed { IsLeft (tree printed) (stages.printed_by (numbered_seen T.answers (context_seen printing.context.now) next.now.item.now next.now.cite) (mark_of (map state_by printing.marks.now) next.now.cite.entry)).tree }
     ensures printed { IfOk result (λ t. tree t ≡ stages.printed_at_last (final_seen T.answers (context_seen printing.entry.context.now) (citation_seen printing.entry.style.now) (map state_by printing.entry.marks.now) next.now cite.now)) }
     ensures effort { OnOk result (effort.new ≤ effort.old + 1) }
 {
-    if prints_as_before(next, cite) {
-        return printed.clone();
+    if !printed.is_empty() && prints_as_before(next, cite) {
+        return Ok(printed);
     }
     let mark = printing.marks[next.cite.entry].clone()?;
     let locator = plain_locator(next.item);

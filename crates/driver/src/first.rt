@@ -40,10 +40,9 @@ pub(crate) fn first_prints<T: EntryLike, P>(
     ensures usages { IfOk result (λ f. f.usages.items ≡ map usage_of (flattened (rows_seen T.answers requests.now rows.now))) }
     ensures effort { OnOk result (effort.new ≤ effort.old + length (flattened (rows_seen T.answers requests.now rows.now))) }
 {
-    let mut prints = FirstPrints {
-        printed: Vec::new(alloc),
-        usages: Vec::new(alloc),
-    };
+    let printed = Vec::with_capacity(alloc, requests.len())?;
+    let usages = Vec::with_capacity(alloc, requests.len())?;
+    let mut prints = FirstPrints { printed, usages };
     for (index, request) in requests.iter().enumerate() {
         let context = &contexts[index];
         let row = rows[index].as_slice();

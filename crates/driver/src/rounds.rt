@@ -36,13 +36,11 @@ pub(crate) struct Marked {
     pub(crate) printed: PrintedCites,
 }
 
-impl Marked {
-    /// The marks alone. What cites print is let go.
-    pub(crate) fn into_marks(self) -> Vec<DisambiguateState>
-        ensures { result ≡ self.marks }
-    {
-        self.marks
-    }
+/// The final marks of cited entries, and all that rounds have given.
+#[derive(Drop)]
+pub(crate) struct FinalMarks {
+    pub(crate) marks: Vec<DisambiguateState>,
+    pub(crate) given: Vec<Given>,
 }
 
 /// What tells cites apart, from what they print without marks.

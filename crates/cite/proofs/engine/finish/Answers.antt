@@ -18,8 +18,8 @@ returns-in-Ok c =
       locale = (ap (option_map code_seen) (c.with_order.ensures.locale ∙ c.new-request.ensures.locale) ∙ c.in_ok-language.ensures) i;
       locale_files = (ap (map locale_seen) (c.with_order.ensures.files ∙ c.new-request.ensures.files ∙ c.from_ref.ensures.value)) i;
     } in
-    gives entry.ghosts.eq (context_of (style_seen c.args.style.now) (locale_seen c.args.locale.now)) c.in_ok-driver.driver.citations.items c.args.requests.items c.in_ok-driver.driver.offset c.with_order.result (lent c.args.chosen.now)
-    c.in_ok-driver.ensures.requests c.in_ok-driver.ensures.offset context c.with_order.ensures.order (rendered_by c.in-Ok.rendered) c.in-Ok.ensures.rendered
+    gives entry.ghosts.eq (context_of (style_seen c.args.style.now) (locale_seen c.args.locale.now)) c.from_citations-driver.result.citations.items c.args.requests.items c.from_citations-driver.result.offset c.with_order.result (lent c.args.chosen.now)
+    c.from_citations-driver.ensures.requests c.from_citations-driver.ensures.offset context c.with_order.ensures.order (rendered_by c.in-Ok.rendered) c.in-Ok.ensures.rendered
 
 pub returns-in-Err-Overflow : goal.returns-in-Err-Overflow
 returns-in-Err-Overflow c =
@@ -28,5 +28,5 @@ returns-in-Err-Overflow c =
       locale = (ap (option_map code_seen) (c.with_order.ensures.locale ∙ c.new-request.ensures.locale) ∙ c.in_ok-language.ensures) i;
       locale_files = (ap (map locale_seen) (c.with_order.ensures.files ∙ c.new-request.ensures.files ∙ c.from_ref.ensures.value)) i;
     } in
-    overflows entry.ghosts.eq (context_of (style_seen c.args.style.now) (locale_seen c.args.locale.now)) c.in_ok-driver.driver.citations.items c.args.requests.items c.in_ok-driver.driver.offset c.with_order.result (lent c.args.chosen.now)
-    c.in_ok-driver.ensures.requests c.in_ok-driver.ensures.offset context c.with_order.ensures.order (rw c.in-Err-Overflow.field-0-is at c.in-Err-Overflow.ensures.rendered)
+    overflows entry.ghosts.eq (context_of (style_seen c.args.style.now) (locale_seen c.args.locale.now)) c.from_citations-driver.result.citations.items c.args.requests.items c.from_citations-driver.result.offset c.with_order.result (lent c.args.chosen.now)
+    c.from_citations-driver.ensures.requests c.from_citations-driver.ensures.offset context c.with_order.ensures.order (rw c.in-Err-Overflow.field-0-is at c.in-Err-Overflow.ensures.rendered)

@@ -20,7 +20,7 @@ bibliography-requires-clause-own g c =
     let long : length c.citations.new.listed ≡ c.in_ok-listed.listed.len = c.citations.auto.listed ∙ ap length c.deref_mut.ensures.value ∙ sym c.in_ok-listed.listed.ok.0 in
     let now : c.deref-5.result.now ≡ c.citations.new.listed = c.deref-5.ensures.value ∙ with_items_is c.in_ok-listed.listed c.citations.new.listed long in
     firsts_stand fs (length c.args.marked.marks.items) (map (option_map (listed_by answers (map state_by c.deref-4.result.now))) c.deref-5.result.now)
-    ((λ k. map (option_map (listed_by answers (map state_by ((c.deref-4.ensures.value ∙ ap (λ v. v.items) c.into_marks-marks.ensures) k)))) (now k)) ∙ c.in_ok-citations.ensures.listed (λ e. 0))
+    ((λ k. map (option_map (listed_by answers (map state_by (c.deref-4.ensures.value k)))) (now k)) ∙ c.in_ok-citations.ensures.listed (λ e. 0))
 
 pub returns-clause-rendered : goal.returns-clause-rendered
 returns-clause-rendered g c = λ place.
@@ -31,7 +31,7 @@ returns-clause-rendered g c = λ place.
     let ls = map (option_map (listed_by answers (map state_by c.deref-4.result.now))) c.deref-5.result.now in
     let long : length c.citations.new.listed ≡ c.in_ok-listed.listed.len = c.citations.auto.listed ∙ ap length c.deref_mut.ensures.value ∙ sym c.in_ok-listed.listed.ok.0 in
     let now : c.deref-5.result.now ≡ c.citations.new.listed = c.deref-5.ensures.value ∙ with_items_is c.in_ok-listed.listed c.citations.new.listed long in
-    let listed = (λ k. map (option_map (listed_by answers (map state_by ((c.deref-4.ensures.value ∙ ap (λ v. v.items) c.into_marks-marks.ensures) k)))) (now k)) ∙ c.in_ok-citations.ensures.listed place in
+    let listed = (λ k. map (option_map (listed_by answers (map state_by (c.deref-4.ensures.value k)))) (now k)) ∙ c.in_ok-citations.ensures.listed place in
     let listing = c.in_ok-bibliography.ensures.bibliography
     ∙ ap (λ (ts : List Children). option_map (λ b. bibliography_from b ts) x.style.bibliography) (made_are (item_listed x) fs (length c.args.marked.marks.items) ls c.args.order.now listed c.requires.order) in
     λ k. record { bibliography = listing k; citations = c.in_ok-citations.ensures.citations place k }
@@ -46,4 +46,4 @@ returns-clause-keys g c = λ place.
     c.in_ok-bibliography.ensures.keys
     ∙ ap (λ (ks : List (List ℕ)). option_map (λ b. ks) x.style.bibliography)
     (made_are (key_printed x) fs (length c.args.marked.marks.items) (map (option_map (listed_by g.T.EntryLike.answers (map state_by c.deref-4.result.now))) c.deref-5.result.now) c.args.order.now
-    ((λ k. map (option_map (listed_by g.T.EntryLike.answers (map state_by ((c.deref-4.ensures.value ∙ ap (λ v. v.items) c.into_marks-marks.ensures) k)))) (now k)) ∙ c.in_ok-citations.ensures.listed place) c.requires.order)
+    ((λ k. map (option_map (listed_by g.T.EntryLike.answers (map state_by (c.deref-4.ensures.value k)))) (now k)) ∙ c.in_ok-citations.ensures.listed place) c.requires.order)

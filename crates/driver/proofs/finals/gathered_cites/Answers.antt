@@ -12,12 +12,12 @@ pub loop-place-preserved : goal.loop-place-preserved
 loop-place-preserved g c =
     let n = c.loop-place.place in
     let items = c.args.request.now.items.items in
-    let row = c.args.cites.row.now in
-    let printed = c.args.cites.printed.now in
+    let row = c.args.row.now in
+    let printed = c.args.printed.now in
     let same : length c.deref-item-items.result.now ≡ length items = ap length c.deref-item-items.ensures.value in
     let in_items : n < length items = omega (arith, c.loop-place-test.true, same) in
     let in_row : n < length row = omega (arith, in_items, c.requires.row) in
     let in_printed : n < length printed = omega (arith, in_items, c.requires.printed) in
-    gathered_goes_on gathered_seen (map (option_map suffix_by) c.args.letters.now) printed_seen items row printed n c.item-item.result no_cite c.index-cites-place.result c.loop-place.gathered.items c.push.new.self.items c.gathered_cite.result (all_gathered (map (option_map suffix_by) c.args.letters.now) 0 items row (map printed_seen printed))
-    (tree c.tree-tree.result.now) (option_map suffix_by (get_or c.args.letters.now (get_or row n no_cite).entry None)) in_items in_row in_printed (c.item-item.is ∙ ap (λ xs. get_or xs n c.item-item.result) c.deref-item-items.ensures.value) c.index-cites-place.is
-    c.loop-place.invariant c.in_ok-push.ensures.items c.gathered_cite.ensures (c.tree-tree.ensures ∙ ap (λ s. tree s.tree) (sym c.index-cites-place.is)) (sym (get_or-map (option_map suffix_by) c.args.letters.now (get_or row n no_cite).entry None None (c.requires.within n no_cite in_row)))
+    gathered_goes_on gathered_seen (map (option_map suffix_by) c.args.letters.now) printed_seen items row printed n c.item-item.result no_cite c.index-printed-place.result c.loop-place.gathered.items c.push.new.self.items c.gathered_cite.result (all_gathered (map (option_map suffix_by) c.args.letters.now) 0 items row (map printed_seen printed))
+    (tree c.tree-tree.result.now) (option_map suffix_by (get_or c.args.letters.now (get_or row n no_cite).entry None)) in_items in_row in_printed (c.item-item.is ∙ ap (λ xs. get_or xs n c.item-item.result) c.deref-item-items.ensures.value) c.index-printed-place.is
+    c.loop-place.invariant c.in_ok-push.ensures.items c.gathered_cite.ensures c.tree-tree.ensures (sym (get_or-map (option_map suffix_by) c.args.letters.now (get_or row n no_cite).entry None None (c.requires.within n no_cite in_row)))

@@ -7,5 +7,5 @@ use Rattle.driver.proofs.finals.gathered_cites.Given as goal
 
 abbrev pub invariant-loop-place : goal.invariant-loop-place
 invariant-loop-place g l =
-    map gathered_seen l.gathered.items ++ all_gathered (map (option_map suffix_by) l.letters) l.place (drop l.place l.request.items.items) (drop l.place l.cites.row.now) (map printed_seen (drop l.place l.cites.printed.now))
-    ≡ all_gathered (map (option_map suffix_by) l.letters) 0 l.request.items.items l.cites.row.now (map printed_seen l.cites.printed.now)
+    map gathered_seen l.gathered.items ++ all_gathered (map (option_map suffix_by) l.letters) l.place (drop l.place l.request.items.items) (drop l.place l.row) (map printed_seen (drop l.place l.printed))
+    ≡ all_gathered (map (option_map suffix_by) l.letters) 0 l.request.items.items l.row (map printed_seen l.printed)

@@ -6,6 +6,7 @@ use Rattle.driver_blocks.specs.Views.{arranged_seen}
 use Rattle.driver.specs.Finals.{arranged_in, placed_seen, placed_with}
 use Rattle.driver.specs.Stages.{first_print}
 use Rattle.driver.specs.Views.{row_seen}
+use Rattle.driver.proofs.TakenTrees.{AreLeft}
 use Rattle.driver.proofs.finals.print_arranged.Given as goal
 
 abbrev pub invariant-loop-cite : goal.invariant-loop-cite
@@ -18,5 +19,7 @@ invariant-loop-cite g l =
       same : fold (placed_with g.P.PartialEq.eq marks) (placed_seen answers marks l.shown.items l.listed l.last) (arranged_in prints (map seen (drop l.cite-index l.arranged)))
           ≡ fold (placed_with g.P.PartialEq.eq marks) (placed_seen answers marks [] l.fn.listed l.fn.last) (arranged_in prints (map seen l.arranged));
       long : length l.listed ≡ length l.fn.listed;
+      cites : length l.printed ≡ length l.fn.printed;
+      left : AreLeft l.printed l.fn.printed;
       effort : l.effort ≤ l.fn.effort + l.cite-index;
     }

@@ -28,8 +28,8 @@ pub loop-index-init : goal.loop-index-init
 loop-index-init g c =
     let cites = flattened (rows_seen g.T.EntryLike.answers c.args.requests.now c.args.rows.now) in
     record {
-      printed = ap (λ ps. map printed_seen ps ++ map unmarked cites) c.new.ensures.items;
-      usages = ap (λ us. us ++ map usage_of cites) c.new-2.ensures.items;
+      printed = ap (λ ps. map printed_seen ps ++ map unmarked cites) c.in_ok-printed.ensures.items;
+      usages = ap (λ us. us ++ map usage_of cites) c.in_ok-usages.ensures.items;
       effort = omega arith;
     }
 

@@ -1,0 +1,15 @@
+use Rattle.std.proofs.Common.{◌≡◌, map, ap, ◌∙◌}
+use Rattle.std.proofs.lemmas.Result.{IfOk-weaker}
+use Rattle.rendering_style.specs.Views.{citation_seen}
+use Rattle.driver_blocks.specs.Collapsing.{arranged}
+use Rattle.driver_blocks.specs.Views.{arranged_seen, gathered_seen}
+use Rattle.driver.specs.Finals.{nameless}
+use Rattle.driver.proofs.finals.arranged_cites.Goals as goal
+
+pub returns : goal.returns
+returns g c =
+    let style = citation_seen c.args.style.now in
+    IfOk-weaker c.without_names.result (λ v. map (arranged_seen style) v.items ≡ map nameless (map (arranged_seen style) c.deref-2.result.now)) _
+    (λ v h. h
+    ∙ ap (map nameless) (ap (map (arranged_seen style)) c.deref-2.ensures.value ∙ c.in_ok-arranged.ensures ∙ ap (λ gs. arranged style c.args.some_purpose (map gathered_seen gs)) c.deref.ensures.value ∙ ap (arranged style c.args.some_purpose) c.in_ok-gathered.ensures))
+    (c.without_names.ensures style)
