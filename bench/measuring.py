@@ -82,8 +82,8 @@ class Table:
         rate = (many - few) / (large["bytes"] - small["bytes"])
         exponent = math.log(many / few) / math.log(large["bytes"] / small["bytes"])
         print(f"instructions a byte: {rate:.1f}")
-        print(f"growth exponent: {exponent:.3f}")
-        return {"rows": self.rows, "rate": round(rate), "exponent": round(exponent, 2)}
+        print(f"growth exponent: {exponent:.4f}")
+        return {"rows": self.rows, "rate": round(rate), "exponent": round(exponent, 4)}
 
     def finish(self, name, wanted):
         """Writes down what was found, with the figures that are wanted."""
