@@ -1,7 +1,6 @@
 -- Namesakes in other cites, by how many people there are of each name in all cites and in the cite itself.
 use Rattle.std.proofs.Common.{◌≡◌, ℕ, ◌+◌, ◌-◌, ◌<◌, Bool, true, false, cond, not, ◌&&◌, ◌||◌, nat_lt, List, [], ◌∷◌, map, length, get_or, drop, replicate, refl, sym, ap, ◌∙◌, Option, Some, None, arith, lt-ltb, le-ltb, ltb-true, ltb-false}
 use Rattle.std.specs.Prelude.{count_by, filter, slice_get}
-use Rattle.std.specs.HashMap.{HashMap}
 use Rattle.std.specs.List.{flat_map, list_any, sum_by}
 use Rattle.std.specs.Option.{option_and_then}
 use Rattle.std.specs.Str.{bytes_eq}
@@ -17,7 +16,7 @@ use Rattle.literature_values.specs.PersonViews.{Named}
 use Rattle.rendering_tree.specs.Metas.{is_person}
 use Rattle.rendering_tree.proofs.SameDecided.{Decides-is_person}
 use Rattle.rendering_tree.proofs.ViewsEquality.{agreed}
-use Rattle.driver_marks.specs.Keys.{IsTally, counted}
+use Rattle.driver_marks.specs.Keys.{IsTally, tallied}
 use Rattle.driver_marks.specs.Names.{Member, form_against, form_wanted, initials, is_namesake, namesakes, others}
 use Rattle.driver_marks.specs.Namesakes.{IsCount, all_people, form_after, form_among, form_at, form_counted, forms_after, has_more, has_same, is_raised, is_raised_after, is_same_name, part_of}
 use Rattle.driver_marks.specs.NamesViews.{is_alike_namesake}
@@ -26,6 +25,7 @@ use Rattle.driver_marks.specs.contracts.names_compared.ComparedNamePartialEq.The
 use Rattle.driver_marks.specs.declared.names_compared.ComparedName.{ComparedName}
 use Rattle.driver_marks.specs.declared.namesakes.NamePart.{NamePart}
 use Rattle.driver_marks.specs.declared.namesakes.NamePart.TheVariants as parts
+use Rattle.driver_marks.specs.declared.same_keys.Tally.{Tally}
 use Rattle.driver_marks.proofs.Counting.{any_count, counts-among, weigh_others}
 use Rattle.driver_marks.proofs.NamesDistinguished.{any-filter}
 use Rattle.driver_marks.proofs.NamesShared.{names_agree}
@@ -139,19 +139,19 @@ pub same_names : name.ghosts.eq ≡ is_same_name
 same_names = fun_ext (λ c. fun_ext (λ d. names_agree c d))
 
 -- a tally of a part of names says how many people have the same
-pub tally_counts : {S : Type 0} (part : NamePart) (counts : HashMap ComparedName ℕ S) (names : List ComparedName) (all : List Named) → map named names ≡ map (part_of part) all → IsTally name.ghosts.eq counts names
+pub tally_counts : (part : NamePart) (counts : Tally ComparedName) (names : List ComparedName) (all : List Named) → map named names ≡ map (part_of part) all → IsTally name.ghosts.eq counts names
     → IsCount part counts all
 tally_counts part counts names all are tally = λ c p is.
-    ap (λ same. counted same counts c) (sym same_names)
+    ap (λ same. tallied same counts c) (sym same_names)
     ∙ tally c
     ∙ sym (counts-among (λ d. Unit {0}) named is_person name.ghosts.eq (λ d e h g. sym (names_agree d e)) c tt names (λ k d low. tt))
     ∙ (λ k. count_by (is_person (is k)) (are k))
     ∙ count_part part p all
 
 -- what a tally says of a part of a name
-pub part_counted : {S : Type 0} (part : NamePart) (counts : HashMap ComparedName ℕ S) (all : List Named) (c : ComparedName) (p : Named) (n : ℕ) → IsCount part counts all → named c ≡ part_of part p
-    → n ≡ counted name.ghosts.eq counts c → n ≡ count_by (has_same part p) all
-part_counted part counts all c p n says is found = found ∙ ap (λ same. counted same counts c) same_names ∙ says c p is
+pub part_counted : (part : NamePart) (counts : Tally ComparedName) (all : List Named) (c : ComparedName) (p : Named) (n : ℕ) → IsCount part counts all → named c ≡ part_of part p
+    → n ≡ tallied name.ghosts.eq counts c → n ≡ count_by (has_same part p) all
+part_counted part counts all c p n says is found = found ∙ ap (λ same. tallied same counts c) same_names ∙ says c p is
 
 -- the form by whether there are namesakes with the same initials, and whether there are any
 abbrev form_by : Bool → Bool → Option DisambiguatedNameForm

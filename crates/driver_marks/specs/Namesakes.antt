@@ -1,12 +1,11 @@
 -- Namesakes among the people of the cites of a class, by how many people have each name, and the forms that tell people apart from them.
 use Rattle.std.specs.Prelude.{◌≡◌, ℕ, ◌+◌, ◌<◌, ◌≤◌, Bool, true, not, ◌&&◌, nat_lt, List, map, length, get_or, slice_get, count_by, if◌then◌else◌, Option, Some, None}
-use Rattle.std.specs.HashMap.{HashMap}
 use Rattle.std.specs.List.{flat_map}
 use Rattle.std.specs.Option.{option_and_then}
 use Rattle.std.specs.Str.{bytes_eq}
 use Rattle.literature_values.specs.PersonViews.{Named}
 use Rattle.rendering_tree.specs.Metas.{is_person}
-use Rattle.driver_marks.specs.Keys.{counted}
+use Rattle.driver_marks.specs.Keys.{tallied}
 use Rattle.driver_marks.specs.Names.{Member, form_wanted, initials, is_namesake, is_newly_distinguished, names_may_change, raises, rule_for}
 use Rattle.driver_marks.specs.NamesViews.{form_raised, is_alike_namesake}
 use Rattle.driver_marks.specs.Shared.{named, shared_people}
@@ -15,6 +14,7 @@ use Rattle.driver_marks.specs.declared.names_members.Distinction.{Distinction}
 use Rattle.driver_marks.specs.declared.namesakes.NameCounts.{NameCounts}
 use Rattle.driver_marks.specs.declared.namesakes.NamePart.{NamePart}
 use Rattle.driver_marks.specs.declared.namesakes.NamePart.TheVariants as parts
+use Rattle.driver_marks.specs.declared.same_keys.Tally.{Tally}
 use Rattle.rendering_taxonomy.specs.declared.name.DisambiguatedNameForm.{DisambiguatedNameForm}
 use Rattle.rendering_taxonomy.specs.declared.name.DisambiguatedNameForm.TheVariants as forms
 
@@ -42,13 +42,13 @@ has_same parts.Whole p q = is_person p q
 abbrev pub is_same_name : ComparedName → ComparedName → Bool
 is_same_name c d = is_person (named c) (named d)
 
--- a map says of a part of names how many people have the same
-abbrev pub IsCount : {S : Type 0} → NamePart → HashMap ComparedName ℕ S → List Named → Type 0
-IsCount part counts all = (c : ComparedName) (p : Named) → named c ≡ part_of part p → counted is_same_name counts c ≡ count_by (has_same part p) all
+-- a tally says of a part of names how many people have the same
+abbrev pub IsCount : NamePart → Tally ComparedName → List Named → Type 0
+IsCount part counts all = (c : ComparedName) (p : Named) → named c ≡ part_of part p → tallied is_same_name counts c ≡ count_by (has_same part p) all
 
--- three maps say so of the parts of names
+-- three tallies say so of the parts of names
 abbrev pub AreCounts : NameCounts → List Named → Type 0
-AreCounts c all = IsCount parts.Family c.families.counts all × IsCount parts.FamilyAndInitials c.initialed.counts all × IsCount parts.Whole c.whole.counts all
+AreCounts c all = IsCount parts.Family c.families all × IsCount parts.FamilyAndInitials c.initialed all × IsCount parts.Whole c.whole all
 
 -- whether more people pass a test than in a cite
 abbrev pub has_more : (Named → Bool) → List Named → Member → Bool

@@ -11,7 +11,7 @@ ghost use Rattle.driver_marks.specs.Shared.{AreInOrder, all_shared_where, compar
 use crate::names_compared::ComparedName;
 use crate::names_members::Member;
 use crate::same_keys::{Tally, firsts};
-use rendering_taxonomy::DisambiguationRule;
+use rendering_taxonomy::DisambiguationRule as Rule;
 use std::alloc::{AllocError, Global};
 
 /// For each cite the greatest number of first people, at most so many, that it shares with another one, by the rule of its style. For
@@ -26,37 +26,19 @@ pub(crate) fn shared_people(
 {
     let mut shared = zeros(alloc, members.len())?;
     share_where(alloc, None, members, most, &mut shared)?;
+    share_where(alloc, Some(Rule::ByCite), members, most, &mut shared)?;
+    share_where(alloc, Some(Rule::AllNames), members, most, &mut shared)?;
     share_where(
         alloc,
-        Some(DisambiguationRule::ByCite),
+        Some(Rule::AllNamesWithInitials),
         members,
         most,
         &mut shared,
     )?;
+    share_where(alloc, Some(Rule::PrimaryName), members, most, &mut shared)?;
     share_where(
         alloc,
-        Some(DisambiguationRule::AllNames),
-        members,
-        most,
-        &mut shared,
-    )?;
-    share_where(
-        alloc,
-        Some(DisambiguationRule::AllNamesWithInitials),
-        members,
-        most,
-        &mut shared,
-    )?;
-    share_where(
-        alloc,
-        Some(DisambiguationRule::PrimaryName),
-        members,
-        most,
-        &mut shared,
-    )?;
-    share_where(
-        alloc,
-        Some(DisambiguationRule::PrimaryNameWithInitials),
+        Some(Rule::PrimaryNameWithInitials),
         members,
         most,
         &mut shared,
@@ -67,7 +49,7 @@ pub(crate) fn shared_people(
 /// The same of the cites whose style has a rule, if there are any.
 fn share_where(
     alloc: Global,
-    rule: Option<DisambiguationRule>,
+    rule: Option<Rule>,
     members: &[Member],
     most: usize,
     shared: &mut Vec<usize>,
@@ -84,7 +66,7 @@ fn share_where(
 }
 
 /// Whether the style of some cite has a rule.
-fn has_rule(rule: Option<DisambiguationRule>, members: &[Member]) -> bool
+fn has_rule(rule: Option<Rule>, members: &[Member]) -> bool
     ensures { result ≡ list_any (λ m. is_rule (rule_for (member_by m)) rule) members.now }
 {
     members.iter().any(|member| member.has_rule(rule))
@@ -93,7 +75,7 @@ fn has_rule(rule: Option<DisambiguationRule>, members: &[Member]) -> bool
 /// For each cite whose style has a rule the greatest number of first people, at most so many, that it shares with another one.
 fn share_by(
     alloc: Global,
-    rule: Option<DisambiguationRule>,
+    rule: Option<Rule>,
     members: &[Member],
     most: usize,
     shared: &mut Vec<usize>,
@@ -123,7 +105,7 @@ fn zeros(alloc: Global, count: usize) -> Result<Vec<usize>, AllocError>
 /// Groups of cites whose people up to a place are the same, from groups by the people before it. Each is known by its first cite.
 fn parted(
     alloc: Global,
-    rule: Option<DisambiguationRule>,
+    rule: Option<Rule>,
     members: &[Member],
     place: usize,
     groups: &[usize],
@@ -138,7 +120,7 @@ fn parted(
 /// The group of each cite, beside the name of its person at a place.
 fn keys<'m>(
     alloc: Global,
-    rule: Option<DisambiguationRule>,
+    rule: Option<Rule>,
     members: &'m [Member],
     place: usize,
     groups: &[usize],
@@ -156,7 +138,7 @@ fn keys<'m>(
 /// Whether each cite's style has a rule, and its people up to a place are those of another cite.
 fn are_sharing(
     alloc: Global,
-    rule: Option<DisambiguationRule>,
+    rule: Option<Rule>,
     members: &[Member],
     place: usize,
     groups: &[usize],
@@ -194,25 +176,21 @@ fn chosen(is_wanted: bool, number: usize, other: usize) -> usize
 
 impl<'a> Member<'a> {
     /// Whether its style has a rule.
-    fn has_rule(&self, rule: Option<DisambiguationRule>) -> bool
+    fn has_rule(&self, rule: Option<Rule>) -> bool
         ensures { result ≡ is_rule (rule_for (member_by self.now)) rule }
     {
         self.cite.cite.rule == rule
     }
 
     /// Whether its style has a rule, and it is one of several cites in a group of so many.
-    fn is_sharing(&self, rule: Option<DisambiguationRule>, size: usize) -> bool
+    fn is_sharing(&self, rule: Option<Rule>, size: usize) -> bool
         ensures { result ≡ (is_rule (rule_for (member_by self.now)) rule && nat_lt 1 size) }
     {
         self.has_rule(rule) && size > 1
     }
 
     /// The name of its person at a place, as a rule compares names.
-    fn compared_at(
-        &self,
-        rule: Option<DisambiguationRule>,
-        place: usize,
-    ) -> Option<ComparedName<'_>>
+    fn compared_at(&self, rule: Option<Rule>, place: usize) -> Option<ComparedName<'_>>
         ensures { option_map named result ≡ compared_at rule place (member_by self.now) }
     {
         match self.people.get(place) {

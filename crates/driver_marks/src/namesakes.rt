@@ -96,7 +96,7 @@ fn counts_by<'m>(
     part: NamePart,
     members: &'m [Member],
 ) -> Result<Tally<ComparedName<'m>>, AllocError>
-    ensures { IfOk result (λ t. IsCount part t.counts (all_people (members_by members.now))) }
+    ensures { IfOk result (λ t. IsCount part t (all_people (members_by members.now))) }
 {
     let names = names_by(alloc, part, members)?;
     Tally::new(alloc, names.as_slice())

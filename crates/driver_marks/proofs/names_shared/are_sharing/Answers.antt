@@ -14,8 +14,11 @@ loop-at-preserved c =
     let m = c.index-members-at.result in
     let seen : length ms ≡ length c.args.members.now = length-map c.args.members.now member_by in
     let low = c.loop-at-test.true in
-    let size : c.count.result ≡ _ = c.count.ensures ∙ c.in_ok-sizes.ensures _ in
-    push_step member_by (λ o. is_rule (rule_for o) rule && shares rule ms o c.args.place) c.args.members.now i m c.loop-at.sharing.items c.push.new.self.items c.is_sharing.result low c.index-members-at.is c.loop-at.invariant
-    (c.is_sharing.ensures
-    ∙ ap (λ b. is_rule (rule_for (member_by m)) rule && b) (shares_in_group rule ms c.args.place i (member_by m) c.args.groups.now c.count.result c.requires.order (omega (arith, seen, low)) (ap member_by c.index-members-at.is ∙ sym (get_or-map member_by c.args.members.now i m (member_by m) low)) c.requires.groups size))
-    c.in_ok-push.ensures.items
+    let size : c.count.result ≡ _ = c.count.ensures ∙ c.loop-at.invariant.sizes _ in
+    record {
+      sizes = c.loop-at.invariant.sizes;
+      sharing = push_step member_by (λ o. is_rule (rule_for o) rule && shares rule ms o c.args.place) c.args.members.now i m c.loop-at.sharing.items c.push.new.self.items c.is_sharing.result low c.index-members-at.is c.loop-at.invariant.sharing
+          (c.is_sharing.ensures
+          ∙ ap (λ b. is_rule (rule_for (member_by m)) rule && b) (shares_in_group rule ms c.args.place i (member_by m) c.args.groups.now c.count.result c.requires.order (omega (arith, seen, low)) (ap member_by c.index-members-at.is ∙ sym (get_or-map member_by c.args.members.now i m (member_by m) low)) c.requires.groups size))
+          c.in_ok-push.ensures.items;
+    }

@@ -1,8 +1,12 @@
-use Rattle.std.proofs.Common.{◌≡◌, ◌&&◌, map, take}
+use Rattle.std.proofs.Common.{◌≡◌, ◌&&◌, map, nat_eq, take}
+use Rattle.driver_marks.specs.Keys.{IsTally}
 use Rattle.driver_marks.specs.Names.{rule_for}
 use Rattle.driver_marks.specs.NamesViews.{members_by}
 use Rattle.driver_marks.specs.Shared.{is_rule, shares}
 use Rattle.driver_marks.proofs.names_shared.are_sharing.Given as goal
 
 abbrev pub invariant-loop-at : goal.invariant-loop-at
-invariant-loop-at l = l.sharing.items ≡ map (λ m. is_rule (rule_for m) l.rule && shares l.rule (members_by l.members) m l.place) (members_by (take l.at l.members))
+invariant-loop-at l = record {
+  sizes : IsTally nat_eq l.sizes l.groups;
+  sharing : l.sharing.items ≡ map (λ m. is_rule (rule_for m) l.rule && shares l.rule (members_by l.members) m l.place) (members_by (take l.at l.members));
+}

@@ -10,5 +10,5 @@ use Rattle.driver_marks.proofs.namesakes.counts_by.Goals as goal
 pub returns : goal.returns
 returns c =
     IfOk-weaker c.new.result _ _
-    (λ t tally. tally_counts c.args.part t.counts c.in_ok-names.names.items (all_people (members_by c.args.members.now)) c.in_ok-names.ensures (subst (λ names. IsTally name.ghosts.eq t.counts names) c.as_slice.ensures.value tally))
+    (λ t tally. tally_counts c.args.part t c.in_ok-names.names.items (all_people (members_by c.args.members.now)) c.in_ok-names.ensures (subst (λ names. IsTally name.ghosts.eq t names) c.as_slice.ensures.value tally))
     c.new.ensures

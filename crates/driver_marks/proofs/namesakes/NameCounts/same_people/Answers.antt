@@ -4,4 +4,4 @@ use Rattle.driver_marks.proofs.namesakes.NameCounts.same_people.Goals as goal
 
 pub returns : goal.returns
 returns c = λ all says.
-    part_counted parts.Whole c.args.self.now.whole.counts all c.part.result c.args.person.now c.count.result says.2 c.part.ensures c.count.ensures
+    part_counted parts.Whole c.args.self.now.whole all c.part.result c.args.person.now c.count.result says.2 c.part.ensures c.count.ensures

@@ -1,6 +1,6 @@
 use Rattle.driver_marks.specs.Keys.{counted}
 use Rattle.driver_marks.proofs.KeysAlike.{tally_step}
-use Rattle.driver_marks.proofs.same_keys.Tally.new.Goals as goal
+use Rattle.driver_marks.proofs.same_keys.counts_of.Goals as goal
 
 pub loop-key-preserved : goal.loop-key-preserved
 loop-key-preserved g c = λ q.

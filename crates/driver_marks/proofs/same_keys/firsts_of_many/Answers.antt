@@ -2,7 +2,7 @@ use Rattle.std.proofs.Common.{◌≡◌, ◌≤◌, ◌+◌, ◌∷◌, ◌++◌
 use Rattle.std.proofs.lemmas.List.{length-take-le, take_more}
 use Rattle.driver_requests.specs.Places.{IsIndex}
 use Rattle.driver_marks.proofs.KeysAlike.{firsts_step}
-use Rattle.driver_marks.proofs.same_keys.firsts.Goals as goal
+use Rattle.driver_marks.proofs.same_keys.firsts_of_many.Goals as goal
 
 pub loop-place-preserved : goal.loop-place-preserved
 loop-place-preserved g c =

@@ -1,7 +1,7 @@
 use Rattle.std.proofs.Common.{◌≡◌, map, take}
 use Rattle.std.specs.List.{position_or_len}
 use Rattle.driver_requests.specs.Places.{IsIndex}
-use Rattle.driver_marks.proofs.same_keys.firsts.Given as goal
+use Rattle.driver_marks.proofs.same_keys.firsts_of_many.Given as goal
 
 abbrev pub invariant-loop-place : goal.invariant-loop-place
 invariant-loop-place g l =
