@@ -76,7 +76,7 @@ def main():
         for name, authors in CASES.items():
             print(name)
             table = runs.table("author-date", "plain")
-            table.line(count, runs.write(count, writer(authors), draw_keys), True)
+            table.line(count, runs.write(count, writer(authors), draw_keys))
             rows[name] = table.rows[0]
             times = rows[name]["instructions"] / rows["nothing alike"]["instructions"]
             print(f"{times:.2f} times, {rows[name]['instructions'] / rows[name]['bytes']:.1f} instructions a byte")

@@ -20,7 +20,7 @@ WANTED = {"rate": 250, "memory": 15}
 def draw_keys(chance, count):
     """The keys of all markers."""
     for _ in range(MARKERS):
-        yield f"{chance.choice('abcd')}{4 * chance.randrange(count // 4)}"
+        yield mixed.draw_key(chance, count)
 
 
 def main():
@@ -29,7 +29,7 @@ def main():
         runs = FilterRuns(folder)
         for style in ("numeric", "author-date"):
             table = runs.table(style, "plain")
-            table.line(ENTRIES, runs.write(ENTRIES, mixed.write, draw_keys), True)
+            table.line(ENTRIES, runs.write(ENTRIES, mixed.write, draw_keys))
             rows[style] = table.rows[0]
             print(f"{style}: {table.rows[0]['instructions'] / table.rows[0]['bytes']:.1f} instructions a byte")
     results.record("few_markers", {"script": "few_markers.py", "markers": MARKERS, "rows": rows, "wanted": WANTED})

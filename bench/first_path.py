@@ -5,9 +5,9 @@
 
 The bib file has N books of five lines, 130 to 150 bytes each; the document has a marker for each 60 bytes, with keys drawn
 evenly. Both come of a fixed seed. For N = 1,000, 10,000 and 100,000 it prints the bytes of input, the instructions (by
-`valgrind --tool=callgrind`, for the smaller two), the seconds, and the peak memory less that of a run on two empty files.
-Then, from the smaller two: the instructions for each byte of input (the difference over the difference) and the growth
-exponent of the instructions.
+`valgrind --tool=callgrind`), the seconds, and the peak memory less that of a run on two empty files. Then the instructions
+for each byte of input between the smaller two (the difference over the difference), and the growth exponents of the
+instructions from each size to the next.
 """
 from measuring import WORDS, measure_filter, title
 

@@ -57,33 +57,41 @@ def instructions(words, folder, given=None, inside=None):
     sys.exit("callgrind gave no summary")
 
 
+def rate_between(small, large):
+    """The instructions for each byte by which one row is larger than another."""
+    return (large["instructions"] - small["instructions"]) / (large["bytes"] - small["bytes"])
+
+
+def growth_between(small, large):
+    """The exponent by which the instructions grow with the bytes from one row to another."""
+    return math.log(large["instructions"] / small["instructions"]) / math.log(large["bytes"] / small["bytes"])
+
+
 class Table:
-    """Measures a program at several sizes, prints a line for each, and at last the growth between the smaller two."""
+    """Measures a program at several sizes, prints a line for each, and at last the growth from each to the next."""
 
     def __init__(self, words, folder):
         self.words, self.folder, self.rows = words, folder, []
         self.empty, _ = peak_and_seconds(words)
         print(f"{'N':>7} {'bytes':>10} {'instructions':>14} {'seconds':>8} {'memory':>11} {'times input':>11}")
 
-    def line(self, count, size, is_counted=None):
-        """One size: the instructions, where they are counted, as those of the smaller sizes are; the seconds, and the memory less that of the
-        empty run."""
+    def line(self, count, size):
+        """One size: the instructions, the seconds, and the memory less that of the empty run."""
         peak, seconds = peak_and_seconds(self.words)
-        is_counted = count < 100_000 if is_counted is None else is_counted
-        ran = instructions(self.words, self.folder) if is_counted else None
+        ran = instructions(self.words, self.folder)
         more = peak - self.empty
         self.rows.append({"N": count, "bytes": size, "instructions": ran, "seconds": round(seconds, 2), "memory": more})
-        print(f"{count:>7} {size:>10} {ran or '-':>14} {seconds:>8.3f} {more:>11} {more / size:>11.2f}")
+        print(f"{count:>7} {size:>10} {ran:>14} {seconds:>8.3f} {more:>11} {more / size:>11.2f}", flush=True)
 
     def found(self):
-        """The rows with the instructions for each byte and the growth exponent, which are printed."""
-        small, large = [row for row in self.rows if row["instructions"]]
-        few, many = small["instructions"], large["instructions"]
-        rate = (many - few) / (large["bytes"] - small["bytes"])
-        exponent = math.log(many / few) / math.log(large["bytes"] / small["bytes"])
+        """The rows with the instructions for each byte between the smaller two, and the growth exponents from each to the next, which are
+        printed."""
+        pairs = list(zip(self.rows, self.rows[1:]))
+        rate = rate_between(*pairs[0])
+        exponents = [round(growth_between(*pair), 4) for pair in pairs]
         print(f"instructions a byte: {rate:.1f}")
-        print(f"growth exponent: {exponent:.4f}")
-        return {"rows": self.rows, "rate": round(rate), "exponent": round(exponent, 4)}
+        print("growth exponents:", *(f"{exponent:.4f}" for exponent in exponents))
+        return {"rows": self.rows, "rate": round(rate, 1), "exponents": exponents}
 
     def finish(self, name, wanted):
         """Writes down what was found, with the figures that are wanted."""
@@ -113,19 +121,19 @@ class FilterRuns:
             open(path, "w").close()
         return Table(self.words(style, kind), self.folder)
 
-    def write(self, count, write_bib, draw_keys):
-        """Writes a bib file of so many entries, and a document with a marker for each key that is drawn; gives the bytes of both."""
+    def write(self, count, write_bib, draw_keys, document=document):
+        """Writes a bib file of so many entries, and a document that cites the keys that are drawn; gives the bytes of both."""
         chance = random.Random(count)
         write_bib(self.bib, chance, count)
         with open(self.text, "w") as out:
             out.write(document(chance, draw_keys(chance, count)))
         return os.path.getsize(self.bib) + os.path.getsize(self.text)
 
-    def measured(self, style, kind, sizes, write_bib, draw_keys):
+    def measured(self, style, kind, sizes, write_bib, draw_keys, document=document):
         """What is found at sizes."""
         table = self.table(style, kind)
         for count in sizes:
-            table.line(count, self.write(count, write_bib, draw_keys))
+            table.line(count, self.write(count, write_bib, draw_keys, document))
         return table.found()
 
 

@@ -65,3 +65,14 @@ def write(path, chance, count):
         for place in range(JOURNALS):
             out.write(f"@string{{journal{place} = {{Journal of {title(chance)}}}}}\n")
         out.writelines(entries(chance, count))
+
+
+def draw_key(chance, count):
+    """The key of one of so many entries."""
+    return f"{chance.choice('abcd')}{4 * chance.randrange(count // 4)}"
+
+
+def draw_keys(chance, count):
+    """As many keys as there are entries."""
+    for _ in range(count):
+        yield draw_key(chance, count)

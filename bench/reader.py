@@ -5,9 +5,9 @@
 
 The bib file has abbreviations for journals, and of each four entries two articles, a book, and a chapter that refers to a book
 by `crossref`; with accents, groups, verbatim addresses and about 300 bytes an entry. It comes of a fixed seed. For N = 1,000,
-10,000 and 100,000 it prints the bytes of input, the instructions (by `valgrind --tool=callgrind`, for the smaller two), the
-seconds, and the peak memory less that of a run on an empty file. Then, from the smaller two: the instructions for each byte of
-input and the growth exponent of the instructions.
+10,000 and 100,000 it prints the bytes of input, the instructions (by `valgrind --tool=callgrind`), the seconds, and the peak
+memory less that of a run on an empty file. Then the instructions for each byte of input between the smaller two, and the growth
+exponents of the instructions from each size to the next.
 """
 import os
 import random

@@ -12,7 +12,8 @@ HEAD = """# Cost
 
 The scripts under bench/ make their input from a fixed seed, run a built program on it, and write this page. Instructions are counted
 by `valgrind --tool=callgrind`; memory is the peak of the process less that of a run on empty files. Instructions for each byte of input
-and the growth exponent are those between the smaller two sizes. Seconds tell of the machine and of what else it did.
+are those between the smaller two sizes, growth exponents those of the instructions from each size to the next. Seconds tell of the machine
+and of what else it did.
 """
 
 FILTER = """## The filter
@@ -22,6 +23,13 @@ FILTER = """## The filter
 `cite` on a BibLaTeX file of N mixed entries, 335 bytes each, and a document with N markers, one for each 60 bytes, whose keys are drawn evenly.
 Of four entries two are articles in journals that have abbreviations, one is a book, and one a chapter that refers to it; with accents, groups,
 verbatim addresses and math.
+"""
+
+ONE = """## Many cites in one marker
+
+    bench/one_marker.py
+
+`cite` on a BibLaTeX file of N of the same entries and a line with one marker of N cites, whose keys are drawn evenly.
 """
 
 FEW = """## A large file of which little is cited
@@ -95,8 +103,8 @@ def record(name, found):
 
 
 def number(value):
-    """A number with its thousands parted; a dash where there is none."""
-    return "-" if value is None else f"{value:,}"
+    """A number with its thousands parted."""
+    return f"{value:,}"
 
 
 def measured(found):
@@ -113,7 +121,7 @@ def size_table(name, found):
         for row in found["rows"]
     ]
     bounds = found["wanted"]
-    said = f"{found['rate']} instructions for each byte of input, growth exponent {found['exponent']}."
+    said = f"{found['rate']} instructions for each byte of input, growth exponents {' and '.join(map(str, found['exponents']))}."
     if bounds:
         said += f" Wanted: at most {bounds['rate']}, at most {bounds['exponent']}, and memory at most {bounds['memory']} times the input."
     return "\n".join([
@@ -137,28 +145,40 @@ def per_byte(row):
     return f"{row['instructions'] / row['bytes']:.0f}", f"{row['memory'] / row['bytes']:.1f}"
 
 
-def filter_table(found):
-    """The part of the page about the filter in each style and format."""
+def runs_of(found):
+    """The tables of a script that measures three sizes in several styles and formats."""
     rows = []
     for name, run in found["runs"].items():
         for row in run["rows"]:
             rows.append(f"| {name} | {number(row['N'])} | {number(row['bytes'])} | {number(row['instructions'])} | {row['seconds']} | {number(row['memory'])} "
                         f"| {row['memory'] / row['bytes']:.1f} |")
-    rates = [f"| {name} | {run['rate']} | {run['exponent']} |" for name, run in found["runs"].items()]
-    wanted = found["wanted"]
-    return "\n".join([
-        FILTER,
+    rates = [f"| {name} | {run['rate']} | {' | '.join(map(str, run['exponents']))} |" for name, run in found["runs"].items()]
+    return [
         "| style, format | N | bytes of input | instructions | seconds | memory | times the input |",
         "|---|---|---|---|---|---|---|",
         *rows,
         "",
-        "| style, format | instructions for each byte of input | growth exponent |",
-        "|---|---|---|",
+        "| style, format | instructions for each byte of input | growth exponent from 1,000 to 10,000 | from 10,000 to 100,000 |",
+        "|---|---|---|---|",
         *rates,
         "",
+    ]
+
+
+def filter_table(found):
+    """The part of the page about the filter in each style and format."""
+    wanted = found["wanted"]
+    return "\n".join([
+        FILTER,
+        *runs_of(found),
         f"Wanted: at most {wanted['rate']}, at most {wanted['exponent']}, and memory at most {wanted['memory']} times the input. {measured(found)}",
         "",
     ])
+
+
+def one_table(found):
+    """The part of the page about many cites in one marker."""
+    return "\n".join([ONE, *runs_of(found), measured(found), ""])
 
 
 def few_table(found):
@@ -198,7 +218,7 @@ def alike_table(found):
     ])
 
 
-PARTS = {"filter": filter_table, "few_markers": few_table, "alike": alike_table}
+PARTS = {"filter": filter_table, "one_marker": one_table, "few_markers": few_table, "alike": alike_table}
 
 
 def deep_table(found):
