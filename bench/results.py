@@ -48,6 +48,14 @@ author, which letters tell apart; in pairs, of which every other one needs lette
 where the second ones tell them apart.
 """
 
+BLOCKS = """## Names that print alike in one citation
+
+    bench/blocks.py
+
+A case of N books by N people of one family name, and of one marker that cites all of them, by a style that prints family names and gathers the
+cites of the same people: each cite is a block by itself.
+"""
+
 TABLES = {
     "books": ("Plain books", """`cite` on books of five lines of 130 to 150 bytes in all, and a document with a marker for each 60 bytes, keys drawn evenly."""),
     "reader": ("The reader", """`bib_show` on the file of mixed entries."""),
@@ -218,7 +226,21 @@ def alike_table(found):
     ])
 
 
-PARTS = {"filter": filter_table, "one_marker": one_table, "few_markers": few_table, "alike": alike_table}
+def blocks_table(found):
+    """The part of the page about names that print alike in one citation."""
+    rows = [f"| {number(row['N'])} | {number(row['bytes'])} | {number(row['instructions'])} | {row['seconds']} |" for row in found["rows"]]
+    return "\n".join([
+        BLOCKS,
+        "| N | bytes of the case | instructions | seconds |",
+        "|---|---|---|---|",
+        *rows,
+        "",
+        f"Growth exponent {found['exponent']}. {measured(found)}",
+        "",
+    ])
+
+
+PARTS = {"filter": filter_table, "one_marker": one_table, "few_markers": few_table, "alike": alike_table, "blocks": blocks_table}
 
 
 def deep_table(found):

@@ -1,4 +1,4 @@
--- Blocks that are found by what their names print.
+-- Blocks that are found by the names of their people.
 use Rattle.std.proofs.Common.{◌≡◌, ℕ, suc, ◌+◌, ◌<◌, ◌≤◌, Bool, true, false, true≢false, cond, List, [], ◌∷◌, ◌++◌, All, length, get_or, refl, sym, ap, ◌∙◌, arith, append-nil, Option, Some, None}
 use Rattle.std.specs.Prelude.{find}
 use Rattle.std.specs.Option.{option_map, option_map_or}
@@ -7,14 +7,13 @@ use Rattle.std.proofs.lemmas.List.Elements.{All-cons, All-nil}
 use Rattle.std.proofs.lemmas.Slice.Eq.{bytes_eq-Decides}
 use Rattle.laws.specs.Text.{text}
 use Rattle.rendering_tree.specs.Trees.{Element}
-use Rattle.rendering_tree.specs.Writing.{plain_element_text}
 use Rattle.rendering_tree.proofs.SameDecided.{elements_are_one}
 use Rattle.driver_blocks.specs.Blocks.{Gathered, are_same_names, is_of_block}
-use Rattle.driver_blocks.specs.Indexed.{names_text, places_of, prints}
+use Rattle.driver_blocks.specs.Indexed.{is_named, names_text, people_text, places_of}
 use Rattle.driver_blocks.specs.Views.{first_taking, put_in, takes}
 
 abbrev spelled : Element → List ℕ
-spelled e = text (plain_element_text e)
+spelled e = text (people_text e.meta)
 
 same_text : (m o : Option Element) (q : List ℕ) → are_same_names m o ≡ true → option_map spelled o ≡ Some q → option_map_or (bytes_eq q) (option_map spelled m) false ≡ true
 same_text None o q h is = absurd (true≢false (sym h))
@@ -30,10 +29,10 @@ no_names (Some e) None is = refl
 no_names (Some e) (Some f) is = cc
 
 module _ {X : Type 0} (x : Gathered X) where
-  -- the names of a block that takes a cite print what its names print
-  takes_printed : (q : List ℕ) → names_text x ≡ Some q → (b : List (Gathered X)) → takes is_of_block b x ≡ true → prints q b ≡ true
-  takes_printed q is [] h = absurd (true≢false (sym h))
-  takes_printed q is (y ∷ ys) h = same_text y.names x.names q h is
+  -- the people of a block that takes a cite have the names of its people
+  takes_named : (q : List ℕ) → names_text x ≡ Some q → (b : List (Gathered X)) → takes is_of_block b x ≡ true → is_named q b ≡ true
+  takes_named q is [] h = absurd (true≢false (sym h))
+  takes_named q is (y ∷ ys) h = same_text y.names x.names q h is
 
   takes_none : names_text x ≡ None → (b : List (Gathered X)) → takes is_of_block b x ≡ false
   takes_none is [] = refl
@@ -56,15 +55,15 @@ module _ {X : Type 0} (x : Gathered X) where
   found_from q is all n (b ∷ bs) at =
       let first : n + 0 ≡ n = omega arith in
       let here : get_or all n [] ≡ b = ap (λ j. get_or all j []) (sym first) ∙ at 0 in
-      found_by (λ p. takes is_of_block (get_or all p []) x) n (places_of q (n + 1) bs) (first_taking is_of_block x (n + 1) bs) (prints q b) (takes is_of_block b x)
-      (takes_printed q is b) (ap (λ c. takes is_of_block c x) here)
+      found_by (λ p. takes is_of_block (get_or all p []) x) n (places_of q (n + 1) bs) (first_taking is_of_block x (n + 1) bs) (is_named q b) (takes is_of_block b x)
+      (takes_named q is b) (ap (λ c. takes is_of_block c x) here)
       (found_from q is all (n + 1) bs (λ k. let next : n + 1 + k ≡ n + suc k = omega arith in ap (λ j. get_or all j []) next ∙ at (suc k)))
 
-  -- the first block that takes a cite is among those whose names print the same
+  -- the first block that takes a cite is among those whose people have the names of its people
   pub found : (q : List ℕ) → names_text x ≡ Some q → (bs : List (List (Gathered X))) → find (λ p. takes is_of_block (get_or bs p []) x) (places_of q 0 bs) ≡ first_taking is_of_block x 0 bs
   found q is bs = found_from q is bs 0 bs (λ k. let same : 0 + k ≡ k = omega arith in ap (λ j. get_or bs j []) same)
 
-  joined : (q : List ℕ) (b : List (Gathered X)) → takes is_of_block b x ≡ true → prints q (b ++ x ∷ []) ≡ prints q b
+  joined : (q : List ℕ) (b : List (Gathered X)) → takes is_of_block b x ≡ true → is_named q (b ++ x ∷ []) ≡ is_named q b
   joined q [] h = absurd (true≢false (sym h))
   joined q (y ∷ ys) h = refl
 
@@ -73,9 +72,9 @@ module _ {X : Type 0} (x : Gathered X) where
       → cond t (Some n) (first_taking is_of_block x (n + 1) bs) ≡ Some i
       → places_of q n (cond t ((b ++ x ∷ []) ∷ bs) (b ∷ put_in is_of_block x bs)) ≡ places_of q n (b ∷ bs)
   put_same q i n b bs true h on is = ap (λ p. cond p (n ∷ places_of q (n + 1) bs) (places_of q (n + 1) bs)) (joined q b h)
-  put_same q i n b bs false h on is = ap (λ ps. cond (prints q b) (n ∷ ps) ps) (on is)
+  put_same q i n b bs false h on is = ap (λ ps. cond (is_named q b) (n ∷ ps) ps) (on is)
 
-  -- a block that takes a cite prints what it printed
+  -- the people of a block that takes a cite have the names that they had
   pub places_same : (q : List ℕ) (i n : ℕ) (bs : List (List (Gathered X))) → first_taking is_of_block x n bs ≡ Some i → places_of q n (put_in is_of_block x bs) ≡ places_of q n bs
   places_same q i n [] is = cc
   places_same q i n (b ∷ bs) is = put_same q i n b bs (takes is_of_block b x) refl (places_same q i (n + 1) bs) is
@@ -84,14 +83,14 @@ module _ {X : Type 0} (x : Gathered X) where
   onto_more true n ps more = refl
   onto_more false n ps more = refl
 
-  places_last : (q : List ℕ) (n : ℕ) (bs : List (List (Gathered X))) → places_of q n (bs ++ (x ∷ []) ∷ []) ≡ places_of q n bs ++ cond (prints q (x ∷ [])) ((n + length bs) ∷ []) []
-  places_last q n [] = let first : n ≡ n + 0 = omega arith in ap (λ j. cond (prints q (x ∷ [])) (j ∷ []) []) first
+  places_last : (q : List ℕ) (n : ℕ) (bs : List (List (Gathered X))) → places_of q n (bs ++ (x ∷ []) ∷ []) ≡ places_of q n bs ++ cond (is_named q (x ∷ [])) ((n + length bs) ∷ []) []
+  places_last q n [] = let first : n ≡ n + 0 = omega arith in ap (λ j. cond (is_named q (x ∷ [])) (j ∷ []) []) first
   places_last q n (b ∷ bs) =
       let next : n + 1 + length bs ≡ n + suc (length bs) = omega arith in
-      ap (λ ps. cond (prints q b) (n ∷ ps) ps) (places_last q (n + 1) bs ∙ ap (λ j. places_of q (n + 1) bs ++ cond (prints q (x ∷ [])) (j ∷ []) []) next)
-      ∙ onto_more (prints q b) n (places_of q (n + 1) bs) (cond (prints q (x ∷ [])) ((n + suc (length bs)) ∷ []) [])
+      ap (λ ps. cond (is_named q b) (n ∷ ps) ps) (places_last q (n + 1) bs ∙ ap (λ j. places_of q (n + 1) bs ++ cond (is_named q (x ∷ [])) (j ∷ []) []) next)
+      ∙ onto_more (is_named q b) n (places_of q (n + 1) bs) (cond (is_named q (x ∷ [])) ((n + suc (length bs)) ∷ []) [])
 
-  -- the places of blocks after a new one whose names print a text
+  -- the places of blocks after a new one whose people have these names
   pub places_new : (q t : List ℕ) (n : ℕ) (bs : List (List (Gathered X))) → names_text x ≡ Some t → n ≡ length bs
       → places_of q 0 (bs ++ (x ∷ []) ∷ []) ≡ places_of q 0 bs ++ cond (bytes_eq q t) (n ∷ []) []
   places_new q t n bs is last =
@@ -112,7 +111,7 @@ within q n m [] le = All-nil (λ p. p < m)
 within {X} q n m (b ∷ bs) le =
     let less : n < m = omega (arith, le) in
     let on : n + 1 + length bs ≤ m = omega (arith, le) in
-    within_by m n (places_of q (n + 1) bs) (prints q b) less (within q (n + 1) m bs on)
+    within_by m n (places_of q (n + 1) bs) (is_named q b) less (within q (n + 1) m bs on)
 
 -- the places of blocks are below their number
 pub places_within : {X : Type 0} (q : List ℕ) (bs : List (List (Gathered X))) (m : ℕ) → length bs ≡ m → All (λ p. p < m) (places_of q 0 bs)

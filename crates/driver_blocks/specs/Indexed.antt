@@ -1,35 +1,50 @@
--- Blocks under what their names print.
+-- Blocks under the names of their people.
 use Rattle.std.specs.Global.{Global}
-use Rattle.std.specs.Prelude.{◌≡◌, ℕ, ◌+◌, Bool, false, List, [], ◌∷◌, if◌then◌else◌, Option, None, Vec, String}
+use Rattle.std.specs.Prelude.{◌≡◌, ℕ, ◌+◌, Bool, false, List, [], ◌∷◌, ◌++◌, if◌then◌else◌, unwrap_or, Option, Some, None, Vec, String}
 use Rattle.std.specs.HashMap.{HashMap, get_by_text}
+use Rattle.std.specs.List.{flat_map}
 use Rattle.std.specs.Option.{option_map, option_map_or}
 use Rattle.std.specs.Str.{bytes_eq}
 use Rattle.laws.specs.Text.{text}
-use Rattle.rendering_tree.specs.Writing.{plain_element_text}
+use Rattle.literature_values.specs.PersonViews.{Named}
+use Rattle.rendering_tree.specs.Metas.{Answered, Meta, Names}
 use Rattle.driver_blocks.specs.Blocks.{Gathered}
 
--- what the names of a cite print, in plain text
-abbrev pub names_text : {X : Type 0} → Gathered X → Option (List ℕ)
-names_text x = option_map (λ e. text (plain_element_text e)) x.names
+-- all parts of a name
+abbrev pub name_text : Named → List ℕ
+name_text p = p.name ++ unwrap_or p.given_name [] ++ unwrap_or p.prefix [] ++ unwrap_or p.suffix []
 
--- what the names of the first cite of a block print
+-- the names of the people of variables
+abbrev pub names_in : List Answered → List ℕ
+names_in answered = flat_map (λ a. flat_map name_text a.0) answered
+
+-- the names of all people that an element stands for
+abbrev pub people_text : Option Meta → List ℕ
+people_text (Some (Names answered)) = names_in answered
+people_text m = []
+
+-- the names of the people of a cite, where it prints names
+abbrev pub names_text : {X : Type 0} → Gathered X → Option (List ℕ)
+names_text x = option_map (λ e. text (people_text e.meta)) x.names
+
+-- the names of the people of the first cite of a block
 abbrev pub block_text : {X : Type 0} → List (Gathered X) → Option (List ℕ)
 block_text [] = None
 block_text (x ∷ xs) = names_text x
 
--- whether the names of a block print that text
-abbrev pub prints : {X : Type 0} → List ℕ → List (Gathered X) → Bool
-prints q b = option_map_or (bytes_eq q) (block_text b) false
+-- whether the people of a block have those names
+abbrev pub is_named : {X : Type 0} → List ℕ → List (Gathered X) → Bool
+is_named q b = option_map_or (bytes_eq q) (block_text b) false
 
--- the places of blocks whose names print that text, where the first block has that number
+-- the places of blocks whose people have those names, where the first block has that number
 abbrev pub places_of : {X : Type 0} → List ℕ → ℕ → List (List (Gathered X)) → List ℕ
 places_of q n [] = []
-places_of q n (b ∷ bs) = if prints q b then n ∷ places_of q (n + 1) bs else places_of q (n + 1) bs
+places_of q n (b ∷ bs) = if is_named q b then n ∷ places_of q (n + 1) bs else places_of q (n + 1) bs
 
 -- the places under a text
 abbrev pub under : {S : Type 0} → HashMap (String Global) (Vec ℕ Global) S → List ℕ → List ℕ
 under index q = option_map_or (λ (v : Vec ℕ Global). v.items) (get_by_text index q) []
 
--- a map has of each text the places of the blocks whose names print it
+-- a map has of each text the places of the blocks whose people have these names
 abbrev pub IsIndex : {S X : Type 0} → HashMap (String Global) (Vec ℕ Global) S → List (List (Gathered X)) → Type 0
 IsIndex index bs = (q : List ℕ) → under index q ≡ places_of q 0 bs

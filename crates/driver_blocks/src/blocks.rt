@@ -2,17 +2,15 @@
 
 ghost use Rattle.std.specs.Prelude.{◌≡◌, ◌<◌, ◌∷◌, ◌++◌, ℕ, All, List, [], Some, IfOk, OnOk, bytes_eq, find, if◌then◌else◌, length, map, slice_index_or, string_bytes};
 ghost use Rattle.std.specs.Option.{option_map};
-ghost use Rattle.laws.specs.Text.{text};
 ghost use Rattle.rendering_style.specs.Views.{citation_seen};
-ghost use Rattle.rendering_tree.specs.Views.{element};
-ghost use Rattle.rendering_tree.specs.Writing.{plain_element_text};
 ghost use Rattle.driver_blocks.specs.Blocks.{blocks, gathered, gathers, is_of_block};
 ghost use Rattle.driver_blocks.specs.Indexed.{IsIndex, names_text, under};
 ghost use Rattle.driver_blocks.specs.Views.{blocks_seen, first_taking, gathered_seen, put_in, takes};
 
 use crate::cite::Gathered;
+use crate::people::people_text;
 use rendering_style::Citation;
-use rendering_tree::{Elem, are_equal_elements};
+use rendering_tree::are_equal_elements;
 use std::alloc::{AllocError, Global};
 use std::collections::HashMap;
 
@@ -62,8 +60,8 @@ fn alone<'a>(alloc: Global, cite: Gathered<'a>) -> Result<Vec<Gathered<'a>>, All
     Ok(block)
 }
 
-/// Cites gathered in order, those of the same names at the first of them. A cite is compared with those blocks alone whose names print
-/// the same text.
+/// Cites gathered in order, those of the same names at the first of them. A cite is compared with those blocks alone whose people have
+/// the names of its people.
 fn gather<'a>(alloc: Global, cites: &[Gathered<'a>]) -> Result<Vec<Vec<Gathered<'a>>>, AllocError>
     ensures { IfOk result (λ v. blocks_seen v.items ≡ gathered is_of_block (map gathered_seen cites.now)) }
 {
@@ -92,7 +90,7 @@ fn put<'a>(
     }
 }
 
-/// Puts a cite whose names print a text into the block of its names, or else after all blocks.
+/// Puts a cite whose people have these names into the block of its names, or else after all blocks.
 fn put_named<'a>(
     alloc: Global,
     cite: Gathered<'a>,
@@ -127,24 +125,17 @@ fn put_alone<'a>(
     Ok(())
 }
 
-/// What the names of a cite print, in plain text.
+/// The names of the people of a cite, if it prints names.
 fn names_text(alloc: Global, cite: &Gathered) -> Result<Option<String>, AllocError>
     ensures { IfOk result (λ t. option_map string_bytes t ≡ names_text (gathered_seen cite.now)) }
 {
     match cite.names {
-        Some(names) => Ok(Some(plain_text(alloc, names)?)),
+        Some(names) => Ok(Some(people_text(alloc, &names.meta)?)),
         None => Ok(None),
     }
 }
 
-/// An element in plain text.
-fn plain_text(alloc: Global, names: &Elem) -> Result<String, AllocError>
-    ensures { IfOk result (λ t. string_bytes t ≡ text (plain_element_text (element names.now))) }
-{
-    names.to_string(alloc)
-}
-
-/// Adds the place of a block whose names print a text.
+/// Adds the place of a block whose people have these names.
 fn add(
     index: &mut HashMap<String, Vec<usize>>,
     text: String,
@@ -156,7 +147,7 @@ fn add(
     Ok(())
 }
 
-/// The place of the first block that takes a cite whose names print a text.
+/// The place of the first block that takes a cite whose people have these names.
 fn block_taking(
     index: &HashMap<String, Vec<usize>>,
     text: &str,

@@ -5,6 +5,7 @@ mod arranging;
 mod blocks;
 mod cite;
 mod numbers;
+mod people;
 mod rows;
 mod suffixes;
 mod years;
