@@ -1,19 +1,18 @@
--- Blocks that are found by the names of their people.
+-- Blocks that are found by what their names print and name.
 use Rattle.std.proofs.Common.{◌≡◌, ℕ, suc, ◌+◌, ◌<◌, ◌≤◌, Bool, true, false, true≢false, cond, List, [], ◌∷◌, ◌++◌, All, length, get_or, refl, sym, ap, ◌∙◌, arith, append-nil, Option, Some, None}
 use Rattle.std.specs.Prelude.{find}
 use Rattle.std.specs.Option.{option_map, option_map_or}
 use Rattle.std.specs.Str.{bytes_eq}
 use Rattle.std.proofs.lemmas.List.Elements.{All-cons, All-nil}
 use Rattle.std.proofs.lemmas.Slice.Eq.{bytes_eq-Decides}
-use Rattle.laws.specs.Text.{text}
 use Rattle.rendering_tree.specs.Trees.{Element}
 use Rattle.rendering_tree.proofs.SameDecided.{elements_are_one}
 use Rattle.driver_blocks.specs.Blocks.{Gathered, are_same_names, is_of_block}
-use Rattle.driver_blocks.specs.Indexed.{is_named, names_text, people_text, places_of}
+use Rattle.driver_blocks.specs.Indexed.{is_named, names_key, names_text, places_of}
 use Rattle.driver_blocks.specs.Views.{first_taking, put_in, takes}
 
 abbrev spelled : Element → List ℕ
-spelled e = text (people_text e.meta)
+spelled e = names_key e
 
 same_text : (m o : Option Element) (q : List ℕ) → are_same_names m o ≡ true → option_map spelled o ≡ Some q → option_map_or (bytes_eq q) (option_map spelled m) false ≡ true
 same_text None o q h is = absurd (true≢false (sym h))
@@ -29,7 +28,7 @@ no_names (Some e) None is = refl
 no_names (Some e) (Some f) is = cc
 
 module _ {X : Type 0} (x : Gathered X) where
-  -- the people of a block that takes a cite have the names of its people
+  -- the names of a block that takes a cite print and name what its names do
   takes_named : (q : List ℕ) → names_text x ≡ Some q → (b : List (Gathered X)) → takes is_of_block b x ≡ true → is_named q b ≡ true
   takes_named q is [] h = absurd (true≢false (sym h))
   takes_named q is (y ∷ ys) h = same_text y.names x.names q h is
@@ -59,7 +58,7 @@ module _ {X : Type 0} (x : Gathered X) where
       (takes_named q is b) (ap (λ c. takes is_of_block c x) here)
       (found_from q is all (n + 1) bs (λ k. let next : n + 1 + k ≡ n + suc k = omega arith in ap (λ j. get_or all j []) next ∙ at (suc k)))
 
-  -- the first block that takes a cite is among those whose people have the names of its people
+  -- the first block that takes a cite is among those whose names print and name the same
   pub found : (q : List ℕ) → names_text x ≡ Some q → (bs : List (List (Gathered X))) → find (λ p. takes is_of_block (get_or bs p []) x) (places_of q 0 bs) ≡ first_taking is_of_block x 0 bs
   found q is bs = found_from q is bs 0 bs (λ k. let same : 0 + k ≡ k = omega arith in ap (λ j. get_or bs j []) same)
 
@@ -74,7 +73,7 @@ module _ {X : Type 0} (x : Gathered X) where
   put_same q i n b bs true h on is = ap (λ p. cond p (n ∷ places_of q (n + 1) bs) (places_of q (n + 1) bs)) (joined q b h)
   put_same q i n b bs false h on is = ap (λ ps. cond (is_named q b) (n ∷ ps) ps) (on is)
 
-  -- the people of a block that takes a cite have the names that they had
+  -- the names of a block that takes a cite print and name what they did
   pub places_same : (q : List ℕ) (i n : ℕ) (bs : List (List (Gathered X))) → first_taking is_of_block x n bs ≡ Some i → places_of q n (put_in is_of_block x bs) ≡ places_of q n bs
   places_same q i n [] is = cc
   places_same q i n (b ∷ bs) is = put_same q i n b bs (takes is_of_block b x) refl (places_same q i (n + 1) bs) is
@@ -90,7 +89,7 @@ module _ {X : Type 0} (x : Gathered X) where
       ap (λ ps. cond (is_named q b) (n ∷ ps) ps) (places_last q (n + 1) bs ∙ ap (λ j. places_of q (n + 1) bs ++ cond (is_named q (x ∷ [])) (j ∷ []) []) next)
       ∙ onto_more (is_named q b) n (places_of q (n + 1) bs) (cond (is_named q (x ∷ [])) ((n + suc (length bs)) ∷ []) [])
 
-  -- the places of blocks after a new one whose people have these names
+  -- the places of blocks after a new one whose names print and name a text
   pub places_new : (q t : List ℕ) (n : ℕ) (bs : List (List (Gathered X))) → names_text x ≡ Some t → n ≡ length bs
       → places_of q 0 (bs ++ (x ∷ []) ∷ []) ≡ places_of q 0 bs ++ cond (bytes_eq q t) (n ∷ []) []
   places_new q t n bs is last =

@@ -1,4 +1,4 @@
--- Blocks under the names of their people.
+-- Blocks under what their names print and the people that these name.
 use Rattle.std.specs.Global.{Global}
 use Rattle.std.specs.Prelude.{◌≡◌, ℕ, ◌+◌, Bool, false, List, [], ◌∷◌, ◌++◌, if◌then◌else◌, unwrap_or, Option, Some, None, Vec, String}
 use Rattle.std.specs.HashMap.{HashMap, get_by_text}
@@ -8,6 +8,8 @@ use Rattle.std.specs.Str.{bytes_eq}
 use Rattle.laws.specs.Text.{text}
 use Rattle.literature_values.specs.PersonViews.{Named}
 use Rattle.rendering_tree.specs.Metas.{Answered, Meta, Names}
+use Rattle.rendering_tree.specs.Trees.{Element}
+use Rattle.rendering_tree.specs.Writing.{plain_element_text}
 use Rattle.driver_blocks.specs.Blocks.{Gathered}
 
 -- all parts of a name
@@ -23,20 +25,24 @@ abbrev pub people_text : Option Meta → List ℕ
 people_text (Some (Names answered)) = names_in answered
 people_text m = []
 
--- the names of the people of a cite, where it prints names
-abbrev pub names_text : {X : Type 0} → Gathered X → Option (List ℕ)
-names_text x = option_map (λ e. text (people_text e.meta)) x.names
+-- what a names element prints, in plain text, and after it the names of all people that it stands for
+abbrev pub names_key : Element → List ℕ
+names_key e = text (plain_element_text e) ++ text (people_text e.meta)
 
--- the names of the people of the first cite of a block
+-- the same of a cite, where it prints names
+abbrev pub names_text : {X : Type 0} → Gathered X → Option (List ℕ)
+names_text x = option_map names_key x.names
+
+-- the same of the first cite of a block
 abbrev pub block_text : {X : Type 0} → List (Gathered X) → Option (List ℕ)
 block_text [] = None
 block_text (x ∷ xs) = names_text x
 
--- whether the people of a block have those names
+-- whether the names of a block print and name that
 abbrev pub is_named : {X : Type 0} → List ℕ → List (Gathered X) → Bool
 is_named q b = option_map_or (bytes_eq q) (block_text b) false
 
--- the places of blocks whose people have those names, where the first block has that number
+-- the places of blocks whose names print and name that, where the first block has that number
 abbrev pub places_of : {X : Type 0} → List ℕ → ℕ → List (List (Gathered X)) → List ℕ
 places_of q n [] = []
 places_of q n (b ∷ bs) = if is_named q b then n ∷ places_of q (n + 1) bs else places_of q (n + 1) bs
@@ -45,6 +51,6 @@ places_of q n (b ∷ bs) = if is_named q b then n ∷ places_of q (n + 1) bs els
 abbrev pub under : {S : Type 0} → HashMap (String Global) (Vec ℕ Global) S → List ℕ → List ℕ
 under index q = option_map_or (λ (v : Vec ℕ Global). v.items) (get_by_text index q) []
 
--- a map has of each text the places of the blocks whose people have these names
+-- a map has of each text the places of the blocks whose names print and name it
 abbrev pub IsIndex : {S X : Type 0} → HashMap (String Global) (Vec ℕ Global) S → List (List (Gathered X)) → Type 0
 IsIndex index bs = (q : List ℕ) → under index q ≡ places_of q 0 bs

@@ -8,7 +8,7 @@ ghost use Rattle.driver_blocks.specs.Indexed.{IsIndex, names_text, under};
 ghost use Rattle.driver_blocks.specs.Views.{blocks_seen, first_taking, gathered_seen, put_in, takes};
 
 use crate::cite::Gathered;
-use crate::people::people_text;
+use crate::people::names_key;
 use rendering_style::Citation;
 use rendering_tree::are_equal_elements;
 use std::alloc::{AllocError, Global};
@@ -60,8 +60,8 @@ fn alone<'a>(alloc: Global, cite: Gathered<'a>) -> Result<Vec<Gathered<'a>>, All
     Ok(block)
 }
 
-/// Cites gathered in order, those of the same names at the first of them. A cite is compared with those blocks alone whose people have
-/// the names of its people.
+/// Cites gathered in order, those of the same names at the first of them. A cite is compared with those blocks alone whose names print
+/// the same text and name the same people.
 fn gather<'a>(alloc: Global, cites: &[Gathered<'a>]) -> Result<Vec<Vec<Gathered<'a>>>, AllocError>
     ensures { IfOk result (λ v. blocks_seen v.items ≡ gathered is_of_block (map gathered_seen cites.now)) }
 {
@@ -90,7 +90,7 @@ fn put<'a>(
     }
 }
 
-/// Puts a cite whose people have these names into the block of its names, or else after all blocks.
+/// Puts a cite whose names print and name a text into the block of its names, or else after all blocks.
 fn put_named<'a>(
     alloc: Global,
     cite: Gathered<'a>,
@@ -125,17 +125,17 @@ fn put_alone<'a>(
     Ok(())
 }
 
-/// The names of the people of a cite, if it prints names.
+/// What the names of a cite print and name, if it prints names.
 fn names_text(alloc: Global, cite: &Gathered) -> Result<Option<String>, AllocError>
     ensures { IfOk result (λ t. option_map string_bytes t ≡ names_text (gathered_seen cite.now)) }
 {
     match cite.names {
-        Some(names) => Ok(Some(people_text(alloc, &names.meta)?)),
+        Some(names) => Ok(Some(names_key(alloc, names)?)),
         None => Ok(None),
     }
 }
 
-/// Adds the place of a block whose people have these names.
+/// Adds the place of a block whose names print and name a text.
 fn add(
     index: &mut HashMap<String, Vec<usize>>,
     text: String,
@@ -147,7 +147,7 @@ fn add(
     Ok(())
 }
 
-/// The place of the first block that takes a cite whose people have these names.
+/// The place of the first block that takes a cite whose names print and name a text.
 fn block_taking(
     index: &HashMap<String, Vec<usize>>,
     text: &str,
