@@ -8,7 +8,8 @@ use Rattle.std.proofs.lemmas.Slice.Eq.{bytes_eq-Decides}
 use Rattle.rendering_tree.specs.Trees.{Element}
 use Rattle.rendering_tree.proofs.SameDecided.{elements_are_one}
 use Rattle.driver_blocks.specs.Blocks.{Gathered, are_same_names, is_of_block}
-use Rattle.driver_blocks.specs.Indexed.{is_named, names_key, names_text, places_of}
+use Rattle.driver_blocks.specs.Indexed.{is_named, names_text, places_of}
+use Rattle.driver_blocks.specs.Key.{names_key}
 use Rattle.driver_blocks.specs.Views.{first_taking, put_in, takes}
 
 abbrev spelled : Element → List ℕ

@@ -1,35 +1,13 @@
 -- Blocks under what their names print and the people that these name.
 use Rattle.std.specs.Global.{Global}
-use Rattle.std.specs.Prelude.{◌≡◌, ℕ, ◌+◌, Bool, false, List, [], ◌∷◌, ◌++◌, if◌then◌else◌, unwrap_or, Option, Some, None, Vec, String}
+use Rattle.std.specs.Prelude.{◌≡◌, ℕ, ◌+◌, Bool, false, List, [], ◌∷◌, if◌then◌else◌, Option, Some, None, Vec, String}
 use Rattle.std.specs.HashMap.{HashMap, get_by_text}
-use Rattle.std.specs.List.{flat_map}
 use Rattle.std.specs.Option.{option_map, option_map_or}
 use Rattle.std.specs.Str.{bytes_eq}
-use Rattle.laws.specs.Text.{text}
-use Rattle.literature_values.specs.PersonViews.{Named}
-use Rattle.rendering_tree.specs.Metas.{Answered, Meta, Names}
-use Rattle.rendering_tree.specs.Trees.{Element}
-use Rattle.rendering_tree.specs.Writing.{plain_element_text}
 use Rattle.driver_blocks.specs.Blocks.{Gathered}
+use Rattle.driver_blocks.specs.Key.{names_key}
 
--- all parts of a name
-abbrev pub name_text : Named → List ℕ
-name_text p = p.name ++ unwrap_or p.given_name [] ++ unwrap_or p.prefix [] ++ unwrap_or p.suffix []
-
--- the names of the people of variables
-abbrev pub names_in : List Answered → List ℕ
-names_in answered = flat_map (λ a. flat_map name_text a.0) answered
-
--- the names of all people that an element stands for
-abbrev pub people_text : Option Meta → List ℕ
-people_text (Some (Names answered)) = names_in answered
-people_text m = []
-
--- what a names element prints, in plain text, and after it the names of all people that it stands for
-abbrev pub names_key : Element → List ℕ
-names_key e = text (plain_element_text e) ++ text (people_text e.meta)
-
--- the same of a cite, where it prints names
+-- what the names of a cite print and name, where it prints names
 abbrev pub names_text : {X : Type 0} → Gathered X → Option (List ℕ)
 names_text x = option_map names_key x.names
 

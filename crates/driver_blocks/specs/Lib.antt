@@ -3,3 +3,4 @@ pub mod Rows
 pub mod Collapsing
 pub mod Views
 pub mod Indexed
+pub mod Key

@@ -8,7 +8,7 @@ ghost use Rattle.driver_blocks.specs.Indexed.{IsIndex, names_text, under};
 ghost use Rattle.driver_blocks.specs.Views.{blocks_seen, first_taking, gathered_seen, put_in, takes};
 
 use crate::cite::Gathered;
-use crate::people::names_key;
+use crate::key::names_key;
 use rendering_style::Citation;
 use rendering_tree::are_equal_elements;
 use std::alloc::{AllocError, Global};

@@ -4,6 +4,7 @@
 mod arranging;
 mod blocks;
 mod cite;
+mod key;
 mod numbers;
 mod people;
 mod rows;

@@ -1,30 +1,21 @@
-//! What names print and the people that they name, under which blocks are looked up.
+//! The names of people.
 
-ghost use Rattle.std.specs.Prelude.{◌≡◌, ◌++◌, [], map, IfOk, OnOk, string_bytes, unwrap_or};
+ghost use Rattle.std.specs.Prelude.{◌≡◌, ◌++◌, [], map, OnOk, unwrap_or};
 ghost use Rattle.std.specs.List.{flat_map};
 ghost use Rattle.std.specs.Option.{option_map};
 ghost use Rattle.laws.specs.Text.{characters};
 ghost use Rattle.literature_values.specs.PersonViews.{person as person_seen};
-ghost use Rattle.rendering_tree.specs.Views.{answered as answered_seen, element, meaning};
-ghost use Rattle.driver_blocks.specs.Indexed.{name_text, names_in, names_key, people_text};
+ghost use Rattle.rendering_tree.specs.Views.{answered as answered_seen, meaning};
+ghost use Rattle.driver_blocks.specs.Key.{name_text, names_in, people_text};
 
 use literature_values::Person;
 use rendering_taxonomy::NameVariable;
-use rendering_tree::{Elem, ElemMeta};
-use std::alloc::{AllocError, Global};
+use rendering_tree::ElemMeta;
+use std::alloc::AllocError;
 use texts::push_text;
 
-/// What a names element prints, in plain text, and after it the names of all people that it stands for.
-pub(crate) fn names_key(alloc: Global, names: &Elem) -> Result<String, AllocError>
-    ensures { IfOk result (λ s. string_bytes s ≡ names_key (element names.now)) }
-{
-    let mut text = names.to_string(alloc)?;
-    push_meta(&mut text, &names.meta)?;
-    Ok(text)
-}
-
 /// Appends the names of all people that an element stands for.
-fn push_meta(text: &mut String, meta: &Option<ElemMeta>) -> Result<(), AllocError>
+pub(crate) fn push_people_of(text: &mut String, meta: &Option<ElemMeta>) -> Result<(), AllocError>
     ensures { OnOk result (characters text.new ≡ characters text.old ++ people_text (option_map meaning meta.now)) }
 {
     match meta {

@@ -1,7 +1,7 @@
 use Rattle.std.proofs.Common.{◌≡◌, ◌++◌, map, drop}
 use Rattle.laws.specs.Text.{characters}
 use Rattle.rendering_tree.specs.Views.{answered}
-use Rattle.driver_blocks.specs.Indexed.{names_in}
+use Rattle.driver_blocks.specs.Key.{names_in}
 use Rattle.driver_blocks.proofs.people.push_variables.Given as goal
 
 abbrev pub invariant-loop-people : goal.invariant-loop-people
