@@ -48,12 +48,13 @@ author, which letters tell apart; in pairs, of which every other one needs lette
 where the second ones tell them apart.
 """
 
-BLOCKS = """## Names that print alike in one citation
+BLOCKS = """## Blocks of one citation
 
     bench/blocks.py
 
-A case of N books by N people of one family name, and of one marker that cites all of them, by a style that prints family names and gathers the
-cites of the same people: each cite is a block by itself.
+A case of N books, and of one marker that cites all of them, by a style that prints family names, or an editor or a title in their place, and
+gathers the cites of the same names: each cite is a block by itself. The books are by N authors of one family name, or by N editors of one, or
+by nobody and of N titles, or of one title in which other letters are formulas.
 """
 
 TABLES = {
@@ -227,15 +228,18 @@ def alike_table(found):
 
 
 def blocks_table(found):
-    """The part of the page about names that print alike in one citation."""
-    rows = [f"| {number(row['N'])} | {number(row['bytes'])} | {number(row['instructions'])} | {row['seconds']} |" for row in found["rows"]]
+    """The part of the page about the blocks of one citation."""
+    rows = []
+    for name, run in found["runs"].items():
+        for row, growth in zip(run["rows"], ["", *run["exponents"]]):
+            rows.append(f"| {name} | {number(row['N'])} | {number(row['bytes'])} | {number(row['instructions'])} | {row['seconds']} | {growth} |")
     return "\n".join([
         BLOCKS,
-        "| N | bytes of the case | instructions | seconds |",
-        "|---|---|---|---|",
+        "| books | N | bytes of the case | instructions | seconds | growth exponent from the size before |",
+        "|---|---|---|---|---|---|",
         *rows,
         "",
-        f"Growth exponent {found['exponent']}. {measured(found)}",
+        measured(found),
         "",
     ])
 
