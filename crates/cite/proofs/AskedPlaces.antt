@@ -4,7 +4,7 @@ use Rattle.std.specs.List.{flat_map, enumerate_from}
 use Rattle.literature_entries.specs.Wholes.{Whole, whole}
 use Rattle.literature_entries.specs.declared.entry.Entry.{Entry}
 use Rattle.rendering_entries.specs.Library.{answers_of}
-use Rattle.rendering.specs.Purposes.{StyleContext}
+use Rattle.rendering_context.specs.Contexts.{StyleContext}
 use Rattle.driver_requests.specs.CitedEntries.{place_among}
 use Rattle.driver_requests.specs.Requests.{Item, Request}
 use Rattle.driver_requests.specs.Views.{entries_in, entries_of, item_by}

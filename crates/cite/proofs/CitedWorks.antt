@@ -17,7 +17,7 @@ use Rattle.literature_entries.specs.Wholes.{Whole}
 use Rattle.interop.specs.Bridge.{unless_faulty}
 use Rattle.interop.specs.Shelf.{key_of, is_xdata, all_faults, library_of}
 use Rattle.interop.proofs.ShelfKeys.{found_under}
-use Rattle.rendering.specs.Purposes.{StyleContext}
+use Rattle.rendering_context.specs.Contexts.{StyleContext}
 use Rattle.cite_markers.specs.Document.{Piece, Text, Marker}
 use Rattle.cite_markers.specs.Marker.{Cite}
 use Rattle.cite.specs.Cited.{entries_with, is_among, key_meant, keys_cited, keys_named, library_from, library_needed, works_of}

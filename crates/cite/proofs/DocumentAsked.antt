@@ -15,7 +15,7 @@ use Rattle.literature_entries.specs.contracts.entry.EntryPartialEq.TheImpl as en
 use Rattle.literature_selectors.specs.Trees.{Tree}
 use Rattle.interop.specs.Shelf.{key_of, is_xdata}
 use Rattle.rendering_entries.specs.Library.{answers_of}
-use Rattle.rendering.specs.Purposes.{StyleContext}
+use Rattle.rendering_context.specs.Contexts.{StyleContext}
 use Rattle.driver_requests.specs.CitedEntries.{place_among, places_among}
 use Rattle.driver_requests.specs.Views.{entries_in, entries_of, request_by}
 use Rattle.driver_requests.specs.declared.request.CitationRequest.{CitationRequest}

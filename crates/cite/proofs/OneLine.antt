@@ -22,7 +22,7 @@ use Rattle.interop.specs.DateFields.{field_name}
 use Rattle.interop.specs.declared.error.DateField.{DateField}
 use Rattle.interop.specs.declared.error.DateField.TheVariants as dates
 use Rattle.interop.proofs.FaultNames.{HoldsOfFaults, library_faults}
-use Rattle.rendering.specs.Purposes.{StyleContext}
+use Rattle.rendering_context.specs.Contexts.{StyleContext}
 use Rattle.cite_markers.specs.Document.{Piece, document_of}
 use Rattle.cite_markers.specs.Marker.{Cite}
 use Rattle.driver.specs.Finish.{finish}

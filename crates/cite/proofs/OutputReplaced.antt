@@ -12,7 +12,7 @@ use Rattle.laws.proofs.Results.{bind_ok, ok_is, test_ok}
 use Rattle.laws.proofs.Text.{text_of_chars}
 use Rattle.literature_entries.specs.Wholes.{Whole}
 use Rattle.rendering_output.specs.declared.writing.BufWriteFormat.{BufWriteFormat}
-use Rattle.rendering.specs.Purposes.{StyleContext}
+use Rattle.rendering_context.specs.Contexts.{StyleContext}
 use Rattle.driver.specs.Finish.{Citation, Rendered, finish}
 use Rattle.cite_markers.specs.Document.{Piece, Text, Marker, StandInOrder, document_of}
 use Rattle.cite_markers.specs.Marker.{Cite}

@@ -1,7 +1,7 @@
 -- Requests of pieces, one piece after the other.
 use Rattle.std.proofs.Common.{◌≡◌, List, [], ◌∷◌, Result, Ok, Err, sym, ap, ◌∙◌}
 use Rattle.laws.specs.Results.{◌>>=◌}
-use Rattle.rendering.specs.Purposes.{StyleContext}
+use Rattle.rendering_context.specs.Contexts.{StyleContext}
 use Rattle.cite_markers.specs.Document.{Piece}
 use Rattle.cite.specs.Asked.{AskedRequest, request_pushed, requests_after}
 use Rattle.cite.specs.Stages.{Refusal}

@@ -4,7 +4,7 @@ use Rattle.std.specs.Option.{option_map}
 use Rattle.literature_entries.specs.Wholes.{Whole, whole}
 use Rattle.literature_entries.specs.declared.entry.Entry.{Entry}
 use Rattle.laws.specs.Results.{◌>>=◌}
-use Rattle.rendering.specs.Purposes.{StyleContext}
+use Rattle.rendering_context.specs.Contexts.{StyleContext}
 use Rattle.rendering_taxonomy.specs.declared.cite.CitePurpose.{CitePurpose}
 use Rattle.driver_requests.specs.Requests.{SpecificLocator, note_number_in}
 use Rattle.driver_requests.specs.Views as driver

@@ -6,7 +6,7 @@ use Rattle.literature_entries.specs.Wholes.{Whole}
 use Rattle.rendering_entries.specs.Library.{answers_of}
 use Rattle.rendering_locale.specs.Locales.{Locale}
 use Rattle.rendering_style.specs.Styles.{Style}
-use Rattle.rendering.specs.Purposes.{StyleContext}
+use Rattle.rendering_context.specs.Contexts.{StyleContext}
 use Rattle.driver_requests.specs.CitedEntries.{place_among}
 use Rattle.driver_requests.specs.Requests.{Item, Request, SpecificLocator, written, note_number_in}
 use Rattle.cite_markers.specs.Marker.{CiteLocator}

@@ -4,7 +4,7 @@ use Rattle.laws.specs.Results.{◌>>=◌}
 use Rattle.laws.specs.Text.{text}
 use Rattle.literature_entries.specs.Wholes.{Whole}
 use Rattle.rendering_output.specs.declared.writing.BufWriteFormat.{BufWriteFormat}
-use Rattle.rendering.specs.Purposes.{StyleContext}
+use Rattle.rendering_context.specs.Contexts.{StyleContext}
 use Rattle.driver_requests.specs.CitedEntries.{places_among}
 use Rattle.cite_markers.specs.Document.{Piece}
 use Rattle.driver.specs.Documents.{Document}

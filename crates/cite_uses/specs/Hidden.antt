@@ -2,7 +2,7 @@
 use Rattle.std.specs.Prelude.{Bool, true, List, [], ◌∷◌, map, None}
 use Rattle.literature_entries.specs.Wholes.{whole}
 use Rattle.literature_entries.specs.declared.entry.Entry.{Entry}
-use Rattle.rendering.specs.Purposes.{StyleContext}
+use Rattle.rendering_context.specs.Contexts.{StyleContext}
 use Rattle.rendering_entries.specs.Library.{answers_of}
 use Rattle.rendering_locale.specs.Locales.{Locale}
 use Rattle.rendering_style.specs.Styles.{Style}

@@ -4,7 +4,7 @@ use Rattle.rendering_taxonomy.specs.Formats.{plain, unchanged}
 use Rattle.rendering_tree.specs.Trees.{Children, Text, Elem, Link, nothing, before}
 use Rattle.rendering_tree.specs.Writing.{plain_text}
 use Rattle.rendering_style.specs.Styles.{Layout}
-use Rattle.rendering.specs.Purposes.{StyleContext}
+use Rattle.rendering_context.specs.Contexts.{StyleContext}
 use Rattle.driver_requests.specs.Requests.{Request}
 use Rattle.driver.specs.Citations.{Shown, citation_of, end_of, suffixed}
 use Rattle.driver.specs.Standalone.{has_content, joined_alone}

@@ -15,7 +15,8 @@ use Rattle.rendering_tree.specs.Metas as metas
 use Rattle.rendering_tree.specs.Trees.{element_with, names_element}
 use Rattle.rendering.specs.Alike.{named_in_bibliography, style_named}
 use Rattle.rendering.specs.Purposes as purposes
-use Rattle.rendering.specs.Purposes.{StyleContext, bibliography, citation}
+use Rattle.rendering_context.specs.Contexts.{StyleContext}
+use Rattle.rendering.specs.Purposes.{bibliography, citation}
 use Rattle.rendering.proofs.CitesAlike.{cites_alike, items_alike}
 use Rattle.driver_requests.specs.Cites.{Cite, Numbered, cite_at, cites_after, cites_of, entry_of, properties_of}
 use Rattle.driver_requests.specs.Errors.{overflow}

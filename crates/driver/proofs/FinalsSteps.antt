@@ -12,7 +12,8 @@ use Rattle.rendering_taxonomy.specs.declared.cite.IbidState.TheVariants as ibids
 use Rattle.rendering_taxonomy.specs.declared.cite.IdentifierUsage.TheVariants as usages
 use Rattle.rendering_tree.specs.Trees.{Children}
 use Rattle.rendering.specs.Purposes as purposes
-use Rattle.rendering.specs.Purposes.{StyleContext, citation}
+use Rattle.rendering_context.specs.Contexts.{StyleContext}
+use Rattle.rendering.specs.Purposes.{citation}
 use Rattle.driver_requests.specs.Cites.{properties_of}
 use Rattle.driver_requests.specs.Positions.{ibid_after}
 use Rattle.driver_requests.specs.Requests.{Item, Request, plain_locator}

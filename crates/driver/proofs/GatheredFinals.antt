@@ -11,7 +11,7 @@ use Rattle.rendering_entries.specs.Answers.{Answers}
 use Rattle.rendering_style.specs.Styles.{Citation}
 use Rattle.rendering_tree.specs.Metas as metas
 use Rattle.rendering_tree.specs.Trees.{element_with, names_element}
-use Rattle.rendering.specs.Purposes.{StyleContext}
+use Rattle.rendering_context.specs.Contexts.{StyleContext}
 use Rattle.driver_requests.specs.Views.{locator_by}
 use Rattle.driver_requests.specs.declared.item.CitationItem.{CitationItem}
 use Rattle.driver_marks.specs.Lettered.{suffixes_by}

@@ -8,7 +8,7 @@ use Rattle.std.proofs.lemmas.List.{length-map}
 use Rattle.std.proofs.lemmas.List.Elements.{All-cons, All-head, All-nil, All-tail}
 use Rattle.std.proofs.lemmas.List.FromFn.{length-enumerate_from, length-range_with_len}
 use Rattle.rendering_entries.specs.Answers.{Answers}
-use Rattle.rendering.specs.Purposes.{StyleContext}
+use Rattle.rendering_context.specs.Contexts.{StyleContext}
 use Rattle.rendering_style.specs.StyleViews.{style_seen}
 use Rattle.driver_requests.specs.CitedEntries.{once, place_among}
 use Rattle.driver_requests.specs.Cites.{Cite, cite_at, cites_after, cites_of, entry_of}

@@ -7,7 +7,7 @@ use Rattle.std.proofs.lemmas.List.{get_or-map}
 use Rattle.std.proofs.lemmas.List.Elements.{All-contains, All-from_recursion, Contains-append_cases, Contains-append_right}
 use Rattle.std.proofs.lemmas.List.FromFn.{get_or-enumerate_from, length-enumerate_from}
 use Rattle.std.proofs.lemmas.List.Sums.{fold-append}
-use Rattle.rendering_names.specs.Properties.{Properties, prints_more}
+use Rattle.rendering_people.specs.Properties.{Properties, prints_more}
 use Rattle.rendering_context.specs.Cites.{DisambiguateState, undisturbed, by_names, by_choose, by_suffix, allows_suffix, greater_state, may_change}
 use Rattle.driver_requests.specs.CitedEntries.{once}
 use Rattle.driver_requests.specs.Suffixes.{Origin, Suffix}

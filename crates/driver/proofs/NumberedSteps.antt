@@ -6,7 +6,7 @@ use Rattle.std.specs.Option.{option_map}
 use Rattle.std.proofs.lemmas.List.{drop_all, drop_more, get_or-map, length-map}
 use Rattle.std.proofs.lemmas.List.Elements.{All-get_or}
 use Rattle.rendering_entries.specs.Answers.{Answers}
-use Rattle.rendering.specs.Purposes.{StyleContext}
+use Rattle.rendering_context.specs.Contexts.{StyleContext}
 use Rattle.rendering_taxonomy.specs.declared.cite.IbidState.{IbidState}
 use Rattle.rendering_taxonomy.specs.declared.cite.IbidState.TheVariants as ibids
 use Rattle.driver_requests.specs.Cites.{Numbered}

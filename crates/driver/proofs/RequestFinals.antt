@@ -9,7 +9,7 @@ use Rattle.rendering_context.specs.Views.{state_by}
 use Rattle.rendering_context.specs.declared.cite.DisambiguateState.{DisambiguateState as CodeState}
 use Rattle.rendering_entries.specs.Answers.{Answers}
 use Rattle.rendering_style.specs.Styles.{Citation}
-use Rattle.rendering.specs.Purposes.{StyleContext}
+use Rattle.rendering_context.specs.Contexts.{StyleContext}
 use Rattle.driver_requests.specs.Suffixes.{Suffix}
 use Rattle.driver_requests.specs.Views.{context_of, request_by}
 use Rattle.driver_requests.specs.declared.request.CitationRequest.{CitationRequest}

@@ -4,7 +4,8 @@ use Rattle.std.proofs.lemmas.List.{drop_all, drop_more, get_or_default, get_or-m
 use Rattle.std.proofs.lemmas.List.Elements.{All-append, All-cons, All-head, All-nil, All-tail}
 use Rattle.std.proofs.Math.Nat.{min-le_left}
 use Rattle.rendering_entries.specs.Answers.{Answers}
-use Rattle.rendering.specs.Purposes.{StyleContext, counted}
+use Rattle.rendering_context.specs.Contexts.{StyleContext}
+use Rattle.rendering.specs.Purposes.{counted}
 use Rattle.driver_requests.specs.Cites.{Numbered, entry_of}
 use Rattle.driver_requests.specs.Views.{context_of}
 use Rattle.driver_requests.specs.declared.item.CitationItem.{CitationItem}

@@ -9,7 +9,7 @@ use Rattle.rendering_context.specs.declared.locator.SpecificLocator.{SpecificLoc
 use Rattle.rendering_tree.specs.Trees.{Children}
 use Rattle.rendering_tree.specs.Views.{tree}
 use Rattle.rendering_tree.specs.declared.element.ElemChildren.{ElemChildren}
-use Rattle.rendering.specs.Purposes.{StyleContext}
+use Rattle.rendering_context.specs.Contexts.{StyleContext}
 use Rattle.driver_requests.specs.Requests.{Item, plain_locator, plain_payload}
 use Rattle.driver_requests.specs.Views.{locator_by, payload_by}
 use Rattle.driver.specs.Standalone.{has_content, printed_alone}

@@ -3,7 +3,7 @@ use Rattle.std.specs.Prelude.{ℕ, List, [], ◌∷◌, map, length}
 use Rattle.std.specs.List.{flat_map}
 use Rattle.rendering_entries.specs.Answers.{Answers}
 use Rattle.rendering_nodes.specs.Named.{Named, joined_named}
-use Rattle.rendering.specs.Purposes.{StyleContext}
+use Rattle.rendering_context.specs.Contexts.{StyleContext}
 use Rattle.rendering.specs.Alike.{style_named}
 use Rattle.driver_requests.specs.Requests.{Item, Request}
 use Rattle.driver_requests.specs.Order.{cited, ordered, number_in}

@@ -7,7 +7,7 @@ use Rattle.rendering_entries.specs.Answers.{Answers}
 use Rattle.rendering_style.specs.Styles as styles
 use Rattle.rendering_tree.specs.Metas as metas
 use Rattle.rendering_tree.specs.Trees.{Children, element_with, names_element, nothing}
-use Rattle.rendering.specs.Purposes.{StyleContext}
+use Rattle.rendering_context.specs.Contexts.{StyleContext}
 use Rattle.driver_requests.specs.Cites.{Numbered, properties_of}
 use Rattle.driver_requests.specs.Requests.{Item, Request}
 use Rattle.driver_requests.specs.Positions.{ibid_after, with_previous}

@@ -6,7 +6,8 @@ use Rattle.rendering_context.specs.Cites.{DisambiguateState}
 use Rattle.rendering_entries.specs.Answers.{Answers}
 use Rattle.rendering_tree.specs.Trees.{Children}
 use Rattle.rendering_style.specs.Styles.{Bibliography}
-use Rattle.rendering.specs.Purposes.{StyleContext, bibliography}
+use Rattle.rendering_context.specs.Contexts.{StyleContext}
+use Rattle.rendering.specs.Purposes.{bibliography}
 use Rattle.driver_requests.specs.Requests.{Request}
 use Rattle.driver_bibliography.specs.Items.{items_of}
 use Rattle.driver.specs.Finals.{Listed, first_listed}

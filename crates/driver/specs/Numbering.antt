@@ -3,7 +3,7 @@ use Rattle.std.specs.Prelude.{ℕ, ◌+◌, Bool, List, [], ◌∷◌, map, Vec,
 use Rattle.std.specs.Borrow.{Bor}
 use Rattle.std.specs.Option.{option_map}
 use Rattle.rendering_entries.specs.Answers.{Answers}
-use Rattle.rendering.specs.Purposes.{StyleContext}
+use Rattle.rendering_context.specs.Contexts.{StyleContext}
 use Rattle.driver_requests.specs.Cites.{Cite, Numbered, entry_of}
 use Rattle.driver_requests.specs.Positions.{counts_at_first, ibid_after}
 use Rattle.driver_requests.specs.Requests.{Item}

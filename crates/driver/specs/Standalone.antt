@@ -7,7 +7,8 @@ use Rattle.rendering_tree.specs.Trees.{Children, Text, nothing, before, flat, fo
 use Rattle.rendering_style.specs.Styles.{Layout}
 use Rattle.rendering_names.specs.Persons.{comma_and_space}
 use Rattle.rendering_context.specs.Cites.{CiteProperties, undisturbed}
-use Rattle.rendering.specs.Purposes.{StyleContext, citation}
+use Rattle.rendering_context.specs.Contexts.{StyleContext}
+use Rattle.rendering.specs.Purposes.{citation}
 use Rattle.driver_requests.specs.Requests.{Item, Request, plain_locator}
 use Rattle.driver.specs.Citations.{citation_look, affixed}
 use Rattle.rendering_taxonomy.specs.declared.cite.IbidState.TheVariants as ibids

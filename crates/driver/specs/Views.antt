@@ -8,7 +8,7 @@ use Rattle.rendering_locale.specs.CodeViews.{code_seen}
 use Rattle.rendering_locale.specs.Views.{locale_seen}
 use Rattle.rendering_style.specs.StyleViews.{style_seen}
 use Rattle.rendering_tree.specs.Trees.{Children}
-use Rattle.rendering.specs.Purposes.{StyleContext}
+use Rattle.rendering_context.specs.Contexts.{StyleContext}
 use Rattle.rendering_taxonomy.specs.declared.cite.IbidState.{IbidState}
 use Rattle.rendering_taxonomy.specs.declared.cite.IdentifierUsage.{IdentifierUsage}
 use Rattle.driver_requests.specs.CitedEntries.{place_among, places_among}

@@ -8,7 +8,7 @@ use Rattle.std.proofs.lemmas.Bool.{false≢true, or_parts}
 use Rattle.std.proofs.lemmas.List.{get_or-map, length-map}
 use Rattle.std.proofs.lemmas.Simd.{map-map}
 use Rattle.literature_values.specs.PersonViews.{Named}
-use Rattle.rendering_names.specs.Properties.{Properties, with_name}
+use Rattle.rendering_people.specs.Properties.{Properties, with_name}
 use Rattle.driver_marks.specs.Names.{Member, agrees_on, all_shown_up_to, distinguished_at, distinguished_by, form_against, form_wanted, is_namesake, is_newly_distinguished, names_may_change, others, raises, rule_for, showing_up_to, with_raised}
 use Rattle.driver_marks.specs.NamesViews.{distinction, form_raised}
 use Rattle.driver_marks.specs.declared.names_members.Distinction.{Distinction}

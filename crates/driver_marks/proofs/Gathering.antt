@@ -6,7 +6,7 @@ use Rattle.std.specs.List.{list_any, flat_map}
 use Rattle.std.proofs.lemmas.List.{at_drop_more, at_drop_all, append_assoc, map-append}
 use Rattle.std.proofs.lemmas.List.Folds.{list_any-append}
 use Rattle.laws.specs.Results.{EndsWith}
-use Rattle.rendering_names.specs.Properties.{Properties, prints_more}
+use Rattle.rendering_people.specs.Properties.{Properties, prints_more}
 use Rattle.rendering_context.specs.Cites.{by_names, may_change}
 use Rattle.driver_requests.specs.Errors.{Overflow, overflow}
 use Rattle.driver_requests.specs.Suffixes.{Origin}

@@ -6,7 +6,7 @@ use Rattle.rendering_taxonomy.specs.Formats.{plain}
 use Rattle.rendering_tree.specs.Metas as metas
 use Rattle.rendering_tree.specs.Trees.{Children, Text, Elem, nothing, before}
 use Rattle.rendering_style.specs.Styles.{Citation}
-use Rattle.rendering_names.specs.Properties.{Properties, all_shown}
+use Rattle.rendering_people.specs.Properties.{Properties, all_shown}
 use Rattle.rendering_context.specs.Cites.{DisambiguateState, undisturbed, by_names, by_choose, by_suffix, names_of}
 use Rattle.driver_requests.specs.Suffixes.{Origin}
 use Rattle.driver_marks.specs.Marks.{given_to, joined_for, marked}

@@ -5,7 +5,7 @@ use Rattle.std.specs.List.{enumerate_from, list_any, range_with_len}
 use Rattle.std.specs.Option.{option_map, option_map_or}
 use Rattle.std.proofs.Math.Path.{fun_ext}
 use Rattle.std.proofs.lemmas.Simd.{map-map}
-use Rattle.rendering_names.specs.Properties.{Properties, with_name}
+use Rattle.rendering_people.specs.Properties.{Properties, with_name}
 use Rattle.rendering_taxonomy.specs.declared.style.DisambiguationRule.{DisambiguationRule}
 use Rattle.driver_marks.specs.Classes.{Printed}
 use Rattle.driver_marks.specs.Names.{Member, all_shown_up_to, distinguished_at, distinguished_by, form_wanted, is_newly_distinguished, member, members, names_may_change, raised_names, raises, rule_for, showing_up_to}

@@ -5,7 +5,7 @@ use Rattle.std.specs.Str.{bytes_eq}
 use Rattle.rendering_tree.specs.Trees.{Children}
 use Rattle.rendering_tree.specs.Writing.{plain_text}
 use Rattle.rendering_style.specs.Styles.{Citation}
-use Rattle.rendering_names.specs.Properties.{Properties}
+use Rattle.rendering_people.specs.Properties.{Properties}
 use Rattle.rendering_context.specs.Cites.{DisambiguateState, allows_suffix}
 use Rattle.driver_requests.specs.CitedEntries.{once}
 use Rattle.driver_marks.specs.Marks.{Marks, mark_of}

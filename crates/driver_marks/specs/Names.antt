@@ -10,7 +10,7 @@ use Rattle.rendering_taxonomy.specs.NameForms.{greater_form}
 use Rattle.rendering_tree.specs.Metas.{Answered, Meta, Names, is_person}
 use Rattle.rendering_tree.specs.Trees.{Children, elements}
 use Rattle.rendering_names.specs.Persons.{given_of}
-use Rattle.rendering_names.specs.Properties.{Properties, with_name, with_form, form_at, prints_more}
+use Rattle.rendering_people.specs.Properties.{Properties, with_name, with_form, form_at, prints_more}
 use Rattle.rendering_context.specs.Cites.{DisambiguateState, undisturbed, by_names, by_choose, by_suffix, may_change}
 use Rattle.driver_requests.specs.Suffixes.{Origin}
 use Rattle.driver_marks.specs.Marks.{Given, given_to}

@@ -3,7 +3,7 @@ use Rattle.std.specs.Prelude.{ℕ, ◌+◌, Bool, true, ◌&&◌, List, map, if�
 use Rattle.std.specs.Option.{option_map, option_map_or}
 use Rattle.std.specs.Str.{bytes_eq}
 use Rattle.literature_values.specs.PersonViews.{Named}
-use Rattle.rendering_names.specs.Properties.{Properties}
+use Rattle.rendering_people.specs.Properties.{Properties}
 use Rattle.driver_requests.specs.Suffixes.{Origin}
 use Rattle.driver_marks.specs.Marks.{Given}
 use Rattle.driver_marks.specs.Names as names

@@ -17,7 +17,7 @@ use crate::names_raised::{raise, show_names};
 use crate::printed::Printed;
 use driver_requests::Origin;
 use rendering_context::DisambiguateState;
-use rendering_names::NameDisambiguationProperties;
+use rendering_people::NameDisambiguationProperties;
 use rendering_taxonomy::DisambiguatedNameForm;
 use std::alloc::{AllocError, Global};
 

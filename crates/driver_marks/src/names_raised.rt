@@ -4,7 +4,7 @@ ghost use Rattle.std.specs.Prelude.{◌≡◌, ◌==◌, List, None, length, map
 ghost use Rattle.std.specs.List.{list_any};
 ghost use Rattle.std.specs.Option.{option_map};
 ghost use Rattle.literature_values.specs.PersonViews.{Named};
-ghost use Rattle.rendering_names.specs.Properties.{with_name};
+ghost use Rattle.rendering_people.specs.Properties.{with_name};
 ghost use Rattle.driver_marks.specs.Names.{raised_form, raised_names, raises};
 ghost use Rattle.driver_marks.specs.Namesakes as namesakes_specs;
 ghost use Rattle.driver_marks.specs.Namesakes.{AreCounts, form_among, form_at, form_counted, is_raised, is_raised_after};
@@ -14,7 +14,7 @@ ghost use Rattle.driver_marks.specs.Shared.{AreInOrder, shared_people};
 use crate::names_members::Member;
 use crate::names_people::CitedPerson;
 use crate::namesakes::NameCounts;
-use rendering_names::NameDisambiguationProperties;
+use rendering_people::NameDisambiguationProperties;
 use rendering_taxonomy::{DisambiguatedNameForm, DisambiguationRule};
 use std::alloc::{AllocError, Global};
 

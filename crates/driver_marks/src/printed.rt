@@ -15,7 +15,7 @@ ghost use Rattle.driver_marks.specs.Rounds.{prints_date};
 ghost use Rattle.driver_marks.specs.Views.{class_by, printed_again, printed_as_seen, printed_seen};
 
 use rendering_context::DisambiguateState;
-use rendering_names::NameDisambiguationProperties;
+use rendering_people::NameDisambiguationProperties;
 use rendering_style::Citation;
 use rendering_taxonomy::DisambiguationRule;
 use rendering_tree::{ElemChildren, ElemMeta};

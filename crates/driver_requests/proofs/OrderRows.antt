@@ -4,7 +4,7 @@ use Rattle.std.specs.Prelude.{nat_eq}
 use Rattle.std.specs.Option.{option_map}
 use Rattle.rendering_entries.specs.Answers.{Answers}
 use Rattle.rendering_style.specs.Styles.{Bibliography}
-use Rattle.rendering.specs.Purposes.{StyleContext}
+use Rattle.rendering_context.specs.Contexts.{StyleContext}
 use Rattle.driver_requests.specs.CitedEntries.{once, place_among, places_among}
 use Rattle.driver_requests.specs.Requests.{Item, Request, SpecificLocator, own, written, is_payload, is_specific_locator}
 use Rattle.driver_requests.specs.Cites.{cites_of}

@@ -11,7 +11,7 @@ use Rattle.rendering_entries.specs.Answers.{Answers}
 use Rattle.rendering_context.specs.declared.locator.LocatorPayload.{LocatorPayload}
 use Rattle.rendering_context.specs.declared.locator.LocatorPayload.TheVariants as payloads
 use Rattle.rendering_context.specs.declared.locator.SpecificLocator.{SpecificLocator}
-use Rattle.rendering.specs.Purposes.{StyleContext}
+use Rattle.rendering_context.specs.Contexts.{StyleContext}
 use Rattle.rendering_taxonomy.specs.declared.cite.CitePurpose.{CitePurpose}
 use Rattle.driver_requests.specs.Requests as requests
 use Rattle.driver_requests.specs.Requests.{Item, Request}

@@ -9,7 +9,8 @@ use Rattle.rendering_locale.specs.Locales.{Locale}
 use Rattle.rendering_locale.specs.Lookup.{close_quotes}
 use Rattle.rendering_page.specs.Pages.{Quotes}
 use Rattle.rendering_style.specs.Styles.{Style}
-use Rattle.rendering.specs.Purposes.{StyleContext, Rendered, locales_of, context_of, rendered}
+use Rattle.rendering_context.specs.Contexts.{StyleContext}
+use Rattle.rendering.specs.Purposes.{Rendered, locales_of, context_of, rendered}
 use Rattle.rendering.specs.Views.{rendered_by, spoken}
 use Rattle.rendering.specs.declared.rendered.Rendering.{Rendering}
 

@@ -4,7 +4,8 @@ use Rattle.rendering_entries.specs.Answers.{Answers}
 use Rattle.rendering_style.specs.Styles.{Bibliography, Style}
 use Rattle.rendering_context.specs.Cites.{CiteProperties}
 use Rattle.rendering_nodes.specs.Named.{Named, AreAlike, joined_named, always_named, named, none_named}
-use Rattle.rendering.specs.Purposes.{StyleContext, layout_nodes, citation, bibliography}
+use Rattle.rendering_context.specs.Contexts.{StyleContext}
+use Rattle.rendering.specs.Purposes.{layout_nodes, citation, bibliography}
 use Rattle.rendering_taxonomy.specs.declared.cite.CitePurpose.{CitePurpose}
 use Rattle.rendering_taxonomy.specs.declared.cite.CollapseVerdict.{CollapseVerdict}
 

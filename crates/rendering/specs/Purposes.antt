@@ -18,9 +18,9 @@ use Rattle.rendering_style.specs.Options.{NameOptions, options_over}
 use Rattle.rendering_style.specs.Nodes.{Look, NamesNode, Nodes, names, no_nodes, node}
 use Rattle.rendering_style.specs.Styles.{Layout, Bibliography, Style}
 use Rattle.rendering_style.specs.Opening.{opened_nodes}
-use Rattle.rendering_names.specs.Properties.{Properties}
+use Rattle.rendering_people.specs.Properties.{Properties}
 use Rattle.rendering_context.specs.Cites.{CiteProperties, letters_of}
-use Rattle.rendering_context.specs.Contexts.{Context}
+use Rattle.rendering_context.specs.Contexts.{Context, StyleContext}
 use Rattle.rendering_leaves.specs.Settings.{Form, whole, author_only, without_author, first_date_only, suffix_only, Setting, State, begun, put, noted}
 use Rattle.rendering_context.specs.Answering.{has_answer}
 use Rattle.rendering_nodes.specs.Admission.{Survey, surveys}
@@ -44,12 +44,6 @@ use Rattle.rendering_taxonomy.specs.declared.variable.DateVariable.TheVariants a
 use Rattle.rendering_taxonomy.specs.declared.variable.NameVariable.{NameVariable}
 use Rattle.rendering_taxonomy.specs.declared.variable.NameVariable.TheVariants as name
 use Rattle.rendering_taxonomy.specs.declared.variable.Variable.TheVariants as variables
-
--- A style with the language that is asked for, and the files with locales.
-pub record StyleContext : Type 0 where
-  pub style : Style
-  pub locale : Option (List ℕ)
-  pub locale_files : List Locale
 
 -- the locales that a call asks
 abbrev pub locales_of : StyleContext → Option (List ℕ) → List Locale

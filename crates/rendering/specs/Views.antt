@@ -2,6 +2,7 @@
 use Rattle.std.specs.Prelude.{ℕ, Bool, List, map}
 use Rattle.std.specs.Option.{option_map}
 use Rattle.rendering_context.specs.Cites.{CiteProperties}
+use Rattle.rendering_context.specs.Contexts as contexts
 use Rattle.rendering_context.specs.Contexts.{Context}
 use Rattle.rendering_context.specs.Views.{context_by}
 use Rattle.rendering_entries.specs.Answers.{Answers}
@@ -19,7 +20,7 @@ use Rattle.rendering.specs.declared.rendered.Rendering.{Rendering}
 use Rattle.rendering.specs.declared.style_context.StyleContext.{StyleContext}
 
 -- a style with the language that is asked for, and the files with locales
-abbrev pub context_seen : StyleContext → purposes.StyleContext
+abbrev pub context_seen : StyleContext → contexts.StyleContext
 context_seen x = record { style = style_seen x.style.now; locale = option_map borrowed_code x.locale; locale_files = map locale_seen x.locale_files.now }
 
 -- the style of a call

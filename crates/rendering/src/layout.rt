@@ -16,9 +16,8 @@ use crate::texts_of::text_or_empty;
 use rendering_leaves::{Form, Setting};
 use rendering_names::ResolvedNameOptions;
 use rendering_nodes::has_suffix;
-use rendering_page::{Frame, Manner};
+use rendering_page::{Frame, Manner, plainly};
 use rendering_style::{Bibliography, Layout, NameOptions, Style, StyleParts};
-use rendering_writing::plainly;
 
 /// How a layout's texts are put down.
 pub(crate) fn layout_manner(layout: &Layout) -> Manner

@@ -6,7 +6,7 @@ ghost use Rattle.rendering.specs.Views.{rendered_by};
 
 use crate::front::joined_tree;
 use rendering_leaves::State;
-use rendering_names::NameDisambiguationProperties;
+use rendering_people::NameDisambiguationProperties;
 use rendering_taxonomy::{IdentifierUsage, SecondFieldAlign};
 use rendering_tree::ElemChildren;
 use std::alloc::AllocError;

@@ -11,7 +11,7 @@ use Rattle.literature_values.specs.TextViews.{Chunk}
 use Rattle.literature_values.specs.TypedViews.{ValueOrText, Value, Text}
 use Rattle.rendering_taxonomy.specs.Variables.{is_among}
 use Rattle.rendering_tree.specs.Metas.{Answered}
-use Rattle.rendering_page.specs.Pages.{is_filled}
+use Rattle.laws.specs.Text.{is_filled}
 use Rattle.literature_values.specs.declared.date.Date.{Date}
 use Rattle.rendering_entries.specs.Library.{characters_of, one_chunk}
 use Rattle.rendering_context.specs.Cites.{Payload, written, transparent}

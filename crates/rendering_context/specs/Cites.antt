@@ -1,6 +1,6 @@
 -- What is known of a cite beside its entry.
 use Rattle.std.specs.Prelude.{ℕ, Bool, nat_lt, max, List, [], if◌then◌else◌, Option}
-use Rattle.rendering_names.specs.Properties.{Properties, greater}
+use Rattle.rendering_people.specs.Properties.{Properties, greater}
 use Rattle.rendering_numbers.specs.Letters.{suffix_letters}
 use Rattle.rendering_taxonomy.specs.declared.cite.IbidState.{IbidState}
 use Rattle.rendering_taxonomy.specs.declared.cite.IdentifierUsage.{IdentifierUsage}

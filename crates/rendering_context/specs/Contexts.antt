@@ -1,8 +1,8 @@
 -- What nodes are printed from.
-use Rattle.std.specs.Prelude.{ℕ, Bool, List}
+use Rattle.std.specs.Prelude.{ℕ, Bool, List, Option}
 use Rattle.rendering_entries.specs.Answers.{Answers}
 use Rattle.rendering_locale.specs.Locales.{Locale}
-use Rattle.rendering_page.specs.Pages.{Quotes}
+use Rattle.rendering_style.specs.Styles.{Style}
 use Rattle.rendering_context.specs.Cites.{CiteProperties}
 
 -- What a call prints from: what the entry answers, what is known of the cite, the locales that are asked, the close quotes inside which
@@ -12,7 +12,13 @@ pub record Context : Type 0 where
   pub answers : Answers
   pub properties : CiteProperties
   pub locales : List Locale
-  pub quotes : Quotes
+  pub quotes : List (List ℕ)
   pub letters : List ℕ
   pub is_bibliography : Bool
   pub has_suffix_node : Bool
+
+-- A style with the language that is asked for, and the files with locales.
+pub record StyleContext : Type 0 where
+  pub style : Style
+  pub locale : Option (List ℕ)
+  pub locale_files : List Locale

@@ -1,14 +1,13 @@
 -- The code's values without where they lie in memory.
-use Rattle.std.specs.Prelude.{◌≡◌, Option, Some, None}
+use Rattle.std.specs.Prelude.{◌≡◌, map, Option, Some, None}
 use Rattle.std.specs.Option.{option_map}
 use Rattle.std.specs.Str.{chars}
-use Rattle.laws.specs.Text.{characters}
+use Rattle.laws.specs.Text.{characters, spelled}
 use Rattle.literature_numbers.specs.PageViews.{pages}
 use Rattle.literature_values.specs.TypedViews.{value_or_text, Text}
 use Rattle.rendering_entries.specs.Answers.{Answers}
 use Rattle.rendering_entries.specs.Library.{one_chunk}
 use Rattle.rendering_entries.specs.Views.{number_seen, text_seen}
-use Rattle.rendering_page.specs.Views.{quotes_of}
 use Rattle.rendering_context.specs.Answering as answering
 use Rattle.rendering_context.specs.Cites as cites
 use Rattle.rendering_context.specs.Contexts as contexts
@@ -66,7 +65,7 @@ context_by a c = record {
   answers = a;
   properties = cite_by c.properties.now;
   locales = c.locales.now;
-  quotes = quotes_of c.quotes.now;
+  quotes = map spelled c.quotes.now;
   letters = chars c.letters.now;
   is_bibliography = c.is_bibliography;
   has_suffix_node = c.has_suffix_node;

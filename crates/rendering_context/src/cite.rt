@@ -12,7 +12,7 @@ ghost use Rattle.rendering_taxonomy.specs.Kinds.{is_locator};
 use crate::answer::{Answer, count, locator};
 use crate::locator::SpecificLocator;
 use crate::variables::is_locator;
-use rendering_names::NameDisambiguationProperties;
+use rendering_people::NameDisambiguationProperties;
 use rendering_taxonomy::{IbidState, IdentifierUsage, Locator};
 use std::alloc::{AllocError, Global};
 

@@ -6,7 +6,7 @@ ghost use Rattle.std.specs.Option.{option_map};
 ghost use Rattle.rendering_context.specs.Answering as answering;
 ghost use Rattle.rendering_entries.specs.Answers.{Answers};
 ghost use Rattle.rendering_context.specs.Views.{context_by, answer_if};
-ghost use Rattle.rendering_names.specs.Views.{all_answered, people_by};
+ghost use Rattle.rendering_people.specs.Views.{all_answered, people_by};
 
 use crate::answer::{Answer, address_of, letters, number_of, pages_of, text_of};
 use crate::cite::CiteProperties;
@@ -14,7 +14,7 @@ use crate::variables::{exchanged_for, is_among};
 use literature_values::{Date, Person};
 use rendering_entries::EntryLike;
 use rendering_locale::AskedLocales;
-use rendering_names::Answered;
+use rendering_people::Answered;
 use rendering_taxonomy::{
     DateVariable, LongShortForm, NameVariable, NumberVariable, StandardVariable, Variable,
 };

@@ -1,6 +1,6 @@
 -- What is handed down from node to node, and what each leaves after it.
 use Rattle.std.specs.Prelude.{ℕ, Bool, false, ◌||◌, List, [], ◌∷◌, ◌++◌, if◌then◌else◌, Option, None}
-use Rattle.rendering_names.specs.Properties.{Properties}
+use Rattle.rendering_people.specs.Properties.{Properties}
 use Rattle.rendering_page.specs.Pages.{Page, Manner, empty_page}
 use Rattle.rendering_page.specs.Pieces.{Piece, all_down}
 use Rattle.rendering_style.specs.Options.{NameOptions}

@@ -4,8 +4,8 @@ ghost use Rattle.std.specs.Prelude.{◌≡◌, IfOk, OnOk};
 ghost use Rattle.rendering_leaves.specs.Settings.{begun, noted, with_variable};
 
 use crate::suppressed::add_variable;
-use rendering_names::NameDisambiguationProperties;
 use rendering_page::Page;
+use rendering_people::NameDisambiguationProperties;
 use rendering_taxonomy::Variable;
 use std::alloc::{AllocError, Global};
 use std::marker::Model;

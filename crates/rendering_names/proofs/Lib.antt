@@ -3,9 +3,6 @@ pub mod PersonsJoined
 pub mod NamesCases
 pub mod PiecesPut
 pub mod PlacedSteps
-pub mod CountsWhole
-pub mod FormsLent
-pub mod CountsSteps
+pub mod CountsOwn
 pub mod OwnSteps
 pub mod PeopleSteps
-pub mod RaisedWhole

@@ -1,9 +1,9 @@
 -- Words that are there or not.
-use Rattle.std.proofs.Common.{◌≡◌, ℕ, Bool, true, false, cond, List, [], ◌∷◌, refl}
+use Rattle.std.proofs.Common.{◌≡◌, ℕ, true, false, cond, List, [], ◌∷◌, refl}
 use Rattle.std.specs.Option.{unwrap_or}
 use Rattle.laws.specs.Text.{is_filled}
 use Rattle.rendering_page.specs.Pages.{Manner}
-use Rattle.rendering_page.specs.Pieces.{Piece, normal}
+use Rattle.rendering_page.specs.Pieces.{normal}
 use Rattle.rendering_style.specs.Options.{NameOptions}
 use Rattle.rendering_taxonomy.specs.Formats.{changed}
 use Rattle.rendering_names.specs.Names.{NameStyle, before_last_by, delimiter_by, delimits_last, et_al_by}

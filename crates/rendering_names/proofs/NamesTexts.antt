@@ -1,5 +1,5 @@
 -- The literals as the characters of a text.
-use Rattle.std.proofs.Common.{◌≡◌, List, [], ◌∷◌, refl}
+use Rattle.std.proofs.Common.{◌≡◌, [], ◌∷◌, refl}
 use Rattle.std.specs.Str.{chars}
 use Rattle.rendering_names.specs.Names.{ellipsis}
 use Rattle.rendering_names.specs.Persons.{comma_and_space, stop_and_space}

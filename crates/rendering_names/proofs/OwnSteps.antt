@@ -3,8 +3,8 @@ use Rattle.std.proofs.Common.{arith, ◌≡◌, ℕ, ◌+◌, ◌<◌, List, [],
 use Rattle.std.proofs.lemmas.List.{length-map, map_more, replicate-append-replicate}
 use Rattle.rendering_tree.specs.Metas as metas
 use Rattle.rendering_names.specs.Counts.{people_count}
-use Rattle.rendering_names.specs.Views.{answered_by, person_by}
-use Rattle.rendering_names.specs.declared.people.Answered.{Answered}
+use Rattle.rendering_people.specs.Views.{answered_by, person_by}
+use Rattle.rendering_people.specs.declared.people.Answered.{Answered}
 use Rattle.rendering_taxonomy.specs.declared.name.DisambiguatedNameForm.{DisambiguatedNameForm}
 
 count_push : (xs : List metas.Answered) (a : metas.Answered) → people_count (xs ++ a ∷ []) ≡ people_count xs + length a.0

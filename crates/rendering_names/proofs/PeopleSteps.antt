@@ -1,5 +1,5 @@
 -- The people of several variables, one after the other.
-use Rattle.std.proofs.Common.{arith, ◌≡◌, ℕ, suc, ◌+◌, ◌<◌, ◌≤◌, min, List, [], ◌∷◌, ◌++◌, map, length, take, drop, zip, get_or, refl, sym, ap, ◌∙◌}
+use Rattle.std.proofs.Common.{arith, ◌≡◌, ℕ, suc, ◌+◌, ◌<◌, ◌≤◌, min, List, [], ◌∷◌, ◌++◌, length, take, drop, zip, get_or, refl, sym, ap, ◌∙◌}
 use Rattle.std.specs.List.{enumerate_from, flat_map}
 use Rattle.std.proofs.lemmas.List.{length-map, take_more, take_all, drop_more, drop-drop, get_or-drop, get_or-map, flat_map_more}
 use Rattle.std.proofs.lemmas.List.FromFn.{length-enumerate_from, get_or-enumerate_from}
@@ -7,21 +7,18 @@ use Rattle.std.proofs.lemmas.Slice.Zip.{length-zip, get_or-zip}
 use Rattle.rendering_page.specs.Pages.{Page, Quotes}
 use Rattle.rendering_page.specs.Pieces.{Piece, all_down}
 use Rattle.rendering_style.specs.Nodes.{NamesNode}
-use Rattle.rendering_names.specs.Counts.{cut}
+use Rattle.rendering_people.specs.Counts.{cut}
+use Rattle.rendering_people.proofs.CountsWhole.{of_count}
 use Rattle.rendering_names.specs.Names.{NameStyle, before_people, placed_variable, variable_pieces}
-use Rattle.rendering_names.specs.Properties.{VariableProperties}
-use Rattle.rendering_names.specs.Views.{all_answered, answered_by}
-use Rattle.rendering_names.specs.declared.people.Answered.{Answered}
-use Rattle.rendering_names.specs.declared.properties.PeopleCount.{PeopleCount}
+use Rattle.rendering_people.specs.Properties.{VariableProperties}
+use Rattle.rendering_people.specs.Views.{all_answered, answered_by}
+use Rattle.rendering_people.specs.declared.people.Answered.{Answered}
+use Rattle.rendering_people.specs.declared.properties.PeopleCount.{PeopleCount}
 use Rattle.rendering_names.proofs.PiecesPut.{put-both}
 use Rattle.rendering_taxonomy.specs.declared.name.DisambiguatedNameForm.{DisambiguatedNameForm}
 
 abbrev Forms : Type 0
 Forms = List DisambiguatedNameForm
-
--- what is printed of the people of a variable
-abbrev pub of_count : PeopleCount → Forms → VariableProperties
-of_count c fs = record { variable = c.variable; forms = fs; shown = c.shown }
 
 length-cut : (cs : List PeopleCount) (fs : Forms) → length (cut cs fs) ≡ length cs
 length-cut [] fs = refl

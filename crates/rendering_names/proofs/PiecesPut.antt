@@ -1,5 +1,5 @@
 -- What was put down one after the other, as pieces.
-use Rattle.std.proofs.Common.{◌≡◌, ℕ, List, [], ◌∷◌, ◌++◌, sym, ap, ◌∙◌}
+use Rattle.std.proofs.Common.{◌≡◌, List, [], ◌∷◌, ◌++◌, sym, ap, ◌∙◌}
 use Rattle.std.proofs.lemmas.List.Sums.{fold-append}
 use Rattle.rendering_page.specs.Pages.{Page, Frame, Quotes, begun, ended}
 use Rattle.rendering_page.specs.Pieces.{Piece, begin, end, put_down, all_down, framed}

@@ -1,7 +1,6 @@
 -- People with their forms under their places, one after the other.
-use Rattle.std.proofs.Common.{arith, ◌≡◌, ℕ, ◌+◌, ◌-◌, ◌<◌, ◌≤◌, min, List, [], ◌∷◌, ◌++◌, map, length, take, drop, zip, get_or, refl, sym, ap, ◌∙◌}
-use Rattle.std.specs.Borrow.{Bor}
-use Rattle.std.specs.List.{enumerate_from, flat_map}
+use Rattle.std.proofs.Common.{arith, ◌≡◌, ℕ, ◌+◌, ◌-◌, ◌<◌, ◌≤◌, min, List, [], ◌∷◌, ◌++◌, length, take, drop, zip, get_or, sym, ap, ◌∙◌}
+use Rattle.std.specs.List.{flat_map}
 use Rattle.std.specs.declared.borrow.Cow.{Cow}
 use Rattle.std.proofs.lemmas.List.{append-nil, length-map, get_or-map, get_or_default, take_more, take_min, drop_more, drop_all, flat_map_more}
 use Rattle.std.proofs.lemmas.List.FromFn.{length-enumerate_from, get_or-enumerate_from}
@@ -10,7 +9,8 @@ use Rattle.literature_values.specs.declared.person.Person.{Person}
 use Rattle.rendering_page.specs.Pages.{Page, Quotes}
 use Rattle.rendering_page.specs.Pieces.{Piece, all_down}
 use Rattle.rendering_names.specs.Names.{NameStyle, Placed, after_ellipsis, before_name, name_pieces, placed_pieces, shown_pieces, last_pieces, rest_pieces, list_pieces}
-use Rattle.rendering_names.specs.Views.{person_by, people_by, placed}
+use Rattle.rendering_people.specs.Views.{person_by, people_by}
+use Rattle.rendering_names.specs.Views.{placed}
 use Rattle.rendering_names.proofs.PiecesPut.{put-both}
 use Rattle.rendering_taxonomy.specs.declared.name.DisambiguatedNameForm.{DisambiguatedNameForm}
 use Rattle.rendering_taxonomy.specs.declared.variable.NameVariable.{NameVariable}

@@ -12,7 +12,7 @@ use Rattle.rendering_page.specs.Pages.{Manner, Frame}
 use Rattle.rendering_page.specs.Pieces.{Piece, normal, framed}
 use Rattle.rendering_style.specs.Options.{NameOptions, options_over, open_options}
 use Rattle.rendering_style.specs.Nodes.{NameLook, EtAl, LabelLook, NamesNode}
-use Rattle.rendering_names.specs.Properties.{VariableProperties, Properties, all_shown}
+use Rattle.rendering_people.specs.Properties.{VariableProperties, Properties, all_shown}
 use Rattle.rendering_names.specs.Persons.{comma_and_space, person_text}
 use Rattle.rendering_taxonomy.specs.declared.name.NameAnd.{NameAnd}
 use Rattle.rendering_taxonomy.specs.declared.name.NameAnd.TheVariants as ands

@@ -1,13 +1,12 @@
 -- The code's values without where they lie in memory.
-use Rattle.std.specs.Prelude.{ℕ, List, map, zip, Option}
+use Rattle.std.specs.Prelude.{List, zip, Option}
 use Rattle.std.specs.Borrow.{Bor}
-use Rattle.std.specs.Cow.{cow_value}
 use Rattle.std.specs.List.{enumerate_from}
 use Rattle.std.specs.Option.{option_map, unwrap_or}
 use Rattle.std.specs.declared.borrow.Cow.{Cow}
 use Rattle.laws.specs.Text.{spelled}
-use Rattle.literature_values.specs.PersonViews.{Named, person}
 use Rattle.literature_values.specs.declared.person.Person.{Person}
+use Rattle.rendering_people.specs.Views.{people_by}
 use Rattle.rendering_page.specs.Pages.{Page}
 use Rattle.rendering_page.specs.Pieces.{Piece, all_down}
 use Rattle.rendering_page.specs.Views.{quotes_of, manner}
@@ -16,12 +15,10 @@ use Rattle.rendering_style.specs.Options.{NameOptions}
 use Rattle.rendering_style.specs.Views.{name_seen, et_al_seen, label_seen, look_seen}
 use Rattle.rendering_style.specs.declared.node.EtAl.{EtAl}
 use Rattle.rendering_style.specs.declared.node.Name.{Name}
-use Rattle.rendering_tree.specs.Metas as metas
 use Rattle.rendering_names.specs.Names as names
 use Rattle.rendering_names.specs.Names.{Placed, no_look, plain_et_al}
 use Rattle.rendering_names.specs.declared.options.ResolvedNameOptions.{ResolvedNameOptions}
 use Rattle.rendering_names.specs.declared.parts.NamesParts.{NamesParts}
-use Rattle.rendering_names.specs.declared.people.Answered.{Answered}
 use Rattle.rendering_names.specs.declared.style.NameStyle.{NameStyle}
 use Rattle.rendering_taxonomy.specs.declared.name.DisambiguatedNameForm.{DisambiguatedNameForm}
 
@@ -62,22 +59,6 @@ node_by n = record {
   delimiter = option_map spelled n.delimiter;
   look = look_seen n.look.now;
 }
-
--- a person
-abbrev pub person_by : Cow Person → Named
-person_by p = person (cow_value p)
-
--- people
-abbrev pub people_by : List (Cow Person) → List Named
-people_by ps = map person_by ps
-
--- people, and the variable that they answer
-abbrev pub answered_by : Answered → metas.Answered
-answered_by a = (people_by a.people.items, a.variable)
-
--- the people of several variables
-abbrev pub all_answered : List Answered → List metas.Answered
-all_answered people = map answered_by people
 
 -- people with their forms under their places
 abbrev pub placed : List DisambiguatedNameForm → List (Cow Person) → List Placed

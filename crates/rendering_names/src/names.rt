@@ -1,23 +1,25 @@
 //! A names node on a page.
 
-ghost use Rattle.std.specs.Prelude.{◌≡◌, ◌∷◌, ◌++◌, [], IfOk, OnOk, None, drop, length, take, zip};
+ghost use Rattle.std.specs.Prelude.{◌≡◌, ◌∷◌, ◌++◌, [], IfOk, OnOk, None, length, zip};
 ghost use Rattle.std.specs.Fmt.{decimal};
 ghost use Rattle.std.specs.List.{enumerate_from, flat_map};
 ghost use Rattle.laws.specs.Text.{characters};
-ghost use Rattle.rendering_names.specs.Counts.{cut};
+ghost use Rattle.rendering_people.specs.Counts.{cut};
 ghost use Rattle.rendering_names.specs.Names.{before_people, beside, label_pieces, list_pieces, names_frame, names_manner, names_pieces, node_options, people_pieces, placed_variable, variable_frame, variable_pieces};
-ghost use Rattle.rendering_names.specs.Views.{all_answered, answered_by, down, node_by, options_by, placed, style_by};
+ghost use Rattle.rendering_people.specs.Views.{all_answered, answered_by};
+ghost use Rattle.rendering_names.specs.Views.{down, node_by, options_by, placed, style_by};
 ghost use Rattle.rendering_page.specs.Pieces.{all_down, normal};
 ghost use Rattle.rendering_style.specs.Options.{NameOptions};
 ghost use Rattle.rendering_page.specs.Views.{quotes_of, manner as manner_seen, frame as frame_seen};
 
 use crate::options::ResolvedNameOptions;
 use crate::parts::NamesParts;
-use crate::people::{Answered, names_meta};
-use crate::properties::{NameDisambiguationProperties, PeopleCount};
 use crate::style::{NameSetting, NameStyle, changed_manner};
 use crate::words::no_text;
 use rendering_page::{Frame, Manner, Page};
+use rendering_people::{
+    Answered, NameDisambiguationProperties, PeopleCount, names_meta, split_forms,
+};
 use rendering_taxonomy::{DisambiguatedNameForm, NameVariable};
 use rendering_tree::ElemMeta;
 use std::alloc::{AllocError, Global};
@@ -94,8 +96,7 @@ impl<'s, 'a> NameStyle<'s, 'a> {
         if self.options.is_count() {
             return self.push_count(page, properties.all_shown());
         }
-        let counts = properties.counts.as_slice();
-        self.push_variables(page, node, counts, properties.forms.as_slice(), people)
+        self.push_variables(page, node, properties.counts(), properties.forms(), people)
     }
 
     /// Puts down a number.
@@ -194,17 +195,6 @@ impl<'s, 'a> NameStyle<'s, 'a> {
             suffix: no_text(),
         }
     }
-}
-
-/// The first forms, so many or all, and the others.
-pub(crate) fn split_forms(
-    forms: &[DisambiguatedNameForm],
-    count: usize,
-) -> (&[DisambiguatedNameForm], &[DisambiguatedNameForm])
-    ensures first { result.0.now ≡ take count forms.now }
-    ensures others { result.1.now ≡ drop count forms.now }
-{
-    forms.split_at(count.min(forms.len()))
 }
 
 /// A number in digits.

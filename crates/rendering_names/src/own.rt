@@ -3,11 +3,11 @@
 ghost use Rattle.std.specs.Prelude.{◌≡◌, ◌++◌, map, replicate, IfOk, OnOk};
 ghost use Rattle.rendering_names.specs.Counts.{own_count, people_count};
 ghost use Rattle.rendering_names.specs.Names.{properties_by};
-ghost use Rattle.rendering_names.specs.Views.{all_answered, answered_by, options_by};
+ghost use Rattle.rendering_people.specs.Views.{all_answered, answered_by};
+ghost use Rattle.rendering_names.specs.Views.{options_by};
 
 use crate::options::ResolvedNameOptions;
-use crate::people::Answered;
-use crate::properties::{NameDisambiguationProperties, PeopleCount};
+use rendering_people::{Answered, NameDisambiguationProperties, PeopleCount};
 use rendering_taxonomy::DisambiguatedNameForm;
 use std::alloc::{AllocError, Global};
 
@@ -26,7 +26,7 @@ pub fn properties_by(
 {
     let counts = own_counts(alloc, options, is_first, people)?;
     let forms = own_forms(alloc, people, options.base_form())?;
-    Ok(NameDisambiguationProperties { counts, forms })
+    Ok(NameDisambiguationProperties::new(counts, forms))
 }
 
 /// The numbers of each variable.

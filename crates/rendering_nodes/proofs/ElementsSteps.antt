@@ -10,7 +10,7 @@ use Rattle.rendering_context.specs.declared.cite.DisambiguateState.{Disambiguate
 use Rattle.rendering_context.specs.declared.cite.DisambiguateState.TheVariants as states
 use Rattle.rendering_leaves.specs.Settings.{Setting, State, put}
 use Rattle.rendering_names.specs.Names.{names_pieces}
-use Rattle.rendering_names.specs.Properties.{Properties, raised_to}
+use Rattle.rendering_people.specs.Properties.{Properties, raised_to}
 use Rattle.rendering_style.specs.Nodes.{NamesNode}
 use Rattle.rendering_tree.specs.Metas.{Answered}
 use Rattle.rendering_nodes.specs.Content.{left, names_put, told_apart}

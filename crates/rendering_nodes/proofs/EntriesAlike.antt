@@ -11,7 +11,7 @@ use Rattle.rendering_page.specs.Pages.{Manner, prints}
 use Rattle.rendering_page.specs.Pieces.{normal, framed}
 use Rattle.rendering_style.specs.Nodes.{LabelLook, TextSource, of_variable, of_term, of_value, TextLook, NumberNode, DateNode, NamesNode, GroupNode, Leaf, Node, Nodes, Branches, leaf, call, opened, names, choose, group, no_nodes, node, otherwise, branch}
 use Rattle.rendering_style.specs.Nodes as nodes
-use Rattle.rendering_names.specs.Properties.{Properties}
+use Rattle.rendering_people.specs.Properties.{Properties}
 use Rattle.rendering_names.specs.Names.{pluralizes, label_manner, names_pieces, node_options, properties_by}
 use Rattle.rendering_context.specs.Contexts.{Context}
 use Rattle.rendering_context.specs.Answering.{Answer, no_answer, pieces, address, count, ranges, own, is_missing, answer_to, date_answer}

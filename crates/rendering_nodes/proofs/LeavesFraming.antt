@@ -23,7 +23,7 @@ use Rattle.rendering_style.specs.Nodes as nodes
 use Rattle.rendering_names.specs.Names as names
 use Rattle.rendering_names.specs.Names.{NameStyle, Placed, names_pieces}
 use Rattle.rendering_names.specs.Persons.{comma_and_space, person_text}
-use Rattle.rendering_names.specs.Properties.{VariableProperties, Properties, all_shown}
+use Rattle.rendering_people.specs.Properties.{VariableProperties, Properties, all_shown}
 use Rattle.rendering_context.specs.Contexts.{Context}
 use Rattle.rendering_context.specs.Answering.{Answer, no_answer, pieces, address, count, ranges, own, answer_to, asked_for, ranges_text, date_answer, is_plural_variable}
 use Rattle.rendering_leaves.specs.Settings.{with_variable, Form, suffix_only, Setting, State, put}

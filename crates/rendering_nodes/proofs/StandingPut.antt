@@ -5,8 +5,8 @@ use Rattle.rendering_context.specs.Answering.{all_people}
 use Rattle.rendering_context.specs.Contexts.{Context}
 use Rattle.rendering_leaves.specs.Settings.{Setting, State}
 use Rattle.rendering_names.specs.Names.{names_frame}
-use Rattle.rendering_names.specs.Views.{all_answered}
-use Rattle.rendering_names.specs.declared.people.Answered.{Answered}
+use Rattle.rendering_people.specs.Views.{all_answered}
+use Rattle.rendering_people.specs.declared.people.Answered.{Answered}
 use Rattle.rendering_page.specs.Pages.{prints}
 use Rattle.rendering_style.specs.Nodes as nodes
 use Rattle.rendering_style.specs.Nodes.{NamesNode, Nodes}

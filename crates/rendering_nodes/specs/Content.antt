@@ -6,7 +6,7 @@ use Rattle.rendering_tree.specs.Metas.{Answered}
 use Rattle.rendering_page.specs.Pages.{Frame, prints}
 use Rattle.rendering_page.specs.Pieces.{Piece, normal, begin, end}
 use Rattle.rendering_style.specs.Nodes.{TextLook, NamesNode, GroupNode, Node, Nodes, Branches, leaf, call, opened, names, choose, group, no_nodes, node, otherwise, branch}
-use Rattle.rendering_names.specs.Properties.{Properties, raised_to}
+use Rattle.rendering_people.specs.Properties.{Properties, raised_to}
 use Rattle.rendering_names.specs.Names.{completed, names_frame, names_manner, names_pieces, node_options, properties_by}
 use Rattle.rendering_context.specs.Cites.{names_of}
 use Rattle.rendering_context.specs.Contexts.{Context}

@@ -7,8 +7,9 @@ ghost use Rattle.rendering_entries.specs.Answers.{Answers};
 ghost use Rattle.rendering_leaves.specs.Settings.{put, with_variable};
 ghost use Rattle.rendering_leaves.specs.Views.{setting_by};
 ghost use Rattle.rendering_names.specs.Names.{names_pieces, node_options};
-ghost use Rattle.rendering_names.specs.Properties.{raised_to};
-ghost use Rattle.rendering_names.specs.Views.{all_answered, node_by, options_by};
+ghost use Rattle.rendering_people.specs.Properties.{raised_to};
+ghost use Rattle.rendering_people.specs.Views.{all_answered};
+ghost use Rattle.rendering_names.specs.Views.{node_by, options_by};
 ghost use Rattle.rendering_nodes.specs.Content.{names_put, people_put, told_apart};
 ghost use Rattle.rendering_nodes.specs.Views.{walk_context};
 ghost use Rattle.rendering_tree.specs.Metas.{Answered as SomePeople};
@@ -16,10 +17,8 @@ ghost use Rattle.rendering_tree.specs.Metas.{Answered as SomePeople};
 use crate::walk::Walk;
 use rendering_context::DisambiguateState;
 use rendering_leaves::{Setting, State};
-use rendering_names::{
-    Answered, NameDisambiguationProperties, NameSetting, NamesParts, ResolvedNameOptions,
-    properties_by, push_names,
-};
+use rendering_names::{NameSetting, NamesParts, ResolvedNameOptions, properties_by, push_names};
+use rendering_people::{Answered, NameDisambiguationProperties};
 use rendering_taxonomy::Variable;
 use std::alloc::AllocError;
 

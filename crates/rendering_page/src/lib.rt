@@ -9,9 +9,11 @@ mod manner;
 mod marks;
 mod page;
 mod piece;
+mod plain;
 mod putting;
 mod shown;
 mod tail;
 
 pub use manner::{Frame, Manner};
 pub use page::Page;
+pub use plain::plainly;

@@ -3,11 +3,9 @@
 #![tactic(auto)]
 
 mod context;
-mod plain;
 mod render;
 mod writing;
 
 pub use context::Context;
-pub use plain::plainly;
 pub use render::RenderCsl;
 pub use writing::WritingContext;

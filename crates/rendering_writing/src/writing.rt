@@ -19,12 +19,12 @@ ghost use Rattle.rendering_tree.specs.Trees.{tree_of};
 ghost use Rattle.rendering_tree.specs.Views.{tree};
 ghost use Rattle.rendering_writing.specs.Writing.{nodes_asked, nodes_rendered, options_popped, options_pushed, setting_begun, space_ensured, with_page};
 
-use crate::plain::plainly;
 use literature_values::ChunkedString;
 use rendering_entries::EntryLike;
 use rendering_leaves::{Form, Setting, State};
 use rendering_names::ResolvedNameOptions;
 use rendering_nodes::{Survey, Walk};
+use rendering_page::plainly;
 use rendering_style::{NameOptions, Node};
 use rendering_tree::ElemChildren;
 use std::alloc::{AllocError, Global};

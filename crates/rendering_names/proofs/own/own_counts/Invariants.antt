@@ -1,6 +1,7 @@
 use Rattle.std.proofs.Common.{◌≡◌, map, take}
 use Rattle.rendering_names.specs.Counts.{own_count}
-use Rattle.rendering_names.specs.Views.{answered_by, options_by}
+use Rattle.rendering_people.specs.Views.{answered_by}
+use Rattle.rendering_names.specs.Views.{options_by}
 use Rattle.rendering_names.proofs.own.own_counts.Given as goal
 
 abbrev pub invariant-loop-answered : goal.invariant-loop-answered

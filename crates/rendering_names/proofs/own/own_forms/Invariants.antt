@@ -1,6 +1,6 @@
 use Rattle.std.proofs.Common.{◌≡◌, map, take, replicate}
 use Rattle.rendering_names.specs.Counts.{people_count}
-use Rattle.rendering_names.specs.Views.{answered_by}
+use Rattle.rendering_people.specs.Views.{answered_by}
 use Rattle.rendering_names.proofs.own.own_forms.Given as goal
 
 abbrev pub invariant-loop-answered : goal.invariant-loop-answered

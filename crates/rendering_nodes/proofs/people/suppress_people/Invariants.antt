@@ -1,6 +1,6 @@
 use Rattle.std.proofs.Common.{◌≡◌, drop, fold}
 use Rattle.rendering_leaves.specs.Settings.{with_variable}
-use Rattle.rendering_names.specs.Views.{all_answered}
+use Rattle.rendering_people.specs.Views.{all_answered}
 use Rattle.rendering_taxonomy.specs.declared.variable.Variable.TheVariants as variables
 use Rattle.rendering_tree.specs.Metas.{Answered}
 use Rattle.rendering_nodes.proofs.people.suppress_people.Given as goal

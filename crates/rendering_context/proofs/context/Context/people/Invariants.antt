@@ -1,7 +1,7 @@
 use Rattle.std.proofs.Common.{◌≡◌, take}
 use Rattle.rendering_context.specs.Answering.{all_people}
 use Rattle.rendering_context.specs.Views.{context_by}
-use Rattle.rendering_names.specs.Views.{all_answered}
+use Rattle.rendering_people.specs.Views.{all_answered}
 use Rattle.rendering_context.proofs.context.Context.people.Given as goal
 
 abbrev pub invariant-loop-variable : goal.invariant-loop-variable

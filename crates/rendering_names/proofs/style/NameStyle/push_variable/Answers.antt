@@ -2,7 +2,8 @@ use Rattle.std.proofs.Common.{Some, length}
 use Rattle.rendering_page.specs.Views.{frame as frame_seen, quotes_of}
 use Rattle.rendering_tree.specs.Metas as metas
 use Rattle.rendering_names.specs.Names.{beside, label_pieces, list_pieces, variable_frame}
-use Rattle.rendering_names.specs.Views.{answered_by, node_by, placed, style_by}
+use Rattle.rendering_people.specs.Views.{answered_by}
+use Rattle.rendering_names.specs.Views.{node_by, placed, style_by}
 use Rattle.rendering_names.proofs.PiecesPut.{put-framed}
 use Rattle.rendering_names.proofs.style.NameStyle.push_variable.Goals as goal
 

@@ -1,8 +1,9 @@
 use Rattle.std.proofs.Common.{◌≡◌, drop, take, zip}
 use Rattle.std.specs.List.{enumerate_from, flat_map}
-use Rattle.rendering_names.specs.Counts.{cut}
+use Rattle.rendering_people.specs.Counts.{cut}
 use Rattle.rendering_names.specs.Names.{placed_variable}
-use Rattle.rendering_names.specs.Views.{all_answered, down, node_by, style_by}
+use Rattle.rendering_people.specs.Views.{all_answered}
+use Rattle.rendering_names.specs.Views.{down, node_by, style_by}
 use Rattle.rendering_names.proofs.style.NameStyle.push_variables.Given as goal
 
 abbrev pub invariant-loop-place : goal.invariant-loop-place

@@ -2,7 +2,8 @@ use Rattle.std.proofs.Common.{ap, ◌∙◌}
 use Rattle.std.proofs.lemmas.Result.{on_ok_weaker}
 use Rattle.rendering_leaves.specs.Views.{setting_by}
 use Rattle.rendering_names.specs.Names.{node_options, properties_by}
-use Rattle.rendering_names.specs.Views.{all_answered, node_by}
+use Rattle.rendering_people.specs.Views.{all_answered}
+use Rattle.rendering_names.specs.Views.{node_by}
 use Rattle.rendering_nodes.specs.Views.{walk_context}
 use Rattle.rendering_nodes.proofs.ElementsSteps.{own_as}
 use Rattle.rendering_nodes.proofs.walk.Walk.push_people.Goals as goal

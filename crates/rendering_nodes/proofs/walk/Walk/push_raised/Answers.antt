@@ -1,7 +1,8 @@
 use Rattle.std.proofs.lemmas.Result.{on_ok_weaker}
 use Rattle.rendering_leaves.specs.Views.{setting_by}
-use Rattle.rendering_names.specs.Properties.{raised_to}
-use Rattle.rendering_names.specs.Views.{all_answered, node_by}
+use Rattle.rendering_people.specs.Properties.{raised_to}
+use Rattle.rendering_people.specs.Views.{all_answered}
+use Rattle.rendering_names.specs.Views.{node_by}
 use Rattle.rendering_nodes.specs.Views.{walk_context}
 use Rattle.rendering_nodes.proofs.ElementsSteps.{shown_as}
 use Rattle.rendering_nodes.proofs.walk.Walk.push_raised.Goals as goal

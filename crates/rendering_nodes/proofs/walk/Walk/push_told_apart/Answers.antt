@@ -5,8 +5,9 @@ use Rattle.rendering_context.specs.Views.{state_by}
 use Rattle.rendering_context.specs.declared.cite.DisambiguateState.{DisambiguateState}
 use Rattle.rendering_leaves.specs.Settings.{State}
 use Rattle.rendering_leaves.specs.Views.{setting_by}
-use Rattle.rendering_names.specs.Properties.{raised_to}
-use Rattle.rendering_names.specs.Views.{all_answered, node_by}
+use Rattle.rendering_people.specs.Properties.{raised_to}
+use Rattle.rendering_people.specs.Views.{all_answered}
+use Rattle.rendering_names.specs.Views.{node_by}
 use Rattle.rendering_nodes.specs.Content.{told_apart}
 use Rattle.rendering_nodes.specs.Views.{walk_context}
 use Rattle.rendering_nodes.proofs.ElementsSteps.{shown_as, told_some, told_none, raised_by_names}

@@ -1,6 +1,0 @@
-use Rattle.std.proofs.Common.{◌≡◌, ◌++◌, take}
-use Rattle.rendering_names.specs.Properties.{greater_forms}
-use Rattle.rendering_names.proofs.raising.push_greater.Given as goal
-
-abbrev pub invariant-loop-place : goal.invariant-loop-place
-invariant-loop-place l = l.raised.items ≡ l.initial.raised.items ++ take l.place (greater_forms l.forms l.others)

@@ -1,0 +1,4 @@
+pub mod CountsWhole
+pub mod FormsLent
+pub mod CountsSteps
+pub mod RaisedWhole
