@@ -28,7 +28,6 @@ fn answer(alloc: Global, case: &Value<'_>, out: &mut Writer) -> Result<(), Refus
         || cases_literature::answer(alloc, kind, case, out)?
         || cases_styles::answer(alloc, kind, case, out)?
         || cases_rendering::answer(alloc, kind, case, out)?
-        || cases_answers::answer(alloc, kind, case, out)?
         || cases_cite::answer(alloc, kind, case, out)?
         || cases_citations::answer(alloc, kind, case, out)?
         || cases_driver::answer(alloc, kind, case, out)?;

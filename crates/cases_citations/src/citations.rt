@@ -1,9 +1,9 @@
 //! Cites as a style prints them.
 
-use crate::shown::{put_effort, put_facts};
+use crate::shown::put_facts;
 use cases::{Refusal, Value, Writer};
-use cases_cite::PURPOSES;
 use cases_rendering::put_written_tree;
+use cases_sources::{PURPOSES, put_effort};
 use cases_styles::maybe_word;
 use literature::Entry;
 use rendering::{CiteProperties, CollapseVerdict, Effort, LocaleCode, Rendering, StyleContext};

@@ -1,8 +1,8 @@
 //! Items of a bibliography as a style prints them.
 
-use crate::shown::put_effort;
 use cases::{Refusal, Value, Writer};
 use cases_rendering::put_written_tree;
+use cases_sources::put_effort;
 use literature::Entry;
 use rendering::{CiteProperties, Effort, LocaleCode, Rendering, StyleContext};
 use std::alloc::Global;

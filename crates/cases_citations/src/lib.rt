@@ -2,7 +2,6 @@
 #![tactic(auto)]
 
 mod citations;
-mod files;
 mod items;
 mod nodes;
 mod properties;
@@ -13,11 +12,7 @@ mod steps;
 mod writing;
 
 use cases::{Answered, Value, Writer};
-pub use files::locale_files;
-pub use properties::{locator, maybe_count, place};
-pub use shown::put_effort;
 use sources::Wanted;
-pub use sources::named;
 use std::alloc::Global;
 
 /// Writes the members of the answer to a case of this kind; false where the kind is none of these.

@@ -3,7 +3,8 @@
 use cases::{Refusal, Value, Writer, count, member, put_bool, text};
 use cases_values::all_written;
 use literature::Entry;
-use rendering::{Context, Layout, NameOptions, Node, RenderCsl, StyleParts, Survey};
+use rendering::{Layout, NameOptions, Node, StyleParts, Survey};
+use rendering_writing::{Context, RenderCsl};
 use std::alloc::AllocError;
 
 /// Puts the layout down that a step names, or one of its nodes.

@@ -1,12 +1,12 @@
 //! What is known of a cite beside its entry, as a value of a case.
 
 use crate::states::state;
-use cases::{Refusal, Value, count, is_set, maybe_text, member, only};
-use cases_styles::{LOCATORS, maybe_word, word_or};
+use cases::{Refusal, Value, is_set, member, only};
+use cases_sources::{locator, maybe_count, place};
+use cases_styles::word_or;
 use literature::Entry;
 use rendering::{
-    CiteProperties, DisambiguateState, IbidState, IdentifierUsage, LocatorPayload, SpecificLocator,
-    StyleContext, TransparentLocator,
+    CiteProperties, DisambiguateState, IbidState, IdentifierUsage, SpecificLocator, StyleContext,
 };
 use std::alloc::Global;
 
@@ -97,22 +97,6 @@ fn properties<'a>(alloc: Global, given: &Value<'a>) -> Result<CiteProperties<'a>
     })
 }
 
-/// A number that counts from 0, where it is not left out.
-pub fn maybe_count(object: &Value<'_>, name: &'static str) -> Result<Option<usize>, Refusal> {
-    match member(object, name) {
-        Some(_) => Ok(Some(count(object, name)?)),
-        None => Ok(None),
-    }
-}
-
-/// A number that counts from 0; one that is left out is 0.
-pub fn place(object: &Value<'_>, name: &'static str) -> Result<usize, Refusal> {
-    match member(object, name) {
-        Some(_) => count(object, name),
-        None => Ok(0),
-    }
-}
-
 /// The locator, where there is one.
 fn maybe_locator<'a>(
     alloc: Global,
@@ -121,27 +105,5 @@ fn maybe_locator<'a>(
     match member(given, "locator") {
         Some(given) => Ok(Some(locator(alloc, given, ())?)),
         None => Ok(None),
-    }
-}
-
-/// A locator, with what the caller prints it from where it has no text.
-pub fn locator<'a, P: Drop>(
-    alloc: Global,
-    given: &Value<'a>,
-    own: P,
-) -> Result<SpecificLocator<'a, P>, Refusal> {
-    only(alloc, given, &["label", "text", "transparent"])?;
-    let Some(label) = maybe_word(given, "label", LOCATORS)? else {
-        return Err(Refusal::Wanted("label", "the label of a locator"));
-    };
-    let payload = payload(given, own)?;
-    Ok(SpecificLocator { label, payload })
-}
-
-/// What a locator says: its text, or else what the caller prints it from.
-fn payload<'a, P: Drop>(given: &Value<'a>, own: P) -> Result<LocatorPayload<'a, P>, Refusal> {
-    match maybe_text(given, "text")? {
-        Some(text) => Ok(LocatorPayload::Str(text)),
-        None => Ok(LocatorPayload::Transparent(TransparentLocator { payload: own })),
     }
 }

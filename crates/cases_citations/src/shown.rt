@@ -1,7 +1,7 @@
 //! What is shown of a call, as members of an answer.
 
 use crate::properties::USAGES;
-use cases::{Refusal, Value, Writer, is_set, put_bool, put_text};
+use cases::{Writer, put_bool, put_text};
 use cases_rendering::NAME_FORMS;
 use cases_styles::word_of;
 use cases_values::all_written;
@@ -40,12 +40,4 @@ fn put_forms(out: &mut Writer, forms: &[DisambiguatedNameForm]) -> Result<(), Al
         out.string(word_of(NAME_FORMS, *form))?;
     }
     out.end_array()
-}
-
-/// Writes how many calls were made, where the case asks for it.
-pub fn put_effort(case: &Value<'_>, out: &mut Writer, calls: u64) -> Result<(), Refusal> {
-    if !is_set(case, "effort")? {
-        return Ok(());
-    }
-    all_written(&[out.key("effort"), out.u64(calls)]).map_err(Refusal::from)
 }

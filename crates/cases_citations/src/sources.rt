@@ -1,14 +1,13 @@
 //! The style and the entry of a case.
 
 use crate::citations::put_citation;
-use crate::files::locale_files;
 use crate::items::put_item;
 use crate::properties::properties_of;
 use crate::writing::put_writing;
 use biblatex::Bibliography;
 use cases::{Refusal, Value, Writer, only, text};
-use cases_cite::{Source, put_bridge_error, put_unknown_name, read_source};
 use cases_entries::put_parse_reason;
+use cases_sources::{Source, locale_files, named, put_bridge_error, put_unknown_name, read_source};
 use cases_styles::{maybe_code, put_style_error, style_parts};
 use interop::from_biblatex;
 use literature::{Entry, Library};
@@ -142,16 +141,6 @@ fn put_named(
         Some(entry) => put_wanted(alloc, case, out, wanted, context, entry),
         None => put_unknown_name(out, name).map_err(Refusal::from),
     }
-}
-
-/// The entry of a library that a name means in the file that the library is of.
-pub fn named<'l>(
-    bibliography: &Bibliography,
-    library: &'l Library,
-    name: &str,
-) -> Option<&'l Entry> {
-    let read = bibliography.get(name)?;
-    library.get(read.key.as_str())
 }
 
 /// Writes what is asked of a style.

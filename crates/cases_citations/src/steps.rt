@@ -3,7 +3,7 @@
 use crate::nodes::{ask, put_name_options, render};
 use cases::{Refusal, Value, Writer, count, items, only, text};
 use literature::Entry;
-use rendering::Context;
+use rendering_writing::Context;
 use std::alloc::{AllocError, Global};
 use std::fmt::Write;
 

@@ -4,9 +4,8 @@ use crate::steps::take_all;
 use cases::{Refusal, Value, Writer, is_set};
 use cases_rendering::put_written_tree;
 use literature::Entry;
-use rendering::{
-    CiteProperties, Context, Letters, LocaleCode, StyleContext, Walk, Words, WritingContext,
-};
+use rendering::{CiteProperties, Letters, LocaleCode, StyleContext, Walk, Words};
+use rendering_writing::{Context, WritingContext};
 use std::alloc::Global;
 
 /// `writing`: what nodes are asked on the way, and what the steps put down.

@@ -1,13 +1,12 @@
 //! Entries of BibLaTeX files as entries of a library.
 
-use crate::refusals::{put_faults, put_unknown};
-use crate::source::{Source, read_source};
 use biblatex::{Bibliography, Entry};
 use cases::{Refusal, Value, Writer, maybe_text, only};
-use cases_entries::{put_message, put_parse_error};
+use cases_entries::put_parse_error;
 use cases_literature::{ENTRY_DEPTH, boxed, put_entry};
+use cases_sources::{Source, put_bridge_error, put_unknown, read_source};
 use cases_values::all_written;
-use interop::{BridgeError, entry, from_biblatex};
+use interop::{entry, from_biblatex};
 use literature::Library;
 use std::alloc::Global;
 
@@ -82,18 +81,4 @@ fn put_entries(out: &mut Writer, library: &Library) -> Result<(), Refusal> {
         put_entry(out, entry, ENTRY_DEPTH)?;
     }
     out.end_array().map_err(Refusal::from)
-}
-
-/// Writes why entries are not bridged.
-pub fn put_bridge_error(
-    alloc: Global,
-    case: &Value<'_>,
-    out: &mut Writer,
-    error: &BridgeError,
-) -> Result<(), Refusal> {
-    let BridgeError::Fields(faults) = error else {
-        return Err(Refusal::Memory);
-    };
-    put_faults(out, faults)?;
-    put_message(alloc, case, out, error)
 }

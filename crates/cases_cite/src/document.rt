@@ -4,6 +4,7 @@ use cases::{
     Refusal, Value, Writer, only, put_bool, put_count, put_maybe_text, put_refused, put_text, text,
 };
 use cases_entries::put_message;
+use cases_sources::PURPOSES;
 use cases_styles::{LOCATORS, word_of};
 use cases_values::all_written;
 use cite::{Cite, CiteLocator, Document, DocumentError, Piece};
@@ -12,14 +13,6 @@ use std::alloc::{AllocError, Global};
 
 /// The members of a case.
 const MEMBERS: [&str; 4] = ["case", "name", "document", "message"];
-
-/// The words of what a cite is for.
-pub const PURPOSES: &[(&str, CitePurpose)] = &[
-    ("author", CitePurpose::Author),
-    ("year", CitePurpose::Year),
-    ("full", CitePurpose::Full),
-    ("prose", CitePurpose::Prose),
-];
 
 /// `document`: the pieces of a document, or why it was refused.
 pub(crate) fn answer_document(

@@ -1,12 +1,10 @@
 //! Labels of the entries of BibLaTeX files.
 
-use crate::bridge::put_bridge_error;
-use crate::refusals::put_unknown_name;
-use crate::source::{Source, read_source};
 use biblatex::{Bibliography, Entry};
 use cases::{Refusal, Value, Writer, count, member, only, put_text, text};
 use cases_entries::put_parse_reason;
 use cases_literature::boxed;
+use cases_sources::{Source, put_bridge_error, put_unknown_name, read_source};
 use interop::entry;
 use rendering_entries::Alphanumerical;
 use std::alloc::Global;

@@ -12,15 +12,9 @@ mod program;
 mod refusals;
 mod setting;
 mod show;
-mod source;
 mod taker;
 
-pub use bridge::put_bridge_error;
 use cases::{Answered, Value, Writer};
-pub use document::PURPOSES;
-pub use refusals::put_unknown_name;
-pub use setting::locale_given;
-pub use source::{Source, read_source};
 use std::alloc::Global;
 
 /// Writes the members of the answer to a case of this kind; false where the kind is none of these.

@@ -1,45 +1,12 @@
-//! Why entries are not bridged and documents not cited, as members of an answer. Out of memory has no answer.
+//! Why documents are not cited, as members of an answer. Out of memory has no answer.
 
 use crate::document::put_marker_error;
 use cases::{Refusal, Value, Writer, put_count, put_refused, put_text};
 use cases_entries::{put_message, put_parse_error};
-use cases_values::{all_written, type_error_name};
-use cite::{BibTextError, CiteError, DocumentTextError, FieldFault, SelectorError, SinkFault};
+use cases_sources::{put_faults, put_unknown};
+use cases_values::all_written;
+use cite::{BibTextError, CiteError, DocumentTextError, SelectorError, SinkFault};
 use std::alloc::{AllocError, Global};
-
-/// Writes a name that means no entry.
-pub(crate) fn put_unknown(out: &mut Writer, name: &str) -> Result<(), AllocError> {
-    all_written(&[put_refused(out, "Name"), put_text(out, "entry", name)])
-}
-
-/// The same, with the name as a member `name`.
-pub fn put_unknown_name(out: &mut Writer, name: &str) -> Result<(), AllocError> {
-    all_written(&[put_refused(out, "Name"), put_text(out, "name", name)])
-}
-
-/// Writes the fields that cannot be read.
-pub(crate) fn put_faults(out: &mut Writer, faults: &[FieldFault]) -> Result<(), AllocError> {
-    all_written(&[
-        put_refused(out, "Fields"),
-        out.key("faults"),
-        out.begin_array(),
-    ])?;
-    for fault in faults {
-        put_fault(out, fault)?;
-    }
-    out.end_array()
-}
-
-/// Writes a field that cannot be read: the key of its entry, its name and why.
-fn put_fault(out: &mut Writer, fault: &FieldFault) -> Result<(), AllocError> {
-    all_written(&[
-        out.begin_array(),
-        out.string(fault.key.as_str()),
-        out.string(fault.field.name()),
-        out.string(type_error_name(fault.kind)),
-        out.end_array(),
-    ])
-}
 
 /// Writes why a document was not cited, with the stage of what several stages refuse.
 pub(crate) fn put_cite_error(

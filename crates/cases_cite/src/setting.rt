@@ -1,7 +1,8 @@
 //! How the document of a case is cited: the style, the locale and the format.
 
 use cases::{Refusal, Value, maybe_text, member};
-use cases_styles::{locale as locale_of, style_parts};
+use cases_sources::locale_given;
+use cases_styles::style_parts;
 use cite::{BufWriteFormat, Locale, Style, author_date, english, note, numeric};
 use rendering_style::StyleError;
 use std::alloc::Global;
@@ -52,15 +53,6 @@ pub(crate) fn locale(alloc: Global, case: &Value<'_>) -> Result<Locale, Refusal>
     match locale_given(alloc, given)? {
         Some(locale) => Ok(locale),
         None => Err(Refusal::Wanted("locale", "a locale, or the word english")),
-    }
-}
-
-/// The locale of a value: that of English by its word, or a locale as data. No other word has one.
-pub fn locale_given(alloc: Global, given: &Value<'_>) -> Result<Option<Locale>, Refusal> {
-    match given.as_str() {
-        Some("english") => Ok(Some(english(alloc)?)),
-        Some(_) => Ok(None),
-        None => Ok(Some(locale_of(alloc, given)?)),
     }
 }
 

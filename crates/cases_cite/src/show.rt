@@ -1,10 +1,10 @@
 //! What is shown of entries.
 
-use crate::source::{Source, read_source};
 use bib_show::show;
 use biblatex::Bibliography;
 use cases::{Refusal, Value, Writer, only, put_text};
 use cases_entries::put_parse_error;
+use cases_sources::{Source, read_source};
 use std::alloc::Global;
 
 /// Writes what is shown of entries, or why their bib text was refused.

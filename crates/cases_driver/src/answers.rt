@@ -1,8 +1,8 @@
 //! Citations and bibliographies as members of answers.
 
 use cases::{Refusal, Value, Writer, is_set, put_bool, put_count, put_number, put_text};
-use cases_citations::put_effort;
 use cases_rendering::{put_written, put_written_tree};
+use cases_sources::put_effort;
 use cases_styles::{ALIGNS, word_of};
 use cases_values::all_written;
 use driver::{BibliographyItem, Rendered, RenderedBibliography, RenderedCitation};

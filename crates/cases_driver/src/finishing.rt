@@ -4,7 +4,7 @@ use crate::requests::{cited, request};
 use crate::sources::{Sources, language};
 use crate::unanswered::Unanswered;
 use cases::{Refusal, Value, items, member, only, texts};
-use cases_citations::place;
+use cases_sources::place;
 use driver::{BibliographyDriver, Rendered, standalone_citation};
 use driver_requests::{BibliographyRequest, CitationRequest};
 use literature::Entry;

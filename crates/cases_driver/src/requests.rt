@@ -3,8 +3,7 @@
 use crate::sources::{Sources, language};
 use crate::unanswered::Unanswered;
 use cases::{Refusal, Value, is_set, items, member, number, only, text};
-use cases_citations::{locator, maybe_count};
-use cases_cite::PURPOSES;
+use cases_sources::{PURPOSES, locator, maybe_count};
 use cases_styles::{maybe_code, maybe_word};
 use driver_requests::{CitationItem, CitationRequest};
 use literature::Entry;

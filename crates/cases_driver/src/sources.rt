@@ -3,7 +3,7 @@
 use crate::unanswered::Unanswered;
 use biblatex::Bibliography;
 use cases::{Refusal, Value, items, member};
-use cases_citations::{named, place};
+use cases_sources::{named, place};
 use cases_styles::{maybe_code, parts_of};
 use literature::{Entry, Library};
 use rendering_locale::{Locale, LocaleCode};

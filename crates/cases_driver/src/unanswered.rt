@@ -1,7 +1,7 @@
 //! Why a document has no citations.
 
 use cases::{Refusal, Writer, put_refused};
-use cases_cite::put_unknown_name;
+use cases_sources::put_unknown_name;
 use driver_requests::DriverError;
 use std::alloc::{AllocError, AllocFailed};
 

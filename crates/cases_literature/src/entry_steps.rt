@@ -14,7 +14,7 @@ use std::alloc::{AllocError, Global};
 use std::hash::{DefaultHasher, Hash, Hasher};
 
 /// The entry of a member.
-pub fn entry_member(
+pub(crate) fn entry_member(
     alloc: Global,
     case: &Value<'_>,
     name: &'static str,

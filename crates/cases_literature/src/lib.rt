@@ -1,19 +1,20 @@
-//! Cases of numbers, dates, people, entries, selectors and libraries.
+//! Cases of numbers, dates, people, entries, selectors and libraries, and of what entries answer to styles.
 #![tactic(auto)]
 
+mod answers;
 mod asked;
 mod copies;
 mod entry_steps;
 mod fields;
 mod given_entries;
 mod initials;
+mod kinds;
 mod libraries;
 mod reading;
 mod selectors;
 mod written_entries;
 
 use cases::{Answered, Value, Writer};
-pub use entry_steps::entry_member;
 pub use given_entries::{boxed, entry_of};
 use std::alloc::Global;
 pub use written_entries::put_entry;
@@ -32,6 +33,8 @@ pub fn answer(alloc: Global, kind: &str, case: &Value<'_>, out: &mut Writer) -> 
         "selector" => selectors::selector(alloc, case, out),
         "query" => selectors::query(alloc, case, out),
         "library" => libraries::library(alloc, case, out),
+        "answer" => answers::answer(alloc, case, out),
+        "entry_kinds" => kinds::answer(alloc, case, out),
         _ => return Ok(false),
     };
     answered?;

@@ -1,7 +1,7 @@
 //! Of which kinds an entry is to a style.
 
+use crate::entry_steps::entry_member;
 use cases::{Refusal, Value, Writer, member, only, put_bool, put_text};
-use cases_literature::entry_member;
 use cases_styles::KINDS;
 use literature::Entry;
 use rendering_entries::{EntryLike, are_one_entry};

@@ -1,7 +1,7 @@
-//! The files with locales of a case.
+//! Locales of a case.
 
 use cases::{Refusal, Value, items};
-use cases_cite::locale_given;
+use cases_styles::locale;
 use rendering_english::english;
 use rendering_locale::Locale;
 use std::alloc::Global;
@@ -35,5 +35,14 @@ fn file(alloc: Global, item: &Value<'_>) -> Result<Locale, Refusal> {
     match locale_given(alloc, item)? {
         Some(file) => Ok(file),
         None => Err(Refusal::Wanted("locale_files", "a list of locales, or of the word english")),
+    }
+}
+
+/// The locale of a value: that of English by its word, or a locale as data. No other word has one.
+pub fn locale_given(alloc: Global, given: &Value<'_>) -> Result<Option<Locale>, Refusal> {
+    match given.as_str() {
+        Some("english") => Ok(Some(english(alloc)?)),
+        Some(_) => Ok(None),
+        None => Ok(Some(locale(alloc, given)?)),
     }
 }

@@ -1,7 +1,7 @@
 //! What an entry answers to a variable.
 
+use crate::entry_steps::entry_member;
 use cases::{Refusal, Value, Writer, only};
-use cases_literature::entry_member;
 use cases_styles::{form_of, variable_of};
 use cases_values::{CaseValue, all_written, put_or_null};
 use literature::{ChunkedString, Date, Entry, MaybeTyped, Numeric, Person};

@@ -3,6 +3,7 @@
 use biblatex::{Bibliography, Entry, ParseError};
 use cases::{Refusal, Value, items, only, text};
 use cases_entries::read_entry;
+use literature::Library;
 use std::alloc::Global;
 
 /// What the entries of a case come to.
@@ -38,4 +39,14 @@ fn read_entries(alloc: Global, entries: &[Value<'_>]) -> Result<Bibliography, Re
         bibliography.push(read_item(alloc, entry)?)?;
     }
     Ok(bibliography)
+}
+
+/// The entry of a library that a name means in the file that the library is of.
+pub fn named<'l>(
+    bibliography: &Bibliography,
+    library: &'l Library,
+    name: &str,
+) -> Option<&'l literature::Entry> {
+    let read = bibliography.get(name)?;
+    library.get(read.key.as_str())
 }
