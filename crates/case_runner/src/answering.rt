@@ -1,7 +1,6 @@
 //! One line, and its answer.
 
-use cases::{Refusal, Value, Writer, maybe_text, put_maybe_text, put_text};
-use cases_values::all_written;
+use cases::{Refusal, Session, Value};
 use json::{Reader, Scratch};
 use std::alloc::{AllocError, Global};
 
@@ -10,7 +9,10 @@ const DEPTH: usize = 1000;
 
 /// The JSON value of a line.
 fn parse<'a>(alloc: Global, line: &'a str, scratch: &'a mut Scratch) -> Result<Value<'a>, Refusal> {
-    let mut reader = Reader::new(line, scratch)?;
+    let mut reader = match Reader::new(line, scratch) {
+        Ok(reader) => reader,
+        Err(_) => return Err(Refusal::Memory),
+    };
     match Value::read(alloc, &mut reader, DEPTH) {
         Ok(value) if reader.next().is_none() => Ok(value),
         Err(json::Error::OutOfMemory) => Err(Refusal::Memory),
@@ -18,49 +20,39 @@ fn parse<'a>(alloc: Global, line: &'a str, scratch: &'a mut Scratch) -> Result<V
     }
 }
 
-/// Writes the members of the answer to a case.
-fn answer(alloc: Global, case: &Value<'_>, out: &mut Writer) -> Result<(), Refusal> {
-    put_maybe_text(out, "name", maybe_text(case, "name")?)?;
-    let kind = maybe_text(case, "case")?.unwrap_or("finish");
-    let is_answered = cases_text::answer(alloc, kind, case, out)?
-        || cases_values::answer(alloc, kind, case, out)?
-        || cases_entries::answer(alloc, kind, case, out)?
-        || cases_literature::answer(alloc, kind, case, out)?
-        || cases_styles::answer(alloc, kind, case, out)?
-        || cases_rendering::answer(alloc, kind, case, out)?
-        || cases_cite::answer(alloc, kind, case, out)?
-        || cases_citations::answer(alloc, kind, case, out)?
-        || cases_driver::answer(alloc, kind, case, out)?;
-    if is_answered {
-        return Ok(());
-    }
-    Err(Refusal::UnknownKind(String::from_str(alloc, kind)?))
-}
-
-/// Writes the answer to a case, as an object.
-fn put_object(alloc: Global, case: &Value<'_>, out: &mut Writer) -> Result<(), Refusal> {
-    out.begin_object()?;
-    answer(alloc, case, out)?;
-    out.end_object().map_err(Refusal::from)
+/// Writes the members of the answer to a case; false where no kind has this name.
+fn is_answered(session: &mut Session, kind: &str, case: &Value<'_>) -> bool {
+    cases_text::answer(session, kind, case)
+        || cases_values::answer(session, kind, case)
+        || cases_entries::answer(session, kind, case)
+        || cases_literature::answer(session, kind, case)
+        || cases_styles::answer(session, kind, case)
+        || cases_rendering::answer(session, kind, case)
+        || cases_cite::answer(session, kind, case)
+        || cases_citations::answer(session, kind, case)
+        || cases_driver::answer(session, kind, case)
 }
 
 /// The answer to a case, as an object.
-fn object_of(alloc: Global, case: &Value<'_>) -> Result<Writer, Refusal> {
-    let mut out = Writer::new(Vec::new(alloc));
-    put_object(alloc, case, &mut out)?;
-    Ok(out)
+fn answer(alloc: Global, case: &Value<'_>) -> Result<Vec<u8>, Refusal> {
+    let mut session = Session::new(alloc);
+    session.begin_object();
+    let name = session.maybe_text(case, "name");
+    session.put_maybe_text("name", name);
+    let kind = session.maybe_text(case, "case").unwrap_or("finish");
+    if !is_answered(&mut session, kind, case) {
+        let kind = session.owned(kind);
+        session.refuse(Refusal::UnknownKind(kind));
+    }
+    session.end_object();
+    session.finish()
 }
 
 /// The answer to the case of a line, as an object.
-fn answer_parsed(alloc: Global, line: &str, scratch: &mut Scratch) -> Result<Writer, Refusal> {
-    let case = parse(alloc, line, scratch)?;
-    object_of(alloc, &case)
-}
-
-/// The answer to the case of a line, as an object.
-fn answer_object(alloc: Global, line: &str) -> Result<Writer, Refusal> {
+fn answer_object(alloc: Global, line: &str) -> Result<Vec<u8>, Refusal> {
     let mut scratch = Scratch::new(alloc);
-    answer_parsed(alloc, line, &mut scratch)
+    let case = parse(alloc, line, &mut scratch)?;
+    answer(alloc, &case)
 }
 
 /// What is said of a line that is no case.
@@ -74,25 +66,20 @@ fn said(alloc: Global, refusal: &Refusal) -> Result<String, AllocError> {
     }
 }
 
-/// Writes what is said of a line that is no case, as an object.
-fn put_no_case(said: &str, out: &mut Writer) -> Result<(), AllocError> {
-    all_written(&[
-        out.begin_object(),
-        put_text(out, "no_case", said),
-        out.end_object(),
-    ])
-}
-
 /// What is said of a line that is no case, as an object.
-fn no_case(alloc: Global, said: &str) -> Result<Writer, AllocError> {
-    let mut out = Writer::new(Vec::new(alloc));
-    put_no_case(said, &mut out)?;
-    Ok(out)
+fn no_case(alloc: Global, refusal: &Refusal) -> Result<Vec<u8>, Refusal> {
+    let mut session = Session::new(alloc);
+    session.begin_object();
+    if let Some(said) = session.allocated(said(alloc, refusal)) {
+        session.put_text("no_case", said.as_str());
+    }
+    session.end_object();
+    session.finish()
 }
 
 /// The text of an answer.
-fn text_of(alloc: Global, out: Writer) -> String {
-    match String::from_utf8(out.into_inner()) {
+fn text_of(alloc: Global, answer: Vec<u8>) -> String {
+    match String::from_utf8(answer) {
         Ok(text) => text,
         Err(_) => String::new(alloc),
     }
@@ -100,9 +87,13 @@ fn text_of(alloc: Global, out: Writer) -> String {
 
 /// The answer to a line: that of its case, or why it is no case.
 pub fn answer_line(alloc: Global, line: &str) -> Result<String, AllocError> {
-    match answer_object(alloc, line) {
-        Ok(out) => Ok(text_of(alloc, out)),
-        Err(Refusal::Memory) => Err(AllocError),
-        Err(refusal) => { Ok(text_of(alloc, no_case(alloc, said(alloc, &refusal)?.as_str())?)) }
+    let answered = match answer_object(alloc, line) {
+        Err(Refusal::Memory) => return Err(AllocError),
+        Err(refusal) => no_case(alloc, &refusal),
+        answered => answered,
+    };
+    match answered {
+        Ok(answer) => Ok(text_of(alloc, answer)),
+        Err(_) => Err(AllocError),
     }
 }

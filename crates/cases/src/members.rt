@@ -1,31 +1,8 @@
 //! The members of an object, by their names. A member that is `null` is as one that is left out.
 
 use crate::refusal::Refusal;
+use crate::session::Session;
 use json::Value;
-use std::alloc::Global;
-
-/// Refuses what is no object, and members that are not among the names.
-pub fn only(alloc: Global, object: &Value<'_>, names: &[&str]) -> Result<(), Refusal> {
-    let Value::Object(members) = object else {
-        return Err(Refusal::NoObject);
-    };
-    for member in members {
-        if !is_among(names, member.0) {
-            return Err(Refusal::UnknownMember(String::from_str(alloc, member.0)?));
-        }
-    }
-    Ok(())
-}
-
-/// Whether the name is one of the names.
-pub fn is_among(names: &[&str], wanted: &str) -> bool {
-    for name in names {
-        if *name == wanted {
-            return true;
-        }
-    }
-    false
-}
 
 /// The value of a member, where there is one that is not `null`.
 pub fn member<'v, 'a>(object: &'v Value<'a>, name: &str) -> Option<&'v Value<'a>> {
@@ -35,136 +12,200 @@ pub fn member<'v, 'a>(object: &'v Value<'a>, name: &str) -> Option<&'v Value<'a>
     }
 }
 
-/// The text of a member that may be left out.
-pub fn maybe_text<'a>(object: &Value<'a>, name: &'static str) -> Result<Option<&'a str>, Refusal> {
-    match object.get(name) {
-        None | Some(Value::Null) => Ok(None),
-        Some(Value::String(text)) => Ok(Some(*text)),
-        Some(_) => Err(Refusal::Wanted(name, "a text")),
+/// Whether the name is one of the names.
+pub(crate) fn is_among(names: &[&str], wanted: &str) -> bool {
+    for name in names {
+        if *name == wanted {
+            return true;
+        }
     }
+    false
 }
 
-/// The text of a member.
-pub fn text<'a>(object: &Value<'a>, name: &'static str) -> Result<&'a str, Refusal> {
-    match maybe_text(object, name)? {
-        Some(text) => Ok(text),
-        None => Err(Refusal::Wanted(name, "a text")),
-    }
-}
-
-/// Whether a member is true; one that is left out is not.
-pub fn is_set(object: &Value<'_>, name: &'static str) -> Result<bool, Refusal> {
-    match object.get(name) {
-        None | Some(Value::Null) => Ok(false),
-        Some(Value::Bool(is_true)) => Ok(*is_true),
-        Some(_) => Err(Refusal::Wanted(name, "true or false")),
-    }
-}
-
-/// The number of a member that may be left out.
-pub fn maybe_number(object: &Value<'_>, name: &'static str) -> Result<Option<i64>, Refusal> {
-    match object.get(name) {
-        None | Some(Value::Null) => Ok(None),
-        Some(value) => match value.as_i64() {
-            Some(number) => Ok(Some(number)),
-            None => Err(Refusal::Wanted(name, "an integer")),
-        },
-    }
-}
-
-/// The number of a member.
-pub fn number(object: &Value<'_>, name: &'static str) -> Result<i64, Refusal> {
-    match maybe_number(object, name)? {
-        Some(number) => Ok(number),
-        None => Err(Refusal::Wanted(name, "an integer")),
-    }
-}
-
-/// The number of a member, which has 32 bits.
-pub fn small_number(object: &Value<'_>, name: &'static str) -> Result<i32, Refusal> {
-    match i32::try_from(number(object, name)?) {
-        Ok(number) => Ok(number),
-        Err(_) => Err(Refusal::Wanted(name, "an integer of 32 bits")),
-    }
-}
-
-/// The number of a member that is between 0 and 255, where there is one.
-pub fn maybe_byte(object: &Value<'_>, name: &'static str) -> Result<Option<u8>, Refusal> {
-    let Some(number) = maybe_number(object, name)? else {
-        return Ok(None);
-    };
-    match u8::try_from(number) {
-        Ok(number) => Ok(Some(number)),
-        Err(_) => Err(Refusal::Wanted(name, "an integer from 0 to 255")),
-    }
-}
-
-/// The number of a member that is between 0 and 255; one that is left out is 0.
-pub fn byte(object: &Value<'_>, name: &'static str) -> Result<u8, Refusal> {
-    match maybe_byte(object, name)? {
-        Some(number) => Ok(number),
-        None => Ok(0),
-    }
-}
-
-/// The number of a member that counts from 0.
-pub fn count(object: &Value<'_>, name: &'static str) -> Result<usize, Refusal> {
-    match usize::try_from(number(object, name)?) {
-        Ok(number) => Ok(number),
-        Err(_) => Err(Refusal::Wanted(name, "an integer from 0")),
-    }
-}
-
-/// The items of a list that may be left out.
-pub fn items<'v, 'a>(
-    object: &'v Value<'a>,
-    name: &'static str,
-) -> Result<Option<&'v Vec<Value<'a>>>, Refusal> {
-    let Some(value) = object.get(name) else {
-        return Ok(None);
-    };
-    let Value::Array(items) = value else {
-        return Err(Refusal::Wanted(name, "a list"));
-    };
-    Ok(Some(items))
-}
-
-/// The texts of a list; one that is left out is empty.
-pub fn texts<'a>(
-    alloc: Global,
-    object: &Value<'a>,
-    name: &'static str,
-) -> Result<Vec<&'a str>, Refusal> {
-    let mut texts = Vec::new(alloc);
-    let Some(items) = items(object, name)? else {
-        return Ok(texts);
-    };
-    for item in items {
-        let Some(text) = item.as_str() else {
-            return Err(Refusal::Wanted(name, "a list of texts"));
+impl Session {
+    /// Refuses what is no object, and members that are not among the names.
+    pub fn only(&mut self, object: &Value<'_>, names: &[&str]) {
+        let Value::Object(members) = object else {
+            self.refuse(Refusal::NoObject);
+            return;
         };
-        texts.push(text)?;
+        for member in members {
+            if !is_among(names, member.0) {
+                let name = self.owned(member.0);
+                self.refuse(Refusal::UnknownMember(name));
+            }
+        }
     }
-    Ok(texts)
-}
 
-/// A text of its own of a member.
-pub fn owned_text(
-    alloc: Global,
-    object: &Value<'_>,
-    name: &'static str,
-) -> Result<String, Refusal> {
-    Ok(String::from_str(alloc, text(object, name)?)?)
-}
+    /// The text of a member that may be left out.
+    pub fn maybe_text<'a>(&mut self, object: &Value<'a>, name: &'static str) -> Option<&'a str> {
+        match object.get(name) {
+            None | Some(Value::Null) => None,
+            Some(Value::String(text)) => Some(*text),
+            Some(_) => {
+                self.want(name, "a text");
+                None
+            }
+        }
+    }
 
-/// A text of its own of a member that may be left out.
-pub fn maybe_owned_text(
-    alloc: Global,
-    object: &Value<'_>,
-    name: &'static str,
-) -> Result<Option<String>, Refusal> {
-    match maybe_text(object, name)? {
-        Some(text) => Ok(Some(String::from_str(alloc, text)?)),
-        None => Ok(None),
+    /// The text of a member.
+    pub fn text<'a>(&mut self, object: &Value<'a>, name: &'static str) -> &'a str {
+        match object.get(name) {
+            Some(Value::String(text)) => *text,
+            _ => {
+                self.want(name, "a text");
+                ""
+            }
+        }
+    }
+
+    /// Whether a member is true, where it is not left out.
+    pub fn maybe_bool(&mut self, object: &Value<'_>, name: &'static str) -> Option<bool> {
+        match object.get(name) {
+            None | Some(Value::Null) => None,
+            Some(Value::Bool(is_true)) => Some(*is_true),
+            Some(_) => {
+                self.want(name, "true or false");
+                None
+            }
+        }
+    }
+
+    /// Whether a member is true; one that is left out is not.
+    pub fn is_set(&mut self, object: &Value<'_>, name: &'static str) -> bool {
+        self.maybe_bool(object, name).unwrap_or(false)
+    }
+
+    /// The number of a member that may be left out.
+    pub fn maybe_number(&mut self, object: &Value<'_>, name: &'static str) -> Option<i64> {
+        match object.get(name) {
+            None | Some(Value::Null) => None,
+            Some(value) => {
+                let number = value.as_i64();
+                if number.is_none() {
+                    self.want(name, "an integer");
+                }
+                number
+            }
+        }
+    }
+
+    /// The number of a member.
+    pub fn number(&mut self, object: &Value<'_>, name: &'static str) -> i64 {
+        match self.maybe_number(object, name) {
+            Some(number) => number,
+            None => {
+                self.want(name, "an integer");
+                0
+            }
+        }
+    }
+
+    /// The number of a member, which has 32 bits.
+    pub fn small_number(&mut self, object: &Value<'_>, name: &'static str) -> i32 {
+        match i32::try_from(self.number(object, name)) {
+            Ok(number) => number,
+            Err(_) => {
+                self.want(name, "an integer of 32 bits");
+                0
+            }
+        }
+    }
+
+    /// The number of a member that is between 0 and 255, where there is one.
+    pub fn maybe_byte(&mut self, object: &Value<'_>, name: &'static str) -> Option<u8> {
+        let Some(number) = self.maybe_number(object, name) else {
+            return None;
+        };
+        match u8::try_from(number) {
+            Ok(number) => Some(number),
+            Err(_) => {
+                self.want(name, "an integer from 0 to 255");
+                None
+            }
+        }
+    }
+
+    /// The number of a member that is between 0 and 255; one that is left out is 0.
+    pub fn byte(&mut self, object: &Value<'_>, name: &'static str) -> u8 {
+        self.maybe_byte(object, name).unwrap_or(0)
+    }
+
+    /// The number of a member that counts from 0.
+    pub fn count(&mut self, object: &Value<'_>, name: &'static str) -> usize {
+        match usize::try_from(self.number(object, name)) {
+            Ok(number) => number,
+            Err(_) => {
+                self.want(name, "an integer from 0");
+                0
+            }
+        }
+    }
+
+    /// The number of a member that counts from 0, where it is not left out.
+    pub fn maybe_count(&mut self, object: &Value<'_>, name: &'static str) -> Option<usize> {
+        match member(object, name) {
+            Some(_) => Some(self.count(object, name)),
+            None => None,
+        }
+    }
+
+    /// The number of a member that counts from 0; one that is left out is 0.
+    pub fn place(&mut self, object: &Value<'_>, name: &'static str) -> usize {
+        self.maybe_count(object, name).unwrap_or(0)
+    }
+
+    /// The items of a list that may be left out.
+    pub fn items<'v, 'a>(
+        &mut self,
+        object: &'v Value<'a>,
+        name: &'static str,
+    ) -> Option<&'v Vec<Value<'a>>> {
+        match object.get(name) {
+            None => None,
+            Some(Value::Array(items)) => Some(items),
+            Some(_) => {
+                self.want(name, "a list");
+                None
+            }
+        }
+    }
+
+    /// The texts of a list; one that is left out is empty.
+    pub fn texts<'a>(&mut self, object: &Value<'a>, name: &'static str) -> Vec<&'a str> {
+        let mut texts = Vec::new(self.alloc);
+        let Some(items) = self.items(object, name) else {
+            return texts;
+        };
+        for item in items {
+            match item.as_str() {
+                Some(text) => self.push(&mut texts, text),
+                None => self.want(name, "a list of texts"),
+            }
+        }
+        texts
+    }
+
+    /// A text of its own of a member.
+    pub fn owned_text(&mut self, object: &Value<'_>, name: &'static str) -> String {
+        let text = self.text(object, name);
+        self.owned(text)
+    }
+
+    /// A text of its own of a member that may be left out.
+    pub fn maybe_owned_text(&mut self, object: &Value<'_>, name: &'static str) -> Option<String> {
+        match self.maybe_text(object, name) {
+            Some(text) => Some(self.owned(text)),
+            None => None,
+        }
+    }
+
+    /// A text of its own of a member; one that is left out is empty.
+    pub fn text_or_empty(&mut self, object: &Value<'_>, name: &'static str) -> String {
+        match self.maybe_text(object, name) {
+            Some(text) => self.owned(text),
+            None => String::new(self.alloc),
+        }
     }
 }

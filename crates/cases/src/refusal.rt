@@ -1,8 +1,3 @@
-use std::alloc::{AllocError, AllocFailed};
-
-/// Whether a crate of cases knows a kind and has written the members of its answer, or why the line has none.
-pub type Answered = Result<bool, Refusal>;
-
 /// Why a line has no answer.
 #[derive(Debug, Drop)]
 pub enum Refusal {
@@ -16,16 +11,4 @@ pub enum Refusal {
     UnknownMember(String),
     /// What the member of the first name has to be is said by the second text.
     Wanted(&'static str, &'static str),
-}
-
-impl From<AllocError> for Refusal {
-    fn from(_refused: AllocError) -> Refusal {
-        Refusal::Memory
-    }
-}
-
-impl<T: Drop> From<AllocFailed<T>> for Refusal {
-    fn from(_refused: AllocFailed<T>) -> Refusal {
-        Refusal::Memory
-    }
 }

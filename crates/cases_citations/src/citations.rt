@@ -1,53 +1,87 @@
-//! Cites as a style prints them.
+//! Cites and items of a bibliography as a style prints them.
 
-use crate::shown::put_facts;
-use cases::{Refusal, Value, Writer};
-use cases_rendering::put_written_tree;
+use crate::properties::USAGES;
+use crate::sources::Asked;
+use cases::{Session, Value, word_of};
+use cases_rendering::{NAME_FORMS, put_written_tree};
 use cases_sources::{PURPOSES, put_effort};
-use cases_styles::maybe_word;
-use literature::Entry;
-use rendering::{CiteProperties, CollapseVerdict, Effort, LocaleCode, Rendering, StyleContext};
-use std::alloc::Global;
+use rendering::{CiteProperties, CollapseVerdict, Effort, NameDisambiguationProperties, Rendering};
 
 const VERDICTS: &[(&str, CollapseVerdict)] = &[
     ("first", CollapseVerdict::First),
     ("year-suffix", CollapseVerdict::YearSuffix),
 ];
 
-/// `citation`: a cite, and the three facts of its call.
+/// `citation`: a cite, by its purpose and what collapsing leaves of it, and the three facts of its call.
 pub(crate) fn put_citation(
-    alloc: Global,
+    session: &mut Session,
     case: &Value<'_>,
-    out: &mut Writer,
-    context: &StyleContext<'_>,
-    entry: &Entry,
+    asked: &Asked<'_>,
     properties: &CiteProperties<'_>,
-    code: Option<&LocaleCode>,
-) -> Result<(), Refusal> {
+) {
+    let purpose = session.maybe_word(case, "purpose", PURPOSES);
+    let verdict = session.maybe_word(case, "verdict", VERDICTS);
     let mut effort = Effort::default();
-    let rendering = rendering_of(case, context, entry, properties, code, &mut effort)?;
-    put_rendering(alloc, out, &rendering)?;
-    put_effort(case, out, effort.count())
+    let made = asked.context.citation(
+        asked.entry,
+        properties,
+        asked.code,
+        purpose,
+        verdict,
+        &mut effort,
+    );
+    if let Some(rendering) = session.allocated(made) {
+        put_written_tree(session, &rendering.tree);
+        put_facts(session, &rendering);
+        put_effort(session, case, effort.count());
+    }
 }
 
-/// What a style gives of a cite, by its purpose and what collapsing leaves of it.
-fn rendering_of(
+/// Writes the three facts of a call.
+fn put_facts(session: &mut Session, rendering: &Rendering) {
+    session.put_bool("met_disambiguate", rendering.met_disambiguate);
+    session.key("name_forms");
+    match &rendering.names {
+        Some(names) => put_forms(session, names),
+        None => session.null(),
+    }
+    session.put_text(
+        "identifier_usage",
+        word_of(USAGES, rendering.identifier_usage),
+    );
+}
+
+/// Writes the forms of names as a list.
+fn put_forms(session: &mut Session, names: &NameDisambiguationProperties) {
+    session.begin_array();
+    for form in names.forms() {
+        session.string(word_of(NAME_FORMS, *form));
+    }
+    session.end_array();
+}
+
+/// `item`: an item, or null where the style has no bibliography.
+pub(crate) fn put_item(
+    session: &mut Session,
     case: &Value<'_>,
-    context: &StyleContext<'_>,
-    entry: &Entry,
+    asked: &Asked<'_>,
     properties: &CiteProperties<'_>,
-    code: Option<&LocaleCode>,
-    effort: &mut Effort,
-) -> Result<Rendering, Refusal> {
-    let purpose = maybe_word(case, "purpose", PURPOSES)?;
-    let verdict = maybe_word(case, "verdict", VERDICTS)?;
-    context
-        .citation(entry, properties, code, purpose, verdict, effort)
-        .map_err(Refusal::from)
-}
-
-/// Writes what was printed, and the facts of the call.
-fn put_rendering(alloc: Global, out: &mut Writer, rendering: &Rendering) -> Result<(), Refusal> {
-    put_written_tree(alloc, out, &rendering.tree)?;
-    put_facts(out, rendering).map_err(Refusal::from)
+) {
+    let mut effort = Effort::default();
+    let made = asked
+        .context
+        .bibliography(asked.entry, properties, asked.code, &mut effort);
+    let Some(rendering) = session.allocated(made) else {
+        return;
+    };
+    session.key("item");
+    match &rendering {
+        Some(rendering) => {
+            session.begin_object();
+            put_written_tree(session, &rendering.tree);
+            session.end_object();
+        }
+        None => session.null(),
+    }
+    put_effort(session, case, effort.count());
 }

@@ -2,27 +2,23 @@
 #![tactic(auto)]
 
 mod citations;
-mod items;
 mod nodes;
 mod properties;
-mod shown;
 mod sources;
 mod states;
 mod steps;
 mod writing;
 
-use cases::{Answered, Value, Writer};
+use cases::{Session, Value};
 use sources::Wanted;
-use std::alloc::Global;
 
 /// Writes the members of the answer to a case of this kind; false where the kind is none of these.
-pub fn answer(alloc: Global, kind: &str, case: &Value<'_>, out: &mut Writer) -> Answered {
-    let answered = match kind {
-        "citation" => sources::answer(alloc, case, out, Wanted::Citation),
-        "item" => sources::answer(alloc, case, out, Wanted::Item),
-        "writing" => sources::answer(alloc, case, out, Wanted::Writing),
-        _ => return Ok(false),
-    };
-    answered?;
-    Ok(true)
+pub fn answer(session: &mut Session, kind: &str, case: &Value<'_>) -> bool {
+    match kind {
+        "citation" => sources::answer(session, case, Wanted::Citation),
+        "item" => sources::answer(session, case, Wanted::Item),
+        "writing" => sources::answer(session, case, Wanted::Writing),
+        _ => return false,
+    }
+    true
 }

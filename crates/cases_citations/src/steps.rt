@@ -1,73 +1,67 @@
 //! The steps of one who prints by itself.
 
 use crate::nodes::{ask, put_name_options, render};
-use cases::{Refusal, Value, Writer, count, items, only, text};
+use cases::{Session, Value};
 use literature::Entry;
 use rendering_writing::Context;
-use std::alloc::{AllocError, Global};
+use std::alloc::AllocError;
 use std::fmt::Write;
 
 /// Takes the steps of a case in their order, and writes what is asked on the way as the member `asked`.
 pub(crate) fn take_all<'c>(
-    alloc: Global,
+    session: &mut Session,
     case: &'c Value<'_>,
-    out: &mut Writer,
     context: &mut Context<'_, '_, 'c, Entry>,
-) -> Result<(), Refusal> {
-    out.key("asked")?;
-    out.begin_array()?;
-    if let Some(steps) = items(case, "steps")? {
-        take_each(alloc, steps, out, context)?;
+) {
+    session.begin_list("asked");
+    if let Some(steps) = session.items(case, "steps") {
+        for step in steps {
+            session.only(step, &["step", "text", "url", "place", "of", "node"]);
+            take(session, step, context);
+        }
     }
-    out.end_array().map_err(Refusal::from)
-}
-
-/// Takes steps in their order.
-fn take_each<'c>(
-    alloc: Global,
-    steps: &'c [Value<'_>],
-    out: &mut Writer,
-    context: &mut Context<'_, '_, 'c, Entry>,
-) -> Result<(), Refusal> {
-    for step in steps {
-        only(alloc, step, &["step", "text", "url", "place", "of", "node"])?;
-        take(step, out, context)?;
-    }
-    Ok(())
+    session.end_array();
 }
 
 /// Takes a step: nodes of the style, or else what is put down beside them.
-fn take<'c>(
-    step: &'c Value<'_>,
-    out: &mut Writer,
-    context: &mut Context<'_, '_, 'c, Entry>,
-) -> Result<(), Refusal> {
-    match text(step, "step")? {
-        "render" => render(step, context),
-        "ask" => ask(step, out, context),
-        "options" => put_name_options(step, context),
-        "options-back" => {
-            context.writing.pop_name_options();
-            Ok(())
-        }
-        word => put_down(word, step, context),
+fn take<'c>(session: &mut Session, step: &'c Value<'_>, context: &mut Context<'_, '_, 'c, Entry>) {
+    match session.text(step, "step") {
+        "render" => render(session, step, context),
+        "ask" => ask(session, step, context),
+        "options" => put_name_options(session, step, context),
+        "options-back" => context.writing.pop_name_options(),
+        word => put_down(session, word, step, context),
     }
 }
 
 /// Puts something down beside nodes.
 fn put_down<'c>(
+    session: &mut Session,
     word: &str,
     step: &'c Value<'_>,
     context: &mut Context<'_, '_, 'c, Entry>,
-) -> Result<(), Refusal> {
+) {
     match word {
-        "space" => Ok(context.ensure_space()?),
-        "text" => Ok(context.push_str(text(step, "text")?)?),
-        "write" => Ok(write_text(text(step, "text")?, context)?),
-        "title" => Ok(push_title(context)?),
-        "link" => Ok(context.push_link(text(step, "text")?, text(step, "url")?)?),
-        "locator" => Ok(context.push_transparent(count(step, "place")?)?),
-        _ => Err(Refusal::Wanted("step", "the word of a step")),
+        "space" => session.check(context.ensure_space()),
+        "text" => {
+            let text = session.text(step, "text");
+            session.check(context.push_str(text));
+        }
+        "write" => {
+            let text = session.text(step, "text");
+            session.check(write_text(text, context));
+        }
+        "title" => session.check(push_title(context)),
+        "link" => {
+            let text = session.text(step, "text");
+            let url = session.text(step, "url");
+            session.check(context.push_link(text, url));
+        }
+        "locator" => {
+            let place = session.count(step, "place");
+            session.check(context.push_transparent(place));
+        }
+        _ => session.want("step", "the word of a step"),
     }
 }
 

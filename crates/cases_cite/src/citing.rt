@@ -5,9 +5,8 @@ use crate::limits::read_taker;
 use crate::refusals::put_cite_error;
 use crate::setting::{Setting, format, locale, style};
 use crate::taker::Taker;
-use cases::{Refusal, Value, Writer, is_set, only, put_text, texts};
-use cases_styles::put_style_error;
-use cite::{CiteError, Style, Tap, cite, cite_to_string};
+use cases::{Refusal, Session, Value};
+use cite::{CiteError, Tap, cite, cite_to_string};
 use std::alloc::Global;
 
 /// The members of a case.
@@ -17,172 +16,80 @@ const MEMBERS: [&str; 11] = [
 ];
 
 /// `cite`: the output of a document, or why it was refused.
-pub(crate) fn answer_cite(
-    alloc: Global,
-    case: &Value<'_>,
-    out: &mut Writer,
-) -> Result<(), Refusal> {
-    only(alloc, case, &MEMBERS)?;
-    match style(alloc, case)? {
-        Ok(style) => answer_in_style(alloc, case, &style, out),
-        Err(error) => put_style_error(out, error),
+pub(crate) fn answer_cite(session: &mut Session, case: &Value<'_>) {
+    session.only(case, &MEMBERS);
+    let Some(style) = style(session, case) else {
+        return;
+    };
+    let Some(locale) = locale(session, case) else {
+        return;
+    };
+    let bib = bytes(session, case, "bib");
+    let document = bytes(session, case, "document");
+    let sections = session.texts(case, "sections");
+    let setting = Setting {
+        style: &style,
+        locale: &locale,
+        format: format(session, case),
+        bib: &bib,
+        document: &document,
+        sections: &sections,
+    };
+    if session.is_set(case, "string") {
+        answer_as_text(session, case, &setting);
+    } else {
+        answer_into_sink(session, case, &setting);
     }
 }
 
-/// Cites the document of a case in a style, and writes what came of it.
-fn answer_in_style(
-    alloc: Global,
-    case: &Value<'_>,
-    style: &Style,
-    out: &mut Writer,
-) -> Result<(), Refusal> {
-    let format = format(case)?;
-    let locale = locale(alloc, case)?;
-    let setting = Setting {
-        style,
-        locale: &locale,
-        format,
-    };
-    answer_in_setting(alloc, case, setting, out)
-}
-
-/// Cites the document of a case as is asked, and writes what came of it.
-fn answer_in_setting(
-    alloc: Global,
-    case: &Value<'_>,
-    setting: Setting<'_>,
-    out: &mut Writer,
-) -> Result<(), Refusal> {
-    let bib = bytes(alloc, case, "bib")?;
-    answer_with_entries(alloc, case, setting, &bib, out)
-}
-
-/// Cites the document of a case with the entries of a bib text, and writes what came of it.
-fn answer_with_entries(
-    alloc: Global,
-    case: &Value<'_>,
-    setting: Setting<'_>,
-    bib: &[u8],
-    out: &mut Writer,
-) -> Result<(), Refusal> {
-    let document = bytes(alloc, case, "document")?;
-    answer_in_sections(alloc, case, setting, bib, &document, out)
-}
-
-/// Cites a document with the entries of a bib text in the sections of a case, and writes what came of it.
-fn answer_in_sections(
-    alloc: Global,
-    case: &Value<'_>,
-    setting: Setting<'_>,
-    bib: &[u8],
-    document: &[u8],
-    out: &mut Writer,
-) -> Result<(), Refusal> {
-    let sections = texts(alloc, case, "sections")?;
-    if is_set(case, "string")? {
-        let cited = into_text(alloc, setting, bib, document, &sections);
-        put_cited(alloc, case, out, cited)
-    } else {
-        answer_into_sink(alloc, case, setting, bib, document, &sections, out)
+/// Cites a document to a text, and writes it, or why the document was refused.
+fn answer_as_text(session: &mut Session, case: &Value<'_>, setting: &Setting<'_>) {
+    let cited = cite_to_string(
+        session.alloc,
+        setting.bib,
+        setting.document,
+        setting.style,
+        setting.locale,
+        setting.sections,
+        setting.format,
+    );
+    match cited {
+        Ok(output) => session.put_text("output", output.as_str()),
+        Err(error) => put_cite_error(session, case, &error),
     }
 }
 
 /// Cites a document into the sink of a case, and writes what came of it.
-fn answer_into_sink(
-    alloc: Global,
-    case: &Value<'_>,
-    setting: Setting<'_>,
-    bib: &[u8],
-    document: &[u8],
-    sections: &[&str],
-    out: &mut Writer,
-) -> Result<(), Refusal> {
-    let mut taker = read_taker(alloc, case, "sink")?;
-    let outcome = into_sink(alloc, setting, bib, document, sections, &mut taker);
-    put_outcome(alloc, case, outcome, &taker, out)
+fn answer_into_sink(session: &mut Session, case: &Value<'_>, setting: &Setting<'_>) {
+    let mut taker = read_taker(session, case, "sink");
+    let outcome = into_sink(session.alloc, setting, &mut taker);
+    if taker.lacks_memory {
+        session.refuse(Refusal::Memory);
+    }
+    match outcome {
+        Ok(()) => put_taken(session, "output", &taker),
+        Err(error) => put_failure(session, case, &error, &taker),
+    }
 }
 
-/// Cites a document with the entries of a bib text into a writer.
-fn into_sink(
-    alloc: Global,
-    setting: Setting<'_>,
-    bib: &[u8],
-    document: &[u8],
-    sections: &[&str],
-    taker: &mut Taker,
-) -> Result<(), CiteError> {
+/// Cites a document into a writer.
+fn into_sink(alloc: Global, setting: &Setting<'_>, taker: &mut Taker) -> Result<(), CiteError> {
     cite(
         alloc,
-        bib,
-        document,
+        setting.bib,
+        setting.document,
         setting.style,
         setting.locale,
-        sections,
+        setting.sections,
         setting.format,
         &mut Tap::new(taker),
     )
 }
 
-/// Cites a document with the entries of a bib text to a text.
-fn into_text(
-    alloc: Global,
-    setting: Setting<'_>,
-    bib: &[u8],
-    document: &[u8],
-    sections: &[&str],
-) -> Result<String, CiteError> {
-    cite_to_string(
-        alloc,
-        bib,
-        document,
-        setting.style,
-        setting.locale,
-        sections,
-        setting.format,
-    )
-}
-
-/// Writes the output of a document as a text, or why it was refused.
-fn put_cited(
-    alloc: Global,
-    case: &Value<'_>,
-    out: &mut Writer,
-    cited: Result<String, CiteError>,
-) -> Result<(), Refusal> {
-    match cited {
-        Ok(output) => put_text(out, "output", output.as_str()).map_err(Refusal::from),
-        Err(error) => put_cite_error(alloc, case, out, &error),
-    }
-}
-
-/// Writes what came of a document.
-fn put_outcome(
-    alloc: Global,
-    case: &Value<'_>,
-    outcome: Result<(), CiteError>,
-    taker: &Taker,
-    out: &mut Writer,
-) -> Result<(), Refusal> {
-    if taker.lacks_memory {
-        return Err(Refusal::Memory);
-    }
-    match outcome {
-        Ok(()) => put_taken(out, "output", taker).map_err(Refusal::from),
-        Err(error) => put_failure(alloc, case, &error, taker, out),
-    }
-}
-
 /// Writes why a document was refused, and what the writer took where it was the one that failed.
-fn put_failure(
-    alloc: Global,
-    case: &Value<'_>,
-    error: &CiteError,
-    taker: &Taker,
-    out: &mut Writer,
-) -> Result<(), Refusal> {
-    put_cite_error(alloc, case, out, error)?;
-    match error {
-        CiteError::Write(_) => put_taken(out, "taken", taker).map_err(Refusal::from),
-        _ => Ok(()),
+fn put_failure(session: &mut Session, case: &Value<'_>, error: &CiteError, taker: &Taker) {
+    put_cite_error(session, case, error);
+    if matches!(error, CiteError::Write(_)) {
+        put_taken(session, "taken", taker);
     }
 }

@@ -1,118 +1,74 @@
 //! Documents as their texts and markers.
 
-use cases::{
-    Refusal, Value, Writer, only, put_bool, put_count, put_maybe_text, put_refused, put_text, text,
-};
-use cases_entries::put_message;
+use cases::{Refusal, Session, Value, word_of};
 use cases_sources::PURPOSES;
-use cases_styles::{LOCATORS, word_of};
-use cases_values::all_written;
-use cite::{Cite, CiteLocator, Document, DocumentError, Piece};
-use rendering_taxonomy::CitePurpose;
-use std::alloc::{AllocError, Global};
+use cases_styles::LOCATORS;
+use cite::{Cite, Document, DocumentError, Piece};
 
 /// The members of a case.
 const MEMBERS: [&str; 4] = ["case", "name", "document", "message"];
 
 /// `document`: the pieces of a document, or why it was refused.
-pub(crate) fn answer_document(
-    alloc: Global,
-    case: &Value<'_>,
-    out: &mut Writer,
-) -> Result<(), Refusal> {
-    only(alloc, case, &MEMBERS)?;
-    match Document::parse(alloc, text(case, "document")?) {
-        Ok(document) => put_pieces(out, &document).map_err(Refusal::from),
-        Err(error) => put_error(alloc, case, out, &error),
+pub(crate) fn answer_document(session: &mut Session, case: &Value<'_>) {
+    session.only(case, &MEMBERS);
+    match Document::parse(session.alloc, session.text(case, "document")) {
+        Ok(document) => put_pieces(session, &document),
+        Err(error) => put_error(session, case, &error),
     }
 }
 
 /// Writes why a document was refused.
-fn put_error(
-    alloc: Global,
-    case: &Value<'_>,
-    out: &mut Writer,
-    error: &DocumentError,
-) -> Result<(), Refusal> {
+fn put_error(session: &mut Session, case: &Value<'_>, error: &DocumentError) {
     let DocumentError::Marker { offset } = error else {
-        return Err(Refusal::Memory);
+        return session.refuse(Refusal::Memory);
     };
-    put_marker_error(out, *offset)?;
-    put_message(alloc, case, out, error)
+    put_marker_error(session, *offset);
+    session.put_message(case, error);
 }
 
 /// Writes at which byte an opening stands that no marker follows.
-pub(crate) fn put_marker_error(out: &mut Writer, offset: usize) -> Result<(), AllocError> {
-    all_written(&[put_refused(out, "Marker"), put_count(out, "offset", offset)])
+pub(crate) fn put_marker_error(session: &mut Session, offset: usize) {
+    session.put_refused("Marker");
+    session.put_count("offset", offset);
 }
 
-/// Writes the pieces of a document.
-fn put_pieces(out: &mut Writer, document: &Document<'_>) -> Result<(), AllocError> {
-    all_written(&[out.key("pieces"), out.begin_array()])?;
+/// Writes the pieces of a document, each as an object.
+fn put_pieces(session: &mut Session, document: &Document<'_>) {
+    session.begin_list("pieces");
     for piece in &document.pieces {
-        put_piece(out, piece)?;
+        session.begin_object();
+        match piece {
+            Piece::Text(text) => session.put_text("text", text),
+            Piece::Marker(cites) => put_cites(session, cites),
+        }
+        session.end_object();
     }
-    out.end_array()
-}
-
-/// Writes a piece, as an object.
-fn put_piece(out: &mut Writer, piece: &Piece<'_>) -> Result<(), AllocError> {
-    out.begin_object()?;
-    match piece {
-        Piece::Text(text) => put_text(out, "text", text)?,
-        Piece::Marker(cites) => put_cites(out, cites)?,
-    }
-    out.end_object()
+    session.end_array();
 }
 
 /// Writes the cites of a marker.
-fn put_cites(out: &mut Writer, cites: &[Cite<'_>]) -> Result<(), AllocError> {
-    all_written(&[out.key("marker"), out.begin_array()])?;
+fn put_cites(session: &mut Session, cites: &[Cite<'_>]) {
+    session.begin_list("marker");
     for cite in cites {
-        put_cite(out, cite)?;
+        put_cite(session, cite);
     }
-    out.end_array()
+    session.end_array();
 }
 
 /// Writes a cite, as an object without the members that are not set.
-fn put_cite(out: &mut Writer, cite: &Cite<'_>) -> Result<(), AllocError> {
-    all_written(&[
-        out.begin_object(),
-        put_text(out, "entry", cite.name),
-        put_locator(out, &cite.locator),
-        put_hidden(out, cite.hidden),
-        put_maybe_text(out, "purpose", purpose_word(cite.purpose)),
-        out.end_object(),
-    ])
-}
-
-/// The word of what a cite is for, where it is no ordinary one.
-fn purpose_word(purpose: Option<CitePurpose>) -> Option<&'static str> {
-    match purpose {
-        Some(purpose) => Some(word_of(PURPOSES, purpose)),
-        None => None,
+fn put_cite(session: &mut Session, cite: &Cite<'_>) {
+    session.begin_object();
+    session.put_text("entry", cite.name);
+    if let Some(locator) = &cite.locator {
+        session.key("locator");
+        session.begin_object();
+        session.put_text("label", word_of(LOCATORS, locator.label));
+        session.put_text("text", locator.value);
+        session.end_object();
     }
-}
-
-/// Writes that a cite is hidden, where it is.
-fn put_hidden(out: &mut Writer, hidden: bool) -> Result<(), AllocError> {
-    if hidden {
-        put_bool(out, "hidden", true)
-    } else {
-        Ok(())
+    session.put_if_set("hidden", cite.hidden);
+    if let Some(purpose) = cite.purpose {
+        session.put_text("purpose", word_of(PURPOSES, purpose));
     }
-}
-
-/// Writes the locator of a cite, where it has one.
-fn put_locator(out: &mut Writer, locator: &Option<CiteLocator<'_>>) -> Result<(), AllocError> {
-    match locator {
-        Some(locator) => all_written(&[
-            out.key("locator"),
-            out.begin_object(),
-            put_text(out, "label", word_of(LOCATORS, locator.label)),
-            put_text(out, "text", locator.value),
-            out.end_object(),
-        ]),
-        None => Ok(()),
-    }
+    session.end_object();
 }

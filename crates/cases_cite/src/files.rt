@@ -1,28 +1,17 @@
 //! Files in memory.
 
 use crate::bytes::bytes_of;
-use cases::{Refusal, Value, member, texts};
+use cases::{Session, Value, member};
 use cite::{FileRead, ReadFault};
-use std::alloc::Global;
 
 /// The files of a case: the paths in `no_memory_for`, and then `files` by their paths.
-pub(crate) fn read_files<'c>(
-    alloc: Global,
-    case: &Value<'c>,
-) -> Result<Vec<FileRead<'c>>, Refusal> {
-    let mut files = Vec::new(alloc);
-    push_all(alloc, case, &mut files)?;
-    Ok(files)
-}
-
-/// Appends the files of a case.
-fn push_all<'c>(
-    alloc: Global,
-    case: &Value<'c>,
-    files: &mut Vec<FileRead<'c>>,
-) -> Result<(), Refusal> {
-    push_refused(alloc, case, files)?;
-    push_files(alloc, case, files)
+pub(crate) fn read_files<'c>(session: &mut Session, case: &Value<'c>) -> Vec<FileRead<'c>> {
+    let mut files = Vec::new(session.alloc);
+    for path in session.texts(case, "no_memory_for") {
+        session.push(&mut files, refused_at(path));
+    }
+    push_files(session, case, &mut files);
+    files
 }
 
 /// Whether for one of the files there was no memory.
@@ -35,18 +24,6 @@ pub(crate) fn are_refused(files: &[FileRead<'_>]) -> bool {
     false
 }
 
-/// Appends the paths for which there is no memory.
-fn push_refused<'c>(
-    alloc: Global,
-    case: &Value<'c>,
-    files: &mut Vec<FileRead<'c>>,
-) -> Result<(), Refusal> {
-    for path in texts(alloc, case, "no_memory_for")? {
-        files.push(refused_at(path))?;
-    }
-    Ok(())
-}
-
 /// A file for which there is no memory.
 fn refused_at(path: &str) -> FileRead<'_> {
     FileRead {
@@ -56,27 +33,18 @@ fn refused_at(path: &str) -> FileRead<'_> {
 }
 
 /// Appends the files that have bytes.
-fn push_files<'c>(
-    alloc: Global,
-    case: &Value<'c>,
-    files: &mut Vec<FileRead<'c>>,
-) -> Result<(), Refusal> {
+fn push_files<'c>(session: &mut Session, case: &Value<'c>, files: &mut Vec<FileRead<'c>>) {
     let Some(object) = member(case, "files") else {
-        return Ok(());
+        return;
     };
     let Value::Object(members) = object else {
-        return Err(Refusal::Wanted("files", "an object"));
+        return session.want("files", "an object");
     };
     for member in members {
-        files.push(read_file(alloc, member.0, &member.1)?)?;
+        let file = FileRead {
+            path: member.0,
+            bytes: Ok(bytes_of(session, &member.1, "files")),
+        };
+        session.push(files, file);
     }
-    Ok(())
-}
-
-/// A file of an object.
-fn read_file<'c>(alloc: Global, path: &'c str, bytes: &Value<'c>) -> Result<FileRead<'c>, Refusal> {
-    Ok(FileRead {
-        path,
-        bytes: Ok(bytes_of(alloc, bytes, "files")?),
-    })
 }

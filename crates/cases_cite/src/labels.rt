@@ -1,13 +1,10 @@
 //! Labels of the entries of BibLaTeX files.
 
-use biblatex::{Bibliography, Entry};
-use cases::{Refusal, Value, Writer, count, member, only, put_text, text};
-use cases_entries::put_parse_reason;
-use cases_literature::boxed;
-use cases_sources::{Source, put_bridge_error, put_unknown_name, read_source};
+use biblatex::Entry;
+use cases::{Session, Value};
+use cases_sources::{bibliography_of, put_bridge_error, put_unknown_name};
 use interop::entry;
 use rendering_entries::Alphanumerical;
-use std::alloc::Global;
 
 /// The members of a case.
 const MEMBERS: [&str; 7] = [
@@ -15,62 +12,34 @@ const MEMBERS: [&str; 7] = [
 ];
 
 /// `citation_label`: the label of an entry of a file, with so many letters of one name.
-pub(crate) fn answer_label(
-    alloc: Global,
-    case: &Value<'_>,
-    out: &mut Writer,
-) -> Result<(), Refusal> {
-    only(alloc, case, &MEMBERS)?;
-    match read_source(alloc, case)? {
-        Source::Entries(bibliography) => put_named(alloc, case, out, &bibliography),
-        Source::Refused(error) => put_parse_reason(alloc, case, out, &error),
-    }
-}
-
-/// Writes the label of the entry that is named.
-fn put_named(
-    alloc: Global,
-    case: &Value<'_>,
-    out: &mut Writer,
-    bibliography: &Bibliography,
-) -> Result<(), Refusal> {
-    let name = text(case, "entry")?;
+pub(crate) fn answer_label(session: &mut Session, case: &Value<'_>) {
+    session.only(case, &MEMBERS);
+    let Some(bibliography) = bibliography_of(session, case) else {
+        return;
+    };
+    let name = session.text(case, "entry");
     match bibliography.get(name) {
-        Some(read) => put_read(alloc, case, out, read),
-        None => put_unknown_name(out, name).map_err(Refusal::from),
+        Some(read) => put_read(session, case, read),
+        None => put_unknown_name(session, name),
     }
 }
 
 /// Writes the label of an entry.
-fn put_read(
-    alloc: Global,
-    case: &Value<'_>,
-    out: &mut Writer,
-    read: &Entry,
-) -> Result<(), Refusal> {
-    match entry(alloc, read) {
-        Ok(work) => put_label(alloc, case, out, &*boxed(alloc, work)?),
-        Err(error) => put_bridge_error(alloc, case, out, &error),
+fn put_read(session: &mut Session, case: &Value<'_>, read: &Entry) {
+    match entry(session.alloc, read) {
+        Ok(work) => put_label(session, case, &work),
+        Err(error) => put_bridge_error(session, case, &error),
     }
 }
 
-/// Writes the label of a library's entry.
-fn put_label(
-    alloc: Global,
-    case: &Value<'_>,
-    out: &mut Writer,
-    work: &literature::Entry,
-) -> Result<(), Refusal> {
-    let label = labels(case)?.citation(alloc, work)?;
-    put_text(out, "text", label.as_str()).map_err(Refusal::from)
-}
-
-/// How labels are made: with three letters where the case does not say it.
-fn labels(case: &Value<'_>) -> Result<Alphanumerical, Refusal> {
-    match member(case, "letters") {
-        Some(_) => Ok(Alphanumerical {
-            letters: count(case, "letters")?,
-        }),
-        None => Ok(Alphanumerical::new()),
+/// Writes the label of a library's entry: with three letters where the case does not say how many.
+fn put_label(session: &mut Session, case: &Value<'_>, work: &literature::Entry) {
+    let labels = match session.maybe_count(case, "letters") {
+        Some(letters) => Alphanumerical { letters },
+        None => Alphanumerical::new(),
+    };
+    let label = labels.citation(session.alloc, work);
+    if let Some(label) = session.allocated(label) {
+        session.put_text("text", label.as_str());
     }
 }

@@ -14,20 +14,18 @@ mod setting;
 mod show;
 mod taker;
 
-use cases::{Answered, Value, Writer};
-use std::alloc::Global;
+use cases::{Session, Value};
 
 /// Writes the members of the answer to a case of this kind; false where the kind is none of these.
-pub fn answer(alloc: Global, kind: &str, case: &Value<'_>, out: &mut Writer) -> Answered {
-    let answered = match kind {
-        "bridge" => bridge::answer_bridge(alloc, case, out),
-        "citation_label" => labels::answer_label(alloc, case, out),
-        "cite" => citing::answer_cite(alloc, case, out),
-        "document" => document::answer_document(alloc, case, out),
-        "program" => program::answer_program(alloc, case, out),
-        "show" => show::answer_show(alloc, case, out),
-        _ => return Ok(false),
-    };
-    answered?;
-    Ok(true)
+pub fn answer(session: &mut Session, kind: &str, case: &Value<'_>) -> bool {
+    match kind {
+        "bridge" => bridge::answer_bridge(session, case),
+        "citation_label" => labels::answer_label(session, case),
+        "cite" => citing::answer_cite(session, case),
+        "document" => document::answer_document(session, case),
+        "program" => program::answer_program(session, case),
+        "show" => show::answer_show(session, case),
+        _ => return false,
+    }
+    true
 }

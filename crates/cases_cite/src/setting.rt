@@ -1,67 +1,66 @@
 //! How the document of a case is cited: the style, the locale and the format.
 
-use cases::{Refusal, Value, maybe_text, member};
-use cases_sources::locale_given;
-use cases_styles::style_parts;
+use cases::{Session, Value, member};
+use cases_sources::maybe_locale;
+use cases_styles::accepted;
 use cite::{BufWriteFormat, Locale, Style, author_date, english, note, numeric};
-use rendering_style::StyleError;
-use std::alloc::Global;
 
-/// How a document is cited.
+/// A document, and how it is cited.
 #[derive(Clone, Copy)]
 pub(crate) struct Setting<'s> {
     pub(crate) style: &'s Style,
     pub(crate) locale: &'s Locale,
     pub(crate) format: BufWriteFormat,
+    /// The bib text with its entries.
+    pub(crate) bib: &'s [u8],
+    pub(crate) document: &'s [u8],
+    /// The selectors of the sections of the bibliography.
+    pub(crate) sections: &'s [&'s str],
 }
 
-/// The style of a case, by its word or as data, or why there is no style of the data; `numeric` where it is left out.
-pub(crate) fn style(alloc: Global, case: &Value<'_>) -> Result<Result<Style, StyleError>, Refusal> {
-    match member(case, "style") {
-        None => Ok(Ok(numeric(alloc)?)),
-        Some(given) => style_given(alloc, case, given),
-    }
-}
-
-/// The style of a value of a case: that of a word, or a style as data.
-fn style_given(
-    alloc: Global,
-    case: &Value<'_>,
-    given: &Value<'_>,
-) -> Result<Result<Style, StyleError>, Refusal> {
+/// The style of a case, by its word or as data, `numeric` where it is left out; none where it is refused, and the answer then says why.
+pub(crate) fn style(session: &mut Session, case: &Value<'_>) -> Option<Style> {
+    let Some(given) = member(case, "style") else {
+        return style_named(session, "numeric");
+    };
     match given.as_str() {
-        Some(word) => Ok(Ok(style_named(alloc, word)?)),
-        None => Ok(Style::new(alloc, style_parts(alloc, case)?)),
+        Some(word) => style_named(session, word),
+        None => accepted(session, given),
     }
 }
 
 /// The style of that word.
-fn style_named(alloc: Global, word: &str) -> Result<Style, Refusal> {
-    match word {
-        "numeric" => Ok(numeric(alloc)?),
-        "author-date" => Ok(author_date(alloc)?),
-        "note" => Ok(note(alloc)?),
-        _ => Err(Refusal::Wanted("style", "numeric, author-date, note or a style")),
-    }
+fn style_named(session: &mut Session, word: &str) -> Option<Style> {
+    let made = match word {
+        "numeric" => numeric(session.alloc),
+        "author-date" => author_date(session.alloc),
+        "note" => note(session.alloc),
+        _ => {
+            session.want("style", "numeric, author-date, note or a style");
+            return None;
+        }
+    };
+    session.allocated(made)
 }
 
 /// The locale of a case; that of English where it is left out.
-pub(crate) fn locale(alloc: Global, case: &Value<'_>) -> Result<Locale, Refusal> {
-    let Some(given) = member(case, "locale") else {
-        return Ok(english(alloc)?);
-    };
-    match locale_given(alloc, given)? {
-        Some(locale) => Ok(locale),
-        None => Err(Refusal::Wanted("locale", "a locale, or the word english")),
+pub(crate) fn locale(session: &mut Session, case: &Value<'_>) -> Option<Locale> {
+    match member(case, "locale") {
+        Some(given) => maybe_locale(session, given, "locale"),
+        None => {
+            let made = english(session.alloc);
+            session.allocated(made)
+        }
     }
 }
 
+/// The words of formats.
+const FORMATS: &[(&str, BufWriteFormat)] = &[
+    ("plain", BufWriteFormat::Plain),
+    ("html", BufWriteFormat::Html),
+];
+
 /// The format of a case.
-pub(crate) fn format(case: &Value<'_>) -> Result<BufWriteFormat, Refusal> {
-    match maybe_text(case, "format")? {
-        None => Ok(BufWriteFormat::default()),
-        Some("plain") => Ok(BufWriteFormat::Plain),
-        Some("html") => Ok(BufWriteFormat::Html),
-        Some(_) => Err(Refusal::Wanted("format", "plain or html")),
-    }
+pub(crate) fn format(session: &mut Session, case: &Value<'_>) -> BufWriteFormat {
+    session.word_or(case, "format", FORMATS, BufWriteFormat::default())
 }

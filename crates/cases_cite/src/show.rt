@@ -2,26 +2,23 @@
 
 use bib_show::show;
 use biblatex::Bibliography;
-use cases::{Refusal, Value, Writer, only, put_text};
+use cases::{Session, Value};
 use cases_entries::put_parse_error;
-use cases_sources::{Source, read_source};
-use std::alloc::Global;
+use cases_sources::read_source;
 
 /// Writes what is shown of entries, or why their bib text was refused.
-pub(crate) fn answer_show(
-    alloc: Global,
-    case: &Value<'_>,
-    out: &mut Writer,
-) -> Result<(), Refusal> {
-    only(alloc, case, &["case", "name", "bib", "entries", "message"])?;
-    match read_source(alloc, case)? {
-        Source::Entries(bibliography) => put_shown(alloc, out, &bibliography),
-        Source::Refused(error) => put_parse_error(alloc, case, out, &error),
+pub(crate) fn answer_show(session: &mut Session, case: &Value<'_>) {
+    session.only(case, &["case", "name", "bib", "entries", "message"]);
+    match read_source(session, case) {
+        Ok(bibliography) => put_shown(session, &bibliography),
+        Err(error) => put_parse_error(session, case, &error),
     }
 }
 
 /// Writes what is shown of entries.
-fn put_shown(alloc: Global, out: &mut Writer, bibliography: &Bibliography) -> Result<(), Refusal> {
-    let shown = show(alloc, bibliography)?;
-    put_text(out, "shown", shown.as_str()).map_err(Refusal::from)
+fn put_shown(session: &mut Session, bibliography: &Bibliography) {
+    let shown = show(session.alloc, bibliography);
+    if let Some(shown) = session.allocated(shown) {
+        session.put_text("shown", shown.as_str());
+    }
 }

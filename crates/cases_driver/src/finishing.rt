@@ -1,104 +1,110 @@
-//! What a driver makes of requests.
+//! What a driver makes of requests. Where there is nothing, the answer says why.
 
 use crate::requests::{cited, request};
 use crate::sources::{Sources, language};
-use crate::unanswered::Unanswered;
-use cases::{Refusal, Value, items, member, only, texts};
-use cases_sources::place;
+use cases::{Refusal, Session, Value, member};
 use driver::{BibliographyDriver, Rendered, standalone_citation};
-use driver_requests::{BibliographyRequest, CitationRequest};
+use driver_requests::{BibliographyRequest, CitationRequest, DriverError};
 use literature::Entry;
 use rendering_tree::ElemChildren;
-use std::alloc::Global;
+
+/// Writes why a driver gives nothing.
+fn put_error(session: &mut Session, error: DriverError) {
+    match error {
+        DriverError::Memory => session.refuse(Refusal::Memory),
+        DriverError::Overflow => session.put_refused("Overflow"),
+    }
+}
 
 /// The citations and the bibliography of a case.
 pub(crate) fn finished<'s>(
-    alloc: Global,
+    session: &mut Session,
     case: &'s Value<'_>,
-    sources: Sources<'s>,
-) -> Result<Rendered, Unanswered> {
-    let driver = driver_of(alloc, case, sources)?;
-    let order = order(alloc, case, sources)?;
-    finished_in_order(alloc, case, sources, driver, order.as_slice())
-}
-
-/// The citations and the bibliography of a case, whose bibliography begins with these entries.
-fn finished_in_order<'s>(
-    alloc: Global,
-    case: &Value<'_>,
-    sources: Sources<'s>,
-    driver: BibliographyDriver<'s, Entry, i64>,
-    order: &'s [&'s Entry],
-) -> Result<Rendered, Unanswered> {
-    let request = bibliography(alloc, case, sources)?;
-    Ok(driver.finish(request.with_order(order))?)
+    sources: &Sources<'s>,
+) -> Option<Rendered> {
+    let Some(driver) = driver_of(session, case, sources) else {
+        return None;
+    };
+    let given = member(case, "bibliography").unwrap_or(&Value::Null);
+    let Some(order) = order(session, given, sources) else {
+        return None;
+    };
+    let Some(style) = sources.style(session, given) else {
+        return None;
+    };
+    let locale = language(session, case, given);
+    let request = BibliographyRequest::new(style, locale, sources.files);
+    match driver.finish(request.with_order(order.as_slice())) {
+        Ok(rendered) => Some(rendered),
+        Err(error) => {
+            put_error(session, error);
+            None
+        }
+    }
 }
 
 /// A driver with the requests of a case.
 fn driver_of<'s>(
-    alloc: Global,
+    session: &mut Session,
     case: &'s Value<'_>,
-    sources: Sources<'s>,
-) -> Result<BibliographyDriver<'s, Entry, i64>, Unanswered> {
-    let offset = place(case, "offset")?;
-    let mut driver = BibliographyDriver::new(alloc).with_citation_number_offset(offset);
-    if let Some(requests) = items(case, "requests")? {
-        for given in requests {
-            driver.citation(request(alloc, case, given, sources)?)?;
+    sources: &Sources<'s>,
+) -> Option<BibliographyDriver<'s, Entry, i64>> {
+    let offset = session.place(case, "offset");
+    let mut driver = BibliographyDriver::new(session.alloc).with_citation_number_offset(offset);
+    let Some(requests) = session.items(case, "requests") else {
+        return Some(driver);
+    };
+    for given in requests {
+        let Some(request) = request(session, case, given, sources) else {
+            return None;
+        };
+        if let Err(error) = driver.citation(request) {
+            put_error(session, error);
+            return None;
         }
     }
-    Ok(driver)
+    Some(driver)
 }
 
-/// The entries with which the bibliography of a case begins, so far as they are cited.
+/// The entries with which a bibliography begins, so far as they are cited.
 fn order<'s>(
-    alloc: Global,
-    case: &Value<'_>,
-    sources: Sources<'s>,
-) -> Result<Vec<&'s Entry>, Unanswered> {
-    let mut order = Vec::new(alloc);
-    if let Some(given) = member(case, "bibliography") {
-        only(alloc, given, &["style", "locale", "order"])?;
-        for name in texts(alloc, given, "order")? {
-            order.push(sources.entry(alloc, name)?)?;
-        }
-    }
-    Ok(order)
-}
-
-/// The request for the bibliography of a case.
-fn bibliography<'s>(
-    alloc: Global,
-    case: &Value<'_>,
-    sources: Sources<'s>,
-) -> Result<BibliographyRequest<'s, Entry>, Refusal> {
-    match member(case, "bibliography") {
-        Some(given) => bibliography_by(alloc, case, given, sources),
-        None => bibliography_by(alloc, case, &Value::Null, sources),
-    }
-}
-
-/// The request for a bibliography in the style and the language of a value.
-fn bibliography_by<'s>(
-    alloc: Global,
-    case: &Value<'_>,
+    session: &mut Session,
     given: &Value<'_>,
-    sources: Sources<'s>,
-) -> Result<BibliographyRequest<'s, Entry>, Refusal> {
-    let style = sources.style(given)?;
-    let locale = language(alloc, case, given)?;
-    Ok(BibliographyRequest::new(style, locale, sources.files))
+    sources: &Sources<'s>,
+) -> Option<Vec<&'s Entry>> {
+    let mut order = Vec::new(session.alloc);
+    if matches!(given, Value::Null) {
+        return Some(order);
+    }
+    session.only(given, &["style", "locale", "order"]);
+    for name in session.texts(given, "order") {
+        let Some(entry) = sources.entry(session, name) else {
+            return None;
+        };
+        session.push(&mut order, entry);
+    }
+    Some(order)
 }
 
 /// The citation of a case outside of any document.
 pub(crate) fn cited_alone<'s>(
-    alloc: Global,
+    session: &mut Session,
     case: &'s Value<'_>,
-    sources: Sources<'s>,
-) -> Result<ElemChildren, Unanswered> {
-    let cited = cited(alloc, case, sources)?;
-    let locale = language(alloc, case, case)?;
-    let style = sources.style(&Value::Null)?;
+    sources: &Sources<'s>,
+) -> Option<ElemChildren> {
+    let Some(cited) = cited(session, case, sources) else {
+        return None;
+    };
+    let locale = language(session, case, case);
+    let Some(style) = sources.style(session, &Value::Null) else {
+        return None;
+    };
     let request = CitationRequest::new(cited, style, locale, sources.files, None);
-    Ok(standalone_citation(alloc, request)?)
+    match standalone_citation(session.alloc, request) {
+        Ok(tree) => Some(tree),
+        Err(error) => {
+            put_error(session, error);
+            None
+        }
+    }
 }

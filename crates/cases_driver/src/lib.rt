@@ -6,18 +6,15 @@ mod documents;
 mod finishing;
 mod requests;
 mod sources;
-mod unanswered;
 
-use cases::{Answered, Value, Writer};
-use std::alloc::Global;
+use cases::{Session, Value};
 
 /// Writes the members of the answer to a case of this kind; false where the kind is none of these.
-pub fn answer(alloc: Global, kind: &str, case: &Value<'_>, out: &mut Writer) -> Answered {
-    let answered = match kind {
-        "finish" => documents::answer_finish(alloc, case, out),
-        "standalone" => documents::answer_standalone(alloc, case, out),
-        _ => return Ok(false),
-    };
-    answered?;
-    Ok(true)
+pub fn answer(session: &mut Session, kind: &str, case: &Value<'_>) -> bool {
+    match kind {
+        "finish" => documents::answer_finish(session, case),
+        "standalone" => documents::answer_standalone(session, case),
+        _ => return false,
+    }
+    true
 }

@@ -1,15 +1,12 @@
 //! What a document cites from: styles, files with locales, and the entries of a file.
 
-use crate::unanswered::Unanswered;
 use biblatex::Bibliography;
-use cases::{Refusal, Value, items, member};
-use cases_sources::{named, place};
-use cases_styles::{maybe_code, parts_of};
+use cases::{Session, Value};
+use cases_sources::{named, put_unknown_name};
+use cases_styles::{accepted, maybe_code};
 use literature::{Entry, Library};
 use rendering_locale::{Locale, LocaleCode};
-use rendering_style::{Style, StyleError};
-use std::alloc::Global;
-use std::slice;
+use rendering_style::Style;
 
 /// What a document cites from.
 #[derive(Clone, Copy)]
@@ -21,66 +18,45 @@ pub(crate) struct Sources<'s> {
 }
 
 impl<'s> Sources<'s> {
-    /// The entry that a name means.
-    pub(crate) fn entry(self, alloc: Global, name: &str) -> Result<&'s Entry, Unanswered> {
-        match named(self.bibliography, self.library, name) {
-            Some(entry) => Ok(entry),
-            None => Err(Unanswered::Name(String::from_str(alloc, name)?)),
+    /// The entry that a name means; where it means none, the answer says so.
+    pub(crate) fn entry(&self, session: &mut Session, name: &str) -> Option<&'s Entry> {
+        let entry = named(self.bibliography, self.library, name);
+        if entry.is_none() {
+            put_unknown_name(session, name);
         }
+        entry
     }
 
     /// The style of a request: the first one, where it says none.
-    pub(crate) fn style(self, given: &Value<'_>) -> Result<&'s Style, Refusal> {
-        match self.styles.get(place(given, "style")?) {
-            Some(style) => Ok(style),
-            None => Err(Refusal::Wanted("style", "the place of a style")),
+    pub(crate) fn style(&self, session: &mut Session, given: &Value<'_>) -> Option<&'s Style> {
+        let style = self.styles.get(session.place(given, "style"));
+        if style.is_none() {
+            session.want("style", "the place of a style");
         }
+        style
     }
 }
 
-/// What the styles of a case come to.
-#[derive(Drop)]
-pub(crate) enum Styles {
-    Accepted(Vec<Style>),
-    Refused(StyleError),
-}
-
-/// The styles of a case.
-pub(crate) fn read_styles(alloc: Global, case: &Value<'_>) -> Result<Styles, Refusal> {
-    match items(case, "styles")? {
-        Some(given) => styles_in(alloc, given),
-        None => Err(Refusal::Wanted("styles", "a list of styles")),
+/// The styles of a list in their order; none where one of them is refused, and the answer then says why.
+pub(crate) fn read_styles(session: &mut Session, given: &[Value<'_>]) -> Option<Vec<Style>> {
+    let mut styles = Vec::new(session.alloc);
+    for item in given {
+        let Some(style) = accepted(session, item) else {
+            return None;
+        };
+        session.push(&mut styles, style);
     }
-}
-
-/// The one style of a case.
-pub(crate) fn read_style(alloc: Global, case: &Value<'_>) -> Result<Styles, Refusal> {
-    match member(case, "style") {
-        Some(given) => styles_in(alloc, slice::from_ref(given)),
-        None => Err(Refusal::Wanted("style", "a style")),
-    }
-}
-
-/// The styles of a list in their order, or why the first that is refused is.
-fn styles_in(alloc: Global, given: &[Value<'_>]) -> Result<Styles, Refusal> {
-    let mut styles = Vec::new(alloc);
-    for style in given {
-        match Style::new(alloc, parts_of(alloc, style)?) {
-            Ok(style) => styles.push(style)?,
-            Err(error) => return Ok(Styles::Refused(error)),
-        }
-    }
-    Ok(Styles::Accepted(styles))
+    Some(styles)
 }
 
 /// The language that a request asks for, or else that of the case.
 pub(crate) fn language(
-    alloc: Global,
+    session: &mut Session,
     case: &Value<'_>,
     given: &Value<'_>,
-) -> Result<Option<LocaleCode>, Refusal> {
-    match maybe_code(alloc, given, "locale")? {
-        Some(code) => Ok(Some(code)),
-        None => maybe_code(alloc, case, "locale"),
+) -> Option<LocaleCode> {
+    match maybe_code(session, given, "locale") {
+        Some(code) => Some(code),
+        None => maybe_code(session, case, "locale"),
     }
 }

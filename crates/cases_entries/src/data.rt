@@ -1,52 +1,54 @@
 //! Entries and values of fields that a case has as data.
 
 use biblatex::{Chunks, Entry, EntryType};
-use cases::{Refusal, Value, owned_text, text};
+use cases::{Session, Value};
 use cases_text::{normal_chunks, read_chunks_in};
-use std::alloc::Global;
 
 /// What a value of a field has to be.
 const VALUE: &str = "a text or a list of chunks";
 
-/// The entry of the members `key`, `type` and `fields`.
-pub fn read_entry(alloc: Global, object: &Value<'_>) -> Result<Entry, Refusal> {
-    let entry_type = EntryType::new(alloc, text(object, "type")?)?;
-    let mut entry = Entry::new(alloc, owned_text(alloc, object, "key")?, entry_type);
-    set_fields(alloc, object, &mut entry)?;
-    Ok(entry)
+/// The entry of the members `key`, `type` and `fields`; none where memory was refused.
+pub fn read_entry(session: &mut Session, object: &Value<'_>) -> Option<Entry> {
+    let entry_type = EntryType::new(session.alloc, session.text(object, "type"));
+    let entry_type = session.allocated(entry_type)?;
+    let key = session.owned_text(object, "key");
+    let mut entry = Entry::new(session.alloc, key, entry_type);
+    set_fields(session, object, &mut entry);
+    Some(entry)
 }
 
 /// Gives an entry the fields of the member `fields`.
-fn set_fields(alloc: Global, object: &Value<'_>, entry: &mut Entry) -> Result<(), Refusal> {
-    let Some(fields) = object.get("fields") else {
-        return Ok(());
-    };
-    let Value::Object(members) = fields else {
-        return Err(Refusal::Wanted("fields", "an object"));
-    };
-    for member in members {
-        entry.set(member.0, read_value(alloc, &member.1)?)?;
+fn set_fields(session: &mut Session, object: &Value<'_>, entry: &mut Entry) {
+    match object.get("fields") {
+        None => {}
+        Some(Value::Object(members)) => {
+            for member in members {
+                let value = read_value(session, &member.1);
+                session.check(entry.set(member.0, value));
+            }
+        }
+        Some(_) => session.want("fields", "an object"),
     }
-    Ok(())
 }
 
 /// Gives an entry the field of the member `field`, with the value of the member `value`.
-pub(crate) fn set_field(
-    alloc: Global,
-    object: &Value<'_>,
-    entry: &mut Entry,
-) -> Result<(), Refusal> {
+pub(crate) fn set_field(session: &mut Session, object: &Value<'_>, entry: &mut Entry) {
     let Some(value) = object.get("value") else {
-        return Err(Refusal::Wanted("value", VALUE));
+        return session.want("value", VALUE);
     };
-    Ok(entry.set(text(object, "field")?, read_value(alloc, value)?)?)
+    let field = session.text(object, "field");
+    let value = read_value(session, value);
+    session.check(entry.set(field, value));
 }
 
 /// A value of a field: a list of chunks, or a text, which is one normal chunk of no source.
-fn read_value(alloc: Global, value: &Value<'_>) -> Result<Chunks, Refusal> {
+fn read_value(session: &mut Session, value: &Value<'_>) -> Chunks {
     match value {
-        Value::String(text) => normal_chunks(alloc, text, None),
-        Value::Array(items) => read_chunks_in(alloc, items.as_slice()),
-        _ => Err(Refusal::Wanted("value", VALUE)),
+        Value::String(text) => normal_chunks(session, text, None),
+        Value::Array(items) => read_chunks_in(session, items.as_slice()),
+        _ => {
+            session.want("value", VALUE);
+            Vec::new(session.alloc)
+        }
     }
 }

@@ -6,134 +6,94 @@ use crate::getters::show;
 use crate::printing::put_value;
 use crate::refusals::put_parse_error;
 use biblatex::{Bibliography, Entry};
-use cases::{Refusal, Value, Writer, items, maybe_text, only, text};
-use cases_values::all_written;
-use std::alloc::Global;
+use cases::{Session, Value};
 
 /// Returns a case of the kind `entry`.
-pub(crate) fn answer_entry(
-    alloc: Global,
-    case: &Value<'_>,
-    out: &mut Writer,
-) -> Result<(), Refusal> {
-    only(
-        alloc,
+pub(crate) fn answer_entry(session: &mut Session, case: &Value<'_>) {
+    session.only(
         case,
         &[
             "case", "name", "bib", "entry", "key", "type", "fields", "steps", "places", "show",
             "message",
         ],
-    )?;
-    match maybe_text(case, "bib")? {
-        Some(bib) => answer_parsed(alloc, case, bib, out),
-        None => answer_of(alloc, case, &mut read_entry(alloc, case)?, out),
+    );
+    match session.maybe_text(case, "bib") {
+        Some(bib) => answer_parsed(session, case, bib),
+        None => answer_data(session, case),
+    }
+}
+
+/// Returns a case of an entry as data.
+fn answer_data(session: &mut Session, case: &Value<'_>) {
+    if let Some(mut entry) = read_entry(session, case) {
+        answer_of(session, case, &mut entry);
     }
 }
 
 /// Returns a case of an entry of a text.
-fn answer_parsed(
-    alloc: Global,
-    case: &Value<'_>,
-    bib: &str,
-    out: &mut Writer,
-) -> Result<(), Refusal> {
-    match Bibliography::parse(alloc, bib) {
-        Ok(mut bibliography) => answer_in(alloc, case, &mut bibliography, out),
-        Err(error) => put_parse_error(alloc, case, out, &error),
+fn answer_parsed(session: &mut Session, case: &Value<'_>, bib: &str) {
+    match Bibliography::parse(session.alloc, bib) {
+        Ok(mut bibliography) => answer_in(session, case, &mut bibliography),
+        Err(error) => put_parse_error(session, case, &error),
     }
 }
 
 /// Returns a case of an entry of a bibliography: that of the member `entry`, or the first.
-fn answer_in(
-    alloc: Global,
-    case: &Value<'_>,
-    bibliography: &mut Bibliography,
-    out: &mut Writer,
-) -> Result<(), Refusal> {
-    let entry = match maybe_text(case, "entry")? {
+fn answer_in(session: &mut Session, case: &Value<'_>, bibliography: &mut Bibliography) {
+    let entry = match session.maybe_text(case, "entry") {
         Some(name) => bibliography.get_mut(name),
         None => bibliography.entry_mut(0),
     };
     match entry {
-        Some(entry) => answer_of(alloc, case, entry, out),
+        Some(entry) => answer_of(session, case, entry),
         None => {
-            let written = all_written(&[out.key("entry"), out.null()]);
-            written.map_err(Refusal::from)
+            session.key("entry");
+            session.null();
         }
     }
 }
 
 /// Takes the steps of a case, and shows what it asks for.
-fn answer_of(
-    alloc: Global,
-    case: &Value<'_>,
-    entry: &mut Entry,
-    out: &mut Writer,
-) -> Result<(), Refusal> {
-    take_steps(alloc, case, entry, out)?;
-    show(alloc, case, entry, out)
-}
-
-/// Takes steps, and writes what each gives back.
-fn take_steps(
-    alloc: Global,
-    case: &Value<'_>,
-    entry: &mut Entry,
-    out: &mut Writer,
-) -> Result<(), Refusal> {
-    let Some(steps) = items(case, "steps")? else {
-        return Ok(());
-    };
-    all_written(&[out.key("steps"), out.begin_array()])?;
-    for step in steps {
-        take_step(alloc, step, entry, out)?;
+fn answer_of(session: &mut Session, case: &Value<'_>, entry: &mut Entry) {
+    if let Some(steps) = session.items(case, "steps") {
+        session.begin_list("steps");
+        for step in steps {
+            take_step(session, step, entry);
+        }
+        session.end_array();
     }
-    out.end_array().map_err(Refusal::from)
+    show(session, case, entry);
 }
 
 /// Takes a step, and writes what it gives back.
-fn take_step(
-    alloc: Global,
-    step: &Value<'_>,
-    entry: &mut Entry,
-    out: &mut Writer,
-) -> Result<(), Refusal> {
-    match text(step, "step")? {
-        "set" => set(alloc, step, entry, out),
-        "set_as" => set_as(alloc, step, entry, out),
-        "remove" => remove(alloc, step, entry, out),
-        "get" => get(alloc, step, entry, out),
-        "get_as" => get_as(alloc, step, entry, out),
-        _ => Err(Refusal::Wanted("step", "set, set_as, remove, get or get_as")),
+fn take_step(session: &mut Session, step: &Value<'_>, entry: &mut Entry) {
+    match session.text(step, "step") {
+        "set" => set(session, step, entry),
+        "set_as" => set_as(session, step, entry),
+        "remove" => remove(session, step, entry),
+        "get" => get(session, step, entry),
+        "get_as" => get_as(session, step, entry),
+        _ => session.want("step", "set, set_as, remove, get or get_as"),
     }
 }
 
 /// Gives an entry a field.
-fn set(
-    alloc: Global,
-    step: &Value<'_>,
-    entry: &mut Entry,
-    out: &mut Writer,
-) -> Result<(), Refusal> {
-    only(alloc, step, &["step", "field", "value"])?;
-    set_field(alloc, step, entry)?;
-    out.null().map_err(Refusal::from)
+fn set(session: &mut Session, step: &Value<'_>, entry: &mut Entry) {
+    session.only(step, &["step", "field", "value"]);
+    set_field(session, step, entry);
+    session.null();
 }
 
 /// Takes a field out, and writes its value, or null.
-fn remove(
-    alloc: Global,
-    step: &Value<'_>,
-    entry: &mut Entry,
-    out: &mut Writer,
-) -> Result<(), Refusal> {
-    only(alloc, step, &["step", "field"])?;
-    let value = entry.remove(text(step, "field")?);
-    put_value(out, value.as_ref()).map_err(Refusal::from)
+fn remove(session: &mut Session, step: &Value<'_>, entry: &mut Entry) {
+    session.only(step, &["step", "field"]);
+    let value = entry.remove(session.text(step, "field"));
+    put_value(session, value.as_ref());
 }
 
 /// Writes the value of a field, or null.
-fn get(alloc: Global, step: &Value<'_>, entry: &Entry, out: &mut Writer) -> Result<(), Refusal> {
-    only(alloc, step, &["step", "field"])?;
-    put_value(out, entry.get(text(step, "field")?)).map_err(Refusal::from)
+fn get(session: &mut Session, step: &Value<'_>, entry: &Entry) {
+    session.only(step, &["step", "field"]);
+    let value = entry.get(session.text(step, "field"));
+    put_value(session, value);
 }

@@ -1,38 +1,33 @@
 //! The types of entries.
 
 use biblatex::{EntryType, Role};
-use cases::{Refusal, Value, Writer, only, put_bool, put_text, text};
-use cases_values::all_written;
-use std::alloc::{AllocError, Global};
+use cases::{Session, Value};
 
 /// Returns a case of the kind `entry_type`.
-pub(crate) fn answer_entry_type(
-    alloc: Global,
-    case: &Value<'_>,
-    out: &mut Writer,
-) -> Result<(), Refusal> {
-    only(alloc, case, &["case", "name", "type"])?;
-    let entry_type = EntryType::new(alloc, text(case, "type")?)?;
-    put_entry_type(out, &entry_type).map_err(Refusal::from)
+pub(crate) fn answer_entry_type(session: &mut Session, case: &Value<'_>) {
+    session.only(case, &["case", "name", "type"]);
+    let entry_type = EntryType::new(session.alloc, session.text(case, "type"));
+    if let Some(entry_type) = session.allocated(entry_type) {
+        put_entry_type(session, &entry_type);
+    }
 }
 
 /// Writes the name of the type that a type of entries is written as.
-fn put_written_type(out: &mut Writer, entry_type: &EntryType) -> Result<(), AllocError> {
-    put_text(out, "written", entry_type.to_biblatex()?.name())
+fn put_written_type(session: &mut Session, entry_type: &EntryType) {
+    if let Some(written) = session.allocated(entry_type.to_biblatex()) {
+        session.put_text("written", written.name());
+    }
 }
 
 /// Writes what is asked of a type of entries.
-fn put_entry_type(out: &mut Writer, entry_type: &EntryType) -> Result<(), AllocError> {
-    let is_known = !matches!(entry_type, EntryType::Unknown(_));
-    all_written(&[
-        put_text(out, "type", entry_type.name()),
-        put_bool(out, "known", is_known),
-        put_text(out, "role", role_name(entry_type.role())),
-        put_bool(out, "multi_volume", entry_type.is_multi_volume()),
-        put_bool(out, "collection", entry_type.is_collection()),
-        put_written_type(out, entry_type),
-        put_text(out, "written_name", entry_type.written_name()),
-    ])
+fn put_entry_type(session: &mut Session, entry_type: &EntryType) {
+    session.put_text("type", entry_type.name());
+    session.put_bool("known", !matches!(entry_type, EntryType::Unknown(_)));
+    session.put_text("role", role_name(entry_type.role()));
+    session.put_bool("multi_volume", entry_type.is_multi_volume());
+    session.put_bool("collection", entry_type.is_collection());
+    put_written_type(session, entry_type);
+    session.put_text("written_name", entry_type.written_name());
 }
 
 /// The word for a role.

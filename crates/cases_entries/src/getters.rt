@@ -3,11 +3,11 @@
 use crate::entry_types::role_name;
 use crate::printing::put_entry;
 use crate::refusals::put_retrieval_error;
-use biblatex::{EditorType, Entry, Person, RetrievalError};
-use cases::{Refusal, Value, Writer, is_set, is_shown, only_shown, put_text};
+use biblatex::{Entry, RetrievalError};
+use cases::{Session, Value};
 use cases_text::put_chunks;
-use cases_values::{CaseValue, all_written, put_member};
-use std::alloc::{AllocError, Global};
+use cases_values::{CaseValue, put_member};
+use std::alloc::AllocError;
 
 /// What can be asked of an entry.
 const NAMES: [&str; 12] = [
@@ -26,103 +26,84 @@ const NAMES: [&str; 12] = [
 ];
 
 /// Shows what a case asks for; the entry where it asks for nothing.
-pub(crate) fn show(
-    alloc: Global,
-    case: &Value<'_>,
-    entry: &Entry,
-    out: &mut Writer,
-) -> Result<(), Refusal> {
-    only_shown(case, &NAMES)?;
+pub(crate) fn show(session: &mut Session, case: &Value<'_>, entry: &Entry) {
+    session.only_shown(case, &NAMES);
     for name in &NAMES {
-        if is_shown(case, *name, *name == "entry")? {
-            put_asked(alloc, case, entry, *name, out)?;
+        if session.is_shown(case, *name, *name == "entry") {
+            put_asked(session, case, entry, *name);
         }
     }
-    Ok(())
 }
 
 /// Writes the member of the name.
-fn put_asked(
-    alloc: Global,
-    case: &Value<'_>,
-    entry: &Entry,
-    name: &str,
-    out: &mut Writer,
-) -> Result<(), Refusal> {
+fn put_asked(session: &mut Session, case: &Value<'_>, entry: &Entry, name: &str) {
+    let alloc = session.alloc;
     match name {
-        "entry" => put_whole(out, entry, is_set(case, "places")?),
-        "title" => put_title(out, entry, is_set(case, "places")?),
-        "author" => put_found(out, name, entry.author(alloc)),
-        "translator" => put_found(out, name, entry.translator(alloc)),
-        "date" => put_found(out, name, entry.date(alloc)),
-        "event_date" => put_found(out, name, entry.event_date(alloc)),
-        "orig_date" => put_found(out, name, entry.orig_date(alloc)),
-        "url_date" => put_found(out, name, entry.url_date(alloc)),
-        _ => put_told(alloc, entry, name, out).map_err(Refusal::from),
-    }
-}
-
-/// Writes the member of the name, of those that are no fields: the role, names, and the people with what they did.
-fn put_told(alloc: Global, entry: &Entry, name: &str, out: &mut Writer) -> Result<(), AllocError> {
-    match name {
-        "role" => put_text(out, name, role_name(entry.entry_type.role())),
-        "names" => put_member(out, name, &entry.names(alloc)?),
-        "parents" => put_member(out, name, &entry.parents(alloc)?),
-        _ => put_editors(out, entry.editors(alloc)?.as_slice()),
+        "entry" => put_whole(session, case, entry),
+        "title" => put_title(session, case, entry),
+        "author" => put_found(session, name, entry.author(alloc)),
+        "translator" => put_found(session, name, entry.translator(alloc)),
+        "date" => put_found(session, name, entry.date(alloc)),
+        "event_date" => put_found(session, name, entry.event_date(alloc)),
+        "orig_date" => put_found(session, name, entry.orig_date(alloc)),
+        "url_date" => put_found(session, name, entry.url_date(alloc)),
+        "role" => session.put_text(name, role_name(entry.entry_type.role())),
+        "names" => put_made(session, name, entry.names(alloc)),
+        "parents" => put_made(session, name, entry.parents(alloc)),
+        _ => put_editors(session, entry),
     }
 }
 
 /// Writes the entry.
-fn put_whole(out: &mut Writer, entry: &Entry, has_places: bool) -> Result<(), Refusal> {
-    let written = all_written(&[out.key("entry"), put_entry(out, entry, has_places)]);
-    written.map_err(Refusal::from)
+fn put_whole(session: &mut Session, case: &Value<'_>, entry: &Entry) {
+    let has_places = session.is_set(case, "places");
+    session.key("entry");
+    put_entry(session, entry, has_places);
 }
 
 /// Writes the title.
-fn put_title(out: &mut Writer, entry: &Entry, has_places: bool) -> Result<(), Refusal> {
-    out.key("title")?;
+fn put_title(session: &mut Session, case: &Value<'_>, entry: &Entry) {
+    let has_places = session.is_set(case, "places");
+    session.key("title");
     match entry.title() {
-        Ok(chunks) => put_chunks(out, chunks, has_places).map_err(Refusal::from),
-        Err(error) => put_retrieval_error(out, &error),
+        Ok(chunks) => put_chunks(session, chunks, has_places),
+        Err(error) => put_retrieval_error(session, &error),
     }
-}
-
-/// Writes people with what they did.
-fn put_editor(out: &mut Writer, editor: &(Vec<Person>, EditorType)) -> Result<(), AllocError> {
-    all_written(&[
-        out.begin_object(),
-        put_member(out, "people", &editor.0),
-        put_member(out, "type", &editor.1),
-        out.end_object(),
-    ])
 }
 
 /// Writes people, each list with what they did.
-fn put_editors(out: &mut Writer, editors: &[(Vec<Person>, EditorType)]) -> Result<(), AllocError> {
-    all_written(&[out.key("editors"), out.begin_array()])?;
-    for editor in editors {
-        put_editor(out, editor)?;
+fn put_editors(session: &mut Session, entry: &Entry) {
+    let editors = entry.editors(session.alloc);
+    let Some(editors) = session.allocated(editors) else {
+        return;
+    };
+    session.begin_list("editors");
+    for editor in &editors {
+        session.begin_object();
+        put_member(session, "people", &editor.0);
+        put_member(session, "type", &editor.1);
+        session.end_object();
     }
-    out.end_array()
+    session.end_array();
+}
+
+/// Writes a value that was made as the member of the name.
+fn put_made<T: CaseValue>(session: &mut Session, name: &str, made: Result<T, AllocError>) {
+    if let Some(value) = session.allocated(made) {
+        put_member(session, name, &value);
+    }
 }
 
 /// Writes a value of a field, or why there is none.
-pub(crate) fn put_value<T: CaseValue>(
-    out: &mut Writer,
-    found: Result<T, RetrievalError>,
-) -> Result<(), Refusal> {
+pub(crate) fn put_value<T: CaseValue>(session: &mut Session, found: Result<T, RetrievalError>) {
     match found {
-        Ok(value) => value.put(out).map_err(Refusal::from),
-        Err(error) => put_retrieval_error(out, &error),
+        Ok(value) => value.put(session),
+        Err(error) => put_retrieval_error(session, &error),
     }
 }
 
 /// Writes the member of a value of a field, or why there is none.
-fn put_found<T: CaseValue>(
-    out: &mut Writer,
-    name: &str,
-    found: Result<T, RetrievalError>,
-) -> Result<(), Refusal> {
-    out.key(name)?;
-    put_value(out, found)
+fn put_found<T: CaseValue>(session: &mut Session, name: &str, found: Result<T, RetrievalError>) {
+    session.key(name);
+    put_value(session, found);
 }

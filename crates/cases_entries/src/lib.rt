@@ -12,24 +12,22 @@ mod refusals;
 mod values;
 
 use bibliographies::answer_bibliography;
-use cases::{Answered, Value, Writer};
+use cases::{Session, Value};
 pub use data::read_entry;
 use entries::answer_entry;
 use entry_types::answer_entry_type;
-pub use refusals::{put_message, put_parse_error, put_parse_reason};
-use std::alloc::Global;
+pub use refusals::{put_parse_error, put_parse_reason};
 use values::{answer_abbreviations, answer_field};
 
 /// Writes the members of the answer to a case of this kind; false where the kind is none of these.
-pub fn answer(alloc: Global, kind: &str, case: &Value<'_>, out: &mut Writer) -> Answered {
-    let answered = match kind {
-        "bibliography" => answer_bibliography(alloc, case, out),
-        "entry" => answer_entry(alloc, case, out),
-        "entry_type" => answer_entry_type(alloc, case, out),
-        "field" => answer_field(alloc, case, out),
-        "abbreviations" => answer_abbreviations(alloc, case, out),
-        _ => return Ok(false),
-    };
-    answered?;
-    Ok(true)
+pub fn answer(session: &mut Session, kind: &str, case: &Value<'_>) -> bool {
+    match kind {
+        "bibliography" => answer_bibliography(session, case),
+        "entry" => answer_entry(session, case),
+        "entry_type" => answer_entry_type(session, case),
+        "field" => answer_field(session, case),
+        "abbreviations" => answer_abbreviations(session, case),
+        _ => return false,
+    }
+    true
 }

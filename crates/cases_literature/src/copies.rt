@@ -1,42 +1,35 @@
 //! Copies of the fields of entries.
 
-use cases::Writer;
-use cases_values::{CaseValue, all_written, put_member};
+use cases::Session;
+use cases_values::{CaseValue, put_member};
 use literature::Entry;
-use std::alloc::AllocError;
 
 /// Writes a copy of a value as the member of the name, where there is one.
-fn put_copy<T: CaseValue + Clone>(
-    out: &mut Writer,
-    name: &str,
-    value: Option<&T>,
-) -> Result<(), AllocError> {
-    match value {
-        Some(value) => put_member(out, name, &value.clone()?),
-        None => Ok(()),
+fn put_copy<T: CaseValue + Clone>(session: &mut Session, name: &str, value: Option<&T>) {
+    if let Some(value) = value {
+        if let Some(copy) = session.allocated(value.clone()) {
+            put_member(session, name, &copy);
+        }
     }
 }
 
 /// Writes a copy of the first author, where there is one.
-fn put_copied_author(out: &mut Writer, entry: &Entry) -> Result<(), AllocError> {
-    match entry.author() {
-        Some(author) => put_copy(out, "author", author.first()),
-        None => Ok(()),
+fn put_copied_author(session: &mut Session, entry: &Entry) {
+    if let Some(author) = entry.author() {
+        put_copy(session, "author", author.first());
     }
 }
 
 /// Writes an object with a copy of a field of each type.
-pub(crate) fn put_copies(out: &mut Writer, entry: &Entry) -> Result<(), AllocError> {
-    all_written(&[
-        out.begin_object(),
-        put_copy(out, "title", entry.title()),
-        put_copied_author(out, entry),
-        put_copy(out, "publisher", entry.publisher()),
-        put_copy(out, "issue", entry.issue()),
-        put_copy(out, "volume_total", entry.volume_total()),
-        put_copy(out, "page_range", entry.page_range()),
-        put_copy(out, "url", entry.url()),
-        put_copy(out, "serial_number", entry.serial_number()),
-        out.end_object(),
-    ])
+pub(crate) fn put_copies(session: &mut Session, entry: &Entry) {
+    session.begin_object();
+    put_copy(session, "title", entry.title());
+    put_copied_author(session, entry);
+    put_copy(session, "publisher", entry.publisher());
+    put_copy(session, "issue", entry.issue());
+    put_copy(session, "volume_total", entry.volume_total());
+    put_copy(session, "page_range", entry.page_range());
+    put_copy(session, "url", entry.url());
+    put_copy(session, "serial_number", entry.serial_number());
+    session.end_object();
 }

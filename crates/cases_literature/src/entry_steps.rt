@@ -2,28 +2,13 @@
 
 use crate::ENTRY_DEPTH;
 use crate::copies::put_copies;
-use crate::given_entries::entry_of;
+use crate::given_entries::entry_member;
 use crate::written_entries::put_entry;
-use cases::{
-    Refusal, Value, Writer, items, maybe_owned_text, maybe_text, member, only, put_bool,
-    put_text_or_null, text,
-};
-use cases_values::{CaseValue, all_written, put_or_null};
+use cases::{Session, Value};
+use cases_values::{CaseValue, put_or_null};
 use literature::Entry;
-use std::alloc::{AllocError, Global};
+use std::alloc::AllocError;
 use std::hash::{DefaultHasher, Hash, Hasher};
-
-/// The entry of a member.
-pub(crate) fn entry_member(
-    alloc: Global,
-    case: &Value<'_>,
-    name: &'static str,
-) -> Result<Box<Entry>, Refusal> {
-    match member(case, name) {
-        Some(given) => entry_of(alloc, given, ENTRY_DEPTH),
-        None => Err(Refusal::Wanted(name, "an entry")),
-    }
-}
 
 /// The hash of an entry.
 fn hash_of(entry: &Entry) -> u64 {
@@ -33,34 +18,19 @@ fn hash_of(entry: &Entry) -> u64 {
 }
 
 /// Writes whether two entries are equal, and whether their hashes are.
-fn put_equal(out: &mut Writer, one: &Entry, other: &Entry) -> Result<(), Refusal> {
-    let written = all_written(&[
-        put_bool(out, "is_equal", *one == *other),
-        put_bool(out, "hashes_alike", hash_of(one) == hash_of(other)),
-    ]);
-    written.map_err(Refusal::from)
-}
-
-/// Writes how an entry compares with that of the member `other`.
-fn put_compared(
-    alloc: Global,
-    case: &Value<'_>,
-    one: &Entry,
-    out: &mut Writer,
-) -> Result<(), Refusal> {
-    let other = entry_member(alloc, case, "other")?;
-    put_equal(out, one, &other)
+fn put_equal(session: &mut Session, one: &Entry, other: &Entry) {
+    session.put_bool("is_equal", *one == *other);
+    session.put_bool("hashes_alike", hash_of(one) == hash_of(other));
 }
 
 /// `equal_entries`: whether two entries are equal, and whether their hashes are.
-pub(crate) fn equal_entries(
-    alloc: Global,
-    case: &Value<'_>,
-    out: &mut Writer,
-) -> Result<(), Refusal> {
-    only(alloc, case, &["case", "name", "one", "other"])?;
-    let one = entry_member(alloc, case, "one")?;
-    put_compared(alloc, case, &one, out)
+pub(crate) fn equal_entries(session: &mut Session, case: &Value<'_>) {
+    session.only(case, &["case", "name", "one", "other"]);
+    let one = entry_member(session, case, "one");
+    let other = entry_member(session, case, "other");
+    if let (Some(one), Some(other)) = (&one, &other) {
+        put_equal(session, one, other);
+    }
 }
 
 /// The key of the first entry that has the field, of the entry and its ancestors.
@@ -96,29 +66,22 @@ fn set_number(name: &str, number: String, entry: &mut Entry) -> Result<bool, All
 }
 
 /// Takes a step that sets a serial number; false where it is none.
-fn take_number(
-    alloc: Global,
-    step: &Value<'_>,
-    name: &str,
-    entry: &mut Entry,
-) -> Result<bool, Refusal> {
-    let Some(number) = maybe_owned_text(alloc, step, "number")? else {
-        return Ok(false);
+fn take_number(session: &mut Session, step: &Value<'_>, name: &str, entry: &mut Entry) -> bool {
+    let Some(number) = session.maybe_owned_text(step, "number") else {
+        return false;
     };
     if name == "set_keyed_serial_number" {
-        entry.set_keyed_serial_number(text(step, "scheme")?, number)?;
-        return Ok(true);
+        let scheme = session.text(step, "scheme");
+        session.check(entry.set_keyed_serial_number(scheme, number));
+        return true;
     }
-    set_number(name, number, entry).map_err(Refusal::from)
+    session
+        .allocated(set_number(name, number, entry))
+        .unwrap_or(false)
 }
 
 /// Writes the answer of a step that asks for a serial number; false where it is none.
-fn put_number(
-    step: &Value<'_>,
-    name: &str,
-    entry: &Entry,
-    out: &mut Writer,
-) -> Result<bool, Refusal> {
+fn put_number(session: &mut Session, step: &Value<'_>, name: &str, entry: &Entry) -> bool {
     let number = match name {
         "doi" => entry.doi(),
         "isbn" => entry.isbn(),
@@ -126,115 +89,75 @@ fn put_number(
         "pmid" => entry.pmid(),
         "pmcid" => entry.pmcid(),
         "arxiv" => entry.arxiv(),
-        "keyed_serial_number" => entry.keyed_serial_number(text(step, "scheme")?),
-        _ => return Ok(false),
+        "keyed_serial_number" => entry.keyed_serial_number(session.text(step, "scheme")),
+        _ => return false,
     };
-    put_text_or_null(out, number)?;
-    Ok(true)
+    session.string_or_null(number);
+    true
+}
+
+/// Writes the key of an entry that was found, or null.
+fn put_found_key(session: &mut Session, found: Result<Option<&str>, AllocError>) {
+    if let Some(key) = session.allocated(found) {
+        session.string_or_null(key);
+    }
 }
 
 /// Writes the answer of a step that asks which entry has a field; false where it is none.
-fn put_first(
-    step: &Value<'_>,
-    name: &str,
-    entry: &Entry,
-    out: &mut Writer,
-) -> Result<bool, Refusal> {
-    let Some(field) = maybe_text(step, "field")? else {
-        return Ok(false);
+fn put_first(session: &mut Session, step: &Value<'_>, name: &str, entry: &Entry) -> bool {
+    let Some(field) = session.maybe_text(step, "field") else {
+        return false;
     };
-    let written = match name {
-        "has" => out.boolean(entry.has(field)),
-        "map" => put_text_or_null(out, first_with(entry, field)?),
-        "map_parents" => put_text_or_null(out, first_parent_with(entry, field)?),
-        _ => return Ok(false),
-    };
-    written?;
-    Ok(true)
+    match name {
+        "has" => session.boolean(entry.has(field)),
+        "map" => put_found_key(session, first_with(entry, field)),
+        "map_parents" => put_found_key(session, first_parent_with(entry, field)),
+        _ => return false,
+    }
+    true
 }
 
 /// Writes what is found of an entry and its ancestors, or null.
-fn put_any<T: CaseValue>(
-    out: &mut Writer,
-    found: Result<Option<&T>, AllocError>,
-) -> Result<(), Refusal> {
-    put_or_null(out, found?).map_err(Refusal::from)
+fn put_any<T: CaseValue>(session: &mut Session, found: Result<Option<&T>, AllocError>) {
+    if let Some(value) = session.allocated(found) {
+        put_or_null(session, value);
+    }
 }
 
 /// Writes the answer of a step that asks for anything else.
-fn put_found(name: &str, entry: &Entry, out: &mut Writer) -> Result<(), Refusal> {
+fn put_found(session: &mut Session, name: &str, entry: &Entry) {
     match name {
-        "date_any" => put_any(out, entry.date_any()),
-        "url_any" => put_any(out, entry.url_any()),
-        "entry" => put_entry(out, entry, ENTRY_DEPTH),
-        "copies" => put_copies(out, entry).map_err(Refusal::from),
-        _ => Err(Refusal::Wanted("step", "the name of a call")),
+        "date_any" => put_any(session, entry.date_any()),
+        "url_any" => put_any(session, entry.url_any()),
+        "entry" => put_entry(session, entry, ENTRY_DEPTH),
+        "copies" => put_copies(session, entry),
+        _ => session.want("step", "the name of a call"),
     }
-}
-
-/// Writes what a step returns.
-fn put_answer(
-    alloc: Global,
-    step: &Value<'_>,
-    name: &str,
-    entry: &mut Entry,
-    out: &mut Writer,
-) -> Result<(), Refusal> {
-    if take_number(alloc, step, name, entry)? {
-        return out.null().map_err(Refusal::from);
-    }
-    if put_number(step, name, entry, out)? || put_first(step, name, entry, out)? {
-        return Ok(());
-    }
-    put_found(name, entry, out)
 }
 
 /// Takes a step, and writes what it returns.
-fn take_step(
-    alloc: Global,
-    step: &Value<'_>,
-    entry: &mut Entry,
-    out: &mut Writer,
-) -> Result<(), Refusal> {
-    only(alloc, step, &["step", "field", "scheme", "number"])?;
-    put_answer(alloc, step, text(step, "step")?, entry, out)
-}
-
-/// Takes the steps in order.
-fn take_steps(
-    alloc: Global,
-    steps: &Vec<Value<'_>>,
-    entry: &mut Entry,
-    out: &mut Writer,
-) -> Result<(), Refusal> {
-    for step in steps {
-        take_step(alloc, step, entry, out)?;
+fn take_step(session: &mut Session, step: &Value<'_>, entry: &mut Entry) {
+    session.only(step, &["step", "field", "scheme", "number"]);
+    let name = session.text(step, "step");
+    if take_number(session, step, name, entry) {
+        session.null();
+    } else if !put_number(session, step, name, entry) && !put_first(session, step, name, entry) {
+        put_found(session, name, entry);
     }
-    Ok(())
-}
-
-/// Takes the steps at the entry of a case.
-fn take_at_given(
-    alloc: Global,
-    case: &Value<'_>,
-    steps: &Vec<Value<'_>>,
-    out: &mut Writer,
-) -> Result<(), Refusal> {
-    let mut entry = entry_member(alloc, case, "entry")?;
-    take_steps(alloc, steps, &mut entry, out)
 }
 
 /// `library_entry`: what calls of an entry return, one after the other.
-pub(crate) fn library_entry(
-    alloc: Global,
-    case: &Value<'_>,
-    out: &mut Writer,
-) -> Result<(), Refusal> {
-    only(alloc, case, &["case", "name", "entry", "steps"])?;
-    let Some(steps) = items(case, "steps")? else {
-        return Err(Refusal::Wanted("steps", "a list"));
+pub(crate) fn library_entry(session: &mut Session, case: &Value<'_>) {
+    session.only(case, &["case", "name", "entry", "steps"]);
+    let Some(steps) = session.items(case, "steps") else {
+        return session.want("steps", "a list");
     };
-    all_written(&[out.key("steps"), out.begin_array()])?;
-    take_at_given(alloc, case, steps, out)?;
-    out.end_array().map_err(Refusal::from)
+    let Some(mut entry) = entry_member(session, case, "entry") else {
+        return;
+    };
+    session.begin_list("steps");
+    for step in steps {
+        take_step(session, step, &mut entry);
+    }
+    session.end_array();
 }

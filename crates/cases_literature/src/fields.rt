@@ -1,95 +1,85 @@
 //! The fields of entries, read from JSON.
 
-use cases::{Refusal, Value, maybe_owned_text};
+use cases::{Session, Value};
 use cases_values::maybe_given;
 use literature::Entry;
-use std::alloc::Global;
 
 /// Sets the fields that are texts.
-fn set_texts(alloc: Global, given: &Value<'_>, entry: &mut Entry) -> Result<(), Refusal> {
-    if let Some(title) = maybe_given(alloc, given, "title")? {
+fn set_texts(session: &mut Session, given: &Value<'_>, entry: &mut Entry) {
+    if let Some(title) = maybe_given(session, given, "title") {
         entry.set_title(title);
     }
-    if let Some(note) = maybe_given(alloc, given, "note")? {
+    if let Some(note) = maybe_given(session, given, "note") {
         entry.set_note(note);
     }
-    if let Some(publisher) = maybe_given(alloc, given, "publisher")? {
+    if let Some(publisher) = maybe_given(session, given, "publisher") {
         entry.set_publisher(publisher);
     }
-    if let Some(language) = maybe_owned_text(alloc, given, "language")? {
+    if let Some(language) = session.maybe_owned_text(given, "language") {
         entry.set_language(language);
     }
-    Ok(())
 }
 
 /// Sets the fields that are people.
-fn set_people(alloc: Global, given: &Value<'_>, entry: &mut Entry) -> Result<(), Refusal> {
-    if let Some(author) = maybe_given(alloc, given, "author")? {
+fn set_people(session: &mut Session, given: &Value<'_>, entry: &mut Entry) {
+    if let Some(author) = maybe_given(session, given, "author") {
         entry.set_author(author);
     }
-    if let Some(editor) = maybe_given(alloc, given, "editor")? {
+    if let Some(editor) = maybe_given(session, given, "editor") {
         entry.set_editor(editor);
     }
-    if let Some(translator) = maybe_given(alloc, given, "translator")? {
+    if let Some(translator) = maybe_given(session, given, "translator") {
         entry.set_translator(translator);
     }
-    Ok(())
 }
 
 /// Sets the fields that are numbers or texts that spell none.
-fn set_numbers(alloc: Global, given: &Value<'_>, entry: &mut Entry) -> Result<(), Refusal> {
-    if let Some(volume) = maybe_given(alloc, given, "volume")? {
+fn set_numbers(session: &mut Session, given: &Value<'_>, entry: &mut Entry) {
+    if let Some(volume) = maybe_given(session, given, "volume") {
         entry.set_volume(volume);
     }
-    if let Some(issue) = maybe_given(alloc, given, "issue")? {
+    if let Some(issue) = maybe_given(session, given, "issue") {
         entry.set_issue(issue);
     }
-    if let Some(chapter) = maybe_given(alloc, given, "chapter")? {
+    if let Some(chapter) = maybe_given(session, given, "chapter") {
         entry.set_chapter(chapter);
     }
-    if let Some(edition) = maybe_given(alloc, given, "edition")? {
+    if let Some(edition) = maybe_given(session, given, "edition") {
         entry.set_edition(edition);
     }
-    Ok(())
 }
 
 /// Sets pages, and how many volumes and pages there are.
-fn set_extent(alloc: Global, given: &Value<'_>, entry: &mut Entry) -> Result<(), Refusal> {
-    if let Some(total) = maybe_given(alloc, given, "volume_total")? {
+fn set_extent(session: &mut Session, given: &Value<'_>, entry: &mut Entry) {
+    if let Some(total) = maybe_given(session, given, "volume_total") {
         entry.set_volume_total(total);
     }
-    if let Some(pages) = maybe_given(alloc, given, "page_range")? {
+    if let Some(pages) = maybe_given(session, given, "page_range") {
         entry.set_page_range(pages);
     }
-    if let Some(total) = maybe_given(alloc, given, "page_total")? {
+    if let Some(total) = maybe_given(session, given, "page_total") {
         entry.set_page_total(total);
     }
-    Ok(())
 }
 
 /// Sets the date, the address and the serial numbers.
-fn set_sources(alloc: Global, given: &Value<'_>, entry: &mut Entry) -> Result<(), Refusal> {
-    if let Some(date) = maybe_given(alloc, given, "date")? {
+fn set_sources(session: &mut Session, given: &Value<'_>, entry: &mut Entry) {
+    if let Some(date) = maybe_given(session, given, "date") {
         entry.set_date(date);
     }
-    if let Some(url) = maybe_given(alloc, given, "url")? {
+    if let Some(url) = maybe_given(session, given, "url") {
         entry.set_url(url);
     }
-    if let Some(numbers) = maybe_given(alloc, given, "serial_number")? {
+    if let Some(numbers) = maybe_given(session, given, "serial_number") {
         entry.set_serial_number(numbers);
     }
-    Ok(())
 }
 
 /// Sets the fields that the object has.
-pub(crate) fn set_fields(
-    alloc: Global,
-    given: &Value<'_>,
-    entry: &mut Entry,
-) -> Result<(), Refusal> {
-    set_texts(alloc, given, entry)?;
-    set_people(alloc, given, entry)?;
-    set_numbers(alloc, given, entry)?;
-    set_extent(alloc, given, entry)?;
-    set_sources(alloc, given, entry)
+pub(crate) fn set_fields(session: &mut Session, given: &Value<'_>, entry: &mut Entry) {
+    set_texts(session, given, entry);
+    set_people(session, given, entry);
+    set_numbers(session, given, entry);
+    set_extent(session, given, entry);
+    set_sources(session, given, entry);
 }

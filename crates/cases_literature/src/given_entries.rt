@@ -1,9 +1,9 @@
 //! Entries, read from JSON.
 
+use crate::ENTRY_DEPTH;
 use crate::fields::set_fields;
-use cases::{Refusal, Value, items, only, owned_text, text};
+use cases::{Session, Value, member};
 use literature::{Entry, EntryType};
-use std::alloc::Global;
 
 /// The members of an entry.
 const MEMBERS: [&str; 20] = [
@@ -30,53 +30,61 @@ const MEMBERS: [&str; 20] = [
 ];
 
 /// The type of an entry.
-fn type_of(given: &Value<'_>) -> Result<EntryType, Refusal> {
-    match EntryType::read(text(given, "type")?) {
-        Some(entry_type) => Ok(entry_type),
-        None => Err(Refusal::Wanted("type", "a type of entries")),
+fn type_of(session: &mut Session, given: &Value<'_>) -> EntryType {
+    match EntryType::read(session.text(given, "type")) {
+        Some(entry_type) => entry_type,
+        None => {
+            session.want("type", "a type of entries");
+            EntryType::Misc
+        }
     }
 }
 
-/// An entry in a box, since to hand on what is in the box costs nothing.
-pub fn boxed(alloc: Global, entry: Entry) -> Result<Box<Entry>, Refusal> {
-    Box::new(alloc, entry).map_err(Refusal::from)
-}
-
 /// An entry without fields and parents.
-fn bare(alloc: Global, given: &Value<'_>) -> Result<Box<Entry>, Refusal> {
-    only(alloc, given, &MEMBERS)?;
-    let entry_type = type_of(given)?;
-    let key = owned_text(alloc, given, "key")?;
-    boxed(alloc, Entry::new(key, entry_type))
+fn bare(session: &mut Session, given: &Value<'_>) -> Entry {
+    session.only(given, &MEMBERS);
+    let entry_type = type_of(session, given);
+    Entry::new(session.owned_text(given, "key"), entry_type)
 }
 
-/// An entry without its parents.
-fn alone(alloc: Global, given: &Value<'_>) -> Result<Box<Entry>, Refusal> {
-    let mut entry = bare(alloc, given)?;
-    set_fields(alloc, given, &mut entry)?;
-    Ok(entry)
+/// The entry of a member, where there is one.
+pub(crate) fn entry_member(
+    session: &mut Session,
+    case: &Value<'_>,
+    name: &'static str,
+) -> Option<Entry> {
+    match member(case, name) {
+        Some(given) => Some(entry_of(session, given, ENTRY_DEPTH)),
+        None => {
+            session.want(name, "an entry");
+            None
+        }
+    }
 }
 
 /// An entry, whose parents nest at most so deep.
 #[cycle(entry)]
-pub fn entry_of(alloc: Global, given: &Value<'_>, depth: u32) -> Result<Box<Entry>, Refusal> {
-    let mut entry = alone(alloc, given)?;
-    entry.set_parents(parents_of(alloc, given, depth)?);
-    Ok(entry)
+pub(crate) fn entry_of(session: &mut Session, given: &Value<'_>, depth: u32) -> Entry {
+    let mut entry = bare(session, given);
+    set_fields(session, given, &mut entry);
+    entry.set_parents(parents_of(session, given, depth));
+    entry
 }
 
 /// The entries that an entry is part of.
 #[cycle(entry)]
-fn parents_of(alloc: Global, given: &Value<'_>, depth: u32) -> Result<Vec<Entry>, Refusal> {
-    let mut parents = Vec::new(alloc);
-    let Some(items) = items(given, "parents")? else {
-        return Ok(parents);
+fn parents_of(session: &mut Session, given: &Value<'_>, depth: u32) -> Vec<Entry> {
+    let mut parents = Vec::new(session.alloc);
+    let Some(items) = session.items(given, "parents") else {
+        return parents;
     };
     if depth == 0 {
-        return Err(Refusal::Wanted("parents", "entries less deep in one another"));
+        session.want("parents", "entries less deep in one another");
+        return parents;
     }
     for item in items {
-        parents.push(Box::into_inner(entry_of(alloc, item, depth - 1)?))?;
+        let parent = entry_of(session, item, depth - 1);
+        session.push(&mut parents, parent);
     }
-    Ok(parents)
+    parents
 }

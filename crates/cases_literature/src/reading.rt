@@ -1,65 +1,51 @@
 //! Texts that are read, and what is printed of values.
 
 use crate::asked::{Asked, put_printed};
-use cases::{Refusal, Value, Writer, is_shown, only, only_shown, put_refused, put_text, text};
-use cases_values::{all_written, given, put_member};
+use cases::{Refusal, Session, Value};
+use cases_values::{given, put_member};
 use literature::{
     Date, DateError, EntryType, MaybeTyped, Numeric, NumericError, PageRanges, PageRangesError,
 };
-use std::alloc::{AllocError, Global};
+use std::alloc::AllocError;
 use std::fmt::Display;
 
 /// What the types of values are called.
 const TYPES: &str = "numeric, page-ranges, date, maybe-numeric, maybe-page-ranges or entry-type";
 
 /// Writes what is asked of a value.
-fn put_answer<T: Asked + Display>(
-    alloc: Global,
-    case: &Value<'_>,
-    value: &T,
-    out: &mut Writer,
-) -> Result<(), Refusal> {
-    put_printed(alloc, case, value, out)?;
-    if is_shown(case, "value", false)? {
-        put_member(out, "value", value)?;
+fn put_answer<T: Asked + Display>(session: &mut Session, case: &Value<'_>, value: &T) {
+    put_printed(session, case, value);
+    if session.is_shown(case, "value", false) {
+        put_member(session, "value", value);
     }
-    value.put_asked(case, out)
+    value.put_asked(session, case);
 }
 
 /// Writes why a text was not read: the refusal's type, and its variant where that is to be shown.
-fn put_refusal(case: &Value<'_>, name: &str, kind: &str, out: &mut Writer) -> Result<(), Refusal> {
-    put_refused(out, name)?;
-    if !is_shown(case, "kind", false)? {
-        return Ok(());
+fn put_refusal(session: &mut Session, case: &Value<'_>, name: &str, kind: &str) {
+    session.put_refused(name);
+    if session.is_shown(case, "kind", false) {
+        session.put_text("kind", kind);
     }
-    put_text(out, "kind", kind).map_err(Refusal::from)
 }
 
 /// Reads a number.
-fn read_numeric(
-    alloc: Global,
-    case: &Value<'_>,
-    text: &str,
-    out: &mut Writer,
-) -> Result<(), Refusal> {
-    match Numeric::read(alloc, text) {
-        Ok(numeric) => put_answer(alloc, case, &numeric, out),
-        Err(NumericError::Malformed) => put_refusal(case, "NumericError", "Malformed", out),
-        Err(NumericError::Memory) => Err(Refusal::Memory),
+fn read_numeric(session: &mut Session, case: &Value<'_>, text: &str) {
+    match Numeric::read(session.alloc, text) {
+        Ok(numeric) => put_answer(session, case, &numeric),
+        Err(NumericError::Malformed) => put_refusal(session, case, "NumericError", "Malformed"),
+        Err(NumericError::Memory) => session.refuse(Refusal::Memory),
     }
 }
 
 /// Reads page ranges.
-fn read_pages(
-    alloc: Global,
-    case: &Value<'_>,
-    text: &str,
-    out: &mut Writer,
-) -> Result<(), Refusal> {
-    match PageRanges::read(alloc, text) {
-        Ok(pages) => put_answer(alloc, case, &pages, out),
-        Err(PageRangesError::Malformed) => put_refusal(case, "PageRangesError", "Malformed", out),
-        Err(PageRangesError::Memory) => Err(Refusal::Memory),
+fn read_pages(session: &mut Session, case: &Value<'_>, text: &str) {
+    match PageRanges::read(session.alloc, text) {
+        Ok(pages) => put_answer(session, case, &pages),
+        Err(PageRangesError::Malformed) => {
+            put_refusal(session, case, "PageRangesError", "Malformed");
+        }
+        Err(PageRangesError::Memory) => session.refuse(Refusal::Memory),
     }
 }
 
@@ -73,65 +59,48 @@ fn date_fault(fault: DateError) -> &'static str {
 }
 
 /// Reads a date.
-fn read_date(alloc: Global, case: &Value<'_>, text: &str, out: &mut Writer) -> Result<(), Refusal> {
+fn read_date(session: &mut Session, case: &Value<'_>, text: &str) {
     match Date::read(text) {
-        Ok(date) => put_answer(alloc, case, &date, out),
-        Err(fault) => put_refusal(case, "DateError", date_fault(fault), out),
+        Ok(date) => put_answer(session, case, &date),
+        Err(fault) => put_refusal(session, case, "DateError", date_fault(fault)),
     }
 }
 
 /// Reads the name of a type of entries, and writes what is printed of the type, or null.
-fn read_entry_type(
-    alloc: Global,
-    case: &Value<'_>,
-    text: &str,
-    out: &mut Writer,
-) -> Result<(), Refusal> {
+fn read_entry_type(session: &mut Session, case: &Value<'_>, text: &str) {
     match EntryType::read(text) {
-        Some(entry_type) => put_printed(alloc, case, &entry_type, out),
+        Some(entry_type) => put_printed(session, case, &entry_type),
         None => {
-            let written = all_written(&[out.key("text"), out.null()]);
-            written.map_err(Refusal::from)
+            session.key("text");
+            session.null();
         }
     }
 }
 
 /// Writes what is asked of a value that may spell none.
 fn put_read<T: Asked + Display>(
-    alloc: Global,
+    session: &mut Session,
     case: &Value<'_>,
     read: Result<T, AllocError>,
-    out: &mut Writer,
-) -> Result<(), Refusal> {
-    match read {
-        Ok(value) => put_answer(alloc, case, &value, out),
-        Err(AllocError) => Err(Refusal::Memory),
+) {
+    if let Some(value) = session.allocated(read) {
+        put_answer(session, case, &value);
     }
 }
 
 /// Reads a text as a value of the type.
-fn read_typed(
-    alloc: Global,
-    case: &Value<'_>,
-    text: &str,
-    type_name: &str,
-    out: &mut Writer,
-) -> Result<(), Refusal> {
+fn read_typed(session: &mut Session, case: &Value<'_>, text: &str, type_name: &str) {
+    let alloc = session.alloc;
     match type_name {
-        "numeric" => read_numeric(alloc, case, text, out),
-        "page-ranges" => read_pages(alloc, case, text, out),
-        "date" => read_date(alloc, case, text, out),
-        "maybe-numeric" => put_read(alloc, case, MaybeTyped::<Numeric>::read(alloc, text), out),
+        "numeric" => read_numeric(session, case, text),
+        "page-ranges" => read_pages(session, case, text),
+        "date" => read_date(session, case, text),
+        "maybe-numeric" => put_read(session, case, MaybeTyped::<Numeric>::read(alloc, text)),
         "maybe-page-ranges" => {
-            put_read(
-                alloc,
-                case,
-                MaybeTyped::<PageRanges>::read(alloc, text),
-                out,
-            )
+            put_read(session, case, MaybeTyped::<PageRanges>::read(alloc, text));
         }
-        "entry-type" => read_entry_type(alloc, case, text, out),
-        _ => Err(Refusal::Wanted("type", TYPES)),
+        "entry-type" => read_entry_type(session, case, text),
+        _ => session.want("type", TYPES),
     }
 }
 
@@ -147,41 +116,30 @@ const SHOWN: [&str; 7] = [
 ];
 
 /// `read`: a text, read as a value of a type.
-pub(crate) fn read(alloc: Global, case: &Value<'_>, out: &mut Writer) -> Result<(), Refusal> {
-    only(
-        alloc,
-        case,
-        &["case", "name", "type", "text", "show", "place"],
-    )?;
-    only_shown(case, &SHOWN)?;
-    let type_name = text(case, "type")?;
-    read_typed(alloc, case, text(case, "text")?, type_name, out)
+pub(crate) fn read(session: &mut Session, case: &Value<'_>) {
+    session.only(case, &["case", "name", "type", "text", "show", "place"]);
+    session.only_shown(case, &SHOWN);
+    let type_name = session.text(case, "type");
+    let text = session.text(case, "text");
+    read_typed(session, case, text, type_name);
 }
 
 /// Writes what is asked of a value that a case gives.
-fn print_as<T: Asked + Display>(
-    alloc: Global,
-    case: &Value<'_>,
-    out: &mut Writer,
-) -> Result<(), Refusal> {
-    let value: T = given(alloc, case, "value")?;
-    put_answer(alloc, case, &value, out)
+fn print_as<T: Asked + Display>(session: &mut Session, case: &Value<'_>) {
+    let value: T = given(session, case, "value");
+    put_answer(session, case, &value);
 }
 
 /// `print`: a value of a type that is given in its parts.
-pub(crate) fn print(alloc: Global, case: &Value<'_>, out: &mut Writer) -> Result<(), Refusal> {
-    only(
-        alloc,
-        case,
-        &["case", "name", "type", "value", "show", "place"],
-    )?;
-    only_shown(case, &SHOWN)?;
-    match text(case, "type")? {
-        "numeric" => print_as::<Numeric>(alloc, case, out),
-        "page-ranges" => print_as::<PageRanges>(alloc, case, out),
-        "date" => print_as::<Date>(alloc, case, out),
-        "maybe-numeric" => print_as::<MaybeTyped<Numeric>>(alloc, case, out),
-        "maybe-page-ranges" => print_as::<MaybeTyped<PageRanges>>(alloc, case, out),
-        _ => Err(Refusal::Wanted("type", TYPES)),
+pub(crate) fn print(session: &mut Session, case: &Value<'_>) {
+    session.only(case, &["case", "name", "type", "value", "show", "place"]);
+    session.only_shown(case, &SHOWN);
+    match session.text(case, "type") {
+        "numeric" => print_as::<Numeric>(session, case),
+        "page-ranges" => print_as::<PageRanges>(session, case),
+        "date" => print_as::<Date>(session, case),
+        "maybe-numeric" => print_as::<MaybeTyped<Numeric>>(session, case),
+        "maybe-page-ranges" => print_as::<MaybeTyped<PageRanges>>(session, case),
+        _ => session.want("type", TYPES),
     }
 }

@@ -1,88 +1,71 @@
 //! Entries, written as JSON.
 
-use cases::{Refusal, Writer, put_maybe_text, put_text};
-use cases_values::{all_written, put_list, put_maybe};
+use cases::Session;
+use cases_values::{put_list, put_maybe};
 use literature::{Entry, Person};
-use std::alloc::AllocError;
 
 /// Writes a member that is a list of people, where there is one.
-fn put_people(out: &mut Writer, name: &str, people: Option<&[Person]>) -> Result<(), AllocError> {
-    match people {
-        Some(people) => {
-            out.key(name)?;
-            put_list(out, people)
-        }
-        None => Ok(()),
+fn put_people(session: &mut Session, name: &str, people: Option<&[Person]>) {
+    if let Some(people) = people {
+        session.key(name);
+        put_list(session, people);
     }
 }
 
 /// Writes key, type, title, people, date and publisher.
-fn put_head(out: &mut Writer, entry: &Entry) -> Result<(), AllocError> {
-    all_written(&[
-        put_text(out, "key", entry.key()),
-        put_text(out, "type", entry.entry_type().name()),
-        put_maybe(out, "title", entry.title()),
-        put_people(out, "author", entry.author()),
-        put_people(out, "editor", entry.editor()),
-        put_people(out, "translator", entry.translator()),
-        put_maybe(out, "date", entry.date()),
-        put_maybe(out, "publisher", entry.publisher()),
-    ])
+fn put_head(session: &mut Session, entry: &Entry) {
+    session.put_text("key", entry.key());
+    session.put_text("type", entry.entry_type().name());
+    put_maybe(session, "title", entry.title());
+    put_people(session, "author", entry.author());
+    put_people(session, "editor", entry.editor());
+    put_people(session, "translator", entry.translator());
+    put_maybe(session, "date", entry.date());
+    put_maybe(session, "publisher", entry.publisher());
 }
 
 /// Writes the numbers, and the pages.
-fn put_numbers(out: &mut Writer, entry: &Entry) -> Result<(), AllocError> {
-    all_written(&[
-        put_maybe(out, "volume", entry.volume()),
-        put_maybe(out, "volume_total", entry.volume_total()),
-        put_maybe(out, "issue", entry.issue()),
-        put_maybe(out, "chapter", entry.chapter()),
-        put_maybe(out, "edition", entry.edition()),
-        put_maybe(out, "page_range", entry.page_range()),
-        put_maybe(out, "page_total", entry.page_total()),
-    ])
+fn put_numbers(session: &mut Session, entry: &Entry) {
+    put_maybe(session, "volume", entry.volume());
+    put_maybe(session, "volume_total", entry.volume_total());
+    put_maybe(session, "issue", entry.issue());
+    put_maybe(session, "chapter", entry.chapter());
+    put_maybe(session, "edition", entry.edition());
+    put_maybe(session, "page_range", entry.page_range());
+    put_maybe(session, "page_total", entry.page_total());
 }
 
 /// Writes address, serial numbers, note and language.
-fn put_rest(out: &mut Writer, entry: &Entry) -> Result<(), AllocError> {
-    all_written(&[
-        put_maybe(out, "url", entry.url()),
-        put_maybe(out, "serial_number", entry.serial_number()),
-        put_maybe(out, "note", entry.note()),
-        put_maybe_text(out, "language", entry.language()),
-    ])
-}
-
-/// Begins an object, and writes key, type and fields.
-fn put_begun(out: &mut Writer, entry: &Entry) -> Result<(), AllocError> {
-    all_written(&[
-        out.begin_object(),
-        put_head(out, entry),
-        put_numbers(out, entry),
-        put_rest(out, entry),
-    ])
+fn put_rest(session: &mut Session, entry: &Entry) {
+    put_maybe(session, "url", entry.url());
+    put_maybe(session, "serial_number", entry.serial_number());
+    put_maybe(session, "note", entry.note());
+    session.put_maybe_text("language", entry.language());
 }
 
 /// Writes an entry as an object, whose parents nest at most so deep: its key, its type, and the fields and parents that it has.
 #[cycle(writing)]
-pub fn put_entry(out: &mut Writer, entry: &Entry, depth: u32) -> Result<(), Refusal> {
-    put_begun(out, entry)?;
-    put_parents(out, entry.parents(), depth)?;
-    out.end_object().map_err(Refusal::from)
+pub fn put_entry(session: &mut Session, entry: &Entry, depth: u32) {
+    session.begin_object();
+    put_head(session, entry);
+    put_numbers(session, entry);
+    put_rest(session, entry);
+    put_parents(session, entry.parents(), depth);
+    session.end_object();
 }
 
 /// Writes the entries that an entry is part of, where there are any.
 #[cycle(writing)]
-fn put_parents(out: &mut Writer, parents: &[Entry], depth: u32) -> Result<(), Refusal> {
+fn put_parents(session: &mut Session, parents: &[Entry], depth: u32) {
     if parents.is_empty() {
-        return Ok(());
+        return;
     }
     if depth == 0 {
-        return Err(Refusal::Wanted("parents", "entries less deep in one another"));
+        return session.want("parents", "entries less deep in one another");
     }
-    all_written(&[out.key("parents"), out.begin_array()])?;
+    session.begin_list("parents");
     for parent in parents {
-        put_entry(out, parent, depth - 1)?;
+        put_entry(session, parent, depth - 1);
     }
-    out.end_array().map_err(Refusal::from)
+    session.end_array();
 }

@@ -11,27 +11,25 @@ mod trees;
 mod writing;
 mod written_trees;
 
-use cases::{Answered, Refusal, Value, Writer};
+use cases::{Session, Value};
 pub use name_forms::NAME_FORMS;
-use std::alloc::Global;
 pub use tree_calls::{put_written, put_written_tree};
 
-/// That the kind is known, where its members were written.
-fn told(written: Result<(), Refusal>) -> Answered {
-    written?;
-    Ok(true)
-}
-
 /// Writes the members of the answer to a case of this kind; false where the kind is none of these.
-pub fn answer(alloc: Global, kind: &str, case: &Value<'_>, out: &mut Writer) -> Answered {
+pub fn answer(session: &mut Session, kind: &str, case: &Value<'_>) -> bool {
     match kind {
-        "write_year" => told(numbers::answer_year(alloc, case, out)),
-        "write_number" => told(numbers::answer_number(alloc, case, out)),
-        "suffix_letters" => told(numbers::answer_letters(alloc, case, out)),
-        "write_text" => told(writing::answer(alloc, case, out)),
-        "name_form" => told(name_forms::answer(alloc, case, out)),
-        "date" => told(dated::answer(alloc, case, out)),
-        "page" => told(pages::answer(alloc, case, out)),
-        _ => tree_calls::answer(alloc, kind, case, out),
+        "write_year" => numbers::answer_year(session, case),
+        "write_number" => numbers::answer_number(session, case),
+        "suffix_letters" => numbers::answer_letters(session, case),
+        "write_text" => writing::answer(session, case),
+        "name_form" => name_forms::answer(session, case),
+        "date" => dated::answer(session, case),
+        "page" => pages::answer(session, case),
+        "simplify" => tree_calls::answer_simplified(session, case),
+        "find" => tree_calls::answer_found(session, case),
+        "remove" => tree_calls::answer_removed(session, case),
+        "equal_trees" => tree_calls::answer_equal(session, case),
+        _ => return false,
     }
+    true
 }

@@ -2,15 +2,11 @@
 
 use crate::metas::maybe_meta;
 use crate::written_trees::put_tree;
-use cases::{
-    Refusal, Value, Writer, count, is_set, items, maybe_text, member, only, put_bool, put_text,
-    text, texts,
-};
-use cases_styles::{DISPLAYS, formatting, maybe_word};
+use cases::{Session, Value, member};
+use cases_styles::{DISPLAYS, formatting};
 use cases_values::maybe_given;
 use literature::StringChunk;
 use rendering_page::{Frame, Manner, Page};
-use std::alloc::{AllocError, Global};
 
 /// How deep elements may nest.
 const DEPTH: u32 = 400;
@@ -18,7 +14,6 @@ const DEPTH: u32 = 400;
 /// What things are put down with.
 #[derive(Clone, Copy)]
 struct Setting<'s, 'a> {
-    alloc: Global,
     /// The close quotes inside which punctuation goes.
     quotes: &'s [&'s str],
     /// The text in pieces of the case.
@@ -26,207 +21,158 @@ struct Setting<'s, 'a> {
 }
 
 /// How the texts of a thing are put down.
-pub(crate) fn manner(alloc: Global, item: &Value<'_>) -> Result<Manner, Refusal> {
-    let formatting = formatting(alloc, item)?;
-    Ok(Manner {
-        formatting,
-        strips_periods: is_set(item, "strips_periods")?,
-    })
+pub(crate) fn manner(session: &mut Session, item: &Value<'_>) -> Manner {
+    Manner {
+        formatting: formatting(session, item),
+        strips_periods: session.is_set(item, "strips_periods"),
+    }
 }
 
 /// Puts an ordinary text down that looks plain.
 fn put_plain<'a>(
+    session: &mut Session,
     setting: &Setting<'_, 'a>,
     page: &mut Page<'a>,
     text: &'a str,
-) -> Result<(), Refusal> {
-    let manner = manner(setting.alloc, &Value::Null)?;
-    Ok(page.push_text(setting.quotes, manner, text)?)
-}
-
-/// Puts a copy of an ordinary text down.
-fn put_copy<'a>(
-    setting: &Setting<'_, 'a>,
-    page: &mut Page<'a>,
-    manner: Manner,
-    text: &str,
-) -> Result<(), AllocError> {
-    let copy = String::from_str(setting.alloc, text)?;
-    page.push_made(setting.quotes, manner, copy)
+) {
+    let manner = manner(session, &Value::Null);
+    session.check(page.push_text(setting.quotes, manner, text));
 }
 
 /// Puts an ordinary text down, or a copy of it where that is asked for.
 fn put_ordinary<'a>(
+    session: &mut Session,
     setting: &Setting<'_, 'a>,
     page: &mut Page<'a>,
     item: &'a Value<'_>,
-) -> Result<(), Refusal> {
-    only(
-        setting.alloc,
-        item,
-        &["text", "made", "formatting", "strips_periods"],
-    )?;
-    let manner = manner(setting.alloc, item)?;
-    let text = text(item, "text")?;
-    if is_set(item, "made")? {
-        return Ok(put_copy(setting, page, manner, text)?);
+) {
+    session.only(item, &["text", "made", "formatting", "strips_periods"]);
+    let manner = manner(session, item);
+    let text = session.text(item, "text");
+    if session.is_set(item, "made") {
+        let copy = session.owned(text);
+        session.check(page.push_made(setting.quotes, manner, copy));
+    } else {
+        session.check(page.push_text(setting.quotes, manner, text));
     }
-    Ok(page.push_text(setting.quotes, manner, text)?)
 }
 
 /// Puts a close quote down.
 fn put_quote<'a>(
+    session: &mut Session,
     setting: &Setting<'_, 'a>,
     page: &mut Page<'a>,
     item: &'a Value<'_>,
-) -> Result<(), Refusal> {
-    only(
-        setting.alloc,
-        item,
-        &["close_quote", "formatting", "strips_periods"],
-    )?;
-    let manner = manner(setting.alloc, item)?;
-    let text = text(item, "close_quote")?;
-    Ok(page.push_close_quote(setting.quotes, manner, text)?)
+) {
+    session.only(item, &["close_quote", "formatting", "strips_periods"]);
+    let manner = manner(session, item);
+    let text = session.text(item, "close_quote");
+    session.check(page.push_close_quote(setting.quotes, manner, text));
 }
 
 /// Puts a text down as it is.
-fn put_verbatim<'a>(
-    setting: &Setting<'_, 'a>,
-    page: &mut Page<'a>,
-    item: &'a Value<'_>,
-) -> Result<(), Refusal> {
-    only(setting.alloc, item, &["verbatim", "formatting"])?;
-    let formatting = formatting(setting.alloc, item)?;
-    Ok(page.push_verbatim(formatting, text(item, "verbatim")?)?)
+fn put_verbatim<'a>(session: &mut Session, page: &mut Page<'a>, item: &'a Value<'_>) {
+    session.only(item, &["verbatim", "formatting"]);
+    let formatting = formatting(session, item);
+    let text = session.text(item, "verbatim");
+    session.check(page.push_verbatim(formatting, text));
 }
 
 /// Puts a link down.
-fn put_link<'a>(
-    setting: &Setting<'_, 'a>,
-    page: &mut Page<'a>,
-    item: &'a Value<'_>,
-) -> Result<(), Refusal> {
-    only(setting.alloc, item, &["link", "url", "formatting"])?;
-    let formatting = formatting(setting.alloc, item)?;
-    let url = text(item, "url")?;
-    Ok(page.push_link(formatting, text(item, "link")?, url)?)
+fn put_link<'a>(session: &mut Session, page: &mut Page<'a>, item: &'a Value<'_>) {
+    session.only(item, &["link", "url", "formatting"]);
+    let formatting = formatting(session, item);
+    let url = session.text(item, "url");
+    let text = session.text(item, "link");
+    session.check(page.push_link(formatting, text, url));
 }
 
 /// Puts a locator of the caller's own down.
-fn put_transparent<'a>(
-    setting: &Setting<'_, 'a>,
-    page: &mut Page<'a>,
-    item: &'a Value<'_>,
-) -> Result<(), Refusal> {
-    only(setting.alloc, item, &["transparent", "formatting"])?;
-    let formatting = formatting(setting.alloc, item)?;
-    Ok(page.push_transparent(formatting, count(item, "transparent")?)?)
+fn put_transparent<'a>(session: &mut Session, page: &mut Page<'a>, item: &'a Value<'_>) {
+    session.only(item, &["transparent", "formatting"]);
+    let formatting = formatting(session, item);
+    let place = session.count(item, "transparent");
+    session.check(page.push_transparent(formatting, place));
 }
 
 /// Puts the text in pieces of the case down.
 fn put_chunks<'a>(
+    session: &mut Session,
     setting: &Setting<'_, 'a>,
     page: &mut Page<'a>,
     item: &'a Value<'_>,
-) -> Result<(), Refusal> {
-    only(
-        setting.alloc,
-        item,
-        &["chunks", "formatting", "strips_periods"],
-    )?;
-    let manner = manner(setting.alloc, item)?;
-    Ok(page.push_chunks(setting.quotes, manner, setting.chunks)?)
+) {
+    session.only(item, &["chunks", "formatting", "strips_periods"]);
+    let manner = manner(session, item);
+    session.check(page.push_chunks(setting.quotes, manner, setting.chunks));
 }
 
 /// Puts a formula down, or what ends in a space.
-fn put_formula_or_space<'a>(
-    setting: &Setting<'_, 'a>,
-    page: &mut Page<'a>,
-    item: &'a Value<'_>,
-) -> Result<(), Refusal> {
-    only(setting.alloc, item, &["markup", "space"])?;
-    if is_set(item, "space")? {
-        return Ok(page.ensure_space()?);
+fn put_formula_or_space<'a>(session: &mut Session, page: &mut Page<'a>, item: &'a Value<'_>) {
+    session.only(item, &["markup", "space"]);
+    if session.is_set(item, "space") {
+        session.check(page.ensure_space());
+    } else {
+        let text = session.text(item, "markup");
+        session.check(page.push_markup(text));
     }
-    Ok(page.push_markup(text(item, "markup")?)?)
-}
-
-/// Puts down what is no ordinary text, no element and no close quote.
-fn put_other<'a>(
-    setting: &Setting<'_, 'a>,
-    page: &mut Page<'a>,
-    item: &'a Value<'_>,
-) -> Result<(), Refusal> {
-    if member(item, "link").is_some() {
-        return put_link(setting, page, item);
-    }
-    if member(item, "transparent").is_some() {
-        return put_transparent(setting, page, item);
-    }
-    if member(item, "chunks").is_some() {
-        return put_chunks(setting, page, item);
-    }
-    put_formula_or_space(setting, page, item)
 }
 
 /// Puts down what is no element.
 fn put_leaf<'a>(
+    session: &mut Session,
     setting: &Setting<'_, 'a>,
     page: &mut Page<'a>,
     item: &'a Value<'_>,
-) -> Result<(), Refusal> {
+) {
     if member(item, "text").is_some() {
-        return put_ordinary(setting, page, item);
+        put_ordinary(session, setting, page, item);
+    } else if member(item, "verbatim").is_some() {
+        put_verbatim(session, page, item);
+    } else if member(item, "close_quote").is_some() {
+        put_quote(session, setting, page, item);
+    } else if member(item, "link").is_some() {
+        put_link(session, page, item);
+    } else if member(item, "transparent").is_some() {
+        put_transparent(session, page, item);
+    } else if member(item, "chunks").is_some() {
+        put_chunks(session, setting, page, item);
+    } else {
+        put_formula_or_space(session, page, item);
     }
-    if member(item, "verbatim").is_some() {
-        return put_verbatim(setting, page, item);
-    }
-    if member(item, "close_quote").is_some() {
-        return put_quote(setting, page, item);
-    }
-    put_other(setting, page, item)
 }
 
 /// An element, which says not what it stands for.
-fn frame<'a>(alloc: Global, item: &'a Value<'_>) -> Result<Frame<'a>, Refusal> {
-    let display = maybe_word(item, "display", DISPLAYS)?;
-    let manner = manner(alloc, item)?;
-    let prefix = maybe_text(item, "prefix")?.unwrap_or("");
-    let suffix = maybe_text(item, "suffix")?.unwrap_or("");
-    Ok(Frame {
-        display,
+fn frame<'a>(session: &mut Session, item: &'a Value<'_>) -> Frame<'a> {
+    Frame {
+        display: session.maybe_word(item, "display", DISPLAYS),
         meta: None,
-        manner,
-        prefix,
-        suffix,
-    })
+        manner: manner(session, item),
+        prefix: session.maybe_text(item, "prefix").unwrap_or(""),
+        suffix: session.maybe_text(item, "suffix").unwrap_or(""),
+    }
 }
 
 /// Begins an element.
-fn begin<'a>(
-    alloc: Global,
-    page: &mut Page<'a>,
-    item: &Value<'_>,
-    frame: &Frame<'a>,
-) -> Result<(), Refusal> {
-    match maybe_meta(alloc, item)? {
-        Some(meta) => Ok(page.begin_element(frame, meta)?),
-        None => Ok(page.begin(frame)?),
+fn begin<'a>(session: &mut Session, page: &mut Page<'a>, item: &Value<'_>, frame: &Frame<'a>) {
+    match maybe_meta(session, item) {
+        Some(meta) => session.check(page.begin_element(frame, meta)),
+        None => session.check(page.begin(frame)),
     }
 }
 
 /// Ends an element.
 fn end<'a>(
+    session: &mut Session,
     quotes: &[&str],
     page: &mut Page<'a>,
     item: &Value<'_>,
     frame: &Frame<'a>,
-) -> Result<(), AllocError> {
-    if member(item, "meta").is_some() {
-        return page.end_element(quotes, frame);
+) {
+    match member(item, "meta") {
+        Some(_) => session.check(page.end_element(quotes, frame)),
+        None => session.check(page.end(quotes, frame)),
     }
-    page.end(quotes, frame)
 }
 
 /// The members of an element.
@@ -243,141 +189,105 @@ const MEMBERS: [&str; 7] = [
 /// Puts an element down.
 #[cycle(page)]
 fn put_elem<'a>(
+    session: &mut Session,
     setting: &Setting<'_, 'a>,
     page: &mut Page<'a>,
     item: &'a Value<'_>,
     depth: u32,
-) -> Result<(), Refusal> {
-    only(setting.alloc, item, &MEMBERS)?;
-    let frame = frame(setting.alloc, item)?;
-    begin(setting.alloc, page, item, &frame)?;
-    put_all(setting, page, item, "elem", depth)?;
-    Ok(end(setting.quotes, page, item, &frame)?)
+) {
+    session.only(item, &MEMBERS);
+    let frame = frame(session, item);
+    begin(session, page, item, &frame);
+    put_all(session, setting, page, item, "elem", depth);
+    end(session, setting.quotes, page, item, &frame);
 }
 
 /// Puts a thing down: a text that looks plain, or what an object says.
 #[cycle(page)]
 fn put<'a>(
+    session: &mut Session,
     setting: &Setting<'_, 'a>,
     page: &mut Page<'a>,
     item: &'a Value<'_>,
     depth: u32,
-) -> Result<(), Refusal> {
+) {
     if let Value::String(text) = item {
-        return put_plain(setting, page, text);
+        return put_plain(session, setting, page, text);
     }
-    if member(item, "elem").is_some() {
-        return put_elem(setting, page, item, depth);
+    match member(item, "elem") {
+        Some(_) => put_elem(session, setting, page, item, depth),
+        None => put_leaf(session, setting, page, item),
     }
-    put_leaf(setting, page, item)
 }
 
 /// Puts the things of a list down, in which elements nest at most so deep.
 #[cycle(page)]
 fn put_all<'a>(
+    session: &mut Session,
     setting: &Setting<'_, 'a>,
     page: &mut Page<'a>,
     object: &'a Value<'_>,
     name: &'static str,
     depth: u32,
-) -> Result<(), Refusal> {
-    let Some(items) = items(object, name)? else {
-        return Err(Refusal::Wanted(name, "a list"));
+) {
+    let Some(items) = session.items(object, name) else {
+        return session.want(name, "a list");
     };
     if depth == 0 {
-        return Err(Refusal::Wanted(name, "elements less deep in one another"));
+        return session.want(name, "elements less deep in one another");
     }
     for item in items {
-        put(setting, page, item, depth - 1)?;
+        put(session, setting, page, item, depth - 1);
     }
-    Ok(())
 }
 
 /// Writes the characters of a page as the member `text`.
-pub(crate) fn put_characters(
-    alloc: Global,
-    page: &Page<'_>,
-    out: &mut Writer,
-) -> Result<(), AllocError> {
-    let mut characters = String::new(alloc);
-    page.push_to(&mut characters)?;
-    put_text(out, "text", characters.as_str())
+pub(crate) fn put_characters(session: &mut Session, page: &Page<'_>) {
+    let mut characters = String::new(session.alloc);
+    session.check(page.push_to(&mut characters));
+    session.put_text("text", characters.as_str());
 }
 
 /// Writes whether a page shows the same characters as that of the member `other`, where there is one.
 fn put_compared<'a>(
+    session: &mut Session,
     setting: &Setting<'_, 'a>,
     case: &'a Value<'_>,
     page: &Page<'a>,
-    out: &mut Writer,
-) -> Result<(), Refusal> {
+) {
     if member(case, "other").is_none() {
-        return Ok(());
+        return;
     }
-    let mut other = Page::new(setting.alloc);
-    put_all(setting, &mut other, case, "other", DEPTH)?;
-    Ok(put_bool(out, "has_text_of_other", page.has_text_of(&other))?)
-}
-
-/// Writes what a page shows.
-fn put_shown<'a>(
-    setting: &Setting<'_, 'a>,
-    case: &'a Value<'_>,
-    page: &Page<'a>,
-    out: &mut Writer,
-) -> Result<(), Refusal> {
-    put_characters(setting.alloc, page, out)?;
-    put_compared(setting, case, page, out)
+    let mut other = Page::new(session.alloc);
+    put_all(session, setting, &mut other, case, "other", DEPTH);
+    session.put_bool("has_text_of_other", page.has_text_of(&other));
 }
 
 /// Writes the tree of a page as the member `tree`.
-pub(crate) fn put_page_tree(page: Page<'_>, out: &mut Writer) -> Result<(), AllocError> {
-    put_tree(out, "tree", &page.into_tree()?)
-}
-
-/// Writes what the page of a case shows, and its tree.
-fn put_page<'a>(
-    setting: &Setting<'_, 'a>,
-    case: &'a Value<'_>,
-    out: &mut Writer,
-) -> Result<(), Refusal> {
-    let mut page = Page::new(setting.alloc);
-    put_all(setting, &mut page, case, "put", DEPTH)?;
-    put_shown(setting, case, &page, out)?;
-    Ok(put_page_tree(page, out)?)
-}
-
-/// The text in pieces of a case; one that is left out is empty.
-fn chunks_of(alloc: Global, case: &Value<'_>) -> Result<Vec<StringChunk>, Refusal> {
-    match maybe_given(alloc, case, "chunks")? {
-        Some(chunks) => Ok(chunks),
-        None => Ok(Vec::new(alloc)),
+pub(crate) fn put_page_tree(session: &mut Session, page: Page<'_>) {
+    if let Some(tree) = session.allocated(page.into_tree()) {
+        put_tree(session, "tree", &tree);
     }
 }
 
-/// Writes what the page of a case shows, and its tree, with these close quotes.
-fn put_quoted(
-    alloc: Global,
-    case: &Value<'_>,
-    quotes: &[&str],
-    out: &mut Writer,
-) -> Result<(), Refusal> {
-    let chunks = chunks_of(alloc, case)?;
-    let setting = Setting {
-        alloc,
-        quotes,
-        chunks: chunks.as_slice(),
-    };
-    put_page(&setting, case, out)
+/// Writes what the page of a case shows, and its tree.
+fn put_page<'a>(session: &mut Session, setting: &Setting<'_, 'a>, case: &'a Value<'_>) {
+    let mut page = Page::new(session.alloc);
+    put_all(session, setting, &mut page, case, "put", DEPTH);
+    put_characters(session, &page);
+    put_compared(session, setting, case, &page);
+    put_page_tree(session, page);
 }
 
 /// `page`: what a page shows on which things were put down, and its tree.
-pub(crate) fn answer(alloc: Global, case: &Value<'_>, out: &mut Writer) -> Result<(), Refusal> {
-    only(
-        alloc,
-        case,
-        &["case", "name", "quotes", "chunks", "put", "other"],
-    )?;
-    let quotes = texts(alloc, case, "quotes")?;
-    put_quoted(alloc, case, quotes.as_slice(), out)
+pub(crate) fn answer(session: &mut Session, case: &Value<'_>) {
+    session.only(case, &["case", "name", "quotes", "chunks", "put", "other"]);
+    let quotes = session.texts(case, "quotes");
+    let chunks: Option<Vec<StringChunk>> = maybe_given(session, case, "chunks");
+    let chunks = chunks.unwrap_or(Vec::new(session.alloc));
+    let setting = Setting {
+        quotes: quotes.as_slice(),
+        chunks: chunks.as_slice(),
+    };
+    put_page(session, &setting, case);
 }

@@ -1,134 +1,122 @@
 //! Trees of what was printed, as a case gives them.
 
 use crate::metas::maybe_meta;
-use cases::{Refusal, Value, count, items, member, only, owned_text};
-use cases_styles::{DISPLAYS, formatting, maybe_word};
+use cases::{Session, Value, member};
+use cases_styles::{DISPLAYS, formatting};
 use rendering_taxonomy::Formatting;
 use rendering_tree::{Elem, ElemChild, ElemChildren, Formatted};
-use std::alloc::Global;
 
 /// How deep elements may nest.
 const DEPTH: u32 = 400;
 
 /// A text of a member, with its formatting.
-fn formatted(alloc: Global, object: &Value<'_>, name: &'static str) -> Result<Formatted, Refusal> {
-    let formatting = formatting(alloc, object)?;
-    Ok(Formatted {
-        text: owned_text(alloc, object, name)?,
-        formatting,
-    })
+fn formatted(session: &mut Session, object: &Value<'_>, name: &'static str) -> Formatted {
+    Formatted {
+        text: session.owned_text(object, name),
+        formatting: formatting(session, object),
+    }
 }
 
 /// A link.
-fn link(alloc: Global, object: &Value<'_>) -> Result<ElemChild, Refusal> {
-    only(alloc, object, &["link", "url", "formatting"])?;
-    let text = formatted(alloc, object, "link")?;
-    let url = owned_text(alloc, object, "url")?;
-    Ok(ElemChild::Link { text, url })
+fn link(session: &mut Session, object: &Value<'_>) -> ElemChild {
+    session.only(object, &["link", "url", "formatting"]);
+    ElemChild::Link {
+        text: formatted(session, object, "link"),
+        url: session.owned_text(object, "url"),
+    }
 }
 
 /// A locator of the caller's own.
-fn transparent(alloc: Global, object: &Value<'_>) -> Result<ElemChild, Refusal> {
-    only(alloc, object, &["transparent", "formatting"])?;
-    let cite_idx = count(object, "transparent")?;
-    Ok(ElemChild::Transparent {
-        cite_idx,
-        format: formatting(alloc, object)?,
-    })
+fn transparent(session: &mut Session, object: &Value<'_>) -> ElemChild {
+    session.only(object, &["transparent", "formatting"]);
+    ElemChild::Transparent {
+        cite_idx: session.count(object, "transparent"),
+        format: formatting(session, object),
+    }
 }
 
 /// A text that is an object.
-fn text(alloc: Global, object: &Value<'_>) -> Result<ElemChild, Refusal> {
-    only(alloc, object, &["text", "formatting"])?;
-    Ok(ElemChild::Text(formatted(alloc, object, "text")?))
+fn text(session: &mut Session, object: &Value<'_>) -> ElemChild {
+    session.only(object, &["text", "formatting"]);
+    ElemChild::Text(formatted(session, object, "text"))
 }
 
 /// A formula.
-fn markup(alloc: Global, object: &Value<'_>) -> Result<ElemChild, Refusal> {
-    only(alloc, object, &["markup"])?;
-    Ok(ElemChild::Markup(owned_text(alloc, object, "markup")?))
+fn markup(session: &mut Session, object: &Value<'_>) -> ElemChild {
+    session.only(object, &["markup"]);
+    ElemChild::Markup(session.owned_text(object, "markup"))
 }
 
 /// A child that is an object and no element.
-fn leaf(alloc: Global, object: &Value<'_>) -> Result<ElemChild, Refusal> {
+fn leaf(session: &mut Session, object: &Value<'_>) -> ElemChild {
     if member(object, "text").is_some() {
-        return text(alloc, object);
+        return text(session, object);
     }
     if member(object, "link").is_some() {
-        return link(alloc, object);
+        return link(session, object);
     }
     if member(object, "markup").is_some() {
-        return markup(alloc, object);
+        return markup(session, object);
     }
-    transparent(alloc, object)
+    transparent(session, object)
 }
 
 /// A text that looks plain.
-fn plain_text(alloc: Global, text: &str) -> Result<ElemChild, Refusal> {
-    Ok(ElemChild::Text(Formatted {
-        text: String::from_str(alloc, text)?,
+fn plain_text(session: &mut Session, text: &str) -> ElemChild {
+    ElemChild::Text(Formatted {
+        text: session.owned(text),
         formatting: Formatting::plain(),
-    }))
+    })
 }
 
 /// A child.
 #[cycle(tree)]
-fn child(alloc: Global, given: &Value<'_>, depth: u32) -> Result<ElemChild, Refusal> {
+fn child(session: &mut Session, given: &Value<'_>, depth: u32) -> ElemChild {
     if let Some(text) = given.as_str() {
-        return plain_text(alloc, text);
+        return plain_text(session, text);
     }
     if member(given, "elem").is_some() {
-        return Ok(ElemChild::Elem(elem(alloc, given, depth)?));
+        return ElemChild::Elem(elem(session, given, depth));
     }
-    leaf(alloc, given)
-}
-
-/// An element without children.
-fn bare_elem(alloc: Global, given: &Value<'_>) -> Result<Elem, Refusal> {
-    only(alloc, given, &["elem", "display", "meta"])?;
-    let display = maybe_word(given, "display", DISPLAYS)?;
-    let meta = maybe_meta(alloc, given)?;
-    Ok(Elem {
-        children: ElemChildren::new(alloc),
-        display,
-        meta,
-    })
+    leaf(session, given)
 }
 
 /// An element.
 #[cycle(tree)]
-fn elem(alloc: Global, given: &Value<'_>, depth: u32) -> Result<Elem, Refusal> {
-    let mut elem = bare_elem(alloc, given)?;
-    elem.children = children(alloc, given, "elem", depth)?;
-    Ok(elem)
+fn elem(session: &mut Session, given: &Value<'_>, depth: u32) -> Elem {
+    session.only(given, &["elem", "display", "meta"]);
+    Elem {
+        children: children(session, given, "elem", depth),
+        display: session.maybe_word(given, "display", DISPLAYS),
+        meta: maybe_meta(session, given),
+    }
 }
 
 /// The children of a list, in which elements nest at most so deep.
 #[cycle(tree)]
 fn children(
-    alloc: Global,
+    session: &mut Session,
     object: &Value<'_>,
     name: &'static str,
     depth: u32,
-) -> Result<ElemChildren, Refusal> {
-    let Some(items) = items(object, name)? else {
-        return Err(Refusal::Wanted(name, "a list"));
+) -> ElemChildren {
+    let mut children = ElemChildren::new(session.alloc);
+    let Some(items) = session.items(object, name) else {
+        session.want(name, "a list");
+        return children;
     };
     if depth == 0 {
-        return Err(Refusal::Wanted(name, "elements less deep in one another"));
+        session.want(name, "elements less deep in one another");
+        return children;
     }
-    let mut children = ElemChildren::new(alloc);
     for item in items {
-        children.push(child(alloc, item, depth - 1)?)?;
+        let child = child(session, item, depth - 1);
+        session.push(&mut children.0, child);
     }
-    Ok(children)
+    children
 }
 
 /// The tree of a member.
-pub(crate) fn tree(
-    alloc: Global,
-    object: &Value<'_>,
-    name: &'static str,
-) -> Result<ElemChildren, Refusal> {
-    children(alloc, object, name, DEPTH)
+pub(crate) fn tree(session: &mut Session, object: &Value<'_>, name: &'static str) -> ElemChildren {
+    children(session, object, name, DEPTH)
 }

@@ -1,10 +1,9 @@
 //! Texts that look so, links and elements, in plain text and in HTML.
 
-use cases::{Refusal, Value, Writer, is_set, maybe_text, only, put_text, text};
-use cases_styles::{DISPLAYS, formatting, maybe_word};
+use cases::{Refusal, Session, Value};
+use cases_styles::{DISPLAYS, formatting};
 use rendering_output::BufWriteFormat;
 use rendering_taxonomy::{Display, Formatting};
-use std::alloc::Global;
 use std::fmt;
 
 /// What is to be written.
@@ -37,42 +36,35 @@ fn write_element(format: BufWriteFormat, written: &Written<'_>, text: &mut Strin
 }
 
 /// Writes what is written in a format as the member of the name.
-fn put(
-    alloc: Global,
-    out: &mut Writer,
-    name: &str,
-    format: BufWriteFormat,
-    written: &Written<'_>,
-) -> Result<(), Refusal> {
-    let mut text = String::new(alloc);
+fn put(session: &mut Session, name: &str, format: BufWriteFormat, written: &Written<'_>) {
+    let mut text = String::new(session.alloc);
     match write_element(format, written, &mut text) {
-        Ok(()) => Ok(put_text(out, name, text.as_str())?),
-        Err(_) => Err(Refusal::Memory),
+        Ok(()) => session.put_text(name, text.as_str()),
+        Err(_) => session.refuse(Refusal::Memory),
     }
 }
 
+/// The members of a case.
+const MEMBERS: [&str; 7] = [
+    "case",
+    "name",
+    "text",
+    "formatting",
+    "url",
+    "markup",
+    "display",
+];
+
 /// `write_text`: what is written of a text in both formats.
-pub(crate) fn answer(alloc: Global, case: &Value<'_>, out: &mut Writer) -> Result<(), Refusal> {
-    only(
-        alloc,
-        case,
-        &[
-            "case",
-            "name",
-            "text",
-            "formatting",
-            "url",
-            "markup",
-            "display",
-        ],
-    )?;
+pub(crate) fn answer(session: &mut Session, case: &Value<'_>) {
+    session.only(case, &MEMBERS);
     let written = Written {
-        text: text(case, "text")?,
-        formatting: formatting(alloc, case)?,
-        url: maybe_text(case, "url")?,
-        is_markup: is_set(case, "markup")?,
-        display: maybe_word(case, "display", DISPLAYS)?,
+        text: session.text(case, "text"),
+        formatting: formatting(session, case),
+        url: session.maybe_text(case, "url"),
+        is_markup: session.is_set(case, "markup"),
+        display: session.maybe_word(case, "display", DISPLAYS),
     };
-    put(alloc, out, "plain", BufWriteFormat::Plain, &written)?;
-    put(alloc, out, "html", BufWriteFormat::Html, &written)
+    put(session, "plain", BufWriteFormat::Plain, &written);
+    put(session, "html", BufWriteFormat::Html, &written);
 }

@@ -1,10 +1,9 @@
-//! What is said of a cite: what it is for, and its locator.
+//! What is said of a cite: what it is for, its locator, and how much work it was.
 
-use cases::{Refusal, Value, maybe_text, only};
-use cases_styles::{LOCATORS, maybe_word};
+use cases::{Session, Value, member};
+use cases_styles::LOCATORS;
 use rendering_context::{LocatorPayload, SpecificLocator, TransparentLocator};
-use rendering_taxonomy::CitePurpose;
-use std::alloc::Global;
+use rendering_taxonomy::{CitePurpose, Locator};
 
 /// The words of what a cite is for.
 pub const PURPOSES: &[(&str, CitePurpose)] = &[
@@ -14,24 +13,29 @@ pub const PURPOSES: &[(&str, CitePurpose)] = &[
     ("prose", CitePurpose::Prose),
 ];
 
-/// A locator, with what the caller prints it from where it has no text.
-pub fn locator<'a, P: Drop>(
-    alloc: Global,
-    given: &Value<'a>,
+/// The locator of the member `locator`, where there is one, with what the caller prints it from where it has no text.
+pub fn maybe_locator<'a, P: Drop>(
+    session: &mut Session,
+    object: &Value<'a>,
     own: P,
-) -> Result<SpecificLocator<'a, P>, Refusal> {
-    only(alloc, given, &["label", "text", "transparent"])?;
-    let Some(label) = maybe_word(given, "label", LOCATORS)? else {
-        return Err(Refusal::Wanted("label", "the label of a locator"));
+) -> Option<SpecificLocator<'a, P>> {
+    let Some(given) = member(object, "locator") else {
+        return None;
     };
-    let payload = payload(given, own)?;
-    Ok(SpecificLocator { label, payload })
+    session.only(given, &["label", "text", "transparent"]);
+    let label = session.maybe_word(given, "label", LOCATORS);
+    let label = session.required(label, "label", "the label of a locator", Locator::Page);
+    let payload = match session.maybe_text(given, "text") {
+        Some(text) => LocatorPayload::Str(text),
+        None => LocatorPayload::Transparent(TransparentLocator { payload: own }),
+    };
+    Some(SpecificLocator { label, payload })
 }
 
-/// What a locator says: its text, or else what the caller prints it from.
-fn payload<'a, P: Drop>(given: &Value<'a>, own: P) -> Result<LocatorPayload<'a, P>, Refusal> {
-    match maybe_text(given, "text")? {
-        Some(text) => Ok(LocatorPayload::Str(text)),
-        None => Ok(LocatorPayload::Transparent(TransparentLocator { payload: own })),
+/// Writes how many calls were made, where the case asks for it.
+pub fn put_effort(session: &mut Session, case: &Value<'_>, calls: u64) {
+    if session.is_set(case, "effort") {
+        session.key("effort");
+        session.unsigned(calls);
     }
 }

@@ -3,15 +3,11 @@
 #![tactic(auto)]
 
 mod cites;
-mod effort;
 mod locales;
-mod numbers;
 mod refusals;
 mod source;
 
-pub use cites::{PURPOSES, locator};
-pub use effort::put_effort;
-pub use locales::{locale_files, locale_given};
-pub use numbers::{maybe_count, place};
+pub use cites::{PURPOSES, maybe_locator, put_effort};
+pub use locales::{locale_files, maybe_locale};
 pub use refusals::{put_bridge_error, put_faults, put_unknown, put_unknown_name};
-pub use source::{Source, named, read_source};
+pub use source::{bibliography_of, bridged, named, read_source};

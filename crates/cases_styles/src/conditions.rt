@@ -2,11 +2,9 @@
 
 use crate::terms::LOCATORS;
 use crate::variables::{DATES, any, printed};
-use crate::words::{value_of, word_or};
-use cases::{Refusal, Value, is_set, items};
+use cases::{Session, Value, value_of};
 use rendering_style::{ChooseTest, Condition};
 use rendering_taxonomy::{ChooseMatch, Kind, TestPosition};
-use std::alloc::Global;
 
 /// The words of the kinds, in alphabetical order.
 pub const KINDS: &[(&str, Kind)] = &[
@@ -62,46 +60,33 @@ fn test(name: &str, word: &str) -> Option<ChooseTest> {
     }
 }
 
-/// The test that an item of the list asks for.
-fn test_of(item: &Value<'_>, name: &'static str) -> Result<ChooseTest, Refusal> {
-    match item.as_str().and_then(|word| test(name, word)) {
-        Some(test) => Ok(test),
-        None => Err(Refusal::Wanted(name, "a list of its words")),
-    }
-}
-
 /// Appends the tests of the list.
 fn push_tests(
+    session: &mut Session,
     branch: &Value<'_>,
     name: &'static str,
     tests: &mut Vec<ChooseTest>,
-) -> Result<(), Refusal> {
-    let Some(items) = items(branch, name)? else {
-        return Ok(());
+) {
+    let Some(items) = session.items(branch, name) else {
+        return;
     };
     for item in items {
-        tests.push(test_of(item, name)?)?;
+        match test(name, item.as_str().unwrap_or("")) {
+            Some(test) => session.push(tests, test),
+            None => session.want(name, "a list of its words"),
+        }
     }
-    Ok(())
-}
-
-/// The tests of a branch.
-fn tests(alloc: Global, branch: &Value<'_>) -> Result<Vec<ChooseTest>, Refusal> {
-    let mut tests = Vec::new(alloc);
-    for name in TESTS {
-        push_tests(branch, name, &mut tests)?;
-    }
-    if is_set(branch, "disambiguate")? {
-        tests.push(ChooseTest::Disambiguate)?;
-    }
-    Ok(tests)
 }
 
 /// The condition of a branch.
-pub(crate) fn condition(alloc: Global, branch: &Value<'_>) -> Result<Condition, Refusal> {
-    let required = word_or(branch, "match", MATCHES, ChooseMatch::All)?;
-    Ok(Condition {
-        required,
-        tests: tests(alloc, branch)?,
-    })
+pub(crate) fn condition(session: &mut Session, branch: &Value<'_>) -> Condition {
+    let required = session.word_or(branch, "match", MATCHES, ChooseMatch::All);
+    let mut tests = Vec::new(session.alloc);
+    for name in TESTS {
+        push_tests(session, branch, name, &mut tests);
+    }
+    if session.is_set(branch, "disambiguate") {
+        session.push(&mut tests, ChooseTest::Disambiguate);
+    }
+    Condition { required, tests }
 }

@@ -1,8 +1,7 @@
 //! The words of dates and of their parts.
 
 use crate::terms::form_of;
-use crate::words::word_or;
-use cases::{Refusal, Value, text};
+use cases::{Session, Value};
 use rendering_taxonomy::{DateDayForm, DateForm, DateMonthForm, DatePartForm, DateParts};
 
 /// Forms of a locale's dates.
@@ -31,27 +30,22 @@ const DAYS: &[(&str, DateDayForm)] = &[
     ("ordinal", DateDayForm::Ordinal),
 ];
 
-/// A year in its form.
-fn year(part: &Value<'_>) -> Result<DatePartForm, Refusal> {
-    Ok(DatePartForm::Year(form_of(part)?))
-}
-
-/// A month in its form.
-fn month(part: &Value<'_>) -> Result<DatePartForm, Refusal> {
-    Ok(DatePartForm::Month(word_or(part, "form", MONTHS, DateMonthForm::Long)?))
-}
-
-/// A day in its form.
-fn day(part: &Value<'_>) -> Result<DatePartForm, Refusal> {
-    Ok(DatePartForm::Day(word_or(part, "form", DAYS, DateDayForm::Numeric)?))
-}
-
 /// A part in its form.
-pub(crate) fn part_form(part: &Value<'_>) -> Result<DatePartForm, Refusal> {
-    match text(part, "name")? {
-        "year" => year(part),
-        "month" => month(part),
-        "day" => day(part),
-        _ => Err(Refusal::Wanted("name", "year, month or day")),
+pub(crate) fn part_form(session: &mut Session, part: &Value<'_>) -> DatePartForm {
+    match session.text(part, "name") {
+        "month" => {
+            let form = session.word_or(part, "form", MONTHS, DateMonthForm::Long);
+            DatePartForm::Month(form)
+        }
+        "day" => {
+            let form = session.word_or(part, "form", DAYS, DateDayForm::Numeric);
+            DatePartForm::Day(form)
+        }
+        name => {
+            if name != "year" {
+                session.want("name", "year, month or day");
+            }
+            DatePartForm::Year(form_of(session, part))
+        }
     }
 }

@@ -2,47 +2,40 @@
 
 use crate::date_words::part_form;
 use crate::looks::changes;
-use crate::members::text_or_empty;
-use cases::{Refusal, Value, is_set, items, only};
+use cases::{Session, Value};
 use rendering_locale::DatePart;
-use std::alloc::Global;
+
+/// The members of a part of a date.
+const MEMBERS: [&str; 6] = [
+    "name",
+    "form",
+    "strip_periods",
+    "formatting",
+    "prefix",
+    "suffix",
+];
 
 /// A part of a date.
-fn date_part(alloc: Global, part: &Value<'_>) -> Result<DatePart, Refusal> {
-    only(
-        alloc,
-        part,
-        &[
-            "name",
-            "form",
-            "strip_periods",
-            "formatting",
-            "prefix",
-            "suffix",
-        ],
-    )?;
-    let form = part_form(part)?;
-    let strip_periods = is_set(part, "strip_periods")?;
-    let formatting = changes(alloc, part)?;
-    let prefix = text_or_empty(alloc, part, "prefix")?;
-    let suffix = text_or_empty(alloc, part, "suffix")?;
-    Ok(DatePart {
-        form,
-        strip_periods,
-        formatting,
-        prefix,
-        suffix,
-    })
+fn date_part(session: &mut Session, part: &Value<'_>) -> DatePart {
+    session.only(part, &MEMBERS);
+    DatePart {
+        form: part_form(session, part),
+        strip_periods: session.is_set(part, "strip_periods"),
+        formatting: changes(session, part),
+        prefix: session.text_or_empty(part, "prefix"),
+        suffix: session.text_or_empty(part, "suffix"),
+    }
 }
 
 /// The parts of a date; a list that is left out is empty.
-pub fn date_parts(alloc: Global, object: &Value<'_>) -> Result<Vec<DatePart>, Refusal> {
-    let mut parts = Vec::new(alloc);
-    let Some(items) = items(object, "date_parts")? else {
-        return Ok(parts);
+pub fn date_parts(session: &mut Session, object: &Value<'_>) -> Vec<DatePart> {
+    let mut parts = Vec::new(session.alloc);
+    let Some(items) = session.items(object, "date_parts") else {
+        return parts;
     };
     for item in items {
-        parts.push(date_part(alloc, item)?)?;
+        let part = date_part(session, item);
+        session.push(&mut parts, part);
     }
-    Ok(parts)
+    parts
 }

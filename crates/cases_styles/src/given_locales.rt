@@ -2,94 +2,73 @@
 
 use crate::date_words::FORMS as DATE_FORMS;
 use crate::dates::date_parts;
-use crate::members::{maybe_bool, text_or_empty};
 use crate::terms::{FORMS, term_of};
-use crate::words::{maybe_word, word_or};
-use cases::{Refusal, Value, items, maybe_owned_text, member, only};
+use cases::{Session, Value, member};
 use rendering_locale::{Locale, LocaleCode, LocalizedDate, LocalizedTerm, OrdinalEnding, Ordinals};
-use rendering_taxonomy::TermForm;
-use std::alloc::Global;
+use rendering_taxonomy::{DateForm, TermForm};
 
 /// The code of a member that may be left out.
 pub fn maybe_code(
-    alloc: Global,
+    session: &mut Session,
     object: &Value<'_>,
     name: &'static str,
-) -> Result<Option<LocaleCode>, Refusal> {
-    match maybe_owned_text(alloc, object, name)? {
-        Some(text) => Ok(Some(LocaleCode(text))),
-        None => Ok(None),
+) -> Option<LocaleCode> {
+    match session.maybe_owned_text(object, name) {
+        Some(text) => Some(LocaleCode(text)),
+        None => None,
     }
 }
 
-/// The texts of a term for one and for more than one: `text` is that of both.
-fn texts_of(alloc: Global, given: &Value<'_>) -> Result<(Option<String>, Option<String>), Refusal> {
-    let (single, multiple) = if member(given, "text").is_some() {
-        ("text", "text")
-    } else {
-        ("single", "multiple")
+/// A term in a form. Its text is that for one and for more than one.
+fn term(session: &mut Session, given: &Value<'_>) -> LocalizedTerm {
+    session.only(given, &["name", "form", "text", "single", "multiple"]);
+    let (single, multiple) = match member(given, "text") {
+        Some(_) => ("text", "text"),
+        None => ("single", "multiple"),
     };
-    Ok((
-        maybe_owned_text(alloc, given, single)?,
-        maybe_owned_text(alloc, given, multiple)?,
-    ))
-}
-
-/// A term in a form.
-fn term(alloc: Global, given: &Value<'_>) -> Result<LocalizedTerm, Refusal> {
-    only(
-        alloc,
-        given,
-        &["name", "form", "text", "single", "multiple"],
-    )?;
-    let name = term_of(given, "name")?;
-    let form = word_or(given, "form", FORMS, TermForm::Long)?;
-    let (single, multiple) = texts_of(alloc, given)?;
-    Ok(LocalizedTerm {
-        name,
-        form,
-        single,
-        multiple,
-    })
+    LocalizedTerm {
+        name: term_of(session, given, "name"),
+        form: session.word_or(given, "form", FORMS, TermForm::Long),
+        single: session.maybe_owned_text(given, single),
+        multiple: session.maybe_owned_text(given, multiple),
+    }
 }
 
 /// The terms of a locale.
-fn terms(alloc: Global, given: &Value<'_>) -> Result<Vec<LocalizedTerm>, Refusal> {
-    let mut terms = Vec::new(alloc);
-    let Some(items) = items(given, "terms")? else {
-        return Ok(terms);
+fn terms(session: &mut Session, given: &Value<'_>) -> Vec<LocalizedTerm> {
+    let mut terms = Vec::new(session.alloc);
+    let Some(items) = session.items(given, "terms") else {
+        return terms;
     };
     for item in items {
-        terms.push(term(alloc, item)?)?;
+        let term = term(session, item);
+        session.push(&mut terms, term);
     }
-    Ok(terms)
+    terms
 }
 
 /// A form of dates.
-fn date(alloc: Global, given: &Value<'_>) -> Result<LocalizedDate, Refusal> {
-    only(alloc, given, &["form", "date_parts", "delimiter"])?;
-    let Some(form) = maybe_word(given, "form", DATE_FORMS)? else {
-        return Err(Refusal::Wanted("form", "text or numeric"));
-    };
-    let delimiter = text_or_empty(alloc, given, "delimiter")?;
-    let parts = date_parts(alloc, given)?;
-    Ok(LocalizedDate {
-        form,
-        parts,
-        delimiter,
-    })
+fn date(session: &mut Session, given: &Value<'_>) -> LocalizedDate {
+    session.only(given, &["form", "date_parts", "delimiter"]);
+    let form = session.maybe_word(given, "form", DATE_FORMS);
+    LocalizedDate {
+        form: session.required(form, "form", "text or numeric", DateForm::Text),
+        parts: date_parts(session, given),
+        delimiter: session.text_or_empty(given, "delimiter"),
+    }
 }
 
 /// The forms of dates of a locale.
-fn dates(alloc: Global, given: &Value<'_>) -> Result<Vec<LocalizedDate>, Refusal> {
-    let mut dates = Vec::new(alloc);
-    let Some(items) = items(given, "dates")? else {
-        return Ok(dates);
+fn dates(session: &mut Session, given: &Value<'_>) -> Vec<LocalizedDate> {
+    let mut dates = Vec::new(session.alloc);
+    let Some(items) = session.items(given, "dates") else {
+        return dates;
     };
     for item in items {
-        dates.push(date(alloc, item)?)?;
+        let date = date(session, item);
+        session.push(&mut dates, date);
     }
-    Ok(dates)
+    dates
 }
 
 /// A number and its ending.
@@ -104,90 +83,60 @@ fn pair<'v>(given: &'v Value<'_>) -> Option<(u8, &'v str)> {
     Some((number, ending.as_str()?))
 }
 
-/// An ending of ordinal numbers.
-fn ending(alloc: Global, given: &Value<'_>) -> Result<OrdinalEnding, Refusal> {
-    match pair(given) {
-        Some((number, ending)) => Ok(OrdinalEnding {
-            number,
-            ending: String::from_str(alloc, ending)?,
-        }),
-        None => Err(Refusal::Wanted("endings", "a list of pairs as [1,\"st\"]")),
-    }
-}
-
 /// The endings of ordinal numbers.
-fn endings(alloc: Global, given: &Value<'_>) -> Result<Vec<OrdinalEnding>, Refusal> {
-    let mut endings = Vec::new(alloc);
-    let Some(items) = items(given, "endings")? else {
-        return Ok(endings);
+fn endings(session: &mut Session, given: &Value<'_>) -> Vec<OrdinalEnding> {
+    let mut endings = Vec::new(session.alloc);
+    let Some(items) = session.items(given, "endings") else {
+        return endings;
     };
     for item in items {
-        endings.push(ending(alloc, item)?)?;
+        let what = "a list of pairs as [1,\"st\"]";
+        let (number, ending) = session.required(pair(item), "endings", what, (0, ""));
+        let ending = OrdinalEnding {
+            number,
+            ending: session.owned(ending),
+        };
+        session.push(&mut endings, ending);
     }
-    Ok(endings)
+    endings
 }
 
-/// The endings of an object, and that of all other numbers.
-fn ordinals_in(alloc: Global, given: &Value<'_>) -> Result<Ordinals, Refusal> {
-    only(alloc, given, &["endings", "default"])?;
-    let default = text_or_empty(alloc, given, "default")?;
-    let endings = endings(alloc, given)?;
-    Ok(Ordinals { endings, default })
-}
-
-/// The endings of the member `ordinals`, which may be left out.
-pub fn maybe_ordinals(alloc: Global, object: &Value<'_>) -> Result<Option<Ordinals>, Refusal> {
-    match member(object, "ordinals") {
-        Some(given) => Ok(Some(ordinals_in(alloc, given)?)),
-        None => Ok(None),
-    }
-}
-
-/// Sets what a locale has beside its language.
-fn set_parts(alloc: Global, given: &Value<'_>, locale: &mut Locale) -> Result<(), Refusal> {
-    locale.punctuation_in_quote = maybe_bool(given, "punctuation_in_quote")?;
-    locale.terms = terms(alloc, given)?;
-    locale.dates = dates(alloc, given)?;
-    locale.ordinals = maybe_ordinals(alloc, given)?;
-    Ok(())
-}
-
-/// A locale of a language, without terms.
-fn bare(alloc: Global, given: &Value<'_>) -> Result<Locale, Refusal> {
-    let lang = maybe_code(alloc, given, "lang")?;
-    Ok(Locale {
-        lang,
-        terms: Vec::new(alloc),
-        dates: Vec::new(alloc),
-        ordinals: None,
-        punctuation_in_quote: None,
+/// The endings of the member `ordinals`, which may be left out, and that of all other numbers.
+pub fn maybe_ordinals(session: &mut Session, object: &Value<'_>) -> Option<Ordinals> {
+    let Some(given) = member(object, "ordinals") else {
+        return None;
+    };
+    session.only(given, &["endings", "default"]);
+    Some(Ordinals {
+        endings: endings(session, given),
+        default: session.text_or_empty(given, "default"),
     })
 }
 
 /// A locale.
-pub fn locale(alloc: Global, given: &Value<'_>) -> Result<Locale, Refusal> {
-    only(
-        alloc,
+pub fn locale(session: &mut Session, given: &Value<'_>) -> Locale {
+    session.only(
         given,
         &["lang", "terms", "dates", "ordinals", "punctuation_in_quote"],
-    )?;
-    let mut locale = bare(alloc, given)?;
-    set_parts(alloc, given, &mut locale)?;
-    Ok(locale)
+    );
+    Locale {
+        lang: maybe_code(session, given, "lang"),
+        terms: terms(session, given),
+        dates: dates(session, given),
+        ordinals: maybe_ordinals(session, given),
+        punctuation_in_quote: session.maybe_bool(given, "punctuation_in_quote"),
+    }
 }
 
 /// The locales of a list; one that is left out is empty.
-pub fn locales(
-    alloc: Global,
-    object: &Value<'_>,
-    name: &'static str,
-) -> Result<Vec<Locale>, Refusal> {
-    let mut locales = Vec::new(alloc);
-    let Some(items) = items(object, name)? else {
-        return Ok(locales);
+pub fn locales(session: &mut Session, object: &Value<'_>, name: &'static str) -> Vec<Locale> {
+    let mut locales = Vec::new(session.alloc);
+    let Some(items) = session.items(object, name) else {
+        return locales;
     };
     for item in items {
-        locales.push(locale(alloc, item)?)?;
+        let locale = locale(session, item);
+        session.push(&mut locales, locale);
     }
-    Ok(locales)
+    locales
 }

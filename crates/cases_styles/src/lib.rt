@@ -17,9 +17,8 @@ mod parts;
 mod styles;
 mod terms;
 mod variables;
-mod words;
 
-use cases::{Answered, Value, Writer};
+use cases::{Session, Value};
 pub use conditions::KINDS;
 pub use date_words::PARTS;
 pub use dates::date_parts;
@@ -27,20 +26,18 @@ pub use given_locales::{locale, locales, maybe_code, maybe_ordinals};
 pub use leaves::NUMBER_FORMS;
 pub use looks::{DISPLAYS, formatting, is_plain, put_formatting};
 pub use parts::ALIGNS;
-use std::alloc::Global;
-pub use styles::{parts_of, put_style_error, style_parts};
+pub use styles::{accepted, style_of};
 pub use terms::{LOCATORS, form_of};
 pub use variables::{NAMES, variable_of};
-pub use words::{maybe_word, word_of, word_or};
 
 /// Writes the members of the answer to a case of this kind; false where the kind is none of these.
-pub fn answer(alloc: Global, kind: &str, case: &Value<'_>, out: &mut Writer) -> Answered {
+pub fn answer(session: &mut Session, kind: &str, case: &Value<'_>) -> bool {
     match kind {
-        "style" => styles::answer(alloc, case, out)?,
-        "locale_code" => codes::answer_code(alloc, case, out)?,
-        "language" => codes::answer_language(alloc, case, out)?,
-        "asked_locales" => asking::answer(alloc, case, out)?,
-        _ => return Ok(false),
+        "style" => styles::answer(session, case),
+        "locale_code" => codes::answer_code(session, case),
+        "language" => codes::answer_language(session, case),
+        "asked_locales" => asking::answer(session, case),
+        _ => return false,
     }
-    Ok(true)
+    true
 }

@@ -1,11 +1,9 @@
 //! What is said of names.
 
-use crate::members::{maybe_bool, maybe_count};
-use crate::words::maybe_word;
-use cases::{Refusal, Value, maybe_owned_text, member, only};
+use crate::members::maybe_count;
+use cases::{Session, Value, member};
 use rendering_style::NameOptions;
 use rendering_taxonomy::{DelimiterBehavior, NameAnd, NameAsSortOrder, NameForm};
-use std::alloc::Global;
 
 const ANDS: &[(&str, NameAnd)] = &[("text", NameAnd::Text), ("symbol", NameAnd::Symbol)];
 
@@ -47,54 +45,30 @@ pub(crate) const NAME_MEMBERS: [&str; 16] = [
     "suffix",
 ];
 
-/// Sets the options that are words.
-fn set_words(given: &Value<'_>, options: &mut NameOptions) -> Result<(), Refusal> {
-    options.and = maybe_word(given, "and", ANDS)?;
-    options.delimiter_precedes_last = maybe_word(given, "delimiter_precedes_last", BEHAVIORS)?;
-    options.form = maybe_word(given, "form", FORMS)?;
-    options.name_as_sort_order = maybe_word(given, "name_as_sort_order", ORDERS)?;
-    options.demote_non_dropping_particle = maybe_bool(given, "demote")?;
-    Ok(())
+/// The options that the object has.
+pub(crate) fn options(session: &mut Session, given: &Value<'_>) -> NameOptions {
+    NameOptions {
+        and: session.maybe_word(given, "and", ANDS),
+        delimiter: session.maybe_owned_text(given, "delimiter"),
+        delimiter_precedes_last: session.maybe_word(given, "delimiter_precedes_last", BEHAVIORS),
+        et_al_min: maybe_count(session, given, "et_al_min"),
+        et_al_use_first: maybe_count(session, given, "et_al_use_first"),
+        et_al_subsequent_min: maybe_count(session, given, "et_al_subsequent_min"),
+        et_al_subsequent_use_first: maybe_count(session, given, "et_al_subsequent_use_first"),
+        et_al_use_last: session.maybe_bool(given, "et_al_use_last"),
+        form: session.maybe_word(given, "form", FORMS),
+        initialize_with: session.maybe_owned_text(given, "initialize_with"),
+        name_as_sort_order: session.maybe_word(given, "name_as_sort_order", ORDERS),
+        sort_separator: session.maybe_owned_text(given, "sort_separator"),
+        demote_non_dropping_particle: session.maybe_bool(given, "demote"),
+    }
 }
 
-/// Sets how many names are shown.
-fn set_counts(given: &Value<'_>, options: &mut NameOptions) -> Result<(), Refusal> {
-    options.et_al_min = maybe_count(given, "et_al_min")?;
-    options.et_al_use_first = maybe_count(given, "et_al_use_first")?;
-    options.et_al_subsequent_min = maybe_count(given, "et_al_subsequent_min")?;
-    options.et_al_subsequent_use_first = maybe_count(given, "et_al_subsequent_use_first")?;
-    options.et_al_use_last = maybe_bool(given, "et_al_use_last")?;
-    Ok(())
-}
-
-/// Sets the options that are texts.
-fn set_texts(alloc: Global, given: &Value<'_>, options: &mut NameOptions) -> Result<(), Refusal> {
-    options.delimiter = maybe_owned_text(alloc, given, "delimiter")?;
-    options.initialize_with = maybe_owned_text(alloc, given, "initialize_with")?;
-    options.sort_separator = maybe_owned_text(alloc, given, "sort_separator")?;
-    Ok(())
-}
-
-/// Sets the options that the object has.
-pub(crate) fn set_options(
-    alloc: Global,
-    given: &Value<'_>,
-    options: &mut NameOptions,
-) -> Result<(), Refusal> {
-    set_words(given, options)?;
-    set_counts(given, options)?;
-    set_texts(alloc, given, options)
-}
-
-/// Sets the options of the member `name_options`, where it is not left out.
-pub(crate) fn set_name_options(
-    alloc: Global,
-    object: &Value<'_>,
-    options: &mut NameOptions,
-) -> Result<(), Refusal> {
+/// The options of the member `name_options`; none where it is left out.
+pub(crate) fn name_options(session: &mut Session, object: &Value<'_>) -> NameOptions {
     let Some(given) = member(object, "name_options") else {
-        return Ok(());
+        return NameOptions::default();
     };
-    only(alloc, given, &NAME_MEMBERS[..13])?;
-    set_options(alloc, given, options)
+    session.only(given, &NAME_MEMBERS[..13]);
+    options(session, given)
 }

@@ -1,15 +1,12 @@
 //! Names nodes, without what stands in for names.
 
 use crate::looks::{changes, look};
-use crate::members::text_or_empty;
-use crate::name_options::{NAME_MEMBERS, set_options};
+use crate::name_options::{NAME_MEMBERS, options};
 use crate::terms::{FORMS, PLURALS};
 use crate::variables::NAMES;
-use crate::words::{word_or, words};
-use cases::{Refusal, Value, is_set, maybe_owned_text, member, only};
-use rendering_style::{EtAl, LabelLook, Name, NameOptions, Names};
+use cases::{Session, Value, member};
+use rendering_style::{EtAl, LabelLook, Name, Names};
 use rendering_taxonomy::{EtAlTerm, LabelPluralize, NameVariable, TermForm};
-use std::alloc::Global;
 
 const ET_ALS: &[(&str, EtAlTerm)] = &[
     ("et-al", EtAlTerm::EtAl),
@@ -17,114 +14,67 @@ const ET_ALS: &[(&str, EtAlTerm)] = &[
 ];
 
 /// How a label looks.
-pub(crate) fn label_look(alloc: Global, given: &Value<'_>) -> Result<LabelLook, Refusal> {
-    let form = word_or(given, "form", FORMS, TermForm::Long)?;
-    let plural = word_or(given, "plural", PLURALS, LabelPluralize::Contextual)?;
-    let strip_periods = is_set(given, "strip_periods")?;
-    Ok(LabelLook {
-        form,
-        plural,
-        strip_periods,
-        look: look(alloc, given)?,
-    })
+pub(crate) fn label_look(session: &mut Session, given: &Value<'_>) -> LabelLook {
+    LabelLook {
+        form: session.word_or(given, "form", FORMS, TermForm::Long),
+        plural: session.word_or(given, "plural", PLURALS, LabelPluralize::Contextual),
+        strip_periods: session.is_set(given, "strip_periods"),
+        look: look(session, given),
+    }
 }
 
-/// The label of names.
-fn label(alloc: Global, node: &Value<'_>) -> Result<Option<LabelLook>, Refusal> {
+/// The members of the label of names.
+const LABEL_MEMBERS: [&str; 6] = [
+    "form",
+    "plural",
+    "strip_periods",
+    "formatting",
+    "prefix",
+    "suffix",
+];
+
+/// The label of names, where the member is not left out.
+fn label(session: &mut Session, node: &Value<'_>) -> Option<LabelLook> {
     let Some(given) = member(node, "label") else {
-        return Ok(None);
+        return None;
     };
-    only(
-        alloc,
-        given,
-        &[
-            "form",
-            "plural",
-            "strip_periods",
-            "formatting",
-            "prefix",
-            "suffix",
-        ],
-    )?;
-    Ok(Some(label_look(alloc, given)?))
-}
-
-/// A name without options.
-fn bare_name(alloc: Global, given: &Value<'_>) -> Result<Name, Refusal> {
-    let formatting = changes(alloc, given)?;
-    let prefix = text_or_empty(alloc, given, "prefix")?;
-    let suffix = text_or_empty(alloc, given, "suffix")?;
-    Ok(Name {
-        options: NameOptions::default(),
-        formatting,
-        prefix,
-        suffix,
-    })
-}
-
-/// What is said of single names.
-fn name_in(alloc: Global, given: &Value<'_>) -> Result<Name, Refusal> {
-    only(alloc, given, &NAME_MEMBERS)?;
-    let mut name = bare_name(alloc, given)?;
-    set_options(alloc, given, &mut name.options)?;
-    Ok(name)
+    session.only(given, &LABEL_MEMBERS);
+    Some(label_look(session, given))
 }
 
 /// What is said of single names, where the member is not left out.
-fn name(alloc: Global, node: &Value<'_>) -> Result<Option<Name>, Refusal> {
-    match member(node, "name") {
-        Some(given) => Ok(Some(name_in(alloc, given)?)),
-        None => Ok(None),
-    }
-}
-
-/// The term for the names left out, where the member is not left out.
-fn et_al(alloc: Global, node: &Value<'_>) -> Result<Option<EtAl>, Refusal> {
-    let Some(given) = member(node, "et_al") else {
-        return Ok(None);
+fn name(session: &mut Session, node: &Value<'_>) -> Option<Name> {
+    let Some(given) = member(node, "name") else {
+        return None;
     };
-    only(alloc, given, &["term", "formatting"])?;
-    let term = word_or(given, "term", ET_ALS, EtAlTerm::EtAl)?;
-    let formatting = changes(alloc, given)?;
-    Ok(Some(EtAl { term, formatting }))
-}
-
-/// The variables of names: one or more.
-fn variables(alloc: Global, node: &Value<'_>) -> Result<Vec<NameVariable>, Refusal> {
-    let variables = words(alloc, node, "variables", NAMES)?;
-    if variables.is_empty() {
-        return Err(Refusal::Wanted("variables", "a list of one or more"));
-    }
-    Ok(variables)
-}
-
-/// Names of the variables, of which nothing else is said.
-fn bare_names(alloc: Global, node: &Value<'_>) -> Result<Names, Refusal> {
-    let label_is_first = is_set(node, "label_before")?;
-    let look = look(alloc, node)?;
-    Ok(Names {
-        variables: variables(alloc, node)?,
-        name: None,
-        et_al: None,
-        label: None,
-        label_is_first,
-        delimiter: None,
-        look,
+    session.only(given, &NAME_MEMBERS);
+    Some(Name {
+        options: options(session, given),
+        formatting: changes(session, given),
+        prefix: session.text_or_empty(given, "prefix"),
+        suffix: session.text_or_empty(given, "suffix"),
     })
 }
 
-/// Sets what is said of single names and of the names left out.
-fn set_names(alloc: Global, node: &Value<'_>, names: &mut Names) -> Result<(), Refusal> {
-    names.name = name(alloc, node)?;
-    names.et_al = et_al(alloc, node)?;
-    Ok(())
+/// The term for the names left out, where the member is not left out.
+fn et_al(session: &mut Session, node: &Value<'_>) -> Option<EtAl> {
+    let Some(given) = member(node, "et_al") else {
+        return None;
+    };
+    session.only(given, &["term", "formatting"]);
+    Some(EtAl {
+        term: session.word_or(given, "term", ET_ALS, EtAlTerm::EtAl),
+        formatting: changes(session, given),
+    })
 }
 
-/// Sets the label of names and what stands between them.
-fn set_label(alloc: Global, node: &Value<'_>, names: &mut Names) -> Result<(), Refusal> {
-    names.label = label(alloc, node)?;
-    names.delimiter = maybe_owned_text(alloc, node, "delimiter")?;
-    Ok(())
+/// The variables of names: one or more.
+fn variables(session: &mut Session, node: &Value<'_>) -> Vec<NameVariable> {
+    let variables = session.words(node, "variables", NAMES);
+    if variables.is_empty() {
+        session.want("variables", "a list of one or more");
+    }
+    variables
 }
 
 /// The members of a names node.
@@ -144,10 +94,15 @@ const MEMBERS: [&str; 12] = [
 ];
 
 /// The people of variables.
-pub(crate) fn names(alloc: Global, node: &Value<'_>) -> Result<Names, Refusal> {
-    only(alloc, node, &MEMBERS)?;
-    let mut names = bare_names(alloc, node)?;
-    set_names(alloc, node, &mut names)?;
-    set_label(alloc, node, &mut names)?;
-    Ok(names)
+pub(crate) fn names_of(session: &mut Session, node: &Value<'_>) -> Names {
+    session.only(node, &MEMBERS);
+    Names {
+        variables: variables(session, node),
+        name: name(session, node),
+        et_al: et_al(session, node),
+        label: label(session, node),
+        label_is_first: session.is_set(node, "label_before"),
+        delimiter: session.maybe_owned_text(node, "delimiter"),
+        look: look(session, node),
+    }
 }

@@ -3,81 +3,77 @@
 use crate::conditions::condition;
 use crate::leaves::leaf;
 use crate::looks::look;
-use crate::names::names;
-use cases::{Refusal, Value, items, maybe_owned_text, only, text};
+use crate::names::names_of;
+use cases::{Session, Value, member};
 use rendering_style::{ChooseBranch, Group, Node};
-use std::alloc::Global;
 
 /// How deep nodes may nest.
 const DEPTH: u32 = 400;
 
 /// The nodes of a list.
-pub(crate) fn nodes_of(
-    alloc: Global,
-    object: &Value<'_>,
-    name: &'static str,
-) -> Result<Vec<Node>, Refusal> {
-    nodes(alloc, object, name, DEPTH)
+pub(crate) fn nodes_of(session: &mut Session, object: &Value<'_>, name: &'static str) -> Vec<Node> {
+    nodes(session, object, name, DEPTH)
 }
 
 /// The nodes of a list, which nest at most so deep; one that is left out is empty.
 #[cycle(reading)]
-fn nodes(
-    alloc: Global,
-    object: &Value<'_>,
-    name: &'static str,
-    depth: u32,
-) -> Result<Vec<Node>, Refusal> {
-    let mut nodes = Vec::new(alloc);
-    let Some(items) = items(object, name)? else {
-        return Ok(nodes);
+fn nodes(session: &mut Session, object: &Value<'_>, name: &'static str, depth: u32) -> Vec<Node> {
+    let mut nodes = Vec::new(session.alloc);
+    let Some(items) = session.items(object, name) else {
+        return nodes;
     };
     if depth == 0 {
-        return Err(Refusal::Wanted(name, "nodes less deep in one another"));
+        session.want(name, "nodes less deep in one another");
+        return nodes;
     }
     for item in items {
-        nodes.push(node(alloc, item, depth - 1)?)?;
+        let node = node(session, item, depth - 1);
+        session.push(&mut nodes, node);
     }
-    Ok(nodes)
+    nodes
 }
 
 /// A node.
 #[cycle(reading)]
-fn node(alloc: Global, given: &Value<'_>, depth: u32) -> Result<Node, Refusal> {
-    match text(given, "node")? {
-        "names" => names_node(alloc, given, depth),
-        "choose" => choose_node(alloc, given, depth),
-        "group" => group_node(alloc, given, depth),
-        kind => leaf(alloc, given, kind),
+fn node(session: &mut Session, given: &Value<'_>, depth: u32) -> Node {
+    match session.text(given, "node") {
+        "names" => names_node(session, given, depth),
+        "choose" => choose_node(session, given, depth),
+        "group" => group_node(session, given, depth),
+        kind => leaf(session, given, kind),
     }
 }
 
 /// Names, and what stands in for them.
 #[cycle(reading)]
-fn names_node(alloc: Global, given: &Value<'_>, depth: u32) -> Result<Node, Refusal> {
-    let substitute = nodes(alloc, given, "substitute", depth)?;
-    Ok(Node::Names(names(alloc, given)?, substitute))
+fn names_node(session: &mut Session, given: &Value<'_>, depth: u32) -> Node {
+    let names = names_of(session, given);
+    Node::Names(names, nodes(session, given, "substitute", depth))
 }
 
 /// Branches, and what stands where none is taken.
 #[cycle(reading)]
-fn choose_node(alloc: Global, given: &Value<'_>, depth: u32) -> Result<Node, Refusal> {
-    only(alloc, given, &["node", "branches", "otherwise"])?;
-    let branches = branches(alloc, given, depth)?;
-    Ok(Node::Choose(branches, nodes(alloc, given, "otherwise", depth)?))
+fn choose_node(session: &mut Session, given: &Value<'_>, depth: u32) -> Node {
+    session.only(given, &["node", "branches", "otherwise"]);
+    let branches = branches(session, given, depth);
+    Node::Choose(branches, nodes(session, given, "otherwise", depth))
 }
 
 /// The branches of a choose.
 #[cycle(reading)]
-fn branches(alloc: Global, given: &Value<'_>, depth: u32) -> Result<Vec<ChooseBranch>, Refusal> {
-    let mut branches = Vec::new(alloc);
-    let Some(items) = items(given, "branches")? else {
-        return Err(Refusal::Wanted("branches", "a list"));
+fn branches(session: &mut Session, given: &Value<'_>, depth: u32) -> Vec<ChooseBranch> {
+    let mut branches = Vec::new(session.alloc);
+    if member(given, "branches").is_none() {
+        session.want("branches", "a list");
+    }
+    let Some(items) = session.items(given, "branches") else {
+        return branches;
     };
     for item in items {
-        branches.push(branch(alloc, item, depth)?)?;
+        let branch = branch(session, item, depth);
+        session.push(&mut branches, branch);
     }
-    Ok(branches)
+    branches
 }
 
 /// The members of a branch.
@@ -95,41 +91,34 @@ const BRANCH_MEMBERS: [&str; 9] = [
 
 /// A branch of a choose.
 #[cycle(reading)]
-fn branch(alloc: Global, given: &Value<'_>, depth: u32) -> Result<ChooseBranch, Refusal> {
-    only(alloc, given, &BRANCH_MEMBERS)?;
-    let condition = condition(alloc, given)?;
-    let children = nodes(alloc, given, "nodes", depth)?;
-    Ok(ChooseBranch {
+fn branch(session: &mut Session, given: &Value<'_>, depth: u32) -> ChooseBranch {
+    session.only(given, &BRANCH_MEMBERS);
+    let condition = condition(session, given);
+    let children = nodes(session, given, "nodes", depth);
+    ChooseBranch {
         condition,
         children,
-    })
+    }
 }
 
-/// A group without its children.
-fn group(alloc: Global, given: &Value<'_>) -> Result<Group, Refusal> {
-    only(
-        alloc,
-        given,
-        &[
-            "node",
-            "nodes",
-            "delimiter",
-            "formatting",
-            "prefix",
-            "suffix",
-            "display",
-        ],
-    )?;
-    let look = look(alloc, given)?;
-    Ok(Group {
-        delimiter: maybe_owned_text(alloc, given, "delimiter")?,
-        look,
-    })
-}
+/// The members of a group.
+const GROUP_MEMBERS: [&str; 7] = [
+    "node",
+    "nodes",
+    "delimiter",
+    "formatting",
+    "prefix",
+    "suffix",
+    "display",
+];
 
 /// A group.
 #[cycle(reading)]
-fn group_node(alloc: Global, given: &Value<'_>, depth: u32) -> Result<Node, Refusal> {
-    let group = group(alloc, given)?;
-    Ok(Node::Group(group, nodes(alloc, given, "nodes", depth)?))
+fn group_node(session: &mut Session, given: &Value<'_>, depth: u32) -> Node {
+    session.only(given, &GROUP_MEMBERS);
+    let group = Group {
+        delimiter: session.maybe_owned_text(given, "delimiter"),
+        look: look(session, given),
+    };
+    Node::Group(group, nodes(session, given, "nodes", depth))
 }

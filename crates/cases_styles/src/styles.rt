@@ -1,14 +1,12 @@
 //! Styles.
 
 use crate::given_locales::{locales, maybe_code};
-use crate::name_options::set_name_options;
+use crate::name_options::name_options;
 use crate::nodes::nodes_of;
-use crate::parts::{empty_citation, maybe_bibliography, set_citation};
-use crate::words::{word_or, words};
-use cases::{Refusal, Value, Writer, items, member, only, owned_text, put_refused, put_text};
-use rendering_style::{Macro, NameOptions, Style, StyleError, StyleParts};
+use crate::parts::{citation, maybe_bibliography};
+use cases::{Refusal, Session, Value, member};
+use rendering_style::{Macro, Style, StyleError, StyleParts};
 use rendering_taxonomy::{StyleCategory, StyleClass};
-use std::alloc::{AllocError, Global};
 
 const CLASSES: &[(&str, StyleClass)] = &[
     ("in-text", StyleClass::InText),
@@ -23,56 +21,21 @@ const CATEGORIES: &[(&str, StyleCategory)] = &[
     ("numeric", StyleCategory::Numeric),
 ];
 
-/// A macro.
-fn read_macro(alloc: Global, given: &Value<'_>) -> Result<Macro, Refusal> {
-    only(alloc, given, &["name", "nodes"])?;
-    let name = owned_text(alloc, given, "name")?;
-    Ok(Macro {
-        name,
-        nodes: nodes_of(alloc, given, "nodes")?,
-    })
-}
-
 /// The macros of a style.
-fn macros(alloc: Global, style: &Value<'_>) -> Result<Vec<Macro>, Refusal> {
-    let mut macros = Vec::new(alloc);
-    let Some(items) = items(style, "macros")? else {
-        return Ok(macros);
+fn macros(session: &mut Session, style: &Value<'_>) -> Vec<Macro> {
+    let mut macros = Vec::new(session.alloc);
+    let Some(items) = session.items(style, "macros") else {
+        return macros;
     };
     for item in items {
-        macros.push(read_macro(alloc, item)?)?;
+        session.only(item, &["name", "nodes"]);
+        let read = Macro {
+            name: session.owned_text(item, "name"),
+            nodes: nodes_of(session, item, "nodes"),
+        };
+        session.push(&mut macros, read);
     }
-    Ok(macros)
-}
-
-/// What a style is made of of which nothing is said.
-fn empty_parts(alloc: Global) -> StyleParts {
-    StyleParts {
-        class: StyleClass::InText,
-        categories: Vec::new(alloc),
-        default_locale: None,
-        name_options: NameOptions::default(),
-        locales: Vec::new(alloc),
-        macros: Vec::new(alloc),
-        citation: empty_citation(alloc),
-        bibliography: None,
-    }
-}
-
-/// Sets the attributes of a whole style.
-fn set_head(alloc: Global, style: &Value<'_>, parts: &mut StyleParts) -> Result<(), Refusal> {
-    parts.class = word_or(style, "class", CLASSES, StyleClass::InText)?;
-    parts.categories = words(alloc, style, "categories", CATEGORIES)?;
-    parts.default_locale = maybe_code(alloc, style, "default_locale")?;
-    set_name_options(alloc, style, &mut parts.name_options)
-}
-
-/// Sets the locales, the macros, the citation and the bibliography of a style.
-fn set_rest(alloc: Global, style: &Value<'_>, parts: &mut StyleParts) -> Result<(), Refusal> {
-    parts.locales = locales(alloc, style, "locales")?;
-    parts.macros = macros(alloc, style)?;
-    parts.bibliography = maybe_bibliography(alloc, style)?;
-    set_citation(alloc, style, &mut parts.citation)
+    macros
 }
 
 /// The members of a style.
@@ -87,58 +50,60 @@ const MEMBERS: [&str; 8] = [
     "bibliography",
 ];
 
-/// Sets what a style is made of.
-fn set_all(alloc: Global, style: &Value<'_>, parts: &mut StyleParts) -> Result<(), Refusal> {
-    only(alloc, style, &MEMBERS)?;
-    set_head(alloc, style, parts)?;
-    set_rest(alloc, style, parts)
-}
-
 /// What a style is made of.
-pub fn parts_of(alloc: Global, style: &Value<'_>) -> Result<StyleParts, Refusal> {
-    let mut parts = empty_parts(alloc);
-    set_all(alloc, style, &mut parts)?;
-    Ok(parts)
-}
-
-/// What the style of a case is made of.
-pub fn style_parts(alloc: Global, case: &Value<'_>) -> Result<StyleParts, Refusal> {
-    match member(case, "style") {
-        Some(style) => parts_of(alloc, style),
-        None => Err(Refusal::Wanted("style", "a style")),
+pub fn parts_of(session: &mut Session, style: &Value<'_>) -> StyleParts {
+    session.only(style, &MEMBERS);
+    StyleParts {
+        class: session.word_or(style, "class", CLASSES, StyleClass::InText),
+        categories: session.words(style, "categories", CATEGORIES),
+        default_locale: maybe_code(session, style, "default_locale"),
+        name_options: name_options(session, style),
+        locales: locales(session, style, "locales"),
+        macros: macros(session, style),
+        bibliography: maybe_bibliography(session, style),
+        citation: citation(session, style),
     }
 }
 
-/// Writes that the macro of this name reaches itself.
-fn put_ring(out: &mut Writer, name: &str) -> Result<(), AllocError> {
-    put_refused(out, "MacroRing")?;
-    put_text(out, "name", name)
+/// The style of a case; none where it is refused, and the answer then says why.
+pub fn style_of(session: &mut Session, case: &Value<'_>) -> Option<Style> {
+    match member(case, "style") {
+        Some(given) => accepted(session, given),
+        None => {
+            session.want("style", "a style");
+            None
+        }
+    }
+}
+
+/// The style of a value; none where it is refused, and the answer then says why.
+pub fn accepted(session: &mut Session, given: &Value<'_>) -> Option<Style> {
+    let parts = parts_of(session, given);
+    match Style::new(session.alloc, parts) {
+        Ok(style) => Some(style),
+        Err(error) => {
+            put_style_error(session, error);
+            None
+        }
+    }
 }
 
 /// Writes why a style was refused.
-pub fn put_style_error(out: &mut Writer, error: StyleError) -> Result<(), Refusal> {
+fn put_style_error(session: &mut Session, error: StyleError) {
     match error {
-        StyleError::Memory => Err(Refusal::Memory),
-        StyleError::MacroRing(name) => Ok(put_ring(out, name.as_str())?),
-        StyleError::TooDeep => Ok(put_refused(out, "TooDeep")?),
-    }
-}
-
-/// Why there is no style of these parts, if there is none.
-fn refusal(alloc: Global, parts: StyleParts) -> Option<StyleError> {
-    Style::new(alloc, parts).err()
-}
-
-/// Writes that a style was accepted, or why it was refused.
-fn put_verdict(out: &mut Writer, refusal: Option<StyleError>) -> Result<(), Refusal> {
-    match refusal {
-        Some(error) => put_style_error(out, error),
-        None => Ok(put_text(out, "style", "accepted")?),
+        StyleError::Memory => session.refuse(Refusal::Memory),
+        StyleError::MacroRing(name) => {
+            session.put_refused("MacroRing");
+            session.put_text("name", name.as_str());
+        }
+        StyleError::TooDeep => session.put_refused("TooDeep"),
     }
 }
 
 /// `style`: whether there is a style of these parts.
-pub(crate) fn answer(alloc: Global, case: &Value<'_>, out: &mut Writer) -> Result<(), Refusal> {
-    only(alloc, case, &["case", "name", "style"])?;
-    put_verdict(out, refusal(alloc, style_parts(alloc, case)?))
+pub(crate) fn answer(session: &mut Session, case: &Value<'_>) {
+    session.only(case, &["case", "name", "style"]);
+    if style_of(session, case).is_some() {
+        session.put_text("style", "accepted");
+    }
 }

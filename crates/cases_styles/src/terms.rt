@@ -1,8 +1,7 @@
 //! The words of terms, of their forms and of the labels of locators.
 
 use crate::variables::any;
-use crate::words::{value_of, word_or};
-use cases::{Refusal, Value, text};
+use cases::{Session, Value, value_of};
 use rendering_taxonomy::{LabelPluralize, Locator, LongShortForm, OtherTerm, Term, TermForm};
 
 /// Forms of terms.
@@ -103,14 +102,17 @@ fn term(word: &str) -> Option<Term> {
 }
 
 /// The term of the word of a member.
-pub(crate) fn term_of(object: &Value<'_>, name: &'static str) -> Result<Term, Refusal> {
-    match term(text(object, name)?) {
-        Some(term) => Ok(term),
-        None => Err(Refusal::Wanted(name, "the word of a term")),
-    }
+pub(crate) fn term_of(session: &mut Session, object: &Value<'_>, name: &'static str) -> Term {
+    let found = term(session.text(object, name));
+    session.required(
+        found,
+        name,
+        "the word of a term",
+        Term::Other(OtherTerm::In),
+    )
 }
 
 /// A long or a short form; the long one where it is left out.
-pub fn form_of(object: &Value<'_>) -> Result<LongShortForm, Refusal> {
-    word_or(object, "form", LENGTHS, LongShortForm::Long)
+pub fn form_of(session: &mut Session, object: &Value<'_>) -> LongShortForm {
+    session.word_or(object, "form", LENGTHS, LongShortForm::Long)
 }

@@ -1,7 +1,6 @@
 //! The words of variables.
 
-use crate::words::value_of;
-use cases::{Refusal, Value, text};
+use cases::{Session, Value, value_of};
 use rendering_taxonomy::{DateVariable, NameVariable, NumberVariable, StandardVariable, Variable};
 
 /// Variables whose answer is a text.
@@ -116,33 +115,31 @@ pub(crate) fn any(word: &str) -> Option<Variable> {
 }
 
 /// The number or page variable of a node.
-pub(crate) fn numbered_of(node: &Value<'_>) -> Result<Variable, Refusal> {
-    match numbered(text(node, "variable")?) {
-        Some(variable) => Ok(variable),
-        None => Err(Refusal::Wanted("variable", "one of a number or of pages")),
-    }
+pub(crate) fn numbered_of(session: &mut Session, node: &Value<'_>) -> Variable {
+    let found = numbered(session.text(node, "variable"));
+    session.required(
+        found,
+        "variable",
+        "one of a number or of pages",
+        Variable::Page,
+    )
 }
 
-/// The variable of a word in a text node.
-pub(crate) fn printed_of(word: &str) -> Result<Variable, Refusal> {
-    match printed(word) {
-        Some(variable) => Ok(variable),
-        None => Err(Refusal::Wanted("variable", "one of a text, of a number or of pages")),
-    }
+/// The variable of a text node.
+pub(crate) fn printed_of(session: &mut Session, node: &Value<'_>) -> Variable {
+    let found = printed(session.text(node, "variable"));
+    let what = "one of a text, of a number or of pages";
+    session.required(found, "variable", what, Variable::Page)
 }
 
 /// The date variable of a node.
-pub(crate) fn date_of(node: &Value<'_>) -> Result<DateVariable, Refusal> {
-    match value_of(DATES, text(node, "variable")?) {
-        Some(variable) => Ok(variable),
-        None => Err(Refusal::Wanted("variable", "one of a date")),
-    }
+pub(crate) fn date_of(session: &mut Session, node: &Value<'_>) -> DateVariable {
+    let found = value_of(DATES, session.text(node, "variable"));
+    session.required(found, "variable", "one of a date", DateVariable::Issued)
 }
 
 /// The variable of a case.
-pub fn variable_of(case: &Value<'_>) -> Result<Variable, Refusal> {
-    match any(text(case, "variable")?) {
-        Some(variable) => Ok(variable),
-        None => Err(Refusal::Wanted("variable", "a variable")),
-    }
+pub fn variable_of(session: &mut Session, case: &Value<'_>) -> Variable {
+    let found = any(session.text(case, "variable"));
+    session.required(found, "variable", "a variable", Variable::Page)
 }

@@ -1,7 +1,7 @@
 //! Classes of characters, and names of verbatim fields.
 
 use biblatex::{is_escapable, is_id_continue, is_id_start, is_key, is_verbatim_field};
-use cases::{Refusal, Value, Writer, is_set, only, put_bool, put_text, text};
+use cases::{Session, Value};
 use std::alloc::{AllocError, Global};
 
 /// What characters are asked for.
@@ -33,16 +33,19 @@ impl Class {
 }
 
 /// The class that a case names.
-fn read_class(case: &Value<'_>) -> Result<Class, Refusal> {
-    match text(case, "class")? {
-        "key" => Ok(Class::Key),
-        "id-start" => Ok(Class::IdStart),
-        "id-continue" => Ok(Class::IdContinue),
-        "escapable" => Ok(Class::Escapable {
-            is_verbatim: is_set(case, "verbatim")?,
-            is_read: is_set(case, "read")?,
-        }),
-        _ => Err(Refusal::Wanted("class", "key, id-start, id-continue or escapable")),
+fn read_class(session: &mut Session, case: &Value<'_>) -> Class {
+    match session.text(case, "class") {
+        "key" => Class::Key,
+        "id-start" => Class::IdStart,
+        "id-continue" => Class::IdContinue,
+        "escapable" => Class::Escapable {
+            is_verbatim: session.is_set(case, "verbatim"),
+            is_read: session.is_set(case, "read"),
+        },
+        _ => {
+            session.want("class", "key, id-start, id-continue or escapable");
+            Class::Key
+        }
     }
 }
 
@@ -58,27 +61,18 @@ fn those_of(alloc: Global, class: Class, text: &str) -> Result<String, AllocErro
 }
 
 /// A text: which of its characters are of the class.
-pub(crate) fn answer_characters(
-    alloc: Global,
-    case: &Value<'_>,
-    out: &mut Writer,
-) -> Result<(), Refusal> {
-    only(
-        alloc,
-        case,
-        &["case", "name", "text", "class", "verbatim", "read"],
-    )?;
-    let class = read_class(case)?;
-    let found = those_of(alloc, class, text(case, "text")?)?;
-    Ok(put_text(out, "text", found.as_str())?)
+pub(crate) fn answer_characters(session: &mut Session, case: &Value<'_>) {
+    session.only(case, &["case", "name", "text", "class", "verbatim", "read"]);
+    let class = read_class(session, case);
+    let found = those_of(session.alloc, class, session.text(case, "text"));
+    if let Some(found) = session.allocated(found) {
+        session.put_text("text", found.as_str());
+    }
 }
 
 /// A name: whether it is that of a verbatim field.
-pub(crate) fn answer_verbatim_field(
-    alloc: Global,
-    case: &Value<'_>,
-    out: &mut Writer,
-) -> Result<(), Refusal> {
-    only(alloc, case, &["case", "name", "field"])?;
-    Ok(put_bool(out, "verbatim", is_verbatim_field(text(case, "field")?))?)
+pub(crate) fn answer_verbatim_field(session: &mut Session, case: &Value<'_>) {
+    session.only(case, &["case", "name", "field"]);
+    let is_verbatim = is_verbatim_field(session.text(case, "field"));
+    session.put_bool("verbatim", is_verbatim);
 }

@@ -2,65 +2,49 @@
 
 use crate::places::{maybe_place, put_span};
 use biblatex::{Chunk, Chunks, Spanned};
-use cases::{Refusal, Value, Writer, items, maybe_text, only, put_text};
-use std::alloc::{AllocError, Global};
+use cases::{Session, Value, member};
 use std::ops::Range;
 
-/// Writes a chunk as the member of its kind.
-fn put_chunk(out: &mut Writer, chunk: &Chunk) -> Result<(), AllocError> {
-    let kind = match chunk {
+/// The member of a chunk of its kind.
+fn kind_of(chunk: &Chunk) -> &'static str {
+    match chunk {
         Chunk::Normal(_) => "normal",
         Chunk::Verbatim(_) => "verbatim",
         Chunk::Math(_) => "math",
-    };
-    put_text(out, kind, chunk.get())
+    }
 }
 
 /// Writes a chunk as an object, with its place where that is asked for and the chunk has one.
-fn put_object(
-    out: &mut Writer,
-    chunk: &Spanned<Chunk>,
-    has_places: bool,
-) -> Result<(), AllocError> {
-    out.begin_object()?;
-    put_chunk(out, &chunk.v)?;
+fn put_chunk(session: &mut Session, chunk: &Spanned<Chunk>, has_places: bool) {
+    session.begin_object();
+    session.put_text(kind_of(&chunk.v), chunk.v.get());
     if has_places {
-        put_span(out, &chunk.span)?;
+        put_span(session, &chunk.span);
     }
-    out.end_object()
+    session.end_object();
 }
 
 /// Writes chunks as a list of objects, each with its place where that is asked for and the chunk has one.
-pub fn put_chunks(
-    out: &mut Writer,
-    chunks: &[Spanned<Chunk>],
-    has_places: bool,
-) -> Result<(), AllocError> {
-    out.begin_array()?;
+pub fn put_chunks(session: &mut Session, chunks: &[Spanned<Chunk>], has_places: bool) {
+    session.begin_array();
     for chunk in chunks.iter() {
-        put_object(out, chunk, has_places)?;
+        put_chunk(session, chunk, has_places);
     }
-    out.end_array()
+    session.end_array();
 }
 
-/// What a chunk is.
-#[derive(Clone, Copy)]
-enum Kind {
-    Normal,
-    Verbatim,
-    Math,
-}
-
-/// The text that an object says by one of the members `normal`, `verbatim` and `math`.
-fn kind_and_text<'a>(object: &Value<'a>) -> Result<(Kind, &'a str), Refusal> {
-    let normal = maybe_text(object, "normal")?;
-    let verbatim = maybe_text(object, "verbatim")?;
-    let math = maybe_text(object, "math")?;
-    match (normal, verbatim, math) {
-        (Some(text), None, None) => Ok((Kind::Normal, text)),
-        (None, Some(text), None) => Ok((Kind::Verbatim, text)),
-        (None, None, Some(text)) => Ok((Kind::Math, text)),
-        _ => Err(Refusal::Wanted("a chunk", "normal, verbatim or math")),
+/// The chunk that an object says by one of the members `normal`, `verbatim` and `math`.
+fn chunk_of(session: &mut Session, object: &Value<'_>) -> Chunk {
+    let has_verbatim = member(object, "verbatim").is_some();
+    let has_math = member(object, "math").is_some();
+    match (member(object, "normal").is_some(), has_verbatim, has_math) {
+        (true, false, false) => Chunk::Normal(session.owned_text(object, "normal")),
+        (false, true, false) => Chunk::Verbatim(session.owned_text(object, "verbatim")),
+        (false, false, true) => Chunk::Math(session.owned_text(object, "math")),
+        _ => {
+            session.want("a chunk", "normal, verbatim or math");
+            Chunk::Normal(String::new(session.alloc))
+        }
     }
 }
 
@@ -73,47 +57,34 @@ fn placed(chunk: Chunk, place: Option<Range<usize>>) -> Spanned<Chunk> {
 }
 
 /// The chunk that an object says, at its place.
-fn read_chunk(alloc: Global, object: &Value<'_>) -> Result<Spanned<Chunk>, Refusal> {
-    only(alloc, object, &["normal", "verbatim", "math", "at"])?;
-    let place = maybe_place(object)?;
-    let (kind, text) = kind_and_text(object)?;
-    let text = String::from_str(alloc, text)?;
-    let chunk = match kind {
-        Kind::Normal => Chunk::Normal(text),
-        Kind::Verbatim => Chunk::Verbatim(text),
-        Kind::Math => Chunk::Math(text),
-    };
-    Ok(placed(chunk, place))
+fn read_chunk(session: &mut Session, object: &Value<'_>) -> Spanned<Chunk> {
+    session.only(object, &["normal", "verbatim", "math", "at"]);
+    let place = maybe_place(session, object);
+    placed(chunk_of(session, object), place)
 }
 
 /// The chunks that objects say.
-pub fn read_chunks_in(alloc: Global, items: &[Value<'_>]) -> Result<Chunks, Refusal> {
-    let mut chunks = Vec::new(alloc);
+pub fn read_chunks_in(session: &mut Session, items: &[Value<'_>]) -> Chunks {
+    let mut chunks = Vec::new(session.alloc);
     for item in items {
-        chunks.push(read_chunk(alloc, item)?)?;
+        let chunk = read_chunk(session, item);
+        session.push(&mut chunks, chunk);
     }
-    Ok(chunks)
+    chunks
 }
 
 /// The chunks of the list of the name; one that is left out is empty.
-pub fn read_chunks(
-    alloc: Global,
-    object: &Value<'_>,
-    name: &'static str,
-) -> Result<Chunks, Refusal> {
-    match items(object, name)? {
-        Some(items) => read_chunks_in(alloc, items.as_slice()),
-        None => Ok(Vec::new(alloc)),
+pub fn read_chunks(session: &mut Session, object: &Value<'_>, name: &'static str) -> Chunks {
+    match session.items(object, name) {
+        Some(items) => read_chunks_in(session, items.as_slice()),
+        None => Vec::new(session.alloc),
     }
 }
 
 /// One chunk of normal text, at a place or of no source.
-pub fn normal_chunks(
-    alloc: Global,
-    text: &str,
-    place: Option<Range<usize>>,
-) -> Result<Chunks, Refusal> {
-    let mut chunks = Vec::new(alloc);
-    chunks.push(placed(Chunk::Normal(String::from_str(alloc, text)?), place))?;
-    Ok(chunks)
+pub fn normal_chunks(session: &mut Session, text: &str, place: Option<Range<usize>>) -> Chunks {
+    let mut chunks = Vec::new(session.alloc);
+    let chunk = placed(Chunk::Normal(session.owned(text)), place);
+    session.push(&mut chunks, chunk);
+    chunks
 }

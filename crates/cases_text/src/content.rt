@@ -4,52 +4,33 @@ use crate::places::maybe_place;
 use crate::telling::Told;
 use biblatex::Spanned;
 use biblatex_content::{ContentError, Contents};
-use cases::{
-    Refusal, Value, Writer, is_set, is_shown, items, only, only_shown, put_bool, put_refused, text,
-};
+use cases::{Refusal, Session, Value};
 use std::alloc::Global;
 
 /// The text of a piece, at its place; one without a place stands before the first byte.
-fn read_piece<'a>(alloc: Global, value: &Value<'a>) -> Result<Spanned<&'a str>, Refusal> {
+fn read_piece<'a>(session: &mut Session, value: &Value<'a>) -> Spanned<&'a str> {
     if let Some(text) = value.as_str() {
-        return Ok(Spanned::zero(text));
+        return Spanned::zero(text);
     }
-    only(alloc, value, &["text", "at"])?;
-    let text = text(value, "text")?;
-    match maybe_place(value)? {
-        Some(place) => Ok(Spanned::new(text, place)),
-        None => Ok(Spanned::zero(text)),
+    session.only(value, &["text", "at"]);
+    let text = session.text(value, "text");
+    match maybe_place(session, value) {
+        Some(place) => Spanned::new(text, place),
+        None => Spanned::zero(text),
     }
 }
 
 /// The pieces of a case.
-fn read_pieces<'a>(alloc: Global, case: &Value<'a>) -> Result<Vec<Spanned<&'a str>>, Refusal> {
-    let mut pieces = Vec::new(alloc);
-    let Some(items) = items(case, "pieces")? else {
-        return Ok(pieces);
+fn read_pieces<'a>(session: &mut Session, case: &Value<'a>) -> Vec<Spanned<&'a str>> {
+    let mut pieces = Vec::new(session.alloc);
+    let Some(items) = session.items(case, "pieces") else {
+        return pieces;
     };
     for item in items {
-        pieces.push(read_piece(alloc, item)?)?;
+        let piece = read_piece(session, item);
+        session.push(&mut pieces, piece);
     }
-    Ok(pieces)
-}
-
-/// The contents of a verbatim field of these pieces.
-fn verbatim_contents(alloc: Global, pieces: Vec<Spanned<&str>>) -> Result<Contents, ContentError> {
-    let mut contents = Contents::new(alloc);
-    for piece in pieces {
-        contents = contents.push_verbatim(piece)?;
-    }
-    Ok(contents)
-}
-
-/// The contents of an ordinary field of these pieces.
-fn ordinary_contents(alloc: Global, pieces: Vec<Spanned<&str>>) -> Result<Contents, ContentError> {
-    let mut contents = Contents::new(alloc);
-    for piece in pieces {
-        contents = contents.push_ordinary(piece)?;
-    }
-    Ok(contents)
+    pieces
 }
 
 /// The contents of a field of these pieces.
@@ -58,51 +39,55 @@ fn contents_of(
     pieces: Vec<Spanned<&str>>,
     is_verbatim: bool,
 ) -> Result<Contents, ContentError> {
+    let mut contents = Contents::new(alloc);
+    for piece in pieces {
+        contents = pushed(contents, piece, is_verbatim)?;
+    }
+    Ok(contents)
+}
+
+/// Contents with a piece more, of a verbatim or an ordinary field.
+fn pushed(
+    contents: Contents,
+    piece: Spanned<&str>,
+    is_verbatim: bool,
+) -> Result<Contents, ContentError> {
     if is_verbatim {
-        verbatim_contents(alloc, pieces)
+        Ok(contents.push_verbatim(piece)?)
     } else {
-        ordinary_contents(alloc, pieces)
+        contents.push_ordinary(piece)
     }
 }
 
 /// Writes what contents are before they are finished and after.
-fn put_contents(
-    alloc: Global,
-    case: &Value<'_>,
-    out: &mut Writer,
-    contents: Contents,
-) -> Result<(), Refusal> {
-    let is_verbatim = is_set(case, "verbatim")?;
-    let has_places = is_set(case, "places")?;
-    if is_shown(case, "empty", false)? {
-        put_bool(out, "empty", contents.is_empty())?;
+fn put_contents(session: &mut Session, case: &Value<'_>, contents: Contents) {
+    if session.is_shown(case, "empty", false) {
+        session.put_bool("empty", contents.is_empty());
     }
-    let chunks = contents.finish()?;
+    let finished = contents.finish();
+    let Some(chunks) = session.allocated(finished) else {
+        return;
+    };
     let told = Told {
         chunks: chunks.as_slice(),
-        is_verbatim,
-        has_places,
+        is_verbatim: session.is_set(case, "verbatim"),
+        has_places: session.is_set(case, "places"),
         before: None,
     };
-    told.put_shown(alloc, case, "chunks", out)
+    told.put_shown(session, case, "chunks");
 }
 
 /// Pieces of a field, verbatim or ordinary: the chunks that they give.
-pub(crate) fn answer_content(
-    alloc: Global,
-    case: &Value<'_>,
-    out: &mut Writer,
-) -> Result<(), Refusal> {
-    only(
-        alloc,
+pub(crate) fn answer_content(session: &mut Session, case: &Value<'_>) {
+    session.only(
         case,
         &["case", "name", "pieces", "verbatim", "places", "show"],
-    )?;
-    only_shown(case, &["empty", "chunks", "written", "each", "text", "at"])?;
-    let pieces = read_pieces(alloc, case)?;
-    match contents_of(alloc, pieces, is_set(case, "verbatim")?) {
-        Ok(contents) => put_contents(alloc, case, out, contents),
-        Err(ContentError::Memory) => Err(Refusal::Memory),
-        Err(ContentError::MalformedCommand) => Ok(put_refused(out, "MalformedCommand")?),
+    );
+    session.only_shown(case, &["empty", "chunks", "written", "each", "text", "at"]);
+    let pieces = read_pieces(session, case);
+    match contents_of(session.alloc, pieces, session.is_set(case, "verbatim")) {
+        Ok(contents) => put_contents(session, case, contents),
+        Err(ContentError::Memory) => session.refuse(Refusal::Memory),
+        Err(ContentError::MalformedCommand) => session.put_refused("MalformedCommand"),
     }
 }

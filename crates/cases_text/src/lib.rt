@@ -8,25 +8,24 @@ mod items;
 mod places;
 mod telling;
 
-use cases::{Answered, Value, Writer};
+use cases::{Session, Value};
 use characters::{answer_characters, answer_verbatim_field};
 pub use chunks::{normal_chunks, put_chunks, read_chunks, read_chunks_in};
 use content::answer_content;
 use items::answer_items;
-pub use items::token_name;
+pub use items::{put_fault, token_name};
 pub use places::{maybe_place, put_place, put_span};
-use std::alloc::Global;
 use telling::answer_chunks;
 
 /// Writes the members of the answer to a case of this kind; false where the kind is none of these.
-pub fn answer(alloc: Global, kind: &str, case: &Value<'_>, out: &mut Writer) -> Answered {
+pub fn answer(session: &mut Session, kind: &str, case: &Value<'_>) -> bool {
     match kind {
-        "items" => answer_items(alloc, case, out)?,
-        "content" => answer_content(alloc, case, out)?,
-        "chunks" => answer_chunks(alloc, case, out)?,
-        "characters" => answer_characters(alloc, case, out)?,
-        "verbatim_field" => answer_verbatim_field(alloc, case, out)?,
-        _ => return Ok(false),
+        "items" => answer_items(session, case),
+        "content" => answer_content(session, case),
+        "chunks" => answer_chunks(session, case),
+        "characters" => answer_characters(session, case),
+        "verbatim_field" => answer_verbatim_field(session, case),
+        _ => return false,
     }
-    Ok(true)
+    true
 }

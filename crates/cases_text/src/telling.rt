@@ -3,7 +3,7 @@
 use crate::chunks::{put_chunks, read_chunks};
 use crate::places::put_place;
 use biblatex::{Chunk, Chunks, ChunksExt, Spanned, push_biblatex};
-use cases::{Refusal, Value, Writer, is_set, is_shown, maybe_text, only, only_shown, put_text};
+use cases::{Session, Value};
 use std::alloc::{AllocError, Global};
 
 /// The chunks of a field, and how they are told of.
@@ -21,14 +21,15 @@ pub(crate) struct Told<'c> {
 
 impl Told<'_> {
     /// Writes what each chunk alone is written as.
-    fn put_each(self, alloc: Global, out: &mut Writer) -> Result<(), AllocError> {
-        out.key("each")?;
-        out.begin_array()?;
+    fn put_each(self, session: &mut Session) {
+        session.begin_list("each");
         for chunk in self.chunks.iter() {
-            let text = chunk.v.to_biblatex_string(alloc, self.is_verbatim)?;
-            out.string(text.as_str())?;
+            let text = chunk.v.to_biblatex_string(session.alloc, self.is_verbatim);
+            if let Some(text) = session.allocated(text) {
+                session.string(text.as_str());
+            }
         }
-        out.end_array()
+        session.end_array();
     }
 
     /// What the chunks are written as, after the text that stands before it.
@@ -44,34 +45,39 @@ impl Told<'_> {
     }
 
     /// Writes the member of the name.
-    fn put(self, alloc: Global, out: &mut Writer, name: &str) -> Result<(), AllocError> {
+    fn put(self, session: &mut Session, name: &str) {
         match name {
             "chunks" => {
-                out.key("chunks")?;
-                put_chunks(out, self.chunks, self.has_places)
+                session.key("chunks");
+                put_chunks(session, self.chunks, self.has_places);
             }
-            "written" => put_text(out, "written", self.written(alloc)?.as_str()),
-            "each" => self.put_each(alloc, out),
-            "text" => put_text(out, "text", self.chunks.format_verbatim(alloc)?.as_str()),
-            "at" => put_place(out, "at", &self.chunks.span()),
-            _ => Ok(()),
+            "written" => {
+                let written = self.written(session.alloc);
+                put_made(session, "written", written);
+            }
+            "each" => self.put_each(session),
+            "text" => {
+                let text = self.chunks.format_verbatim(session.alloc);
+                put_made(session, "text", text);
+            }
+            _ => put_place(session, "at", &self.chunks.span()),
         }
     }
 
     /// Writes the members that a case asks for; where it asks for none, the usual one.
-    pub(crate) fn put_shown(
-        self,
-        alloc: Global,
-        case: &Value<'_>,
-        usual: &str,
-        out: &mut Writer,
-    ) -> Result<(), Refusal> {
+    pub(crate) fn put_shown(self, session: &mut Session, case: &Value<'_>, usual: &str) {
         for name in ["chunks", "written", "each", "text", "at"] {
-            if is_shown(case, name, name == usual)? {
-                self.put(alloc, out, name)?;
+            if session.is_shown(case, name, name == usual) {
+                self.put(session, name);
             }
         }
-        Ok(())
+    }
+}
+
+/// Writes a text that was made as the member of the name.
+fn put_made(session: &mut Session, name: &str, made: Result<String, AllocError>) {
+    if let Some(text) = session.allocated(made) {
+        session.put_text(name, text.as_str());
     }
 }
 
@@ -84,37 +90,29 @@ fn append(chunks: &mut Chunks, more: &str) -> Result<(), AllocError> {
 }
 
 /// The chunks of a case, with the text of `append` after that of each.
-fn read_appended(alloc: Global, case: &Value<'_>) -> Result<Chunks, Refusal> {
-    let mut chunks = read_chunks(alloc, case, "chunks")?;
-    if let Some(more) = maybe_text(case, "append")? {
-        append(&mut chunks, more)?;
+fn read_appended(session: &mut Session, case: &Value<'_>) -> Chunks {
+    let mut chunks = read_chunks(session, case, "chunks");
+    if let Some(more) = session.maybe_text(case, "append") {
+        session.check(append(&mut chunks, more));
     }
-    Ok(chunks)
+    chunks
 }
 
 /// Chunks that a case gives: what they are written as, each and all, and their text.
-pub(crate) fn answer_chunks(
-    alloc: Global,
-    case: &Value<'_>,
-    out: &mut Writer,
-) -> Result<(), Refusal> {
-    only(
-        alloc,
+pub(crate) fn answer_chunks(session: &mut Session, case: &Value<'_>) {
+    session.only(
         case,
         &[
             "case", "name", "chunks", "verbatim", "places", "before", "append", "show",
         ],
-    )?;
-    only_shown(case, &["written", "each", "chunks", "text", "at"])?;
-    let is_verbatim = is_set(case, "verbatim")?;
-    let has_places = is_set(case, "places")?;
-    let before = maybe_text(case, "before")?;
-    let chunks = read_appended(alloc, case)?;
+    );
+    session.only_shown(case, &["written", "each", "chunks", "text", "at"]);
+    let chunks = read_appended(session, case);
     let told = Told {
         chunks: chunks.as_slice(),
-        is_verbatim,
-        has_places,
-        before,
+        is_verbatim: session.is_set(case, "verbatim"),
+        has_places: session.is_set(case, "places"),
+        before: session.maybe_text(case, "before"),
     };
-    told.put_shown(alloc, case, "written", out)
+    told.put_shown(session, case, "written");
 }

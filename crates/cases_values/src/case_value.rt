@@ -1,116 +1,104 @@
 //! Values that stand in cases and in answers.
 
-use cases::{Refusal, Value, Writer, member};
-use std::alloc::{AllocError, Global};
+use cases::{Session, Value, member};
 
 /// A value that stands in cases and in answers.
 pub trait CaseValue: Drop {
-    /// The value that a case gives.
-    fn given(alloc: Global, value: &Value<'_>) -> Result<Self, Refusal>
+    /// The value that a case gives; of no use where that is none of the type, which is then refused.
+    fn given(session: &mut Session, value: &Value<'_>) -> Self
     where
         Self: Sized;
 
     /// Writes the value.
-    fn put(&self, out: &mut Writer) -> Result<(), AllocError>;
+    fn put(&self, session: &mut Session);
 }
 
 /// A list.
 impl<T: CaseValue> CaseValue for Vec<T> {
-    fn given(alloc: Global, value: &Value<'_>) -> Result<Vec<T>, Refusal> {
+    fn given(session: &mut Session, value: &Value<'_>) -> Vec<T> {
+        let mut list = Vec::new(session.alloc);
         let Value::Array(items) = value else {
-            return Err(Refusal::Wanted("value", "a list"));
+            session.want("value", "a list");
+            return list;
         };
-        let mut list = Vec::new(alloc);
         for item in items {
-            list.push(T::given(alloc, item)?)?;
+            let item = T::given(session, item);
+            session.push(&mut list, item);
         }
-        Ok(list)
+        list
     }
 
-    fn put(&self, out: &mut Writer) -> Result<(), AllocError> {
-        put_list(out, self.as_slice())
+    fn put(&self, session: &mut Session) {
+        put_list(session, self.as_slice());
     }
 }
 
 /// A text.
 impl CaseValue for String {
-    fn given(alloc: Global, value: &Value<'_>) -> Result<String, Refusal> {
+    fn given(session: &mut Session, value: &Value<'_>) -> String {
         match value.as_str() {
-            Some(text) => Ok(String::from_str(alloc, text)?),
-            None => Err(Refusal::Wanted("value", "a text")),
+            Some(text) => session.owned(text),
+            None => {
+                session.want("value", "a text");
+                String::new(session.alloc)
+            }
         }
     }
 
-    fn put(&self, out: &mut Writer) -> Result<(), AllocError> {
-        out.string(self.as_str())
+    fn put(&self, session: &mut Session) {
+        session.string(self.as_str());
     }
 }
 
 /// The value of a member.
-pub fn given<T: CaseValue>(
-    alloc: Global,
-    object: &Value<'_>,
-    name: &'static str,
-) -> Result<T, Refusal> {
+pub fn given<T: CaseValue>(session: &mut Session, object: &Value<'_>, name: &'static str) -> T {
     match member(object, name) {
-        Some(value) => T::given(alloc, value),
-        None => Err(Refusal::Wanted(name, "there")),
+        Some(value) => T::given(session, value),
+        None => {
+            session.want(name, "there");
+            T::given(session, &Value::Null)
+        }
     }
 }
 
 /// The value of a member that may be left out.
 pub fn maybe_given<T: CaseValue>(
-    alloc: Global,
+    session: &mut Session,
     object: &Value<'_>,
     name: &str,
-) -> Result<Option<T>, Refusal> {
+) -> Option<T> {
     match member(object, name) {
-        Some(value) => Ok(Some(T::given(alloc, value)?)),
-        None => Ok(None),
+        Some(value) => Some(T::given(session, value)),
+        None => None,
     }
-}
-
-/// Whether every step of a text was written; a step after one that failed writes what is of no use.
-pub fn all_written(steps: &[Result<(), AllocError>]) -> Result<(), AllocError> {
-    for step in steps {
-        if step.is_err() {
-            return Err(AllocError);
-        }
-    }
-    Ok(())
 }
 
 /// Writes values as a list.
-pub fn put_list<T: CaseValue>(out: &mut Writer, values: &[T]) -> Result<(), AllocError> {
-    out.begin_array()?;
+pub fn put_list<T: CaseValue>(session: &mut Session, values: &[T]) {
+    session.begin_array();
     for value in values {
-        value.put(out)?;
+        value.put(session);
     }
-    out.end_array()
+    session.end_array();
 }
 
 /// Writes a value as the member of the name.
-pub fn put_member<T: CaseValue>(out: &mut Writer, name: &str, value: &T) -> Result<(), AllocError> {
-    out.key(name)?;
-    value.put(out)
+pub fn put_member<T: CaseValue>(session: &mut Session, name: &str, value: &T) {
+    session.key(name);
+    value.put(session);
 }
 
 /// Writes a value as the member of the name, where there is one.
-pub fn put_maybe<T: CaseValue>(
-    out: &mut Writer,
-    name: &str,
-    value: Option<&T>,
-) -> Result<(), AllocError> {
-    match value {
-        Some(value) => put_member(out, name, value),
-        None => Ok(()),
+pub fn put_maybe<T: CaseValue>(session: &mut Session, name: &str, value: Option<&T>) {
+    if let Some(value) = value {
+        put_member(session, name, value);
     }
 }
 
 /// Writes a value, or null.
-pub fn put_or_null<T: CaseValue>(out: &mut Writer, value: Option<&T>) -> Result<(), AllocError> {
+pub fn put_or_null<T: CaseValue>(session: &mut Session, value: Option<&T>) {
     match value {
-        Some(value) => value.put(out),
-        None => out.null(),
+        Some(value) => value.put(session),
+        None => session.null(),
     }
 }

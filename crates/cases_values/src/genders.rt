@@ -1,68 +1,47 @@
 //! Genders in cases and in answers.
 
-use crate::case_value::{CaseValue, all_written, given, put_member, put_or_null};
+use crate::case_value::{CaseValue, given, put_member, put_or_null};
 use biblatex::Gender;
-use cases::{Refusal, Value, Writer, only};
-use std::alloc::{AllocError, Global};
+use cases::{Session, Value, value_of, word_of};
 
-/// The word of a gender.
-fn word(gender: Gender) -> &'static str {
-    match gender {
-        Gender::SingularFemale => "singular-female",
-        Gender::SingularMale => "singular-male",
-        Gender::SingularNeuter => "singular-neuter",
-        Gender::PluralFemale => "plural-female",
-        Gender::PluralMale => "plural-male",
-        Gender::PluralNeuter => "plural-neuter",
-    }
-}
-
-/// The gender of a word.
-fn gender(word: &str) -> Option<Gender> {
-    match word {
-        "singular-female" => Some(Gender::SingularFemale),
-        "singular-male" => Some(Gender::SingularMale),
-        "singular-neuter" => Some(Gender::SingularNeuter),
-        "plural-female" => Some(Gender::PluralFemale),
-        "plural-male" => Some(Gender::PluralMale),
-        "plural-neuter" => Some(Gender::PluralNeuter),
-        _ => None,
-    }
-}
+const WORDS: &[(&str, Gender)] = &[
+    ("singular-female", Gender::SingularFemale),
+    ("singular-male", Gender::SingularMale),
+    ("singular-neuter", Gender::SingularNeuter),
+    ("plural-female", Gender::PluralFemale),
+    ("plural-male", Gender::PluralMale),
+    ("plural-neuter", Gender::PluralNeuter),
+];
 
 impl CaseValue for Gender {
-    fn given(_alloc: Global, value: &Value<'_>) -> Result<Gender, Refusal> {
-        match value.as_str().and_then(gender) {
-            Some(gender) => Ok(gender),
-            None => Err(Refusal::Wanted("gender", "a word as singular-female")),
+    fn given(session: &mut Session, value: &Value<'_>) -> Gender {
+        match value_of(WORDS, value.as_str().unwrap_or("")) {
+            Some(gender) => gender,
+            None => {
+                session.want("gender", "a word as singular-female");
+                Gender::SingularNeuter
+            }
         }
     }
 
-    fn put(&self, out: &mut Writer) -> Result<(), AllocError> {
-        out.string(word(*self))
+    fn put(&self, session: &mut Session) {
+        session.string(word_of(WORDS, *self));
     }
 }
 
 /// The singular and the plural of a gender.
-pub(crate) fn answer(alloc: Global, case: &Value<'_>, out: &mut Writer) -> Result<(), Refusal> {
-    only(alloc, case, &["case", "name", "gender"])?;
-    let gender: Gender = given(alloc, case, "gender")?;
-    let written = all_written(&[
-        put_member(out, "singular", &gender.singular()),
-        put_member(out, "plural", &gender.plural()),
-    ]);
-    written.map_err(Refusal::from)
+pub(crate) fn answer(session: &mut Session, case: &Value<'_>) {
+    session.only(case, &["case", "name", "gender"]);
+    let gender: Gender = given(session, case, "gender");
+    put_member(session, "singular", &gender.singular());
+    put_member(session, "plural", &gender.plural());
 }
 
 /// The gender of a list together.
-pub(crate) fn answer_together(
-    alloc: Global,
-    case: &Value<'_>,
-    out: &mut Writer,
-) -> Result<(), Refusal> {
-    only(alloc, case, &["case", "name", "genders"])?;
-    let genders: Vec<Gender> = given(alloc, case, "genders")?;
+pub(crate) fn answer_together(session: &mut Session, case: &Value<'_>) {
+    session.only(case, &["case", "name", "genders"]);
+    let genders: Vec<Gender> = given(session, case, "genders");
     let gender = Gender::coalesce(genders.as_slice());
-    let written = all_written(&[out.key("gender"), put_or_null(out, gender.as_ref())]);
-    written.map_err(Refusal::from)
+    session.key("gender");
+    put_or_null(session, gender.as_ref());
 }

@@ -16,23 +16,19 @@ mod work_people;
 mod work_sources;
 mod work_texts;
 
-pub use case_value::{
-    CaseValue, all_written, given, maybe_given, put_list, put_maybe, put_member, put_or_null,
-};
-use cases::{Answered, Value, Writer};
+pub use case_value::{CaseValue, given, maybe_given, put_list, put_maybe, put_member, put_or_null};
+use cases::{Session, Value};
 pub use reading::type_error_name;
-use std::alloc::Global;
 
 /// Writes the members of the answer to a case of this kind; false where the kind is none of these.
-pub fn answer(alloc: Global, kind: &str, case: &Value<'_>, out: &mut Writer) -> Answered {
-    let answered = match kind {
-        "value" => reading::answer(alloc, case, out),
-        "gender" => genders::answer(alloc, case, out),
-        "coalesce_genders" => genders::answer_together(alloc, case, out),
-        "date_from_parts" => dates::answer_of_parts(alloc, case, out),
-        "date_without_time" => dates::answer_without_time(alloc, case, out),
-        _ => return Ok(false),
-    };
-    answered?;
-    Ok(true)
+pub fn answer(session: &mut Session, kind: &str, case: &Value<'_>) -> bool {
+    match kind {
+        "value" => reading::answer(session, case),
+        "gender" => genders::answer(session, case),
+        "coalesce_genders" => genders::answer_together(session, case),
+        "date_from_parts" => dates::answer_of_parts(session, case),
+        "date_without_time" => dates::answer_without_time(session, case),
+        _ => return false,
+    }
+    true
 }

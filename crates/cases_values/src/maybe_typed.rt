@@ -1,27 +1,26 @@
 //! Values that may be a text which spells none, as JSON.
 
 use crate::case_value::CaseValue;
-use cases::{Refusal, Value, Writer, only, owned_text, put_text};
+use cases::{Session, Value};
 use literature::MaybeTyped;
-use std::alloc::{AllocError, Global};
 
 /// A value of the type, or an object with the text that spells none.
 impl<T: CaseValue> CaseValue for MaybeTyped<T> {
-    fn given(alloc: Global, value: &Value<'_>) -> Result<MaybeTyped<T>, Refusal> {
+    fn given(session: &mut Session, value: &Value<'_>) -> MaybeTyped<T> {
         if value.get("text").is_none() {
-            return Ok(MaybeTyped::Typed(T::given(alloc, value)?));
+            return MaybeTyped::Typed(T::given(session, value));
         }
-        only(alloc, value, &["text"])?;
-        Ok(MaybeTyped::String(owned_text(alloc, value, "text")?))
+        session.only(value, &["text"]);
+        MaybeTyped::String(session.owned_text(value, "text"))
     }
 
-    fn put(&self, out: &mut Writer) -> Result<(), AllocError> {
+    fn put(&self, session: &mut Session) {
         match self {
-            MaybeTyped::Typed(value) => value.put(out),
+            MaybeTyped::Typed(value) => value.put(session),
             MaybeTyped::String(text) => {
-                out.begin_object()?;
-                put_text(out, "text", text.as_str())?;
-                out.end_object()
+                session.begin_object();
+                session.put_text("text", text.as_str());
+                session.end_object();
             }
         }
     }

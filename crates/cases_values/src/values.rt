@@ -1,50 +1,53 @@
 //! Integers, texts, editor types, ranges of pages, and values that may be chunks, in cases and in answers.
 
-use crate::case_value::{CaseValue, all_written};
+use crate::case_value::CaseValue;
 use biblatex::{EditorType, PermissiveType};
-use cases::{Refusal, Value, Writer, only, owned_text, put_text};
+use cases::{Session, Value};
 use cases_text::{put_chunks, read_chunks};
-use std::alloc::{AllocError, Global};
 use std::ops::Range;
 
 impl CaseValue for i64 {
-    fn given(_alloc: Global, value: &Value<'_>) -> Result<i64, Refusal> {
+    fn given(session: &mut Session, value: &Value<'_>) -> i64 {
         match value.as_i64() {
-            Some(number) => Ok(number),
-            None => Err(Refusal::Wanted("value", "an integer")),
+            Some(number) => number,
+            None => {
+                session.want("value", "an integer");
+                0
+            }
         }
     }
 
-    fn put(&self, out: &mut Writer) -> Result<(), AllocError> {
-        out.i64(*self)
+    fn put(&self, session: &mut Session) {
+        session.integer(*self);
     }
 }
 
 /// The editor type of an object with the name of one that is not known.
-fn unknown(alloc: Global, value: &Value<'_>) -> Result<EditorType, Refusal> {
-    only(alloc, value, &["unknown"])?;
-    Ok(EditorType::Unknown(owned_text(alloc, value, "unknown")?))
+fn unknown(session: &mut Session, value: &Value<'_>) -> EditorType {
+    session.only(value, &["unknown"]);
+    EditorType::Unknown(session.owned_text(value, "unknown"))
 }
 
 /// A known editor type is its word, another one an object with its name.
 impl CaseValue for EditorType {
-    fn given(alloc: Global, value: &Value<'_>) -> Result<EditorType, Refusal> {
+    fn given(session: &mut Session, value: &Value<'_>) -> EditorType {
         let Some(word) = value.as_str() else {
-            return unknown(alloc, value);
+            return unknown(session, value);
         };
-        match EditorType::new(alloc, word)? {
-            EditorType::Unknown(_) => unknown(alloc, value),
-            known => Ok(known),
+        let read = EditorType::new(session.alloc, word);
+        match session.allocated(read) {
+            None | Some(EditorType::Unknown(_)) => unknown(session, value),
+            Some(known) => known,
         }
     }
 
-    fn put(&self, out: &mut Writer) -> Result<(), AllocError> {
+    fn put(&self, session: &mut Session) {
         let EditorType::Unknown(name) = self else {
-            return out.string(self.name());
+            return session.string(self.name());
         };
-        out.begin_object()?;
-        put_text(out, "unknown", name.as_str())?;
-        out.end_object()
+        session.begin_object();
+        session.put_text("unknown", name.as_str());
+        session.end_object();
     }
 }
 
@@ -66,42 +69,41 @@ fn pages(value: &Value<'_>) -> Option<Range<u32>> {
 
 /// A range of pages is a list of its first page and its last one.
 impl CaseValue for Range<u32> {
-    fn given(_alloc: Global, value: &Value<'_>) -> Result<Range<u32>, Refusal> {
+    fn given(session: &mut Session, value: &Value<'_>) -> Range<u32> {
         match pages(value) {
-            Some(range) => Ok(range),
-            None => Err(Refusal::Wanted("value", "[first page, last page]")),
+            Some(range) => range,
+            None => {
+                session.want("value", "[first page, last page]");
+                0..0
+            }
         }
     }
 
-    fn put(&self, out: &mut Writer) -> Result<(), AllocError> {
-        all_written(&[
-            out.begin_array(),
-            out.u64(u64::from(self.start)),
-            out.u64(u64::from(self.end)),
-            out.end_array(),
-        ])
+    fn put(&self, session: &mut Session) {
+        session.begin_array();
+        session.unsigned(u64::from(self.start));
+        session.unsigned(u64::from(self.end));
+        session.end_array();
     }
 }
 
 /// A value of the type, or an object with the chunks.
 impl<T: CaseValue> CaseValue for PermissiveType<T> {
-    fn given(alloc: Global, value: &Value<'_>) -> Result<PermissiveType<T>, Refusal> {
+    fn given(session: &mut Session, value: &Value<'_>) -> PermissiveType<T> {
         if value.get("chunks").is_some() {
-            return Ok(PermissiveType::Chunks(read_chunks(alloc, value, "chunks")?));
+            return PermissiveType::Chunks(read_chunks(session, value, "chunks"));
         }
-        Ok(PermissiveType::Typed(T::given(alloc, value)?))
+        PermissiveType::Typed(T::given(session, value))
     }
 
-    fn put(&self, out: &mut Writer) -> Result<(), AllocError> {
+    fn put(&self, session: &mut Session) {
         match self {
-            PermissiveType::Typed(value) => value.put(out),
+            PermissiveType::Typed(value) => value.put(session),
             PermissiveType::Chunks(chunks) => {
-                all_written(&[
-                    out.begin_object(),
-                    out.key("chunks"),
-                    put_chunks(out, chunks.as_slice(), true),
-                    out.end_object(),
-                ])
+                session.begin_object();
+                session.key("chunks");
+                put_chunks(session, chunks.as_slice(), true);
+                session.end_object();
             }
         }
     }

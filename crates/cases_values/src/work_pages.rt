@@ -1,76 +1,64 @@
 //! Page ranges, as JSON.
 
-use crate::case_value::{CaseValue, all_written, given, put_member};
-use cases::{Refusal, Value, Writer, member, only};
+use crate::case_value::{CaseValue, given, put_member};
+use cases::{Session, Value, member};
 use literature::{Numeric, PageRanges, PageRangesPart};
-use std::alloc::{AllocError, Global};
 
 /// A page or a range.
-fn page_or_range(alloc: Global, value: &Value<'_>) -> Result<PageRangesPart, Refusal> {
-    only(alloc, value, &["page", "first", "last"])?;
+fn page_or_range(session: &mut Session, value: &Value<'_>) -> PageRangesPart {
+    session.only(value, &["page", "first", "last"]);
     if let Some(page) = member(value, "page") {
-        return Ok(PageRangesPart::SinglePage(Numeric::given(alloc, page)?));
+        return PageRangesPart::SinglePage(Numeric::given(session, page));
     }
-    let first = given(alloc, value, "first")?;
-    Ok(PageRangesPart::Range(first, given(alloc, value, "last")?))
-}
-
-/// Writes a page as an object.
-fn put_page(out: &mut Writer, page: &Numeric) -> Result<(), AllocError> {
-    all_written(&[
-        out.begin_object(),
-        put_member(out, "page", page),
-        out.end_object(),
-    ])
-}
-
-/// Writes a range as an object.
-fn put_range(out: &mut Writer, first: &Numeric, last: &Numeric) -> Result<(), AllocError> {
-    all_written(&[
-        out.begin_object(),
-        put_member(out, "first", first),
-        put_member(out, "last", last),
-        out.end_object(),
-    ])
+    let first = given(session, value, "first");
+    PageRangesPart::Range(first, given(session, value, "last"))
 }
 
 /// A separator, a page or a range.
 impl CaseValue for PageRangesPart {
-    fn given(alloc: Global, value: &Value<'_>) -> Result<PageRangesPart, Refusal> {
+    fn given(session: &mut Session, value: &Value<'_>) -> PageRangesPart {
         match value.as_str() {
-            None => page_or_range(alloc, value),
-            Some("comma") => Ok(PageRangesPart::Comma),
-            Some("ampersand") => Ok(PageRangesPart::Ampersand),
+            None => page_or_range(session, value),
+            Some("comma") => PageRangesPart::Comma,
+            Some("ampersand") => PageRangesPart::Ampersand,
             Some(_) => {
-                Err(Refusal::Wanted("ranges", "a list of comma, ampersand, pages and ranges"))
+                session.want("ranges", "a list of comma, ampersand, pages and ranges");
+                PageRangesPart::Comma
             }
         }
     }
 
-    fn put(&self, out: &mut Writer) -> Result<(), AllocError> {
+    fn put(&self, session: &mut Session) {
         match self {
-            PageRangesPart::Ampersand => out.string("ampersand"),
-            PageRangesPart::Comma => out.string("comma"),
-            PageRangesPart::SinglePage(page) => put_page(out, page),
-            PageRangesPart::Range(first, last) => put_range(out, first, last),
+            PageRangesPart::Ampersand => session.string("ampersand"),
+            PageRangesPart::Comma => session.string("comma"),
+            PageRangesPart::SinglePage(page) => {
+                session.begin_object();
+                put_member(session, "page", page);
+                session.end_object();
+            }
+            PageRangesPart::Range(first, last) => {
+                session.begin_object();
+                put_member(session, "first", first);
+                put_member(session, "last", last);
+                session.end_object();
+            }
         }
     }
 }
 
 /// Page ranges.
 impl CaseValue for PageRanges {
-    fn given(alloc: Global, value: &Value<'_>) -> Result<PageRanges, Refusal> {
-        only(alloc, value, &["ranges"])?;
-        Ok(PageRanges {
-            ranges: given(alloc, value, "ranges")?,
-        })
+    fn given(session: &mut Session, value: &Value<'_>) -> PageRanges {
+        session.only(value, &["ranges"]);
+        PageRanges {
+            ranges: given(session, value, "ranges"),
+        }
     }
 
-    fn put(&self, out: &mut Writer) -> Result<(), AllocError> {
-        all_written(&[
-            out.begin_object(),
-            put_member(out, "ranges", &self.ranges),
-            out.end_object(),
-        ])
+    fn put(&self, session: &mut Session) {
+        session.begin_object();
+        put_member(session, "ranges", &self.ranges);
+        session.end_object();
     }
 }

@@ -1,30 +1,27 @@
 //! People, as JSON.
 
-use crate::case_value::{CaseValue, all_written};
-use cases::{Refusal, Value, Writer, maybe_owned_text, only, owned_text, put_maybe_text, put_text};
+use crate::case_value::CaseValue;
+use cases::{Session, Value};
 use literature::Person;
-use std::alloc::{AllocError, Global};
 
 /// A person: `name`, and `given_name`, `prefix` and `suffix` where they are set.
 impl CaseValue for Person {
-    fn given(alloc: Global, value: &Value<'_>) -> Result<Person, Refusal> {
-        only(alloc, value, &["name", "given_name", "prefix", "suffix"])?;
-        Ok(Person {
-            name: owned_text(alloc, value, "name")?,
-            given_name: maybe_owned_text(alloc, value, "given_name")?,
-            prefix: maybe_owned_text(alloc, value, "prefix")?,
-            suffix: maybe_owned_text(alloc, value, "suffix")?,
-        })
+    fn given(session: &mut Session, value: &Value<'_>) -> Person {
+        session.only(value, &["name", "given_name", "prefix", "suffix"]);
+        Person {
+            name: session.owned_text(value, "name"),
+            given_name: session.maybe_owned_text(value, "given_name"),
+            prefix: session.maybe_owned_text(value, "prefix"),
+            suffix: session.maybe_owned_text(value, "suffix"),
+        }
     }
 
-    fn put(&self, out: &mut Writer) -> Result<(), AllocError> {
-        all_written(&[
-            out.begin_object(),
-            put_text(out, "name", self.name.as_str()),
-            put_maybe_text(out, "given_name", self.given_name.as_deref()),
-            put_maybe_text(out, "prefix", self.prefix.as_deref()),
-            put_maybe_text(out, "suffix", self.suffix.as_deref()),
-            out.end_object(),
-        ])
+    fn put(&self, session: &mut Session) {
+        session.begin_object();
+        session.put_text("name", self.name.as_str());
+        session.put_maybe_text("given_name", self.given_name.as_deref());
+        session.put_maybe_text("prefix", self.prefix.as_deref());
+        session.put_maybe_text("suffix", self.suffix.as_deref());
+        session.end_object();
     }
 }

@@ -1,91 +1,91 @@
 //! Addresses and serial numbers, as JSON.
 
-use crate::case_value::{CaseValue, all_written, maybe_given, put_maybe};
-use cases::{Refusal, Value, Writer, maybe_text, only, owned_text, put_text};
+use crate::case_value::{CaseValue, maybe_given, put_maybe};
+use cases::{Refusal, Session, Value};
 use literature::{MaybeTyped, QualifiedUrl, SerialNumber, Url};
-use std::alloc::{AllocError, Global};
 use std::collections::BTreeMap;
 use url::ParseError;
 
 /// The address that a text spells.
-fn address_of(alloc: Global, text: &str) -> Result<Url, Refusal> {
-    match Url::parse(alloc, text) {
-        Ok(url) => Ok(url),
-        Err(ParseError::OutOfMemory) => Err(Refusal::Memory),
-        Err(_) => Err(Refusal::Wanted("url", "an address")),
+fn address_of(session: &mut Session, text: &str) -> MaybeTyped<Url> {
+    match Url::parse(session.alloc, text) {
+        Ok(url) => return MaybeTyped::Typed(url),
+        Err(ParseError::OutOfMemory) => session.refuse(Refusal::Memory),
+        Err(_) => session.want("url", "an address"),
     }
+    MaybeTyped::String(String::new(session.alloc))
 }
 
 /// An address, or a text that spells none.
-fn maybe_address(alloc: Global, value: &Value<'_>) -> Result<MaybeTyped<Url>, Refusal> {
-    match maybe_text(value, "url")? {
-        Some(address) => Ok(MaybeTyped::Typed(address_of(alloc, address)?)),
-        None => Ok(MaybeTyped::String(owned_text(alloc, value, "text")?)),
+fn maybe_address(session: &mut Session, value: &Value<'_>) -> MaybeTyped<Url> {
+    match session.maybe_text(value, "url") {
+        Some(address) => address_of(session, address),
+        None => MaybeTyped::String(session.owned_text(value, "text")),
     }
 }
 
 /// Writes an address, or a text that spells none, as a member.
-fn put_address(out: &mut Writer, address: &MaybeTyped<Url>) -> Result<(), AllocError> {
+fn put_address(session: &mut Session, address: &MaybeTyped<Url>) {
     match address {
-        MaybeTyped::Typed(url) => put_text(out, "url", url.as_str()),
-        MaybeTyped::String(text) => put_text(out, "text", text.as_str()),
+        MaybeTyped::Typed(url) => session.put_text("url", url.as_str()),
+        MaybeTyped::String(text) => session.put_text("text", text.as_str()),
     }
 }
 
 /// An address, and the day of the last visit.
 impl CaseValue for QualifiedUrl {
-    fn given(alloc: Global, value: &Value<'_>) -> Result<QualifiedUrl, Refusal> {
-        only(alloc, value, &["url", "text", "visit_date"])?;
-        let visit_date = maybe_given(alloc, value, "visit_date")?;
-        Ok(QualifiedUrl {
-            value: maybe_address(alloc, value)?,
-            visit_date,
-        })
+    fn given(session: &mut Session, value: &Value<'_>) -> QualifiedUrl {
+        session.only(value, &["url", "text", "visit_date"]);
+        QualifiedUrl {
+            value: maybe_address(session, value),
+            visit_date: maybe_given(session, value, "visit_date"),
+        }
     }
 
-    fn put(&self, out: &mut Writer) -> Result<(), AllocError> {
-        all_written(&[
-            out.begin_object(),
-            put_address(out, &self.value),
-            put_maybe(out, "visit_date", self.visit_date.as_ref()),
-            out.end_object(),
-        ])
+    fn put(&self, session: &mut Session) {
+        session.begin_object();
+        put_address(session, &self.value);
+        put_maybe(session, "visit_date", self.visit_date.as_ref());
+        session.end_object();
     }
 }
 
 /// Puts a number in under the name of its scheme.
 fn insert(
-    alloc: Global,
+    session: &mut Session,
     numbers: &mut BTreeMap<String, String>,
     scheme: &str,
     number: &Value<'_>,
-) -> Result<(), Refusal> {
+) {
     let Some(number) = number.as_str() else {
-        return Err(Refusal::Wanted("serial_number", "an object of texts"));
+        return session.want("serial_number", "an object of texts");
     };
-    let scheme = String::from_str(alloc, scheme)?;
-    numbers.insert(scheme, String::from_str(alloc, number)?)?;
-    Ok(())
+    let scheme = session.owned(scheme);
+    let number = session.owned(number);
+    if numbers.insert(scheme, number).is_err() {
+        session.refuse(Refusal::Memory);
+    }
 }
 
 /// Numbers by the names of their schemes.
 impl CaseValue for SerialNumber {
-    fn given(alloc: Global, value: &Value<'_>) -> Result<SerialNumber, Refusal> {
+    fn given(session: &mut Session, value: &Value<'_>) -> SerialNumber {
+        let mut numbers = BTreeMap::new(session.alloc);
         let Value::Object(members) = value else {
-            return Err(Refusal::Wanted("serial_number", "an object of texts"));
+            session.want("serial_number", "an object of texts");
+            return SerialNumber(numbers);
         };
-        let mut numbers = BTreeMap::new(alloc);
         for member in members {
-            insert(alloc, &mut numbers, member.0, &member.1)?;
+            insert(session, &mut numbers, member.0, &member.1);
         }
-        Ok(SerialNumber(numbers))
+        SerialNumber(numbers)
     }
 
-    fn put(&self, out: &mut Writer) -> Result<(), AllocError> {
-        out.begin_object()?;
+    fn put(&self, session: &mut Session) {
+        session.begin_object();
         for (scheme, number) in &self.0 {
-            put_text(out, scheme.as_str(), number.as_str())?;
+            session.put_text(scheme.as_str(), number.as_str());
         }
-        out.end_object()
+        session.end_object();
     }
 }
