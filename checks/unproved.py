@@ -28,7 +28,7 @@ def parts(names, written):
 def call(folder, data):
     """The words of a run of the cases in a folder, with files that their own words name."""
     files = [word for name, path in data.items() for word in ("--data", f"{name}={path}")]
-    return ["rt", "try", "--steps", "1", "--cases", folder, *files]
+    return ["rt", "try", "--steps", "1", "--seconds", "300", "--cases", folder, *files]
 
 
 def run(crate, cases, data):
