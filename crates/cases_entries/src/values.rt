@@ -4,7 +4,7 @@ use crate::refusals::{put_parse_error, put_raw_error};
 use biblatex::{
     Abbreviations, Chunks, Pair, ParseError, RawBibliography, RawChunk, Spanned, parse_field,
 };
-use cases::{Session, Value};
+use cases::{Refusal, Session, Value};
 use cases_text::put_chunks;
 
 /// Returns a case of the kind `field`.
@@ -20,13 +20,22 @@ pub(crate) fn answer_field(session: &mut Session, case: &Value<'_>) {
 /// Writes what the pieces of a case are read as, with the abbreviations of a text.
 fn put_field(session: &mut Session, case: &Value<'_>, raw: &RawBibliography<'_>) {
     let pieces = read_pieces(session, case);
-    let field = session.text(case, "field");
-    let definitions = raw.abbreviations.as_slice();
-    let abbreviations = Abbreviations::new(session.alloc, definitions);
-    if let Some(abbreviations) = session.allocated(abbreviations) {
-        let found = parse_field(session.alloc, field, pieces.as_slice(), &abbreviations);
-        put_found(session, case, found);
+    match Abbreviations::new(session.alloc, raw.abbreviations.as_slice()) {
+        Ok(abbreviations) => put_value(session, case, pieces.as_slice(), &abbreviations),
+        Err(_) => session.refuse(Refusal::Memory),
     }
+}
+
+/// Writes what pieces are read as in the field of a case.
+fn put_value(
+    session: &mut Session,
+    case: &Value<'_>,
+    pieces: &[Spanned<RawChunk<'_>>],
+    abbreviations: &Abbreviations<'_, '_>,
+) {
+    let field = session.text(case, "field");
+    let found = parse_field(session.alloc, field, pieces, abbreviations);
+    put_found(session, case, found);
 }
 
 /// The pieces of a value. They are of no source.
@@ -73,13 +82,22 @@ pub(crate) fn answer_abbreviations(session: &mut Session, case: &Value<'_>) {
 /// Writes each definition of a text with what it gives.
 fn put_abbreviations(session: &mut Session, case: &Value<'_>, raw: &RawBibliography<'_>) {
     let definitions = raw.abbreviations.as_slice();
-    let abbreviations = Abbreviations::new(session.alloc, definitions);
-    let Some(abbreviations) = session.allocated(abbreviations) else {
-        return;
-    };
+    match Abbreviations::new(session.alloc, definitions) {
+        Ok(abbreviations) => put_definitions(session, case, definitions, &abbreviations),
+        Err(_) => session.refuse(Refusal::Memory),
+    }
+}
+
+/// Writes definitions with what each gives.
+fn put_definitions(
+    session: &mut Session,
+    case: &Value<'_>,
+    definitions: &[Pair<'_>],
+    abbreviations: &Abbreviations<'_, '_>,
+) {
     session.begin_list("abbreviations");
     for definition in definitions {
-        put_definition(session, case, definition, &abbreviations);
+        put_definition(session, case, definition, abbreviations);
     }
     session.end_array();
 }

@@ -1,12 +1,12 @@
 //! Dates as styles print them.
 
 use crate::pages::{manner, put_characters, put_page_tree};
-use cases::{Session, Value};
+use cases::{Refusal, Session, Value};
 use cases_styles::{PARTS, date_parts, locales};
 use cases_values::given;
 use literature::Date;
 use rendering_dates::{DateShape, DateStyle, push_years};
-use rendering_locale::{AskedLocales, DatePart};
+use rendering_locale::{AskedLocales, DatePart, Locale};
 use rendering_page::Page;
 use rendering_taxonomy::DateParts;
 
@@ -26,33 +26,71 @@ fn put_dated<'a>(session: &mut Session, style: &DateStyle<'_, 'a>, letters: &'a 
 }
 
 /// The text of a member; one that is left out is empty.
-fn text_or_none<'v>(session: &mut Session, case: &'v Value<'_>, name: &'static str) -> &'v str {
-    session.maybe_text(case, name).unwrap_or("")
+pub(crate) fn text_or_none<'v>(
+    session: &mut Session,
+    case: &'v Value<'_>,
+    name: &'static str,
+) -> &'v str {
+    match session.maybe_text(case, name) {
+        Some(text) => text,
+        None => "",
+    }
+}
+
+/// The parts that a case prints, and what stands between them.
+fn shape<'a>(session: &mut Session, case: &'a Value<'_>, parts: &'a [DatePart]) -> DateShape<'a> {
+    let cut = session.word_or(case, "parts", PARTS, DateParts::YearMonthDay);
+    let delimiter = text_or_none(session, case, "delimiter");
+    DateShape {
+        parts,
+        cut,
+        delimiter,
+    }
+}
+
+/// Writes how the date of a case is printed by these locales and parts.
+fn put_shaped<'s, 'a>(
+    session: &mut Session,
+    case: &'a Value<'_>,
+    quotes: &'s [&'s str],
+    locales: &'s AskedLocales<'a>,
+    parts: &'a [DatePart],
+) {
+    let manner = manner(session, case);
+    let shape = shape(session, case, parts);
+    let style = DateStyle {
+        alloc: session.alloc,
+        quotes,
+        locales,
+        manner,
+        shape,
+    };
+    let letters = text_or_none(session, case, "letters");
+    let date: Date = given(session, case, "date");
+    put_dated(session, &style, letters, &date);
+    put_years(session, locales, &date);
 }
 
 /// Writes how the date of a case is printed by these locales and parts, with the close quotes of the case.
 fn put_asked<'a>(
     session: &mut Session,
     case: &'a Value<'_>,
-    locales: &AskedLocales<'a>,
+    own: &'a [Locale],
+    files: &'a [Locale],
     parts: &'a [DatePart],
 ) {
     let quotes = session.texts(case, "quotes");
-    let style = DateStyle {
-        alloc: session.alloc,
-        quotes: quotes.as_slice(),
-        locales,
-        manner: manner(session, case),
-        shape: DateShape {
-            parts,
-            cut: session.word_or(case, "parts", PARTS, DateParts::YearMonthDay),
-            delimiter: text_or_none(session, case, "delimiter"),
-        },
-    };
-    let letters = text_or_none(session, case, "letters");
-    let date: Date = given(session, case, "date");
-    put_dated(session, &style, letters, &date);
-    put_years(session, locales, &date);
+    let code = session.text(case, "code");
+    match AskedLocales::new(session.alloc, code, own, files) {
+        Ok(asked) => put_shaped(session, case, quotes.as_slice(), &asked, parts),
+        Err(_) => session.refuse(Refusal::Memory),
+    }
+}
+
+/// Writes how the date of a case is printed by these locales.
+fn put_listed(session: &mut Session, case: &Value<'_>, own: &[Locale], files: &[Locale]) {
+    let parts = date_parts(session, case);
+    put_asked(session, case, own, files, parts.as_slice());
 }
 
 /// The members of a case.
@@ -77,10 +115,5 @@ pub(crate) fn answer(session: &mut Session, case: &Value<'_>) {
     session.only(case, &MEMBERS);
     let own = locales(session, case, "own");
     let files = locales(session, case, "files");
-    let parts = date_parts(session, case);
-    let code = session.text(case, "code");
-    let asked = AskedLocales::new(session.alloc, code, own.as_slice(), files.as_slice());
-    if let Some(asked) = session.allocated(asked) {
-        put_asked(session, case, &asked, parts.as_slice());
-    }
+    put_listed(session, case, own.as_slice(), files.as_slice());
 }

@@ -1,5 +1,6 @@
 //! Pages on which texts are put down, and their trees.
 
+use crate::dated::text_or_none;
 use crate::metas::maybe_meta;
 use crate::written_trees::put_tree;
 use cases::{Session, Value, member};
@@ -144,12 +145,16 @@ fn put_leaf<'a>(
 
 /// An element, which says not what it stands for.
 fn frame<'a>(session: &mut Session, item: &'a Value<'_>) -> Frame<'a> {
+    let display = session.maybe_word(item, "display", DISPLAYS);
+    let manner = manner(session, item);
+    let prefix = text_or_none(session, item, "prefix");
+    let suffix = text_or_none(session, item, "suffix");
     Frame {
-        display: session.maybe_word(item, "display", DISPLAYS),
+        display,
         meta: None,
-        manner: manner(session, item),
-        prefix: session.maybe_text(item, "prefix").unwrap_or(""),
-        suffix: session.maybe_text(item, "suffix").unwrap_or(""),
+        manner,
+        prefix,
+        suffix,
     }
 }
 
