@@ -8,24 +8,31 @@ use driver_requests::{BibliographyRequest, CitationRequest, DriverError};
 use literature::Entry;
 use rendering_tree::ElemChildren;
 
-/// Writes why a driver gives nothing.
-fn put_error(session: &mut Session, error: DriverError) {
-    match error {
-        DriverError::Memory => session.refuse(Refusal::Memory),
-        DriverError::Overflow => session.put_refused("Overflow"),
-    }
-}
-
 /// The citations and the bibliography of a case.
 pub(crate) fn finished<'s>(
     session: &mut Session,
     case: &'s Value<'_>,
     sources: &Sources<'s>,
 ) -> Option<Rendered> {
+    match member(case, "bibliography") {
+        Some(given) => {
+            session.only(given, &["style", "locale", "order"]);
+            finished_by(session, case, given, sources)
+        }
+        None => finished_by(session, case, &Value::Null, sources),
+    }
+}
+
+/// The citations of a case, and the bibliography that a value asks for.
+fn finished_by<'s>(
+    session: &mut Session,
+    case: &'s Value<'_>,
+    given: &Value<'_>,
+    sources: &Sources<'s>,
+) -> Option<Rendered> {
     let Some(driver) = driver_of(session, case, sources) else {
         return None;
     };
-    let given = member(case, "bibliography").unwrap_or(&Value::Null);
     let Some(order) = order(session, given, sources) else {
         return None;
     };
@@ -34,13 +41,22 @@ pub(crate) fn finished<'s>(
     };
     let locale = language(session, case, given);
     let request = BibliographyRequest::new(style, locale, sources.files);
-    match driver.finish(request.with_order(order.as_slice())) {
-        Ok(rendered) => Some(rendered),
-        Err(error) => {
-            put_error(session, error);
-            None
-        }
+    finished_in_order(session, driver, request, order.as_slice())
+}
+
+/// What a driver makes of a request for a bibliography that begins with these entries.
+fn finished_in_order<'s>(
+    session: &mut Session,
+    driver: BibliographyDriver<'s, Entry, i64>,
+    request: BibliographyRequest<'s, Entry>,
+    order: &'s [&'s Entry],
+) -> Option<Rendered> {
+    match driver.finish(request.with_order(order)) {
+        Ok(rendered) => return Some(rendered),
+        Err(DriverError::Memory) => session.refuse(Refusal::Memory),
+        Err(DriverError::Overflow) => session.put_refused("Overflow"),
     }
+    None
 }
 
 /// A driver with the requests of a case.
@@ -58,10 +74,7 @@ fn driver_of<'s>(
         let Some(request) = request(session, case, given, sources) else {
             return None;
         };
-        if let Err(error) = driver.citation(request) {
-            put_error(session, error);
-            return None;
-        }
+        session.check(driver.citation(request));
     }
     Some(driver)
 }
@@ -73,10 +86,6 @@ fn order<'s>(
     sources: &Sources<'s>,
 ) -> Option<Vec<&'s Entry>> {
     let mut order = Vec::new(session.alloc);
-    if matches!(given, Value::Null) {
-        return Some(order);
-    }
-    session.only(given, &["style", "locale", "order"]);
     for name in session.texts(given, "order") {
         let Some(entry) = sources.entry(session, name) else {
             return None;
@@ -100,11 +109,6 @@ pub(crate) fn cited_alone<'s>(
         return None;
     };
     let request = CitationRequest::new(cited, style, locale, sources.files, None);
-    match standalone_citation(session.alloc, request) {
-        Ok(tree) => Some(tree),
-        Err(error) => {
-            put_error(session, error);
-            None
-        }
-    }
+    let cited = standalone_citation(session.alloc, request);
+    session.allocated(cited)
 }
