@@ -1,11 +1,14 @@
 //! Cites and items of a bibliography as a style prints them.
 
 use crate::properties::USAGES;
-use crate::sources::Asked;
 use cases::{Session, Value, word_of};
 use cases_rendering::{NAME_FORMS, put_written_tree};
 use cases_sources::{PURPOSES, put_effort};
-use rendering::{CiteProperties, CollapseVerdict, Effort, NameDisambiguationProperties, Rendering};
+use literature::Entry;
+use rendering::{
+    CiteProperties, CollapseVerdict, Effort, LocaleCode, NameDisambiguationProperties, Rendering,
+    StyleContext,
+};
 
 const VERDICTS: &[(&str, CollapseVerdict)] = &[
     ("first", CollapseVerdict::First),
@@ -16,20 +19,15 @@ const VERDICTS: &[(&str, CollapseVerdict)] = &[
 pub(crate) fn put_citation(
     session: &mut Session,
     case: &Value<'_>,
-    asked: &Asked<'_>,
+    context: &StyleContext<'_>,
+    entry: &Entry,
     properties: &CiteProperties<'_>,
+    code: Option<&LocaleCode>,
 ) {
     let purpose = session.maybe_word(case, "purpose", PURPOSES);
     let verdict = session.maybe_word(case, "verdict", VERDICTS);
     let mut effort = Effort::default();
-    let made = asked.context.citation(
-        asked.entry,
-        properties,
-        asked.code,
-        purpose,
-        verdict,
-        &mut effort,
-    );
+    let made = context.citation(entry, properties, code, purpose, verdict, &mut effort);
     if let Some(rendering) = session.allocated(made) {
         put_written_tree(session, &rendering.tree);
         put_facts(session, &rendering);
@@ -64,13 +62,13 @@ fn put_forms(session: &mut Session, names: &NameDisambiguationProperties) {
 pub(crate) fn put_item(
     session: &mut Session,
     case: &Value<'_>,
-    asked: &Asked<'_>,
+    context: &StyleContext<'_>,
+    entry: &Entry,
     properties: &CiteProperties<'_>,
+    code: Option<&LocaleCode>,
 ) {
     let mut effort = Effort::default();
-    let made = asked
-        .context
-        .bibliography(asked.entry, properties, asked.code, &mut effort);
+    let made = context.bibliography(entry, properties, code, &mut effort);
     let Some(rendering) = session.allocated(made) else {
         return;
     };

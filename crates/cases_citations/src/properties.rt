@@ -1,10 +1,10 @@
 //! What is known of a cite beside its entry, as a value of a case.
 
-use crate::sources::Asked;
 use crate::states::state;
 use cases::{Session, Value, member};
 use cases_sources::maybe_locator;
-use rendering::{CiteProperties, DisambiguateState, IbidState, IdentifierUsage};
+use literature::Entry;
+use rendering::{CiteProperties, DisambiguateState, IbidState, IdentifierUsage, StyleContext};
 
 const IBIDS: &[(&str, IbidState)] = &[
     ("different", IbidState::Different),
@@ -38,14 +38,15 @@ const MEMBERS: [&str; 10] = [
 pub(crate) fn properties_of<'a>(
     session: &mut Session,
     case: &Value<'a>,
-    asked: &Asked<'_>,
+    context: &StyleContext<'_>,
+    entry: &Entry,
 ) -> CiteProperties<'a> {
     let Some(given) = member(case, "properties") else {
         return properties(session, &Value::Null);
     };
     session.only(given, &MEMBERS);
     let mut known = properties(session, given);
-    known.disambiguation = state(session, given, asked, &known);
+    known.disambiguation = state(session, given, context, entry, &known);
     known
 }
 

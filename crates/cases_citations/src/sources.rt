@@ -3,11 +3,11 @@
 use crate::citations::{put_citation, put_item};
 use crate::properties::properties_of;
 use crate::writing::put_writing;
-use cases::{Session, Value};
+use cases::{Refusal, Session, Value};
 use cases_sources::{bibliography_of, bridged, locale_files, named, put_unknown_name};
 use cases_styles::{maybe_code, style_of};
 use literature::Entry;
-use rendering::{LocaleCode, StyleContext};
+use rendering::{CiteProperties, LocaleCode, StyleContext};
 use rendering_locale::Locale;
 use rendering_style::Style;
 
@@ -17,15 +17,6 @@ pub(crate) enum Wanted {
     Citation,
     Item,
     Writing,
-}
-
-/// What a style is asked with.
-#[derive(Clone, Copy)]
-pub(crate) struct Asked<'c> {
-    pub(crate) context: &'c StyleContext<'c>,
-    pub(crate) entry: &'c Entry,
-    /// The language of the terms.
-    pub(crate) code: Option<&'c LocaleCode>,
 }
 
 /// The members of a case, of whichever of these kinds it is.
@@ -78,24 +69,51 @@ fn put_by_style(
     entry: &Entry,
 ) {
     let code = maybe_code(session, case, "locale");
-    let made = StyleContext::new(session.alloc, style, code.as_ref(), files);
-    if let Some(context) = session.allocated(made) {
-        let code = maybe_code(session, case, "term_locale");
-        let asked = Asked {
-            context: &context,
-            entry,
-            code: code.as_ref(),
-        };
-        put_wanted(session, case, wanted, &asked);
+    put_in_language(session, case, wanted, style, files, code.as_ref(), entry);
+}
+
+/// Writes what a style gives of an entry in a language over these files.
+fn put_in_language(
+    session: &mut Session,
+    case: &Value<'_>,
+    wanted: Wanted,
+    style: &Style,
+    files: &[Locale],
+    code: Option<&LocaleCode>,
+    entry: &Entry,
+) {
+    match StyleContext::new(session.alloc, style, code, files) {
+        Ok(context) => put_wanted(session, case, wanted, &context, entry),
+        Err(_) => session.refuse(Refusal::Memory),
     }
 }
 
 /// Writes what is asked of a style.
-fn put_wanted(session: &mut Session, case: &Value<'_>, wanted: Wanted, asked: &Asked<'_>) {
-    let properties = properties_of(session, case, asked);
+fn put_wanted(
+    session: &mut Session,
+    case: &Value<'_>,
+    wanted: Wanted,
+    context: &StyleContext<'_>,
+    entry: &Entry,
+) {
+    let properties = properties_of(session, case, context, entry);
+    put_known(session, case, wanted, context, entry, &properties);
+}
+
+/// Writes what is asked of a style where that is known of the cite.
+fn put_known(
+    session: &mut Session,
+    case: &Value<'_>,
+    wanted: Wanted,
+    context: &StyleContext<'_>,
+    entry: &Entry,
+    properties: &CiteProperties<'_>,
+) {
+    let code = maybe_code(session, case, "term_locale");
+    let code = code.as_ref();
     match wanted {
-        Wanted::Citation => put_citation(session, case, asked, &properties),
-        Wanted::Item => put_item(session, case, asked, &properties),
-        Wanted::Writing => put_writing(session, case, asked, &properties),
+        Wanted::Citation => put_citation(session, case, context, entry, properties, code),
+        Wanted::Item => put_item(session, case, context, entry, properties, code),
+        Wanted::Writing => put_writing(session, case, context, entry, properties, code),
     }
 }

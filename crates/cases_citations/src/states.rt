@@ -1,10 +1,11 @@
 //! What tells a cite apart, as a value of a case.
 
-use crate::sources::Asked;
 use cases::{Session, Value, member, value_of};
 use cases_rendering::NAME_FORMS;
+use literature::Entry;
 use rendering::{
     CiteProperties, DisambiguateState, DisambiguatedNameForm, Effort, NameDisambiguationProperties,
+    StyleContext,
 };
 use std::alloc::AllocError;
 
@@ -12,14 +13,15 @@ use std::alloc::AllocError;
 pub(crate) fn state(
     session: &mut Session,
     object: &Value<'_>,
-    asked: &Asked<'_>,
+    context: &StyleContext<'_>,
+    entry: &Entry,
     alike: &CiteProperties<'_>,
 ) -> DisambiguateState {
     let Some(given) = member(object, "disambiguation") else {
         return DisambiguateState::None;
     };
     match given.as_str() {
-        None => state_in(session, given, asked, alike),
+        None => state_in(session, given, context, entry, alike),
         Some("none") => DisambiguateState::None,
         Some("choose") => DisambiguateState::Choose,
         Some(_) => {
@@ -33,7 +35,8 @@ pub(crate) fn state(
 fn state_in(
     session: &mut Session,
     given: &Value<'_>,
-    asked: &Asked<'_>,
+    context: &StyleContext<'_>,
+    entry: &Entry,
     alike: &CiteProperties<'_>,
 ) -> DisambiguateState {
     session.only(given, &["year_suffix", "add_name", "forms"]);
@@ -42,7 +45,7 @@ fn state_in(
     }
     let shown = session.count(given, "add_name");
     let forms = forms(session, given);
-    match session.allocated(own_names(asked, alike)) {
+    match session.allocated(own_names(context, entry, alike)) {
         Some(Some(names)) => raised(names, shown, forms.as_slice()),
         _ => DisambiguateState::None,
     }
@@ -50,13 +53,12 @@ fn state_in(
 
 /// The names that a cite prints of itself.
 fn own_names(
-    asked: &Asked<'_>,
+    context: &StyleContext<'_>,
+    entry: &Entry,
     alike: &CiteProperties<'_>,
 ) -> Result<Option<NameDisambiguationProperties>, AllocError> {
     let mut effort = Effort::default();
-    let rendering = asked
-        .context
-        .citation(asked.entry, alike, None, None, None, &mut effort)?;
+    let rendering = context.citation(entry, alike, None, None, None, &mut effort)?;
     Ok(rendering.names)
 }
 

@@ -1,24 +1,40 @@
 //! What a caller prints by itself with a style.
 
-use crate::sources::Asked;
 use crate::steps::take_all;
-use cases::{Session, Value};
+use cases::{Refusal, Session, Value};
 use cases_rendering::put_written_tree;
 use literature::Entry;
-use rendering::{CiteProperties, Letters, Walk, Words};
+use rendering::{CiteProperties, Letters, LocaleCode, StyleContext, Walk, Words};
 use rendering_writing::{Context, WritingContext};
 
 /// `writing`: what nodes are asked on the way, and what the steps put down.
 pub(crate) fn put_writing(
     session: &mut Session,
     case: &Value<'_>,
-    asked: &Asked<'_>,
+    context: &StyleContext<'_>,
+    entry: &Entry,
     properties: &CiteProperties<'_>,
+    code: Option<&LocaleCode>,
 ) {
-    let letters = Letters::new(session.alloc, &properties.disambiguation);
-    let words = asked.context.words(asked.code);
-    if let (Some(letters), Some(words)) = (session.allocated(letters), session.allocated(words)) {
-        put_in_words(session, case, asked, properties, &words, &letters);
+    match Letters::new(session.alloc, &properties.disambiguation) {
+        Ok(letters) => put_lettered(session, case, context, &letters, entry, properties, code),
+        Err(_) => session.refuse(Refusal::Memory),
+    }
+}
+
+/// Writes what is asked and put down with these letters after a year.
+fn put_lettered<'c>(
+    session: &mut Session,
+    case: &'c Value<'_>,
+    context: &'c StyleContext<'_>,
+    letters: &'c Letters,
+    entry: &'c Entry,
+    properties: &'c CiteProperties<'c>,
+    code: Option<&LocaleCode>,
+) {
+    match context.words(code) {
+        Ok(words) => put_in_words(session, case, context, &words, letters, entry, properties),
+        Err(_) => session.refuse(Refusal::Memory),
     }
 }
 
@@ -26,14 +42,15 @@ pub(crate) fn put_writing(
 fn put_in_words<'s, 'c>(
     session: &mut Session,
     case: &'c Value<'_>,
-    asked: &Asked<'c>,
-    properties: &'s CiteProperties<'c>,
+    context: &'c StyleContext<'_>,
     words: &'s Words<'c>,
     letters: &'c Letters,
+    entry: &'c Entry,
+    properties: &'s CiteProperties<'c>,
 ) {
     let is_item = session.is_set(case, "bibliography");
-    let walk = asked.context.walk(words, letters, properties, is_item);
-    put_by_walk(session, case, walk, asked.entry);
+    let walk = context.walk(words, letters, properties, is_item);
+    put_by_walk(session, case, walk, entry);
 }
 
 /// Writes what is asked and put down from a walk.

@@ -89,20 +89,20 @@ fn put_by_styles(session: &mut Session, case: &Value<'_>, wanted: Wanted, styles
         library: &library,
     };
     match wanted {
-        Wanted::Finish => put_finished(session, case, &sources),
-        Wanted::Standalone => put_cited_alone(session, case, &sources),
+        Wanted::Finish => put_finished(session, case, sources),
+        Wanted::Standalone => put_cited_alone(session, case, sources),
     }
 }
 
 /// Writes the citations and the bibliography of a document.
-fn put_finished(session: &mut Session, case: &Value<'_>, sources: &Sources<'_>) {
+fn put_finished(session: &mut Session, case: &Value<'_>, sources: Sources<'_>) {
     if let Some(rendered) = finished(session, case, sources) {
         put_rendered(session, case, &rendered);
     }
 }
 
 /// Writes a citation outside of any document.
-fn put_cited_alone(session: &mut Session, case: &Value<'_>, sources: &Sources<'_>) {
+fn put_cited_alone(session: &mut Session, case: &Value<'_>, sources: Sources<'_>) {
     if let Some(tree) = cited_alone(session, case, sources) {
         let has_trees = session.is_set(case, "trees");
         put_text_of(session, has_trees, &tree);

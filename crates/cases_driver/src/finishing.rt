@@ -3,6 +3,7 @@
 use crate::requests::{cited, request};
 use crate::sources::{Sources, language};
 use cases::{Refusal, Session, Value, member};
+use cases_styles::maybe_code;
 use driver::{BibliographyDriver, Rendered, standalone_citation};
 use driver_requests::{BibliographyRequest, CitationRequest, DriverError};
 use literature::Entry;
@@ -12,7 +13,7 @@ use rendering_tree::ElemChildren;
 pub(crate) fn finished<'s>(
     session: &mut Session,
     case: &'s Value<'_>,
-    sources: &Sources<'s>,
+    sources: Sources<'s>,
 ) -> Option<Rendered> {
     match member(case, "bibliography") {
         Some(given) => {
@@ -28,7 +29,7 @@ fn finished_by<'s>(
     session: &mut Session,
     case: &'s Value<'_>,
     given: &Value<'_>,
-    sources: &Sources<'s>,
+    sources: Sources<'s>,
 ) -> Option<Rendered> {
     let Some(driver) = driver_of(session, case, sources) else {
         return None;
@@ -63,7 +64,7 @@ fn finished_in_order<'s>(
 fn driver_of<'s>(
     session: &mut Session,
     case: &'s Value<'_>,
-    sources: &Sources<'s>,
+    sources: Sources<'s>,
 ) -> Option<BibliographyDriver<'s, Entry, i64>> {
     let offset = session.place(case, "offset");
     let mut driver = BibliographyDriver::new(session.alloc).with_citation_number_offset(offset);
@@ -83,7 +84,7 @@ fn driver_of<'s>(
 fn order<'s>(
     session: &mut Session,
     given: &Value<'_>,
-    sources: &Sources<'s>,
+    sources: Sources<'s>,
 ) -> Option<Vec<&'s Entry>> {
     let mut order = Vec::new(session.alloc);
     for name in session.texts(given, "order") {
@@ -99,12 +100,12 @@ fn order<'s>(
 pub(crate) fn cited_alone<'s>(
     session: &mut Session,
     case: &'s Value<'_>,
-    sources: &Sources<'s>,
+    sources: Sources<'s>,
 ) -> Option<ElemChildren> {
     let Some(cited) = cited(session, case, sources) else {
         return None;
     };
-    let locale = language(session, case, case);
+    let locale = maybe_code(session, case, "locale");
     let Some(style) = sources.style(session, &Value::Null) else {
         return None;
     };

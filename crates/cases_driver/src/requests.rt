@@ -12,7 +12,7 @@ pub(crate) fn request<'s>(
     session: &mut Session,
     case: &Value<'_>,
     given: &'s Value<'_>,
-    sources: &Sources<'s>,
+    sources: Sources<'s>,
 ) -> Option<CitationRequest<'s, Entry, i64>> {
     session.only(given, &["items", "style", "locale", "note_number"]);
     let Some(cited) = cited(session, given, sources) else {
@@ -30,7 +30,7 @@ pub(crate) fn request<'s>(
 pub(crate) fn cited<'s>(
     session: &mut Session,
     given: &'s Value<'_>,
-    sources: &Sources<'s>,
+    sources: Sources<'s>,
 ) -> Option<Vec<CitationItem<'s, Entry, i64>>> {
     let mut cited = Vec::new(session.alloc);
     let Some(items) = session.items(given, "items") else {
@@ -49,7 +49,7 @@ pub(crate) fn cited<'s>(
 fn item<'s>(
     session: &mut Session,
     given: &'s Value<'_>,
-    sources: &Sources<'s>,
+    sources: Sources<'s>,
 ) -> Option<CitationItem<'s, Entry, i64>> {
     session.only(given, &["entry", "locator", "hidden", "purpose", "locale"]);
     let name = session.text(given, "entry");

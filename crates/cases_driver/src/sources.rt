@@ -19,7 +19,7 @@ pub(crate) struct Sources<'s> {
 
 impl<'s> Sources<'s> {
     /// The entry that a name means; where it means none, the answer says so.
-    pub(crate) fn entry(&self, session: &mut Session, name: &str) -> Option<&'s Entry> {
+    pub(crate) fn entry(self, session: &mut Session, name: &str) -> Option<&'s Entry> {
         let entry = named(self.bibliography, self.library, name);
         if entry.is_none() {
             put_unknown_name(session, name);
@@ -28,7 +28,7 @@ impl<'s> Sources<'s> {
     }
 
     /// The style of a request: the first one, where it says none.
-    pub(crate) fn style(&self, session: &mut Session, given: &Value<'_>) -> Option<&'s Style> {
+    pub(crate) fn style(self, session: &mut Session, given: &Value<'_>) -> Option<&'s Style> {
         let style = self.styles.get(session.place(given, "style"));
         if style.is_none() {
             session.want("style", "the place of a style");
