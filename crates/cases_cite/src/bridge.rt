@@ -3,7 +3,7 @@
 use biblatex::{Bibliography, Entry};
 use cases::{Session, Value};
 use cases_entries::put_parse_error;
-use cases_literature::{ENTRY_DEPTH, put_entry};
+use cases_literature::{ENTRY_DEPTH, boxed, put_entry};
 use cases_sources::{bridged, put_bridge_error, put_unknown, read_source};
 use interop::entry;
 
@@ -33,11 +33,16 @@ fn put_bridged(session: &mut Session, case: &Value<'_>, bibliography: &Bibliogra
 /// Writes what an entry comes to.
 fn put_work(session: &mut Session, case: &Value<'_>, read: &Entry) {
     match entry(session.alloc, read) {
-        Ok(work) => {
-            session.key("entry");
-            put_entry(session, &work, ENTRY_DEPTH);
-        }
+        Ok(work) => put_member(session, work),
         Err(error) => put_bridge_error(session, case, &error),
+    }
+}
+
+/// Writes the entry of a library as the member `entry`.
+fn put_member(session: &mut Session, work: literature::Entry) {
+    if let Some(work) = boxed(session, work) {
+        session.key("entry");
+        put_entry(session, &*work, ENTRY_DEPTH);
     }
 }
 

@@ -28,8 +28,8 @@ pub(crate) fn answer_cite(session: &mut Session, case: &Value<'_>) {
     let document = bytes(session, case, "document");
     let sections = session.texts(case, "sections");
     let setting = Setting {
-        style: &style,
-        locale: &locale,
+        style: &*style,
+        locale: &*locale,
         format: format(session, case),
         bib: &bib,
         document: &document,

@@ -2,6 +2,7 @@
 
 use biblatex::Entry;
 use cases::{Session, Value};
+use cases_literature::boxed;
 use cases_sources::{bibliography_of, put_bridge_error, put_unknown_name};
 use interop::entry;
 use rendering_entries::Alphanumerical;
@@ -27,8 +28,15 @@ pub(crate) fn answer_label(session: &mut Session, case: &Value<'_>) {
 /// Writes the label of an entry.
 fn put_read(session: &mut Session, case: &Value<'_>, read: &Entry) {
     match entry(session.alloc, read) {
-        Ok(work) => put_label(session, case, &work),
+        Ok(work) => put_boxed(session, case, work),
         Err(error) => put_bridge_error(session, case, &error),
+    }
+}
+
+/// Writes the label of an entry that a file comes to.
+fn put_boxed(session: &mut Session, case: &Value<'_>, work: literature::Entry) {
+    if let Some(work) = boxed(session, work) {
+        put_label(session, case, &*work);
     }
 }
 

@@ -1,6 +1,7 @@
 //! How the document of a case is cited: the style, the locale and the format.
 
 use cases::{Session, Value, member};
+use cases_literature::boxed;
 use cases_sources::maybe_locale;
 use cases_styles::accepted;
 use cite::{BufWriteFormat, Locale, Style, author_date, english, note, numeric};
@@ -19,18 +20,21 @@ pub(crate) struct Setting<'s> {
 }
 
 /// The style of a case, by its word or as data, `numeric` where it is left out; none where it is refused, and the answer then says why.
-pub(crate) fn style(session: &mut Session, case: &Value<'_>) -> Option<Style> {
+pub(crate) fn style(session: &mut Session, case: &Value<'_>) -> Option<Box<Style>> {
     let Some(given) = member(case, "style") else {
         return style_named(session, "numeric");
     };
     match given.as_str() {
         Some(word) => style_named(session, word),
-        None => accepted(session, given),
+        None => match accepted(session, given) {
+            Some(style) => boxed(session, style),
+            None => None,
+        },
     }
 }
 
 /// The style of that word.
-fn style_named(session: &mut Session, word: &str) -> Option<Style> {
+fn style_named(session: &mut Session, word: &str) -> Option<Box<Style>> {
     let made = match word {
         "numeric" => numeric(session.alloc),
         "author-date" => author_date(session.alloc),
@@ -40,18 +44,28 @@ fn style_named(session: &mut Session, word: &str) -> Option<Style> {
             return None;
         }
     };
-    session.allocated(made)
+    match session.allocated(made) {
+        Some(style) => boxed(session, style),
+        None => None,
+    }
 }
 
 /// The locale of a case; that of English where it is left out.
-pub(crate) fn locale(session: &mut Session, case: &Value<'_>) -> Option<Locale> {
-    match member(case, "locale") {
+pub(crate) fn locale(session: &mut Session, case: &Value<'_>) -> Option<Box<Locale>> {
+    let locale = match member(case, "locale") {
         Some(given) => maybe_locale(session, given, "locale"),
-        None => {
-            let made = english(session.alloc);
-            session.allocated(made)
-        }
+        None => english_locale(session),
+    };
+    match locale {
+        Some(locale) => boxed(session, locale),
+        None => None,
     }
+}
+
+/// The locale of English; none where memory was refused.
+fn english_locale(session: &mut Session) -> Option<Locale> {
+    let made = english(session.alloc);
+    session.allocated(made)
 }
 
 /// The words of formats.

@@ -15,7 +15,7 @@ use std::borrow::Cow;
 pub(crate) fn answer(session: &mut Session, case: &Value<'_>) {
     session.only(case, &["case", "name", "entry", "variable", "form"]);
     if let Some(entry) = entry_member(session, case, "entry") {
-        put_answer(session, case, &entry);
+        put_answer(session, case, &*entry);
     }
 }
 

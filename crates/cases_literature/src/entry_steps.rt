@@ -23,13 +23,18 @@ fn put_equal(session: &mut Session, one: &Entry, other: &Entry) {
     session.put_bool("hashes_alike", hash_of(one) == hash_of(other));
 }
 
+/// Writes how an entry compares with that of the member `other`.
+fn put_compared(session: &mut Session, case: &Value<'_>, one: &Entry) {
+    if let Some(other) = entry_member(session, case, "other") {
+        put_equal(session, one, &*other);
+    }
+}
+
 /// `equal_entries`: whether two entries are equal, and whether their hashes are.
 pub(crate) fn equal_entries(session: &mut Session, case: &Value<'_>) {
     session.only(case, &["case", "name", "one", "other"]);
-    let one = entry_member(session, case, "one");
-    let other = entry_member(session, case, "other");
-    if let (Some(one), Some(other)) = (&one, &other) {
-        put_equal(session, one, other);
+    if let Some(one) = entry_member(session, case, "one") {
+        put_compared(session, case, &*one);
     }
 }
 
@@ -146,18 +151,22 @@ fn take_step(session: &mut Session, step: &Value<'_>, entry: &mut Entry) {
     }
 }
 
+/// Takes the steps in order, and writes what each returns.
+fn take_steps(session: &mut Session, steps: &[Value<'_>], entry: &mut Entry) {
+    session.begin_list("steps");
+    for step in steps {
+        take_step(session, step, entry);
+    }
+    session.end_array();
+}
+
 /// `library_entry`: what calls of an entry return, one after the other.
 pub(crate) fn library_entry(session: &mut Session, case: &Value<'_>) {
     session.only(case, &["case", "name", "entry", "steps"]);
     let Some(steps) = session.items(case, "steps") else {
         return session.want("steps", "a list");
     };
-    let Some(mut entry) = entry_member(session, case, "entry") else {
-        return;
-    };
-    session.begin_list("steps");
-    for step in steps {
-        take_step(session, step, &mut entry);
+    if let Some(mut entry) = entry_member(session, case, "entry") {
+        take_steps(session, steps, &mut *entry);
     }
-    session.end_array();
 }

@@ -2,7 +2,7 @@
 
 use crate::ENTRY_DEPTH;
 use crate::fields::set_fields;
-use cases::{Session, Value, member};
+use cases::{Refusal, Session, Value, member};
 use literature::{Entry, EntryType};
 
 /// The members of an entry.
@@ -47,14 +47,28 @@ fn bare(session: &mut Session, given: &Value<'_>) -> Entry {
     Entry::new(session.owned_text(given, "key"), entry_type)
 }
 
+/// A value in a box, since to hold and to hand on what is in a box costs nothing; none where memory was refused.
+pub fn boxed<T: Drop>(session: &mut Session, value: T) -> Option<Box<T>> {
+    match Box::new(session.alloc, value) {
+        Ok(boxed) => Some(boxed),
+        Err(_) => {
+            session.refuse(Refusal::Memory);
+            None
+        }
+    }
+}
+
 /// The entry of a member, where there is one.
 pub(crate) fn entry_member(
     session: &mut Session,
     case: &Value<'_>,
     name: &'static str,
-) -> Option<Entry> {
+) -> Option<Box<Entry>> {
     match member(case, name) {
-        Some(given) => Some(entry_of(session, given, ENTRY_DEPTH)),
+        Some(given) => {
+            let entry = entry_of(session, given, ENTRY_DEPTH);
+            boxed(session, entry)
+        }
         None => {
             session.want(name, "an entry");
             None

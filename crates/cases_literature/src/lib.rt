@@ -15,6 +15,7 @@ mod selectors;
 mod written_entries;
 
 use cases::{Session, Value};
+pub use given_entries::boxed;
 pub use written_entries::put_entry;
 
 /// How deep entries may be parts of one another.

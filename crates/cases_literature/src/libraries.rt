@@ -1,7 +1,7 @@
 //! Libraries.
 
 use crate::ENTRY_DEPTH;
-use crate::given_entries::{entry_member, entry_of};
+use crate::given_entries::{boxed, entry_member, entry_of};
 use crate::written_entries::put_entry;
 use cases::{Session, Value};
 use literature::{Entry, Library};
@@ -81,15 +81,25 @@ fn put_found(session: &mut Session, step: &Value<'_>, name: &str, library: &Libr
 /// Puts the entry of a step in.
 fn push(session: &mut Session, step: &Value<'_>, library: &mut Library) {
     if let Some(entry) = entry_member(session, step, "entry") {
-        session.check(library.push(entry));
+        session.check(library.push(Box::into_inner(entry)));
     }
     session.null();
 }
 
 /// Takes the entry of a key out, and writes it, or null.
 fn remove(session: &mut Session, step: &Value<'_>, library: &mut Library) {
-    let removed = library.remove(session.text(step, "key"));
-    put_maybe_entry(session, removed.as_ref());
+    let key = session.text(step, "key");
+    match library.remove(key) {
+        Some(entry) => put_removed(session, entry),
+        None => session.null(),
+    }
+}
+
+/// Writes an entry that was taken out.
+fn put_removed(session: &mut Session, entry: Entry) {
+    if let Some(entry) = boxed(session, entry) {
+        put_entry(session, &*entry, ENTRY_DEPTH);
+    }
 }
 
 /// Takes a step, and writes what it returns.

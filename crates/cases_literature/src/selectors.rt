@@ -100,7 +100,7 @@ fn put_selector(session: &mut Session, case: &Value<'_>, selector: &Selector) {
     }
     if has_entry {
         if let Some(entry) = entry_member(session, case, "entry") {
-            put_at_entry(session, case, selector, &entry);
+            put_at_entry(session, case, selector, &*entry);
         }
     }
 }
