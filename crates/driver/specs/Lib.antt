@@ -10,9 +10,11 @@ pub mod Joining
 pub mod Contents
 pub mod Renaming
 pub mod Views
+pub mod CitesInStep
 pub mod Numbering
 pub mod Rounding
 pub mod RenderedViews
 pub mod Listing
 pub mod Finals
+pub mod Printing
 pub mod Known

@@ -1,7 +1,7 @@
 -- The bibliography from what its style prints of each entry.
-use Rattle.std.specs.Prelude.{◌≡◌, ℕ, List, filter_map, map, slice_index_or, zip, IfSome, Option, None}
+use Rattle.std.specs.Prelude.{◌≡◌, ℕ, List, filter_map, length, map, slice_index_or, zip, IfSome, Option, None}
 use Rattle.std.specs.Borrow.{Bor}
-use Rattle.std.specs.Option.{option_and_then, option_map}
+use Rattle.std.specs.Option.{option_and_then, option_map, option_map_or}
 use Rattle.rendering_context.specs.Cites.{DisambiguateState}
 use Rattle.rendering_entries.specs.Answers.{Answers}
 use Rattle.rendering_tree.specs.Trees.{Children}
@@ -77,6 +77,14 @@ key_first x fs place = option_and_then (key_printed x) (first_listed fs place)
 -- the keys of the entries that the bibliography prints by their first cites, in that order
 abbrev pub keys_first : {P : Type 0} → StyleContext → List (Final P) → List ℕ → List (List ℕ)
 keys_first x fs order = filter_map (key_first x fs) order
+
+-- the same where the style has a bibliography, from the cites of requests as they are printed at last
+abbrev pub keys_made : {P : Type 0} → StyleContext → List ℕ → List (List (Final P)) → Option (List (List ℕ))
+keys_made x order fss = option_map (λ b. keys_first x (flattened fss) order) x.style.bibliography
+
+-- how many entries are printed in the bibliography at most: none where the style has none
+abbrev pub items_at_most : StyleContext → List ℕ → ℕ
+items_at_most x order = option_map_or (λ b. length order) x.style.bibliography 0
 
 -- citations and bibliography, from the cites of requests as they are printed at last
 abbrev pub rendered_of : {P : Type 0} → StyleContext → List ℕ → List (Request P) → List (List (Final P)) → Rendered

@@ -13,7 +13,7 @@ use Rattle.driver_marks.specs.Views.{givens_by}
 use Rattle.driver.specs.Stages.{printed_by}
 use Rattle.driver.specs.Views.{marked_by}
 use Rattle.driver.specs.declared.cite.NumberedCite.{NumberedCite}
-use Rattle.driver.specs.declared.rounds.FinalMarks.{FinalMarks}
+use Rattle.driver.specs.declared.final_marks.FinalMarks.{FinalMarks}
 use Rattle.driver.specs.declared.rounds.Marked.{Marked}
 
 -- marks, all that was given, and what cites print
@@ -22,7 +22,7 @@ marked_seen m = (record { marks = map state_by m.marks.items; given = givens_by 
 
 -- final marks, and all that was given
 abbrev pub disambiguation_seen : FinalMarks → Disambiguation
-disambiguation_seen m = record { marks = map state_by m.marks.items; given = givens_by m.given.items }
+disambiguation_seen m = record { marks = map state_by m.marks.now; given = givens_by m.given.now }
 
 -- marks with what cites print by them, unless letters are after the last
 abbrev pub unless_overflow : {P : Type 0} → List (Numbered P) → Disambiguation → Result (Disambiguation × List Printed) Overflow

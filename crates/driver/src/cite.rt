@@ -4,11 +4,12 @@ ghost use Rattle.std.specs.Prelude.{◌≡◌, IfOk, is_some};
 ghost use Rattle.std.specs.Option.{option_map};
 ghost use Rattle.rendering_context.specs.Views.{cite_by, locator_by, state_by};
 ghost use Rattle.rendering.specs.Purposes.{citation, counted};
-ghost use Rattle.rendering.specs.Views.{context_seen, rendered_by};
+ghost use Rattle.rendering.specs.Views.{rendered_by};
 ghost use Rattle.driver_requests.specs.Views as requests;
 ghost use Rattle.driver_requests.specs.Requests.{plain_locator};
+ghost use Rattle.driver.specs.CitesInStep.{styled_seen};
 ghost use Rattle.driver.specs.Stages.{has_letter_date, printed_by, purpose_at_first};
-ghost use Rattle.driver.specs.Views.{numbered_seen, properties_with};
+ghost use Rattle.driver.specs.Views.{properties_with};
 
 use driver_requests::{CitationItem, CiteFacts};
 use rendering::{Effort, Rendering, StyleContext};
@@ -58,6 +59,14 @@ impl NumberedCite {
     }
 }
 
+/// A cite with its item, and with the style that it is printed in.
+#[derive_where(Clone, Copy)]
+pub(crate) struct StyledCite<'r, 'c, T, P> {
+    pub(crate) item: &'r CitationItem<'r, T, P>,
+    pub(crate) context: &'c StyleContext<'c>,
+    pub(crate) numbered: NumberedCite,
+}
+
 /// The purpose for which a cite is printed until marks are final: a cite for its year is printed whole.
 fn purpose_at_first(purpose: Option<CitePurpose>) -> Option<CitePurpose>
     ensures { result ≡ purpose_at_first purpose }
@@ -70,18 +79,19 @@ fn purpose_at_first(purpose: Option<CitePurpose>) -> Option<CitePurpose>
 
 /// What a cite prints by a mark, without its locator.
 pub(crate) fn printed_by<T: EntryLike, P>(
-    context: &StyleContext<'_>,
-    item: &CitationItem<'_, T, P>,
-    cite: NumberedCite,
+    cite: StyledCite<'_, '_, T, P>,
     mark: DisambiguateState,
     effort: &mut Effort,
 ) -> Result<Rendering, AllocError>
-    ensures prints { IfOk result (λ r. rendered_by r ≡ printed_by (numbered_seen T.answers (context_seen context.now) item.now cite) (state_by mark)) }
+    ensures prints { IfOk result (λ r. rendered_by r
+        ≡ printed_by (styled_seen T.answers cite.entry) (state_by mark)) }
     ensures effort { effort.new ≡ counted effort.old }
 {
-    let properties = cite.properties(mark, None, cite.ibid, IdentifierUsage::None);
-    let purpose = purpose_at_first(item.purpose);
-    context.citation(item.entry, &properties, None, purpose, None, effort)
+    let numbered = cite.numbered;
+    let properties = numbered.properties(mark, None, numbered.ibid, IdentifierUsage::None);
+    let purpose = purpose_at_first(cite.item.purpose);
+    cite.context
+        .citation(cite.item.entry, &properties, None, purpose, None, effort)
 }
 
 /// The locator of an item, without what the caller prints by itself.

@@ -1,36 +1,43 @@
 //! From requests to citations and a bibliography.
 
 ghost use Rattle.std.specs.Prelude.{◌≡◌, ◌+◌, ◌<◌, ◌≤◌, ◌++◌, ◌∷◌, [], ℕ, All, length, map, replicate, None, IfOk, OnErr, OnOk};
-ghost use Rattle.std.specs.Option.{option_map, option_map_or};
+ghost use Rattle.std.specs.Option.{option_map};
 ghost use Rattle.laws.specs.Results.{Gives, GivesBack};
-ghost use Rattle.rendering.specs.Views.{context_seen};
-ghost use Rattle.rendering_context.specs.Views.{state_by};
 ghost use Rattle.driver_marks.specs.CitesViews.{cites_seen};
 ghost use Rattle.driver_requests.specs.Errors.{overflow_of};
-ghost use Rattle.driver_requests.specs.Views.{context_of, request_by};
-ghost use Rattle.driver.specs.Finals.{finals_from, firsts};
+ghost use Rattle.driver.specs.CitesInStep.{cites_count, requests_by};
 ghost use Rattle.driver.specs.Finish.{effort_bound, finish, keys_in};
-ghost use Rattle.driver.specs.Listing.{keys_first, rendered_of};
-ghost use Rattle.driver.specs.RenderedViews.{keys_by, rendered_by};
-ghost use Rattle.driver.specs.Rounding.{AreWithin, marked_seen};
-ghost use Rattle.driver.specs.Stages.{flattened};
-ghost use Rattle.driver.specs.Views.{bibliography_context_of, document_by, marked_by, rows_seen, usage_of};
+ghost use Rattle.driver.specs.Listing.{items_at_most, keys_made, rendered_of};
+ghost use Rattle.driver.specs.Printing.{ArePrinted, document_citations, document_finals, document_listed, entries_listed};
+ghost use Rattle.driver.specs.RenderedViews.{citation_by, keys_by, rendered_by};
+ghost use Rattle.driver.specs.Rounding.{marked_seen};
+ghost use Rattle.driver.specs.Views.{bibliography_context_of, document_by};
 
-use crate::cite::NumberedCite;
 use crate::contexts::contexts;
+use crate::document_cites::DocumentCites;
+use crate::final_marks::FinalMarks;
 use crate::finals::{ListedCite, citations};
 use crate::first::{FirstPrints, first_prints};
 use crate::known::known_of;
 use crate::listed::bibliography;
-use crate::rendered::Rendered;
-use crate::rounds::{FinalMarks, Marked, disambiguated};
+use crate::rendered::{Rendered, RenderedCitation};
+use crate::rounds::{Marked, disambiguated};
 use driver_marks::suffixes;
 use driver_requests::{BibliographyRequest, CitationRequest, DriverError};
-use rendering::{Effort, StyleContext};
+use rendering::Effort;
+use rendering_context::DisambiguateState;
 use rendering_entries::EntryLike;
 use rendering_taxonomy::IdentifierUsage;
 use std::alloc::{AllocError, Global};
 use std::hash::Hash;
+
+/// The citations of requests, and what a bibliography lists entries by: the first cite of each, and the marks of all.
+#[derive(Drop)]
+struct FinalCitations<'r, T> {
+    citations: Vec<RenderedCitation>,
+    listed: Vec<Option<ListedCite<'r, T>>>,
+    marks: Vec<DisambiguateState>,
+}
 
 /// Requests in the order of the text, from which citations and a bibliography are made.
 ///
@@ -131,24 +138,19 @@ fn finish_requests<'r, T: EntryLike + Hash, P: PartialEq>(
 {
     let known = known_of(alloc, requests, offset, request)?;
     let contexts = contexts(alloc, requests)?;
-    let mut effort = Effort::default();
-    let first = first_prints(alloc, requests, &contexts, &known.rows, &mut effort)?;
-    let FirstPrints { printed, usages } = first;
-    let marked = disambiguated(
-        alloc,
+    let cites = DocumentCites {
         requests,
-        &contexts,
-        &known.rows,
-        printed,
-        known.count,
-        &mut effort,
-    )?;
+        contexts: &contexts,
+        rows: &known.rows,
+    };
+    let mut effort = Effort::default();
+    let first = first_prints(alloc, cites, &mut effort)?;
+    let FirstPrints { printed, usages } = first;
+    let marked = disambiguated(alloc, cites, printed, known.count, &mut effort)?;
     render(
         alloc,
-        requests,
+        cites,
         request,
-        &contexts,
-        &known.rows,
         &known.order,
         &usages,
         marked,
@@ -159,24 +161,57 @@ fn finish_requests<'r, T: EntryLike + Hash, P: PartialEq>(
 /// Citations and bibliography of requests by the final marks. The bibliography is printed once what cites have printed is let go.
 fn render<'r, T: EntryLike, P: PartialEq>(
     alloc: Global,
-    requests: &'r [CitationRequest<'r, T, P>],
+    cites: DocumentCites<'r, '_, T, P>,
     request: &BibliographyRequest<'_, T>,
-    contexts: &[StyleContext<'_>],
-    rows: &[Vec<NumberedCite>],
     order: &[usize],
     usages: &[IdentifierUsage],
     marked: Marked,
     effort: &mut Effort,
 ) -> Result<Rendered, DriverError>
-    requires contexts { map context_seen contexts.now ≡ map context_of requests.now }
-    requires rows { map (λ v. length v.items) rows.now ≡ map (λ r. length r.items.items) requests.now }
-    requires within { AreWithin (length marked.marks.items) rows.now }
+    requires printed { ArePrinted T.answers cites marked.marks.items usages.now
+        (cites_seen marked.printed) }
     requires order { All (λ p. p < length marked.marks.items) order.now }
-    requires usages { usages.now ≡ map usage_of (flattened (rows_seen T.answers requests.now rows.now)) }
-    requires printed { cites_seen marked.printed ≡ map (marked_by (map state_by marked.marks.items)) (flattened (rows_seen T.answers requests.now rows.now)) }
-    ensures rendered { (place : T → ℕ) → GivesBack overflow_of rendered_by result (rendered_of (bibliography_context_of request.now) order.now (map (request_by place T.answers) requests.now) (finals_from P.eq (marked_seen marked).0 (map (request_by place T.answers) requests.now) (firsts (rows_seen T.answers requests.now rows.now)))) }
-    ensures keys { (place : T → ℕ) → IfOk result (λ r. option_map keys_by r.bibliography ≡ option_map (λ s. keys_first (bibliography_context_of request.now) (flattened (finals_from P.eq (marked_seen marked).0 (map (request_by place T.answers) requests.now) (firsts (rows_seen T.answers requests.now rows.now)))) order.now) (bibliography_context_of request.now).style.bibliography) }
-    ensures effort { IfOk result (λ r. r.effort ≤ effort.old + length (flattened (rows_seen T.answers requests.now rows.now)) + option_map_or (λ s. length order.now) (bibliography_context_of request.now).style.bibliography 0) }
+    ensures rendered { (place : T → ℕ) → GivesBack overflow_of rendered_by result
+        (rendered_of (bibliography_context_of request.now) order.now
+        (requests_by place T.answers cites.entry)
+        (document_finals P.eq T.answers place (marked_seen marked).0 cites.entry)) }
+    ensures keys { (place : T → ℕ) → IfOk result (λ r. option_map keys_by r.bibliography
+        ≡ keys_made (bibliography_context_of request.now) order.now
+        (document_finals P.eq T.answers place (marked_seen marked).0 cites.entry)) }
+    ensures effort { IfOk result (λ r. r.effort ≤ effort.old + cites_count T.answers cites.entry
+        + items_at_most (bibliography_context_of request.now) order.now) }
+{
+    let FinalCitations {
+        citations,
+        listed,
+        marks,
+    } = final_citations(alloc, cites, usages, marked, effort)?;
+    let bibliography = bibliography(alloc, request, order, &marks, &listed, effort)?;
+    Ok(Rendered {
+        bibliography,
+        citations,
+        effort: effort.count(),
+    })
+}
+
+/// The citations of requests by the final marks, and what a bibliography lists entries by. What cites have printed goes into the citations.
+fn final_citations<'r, T: EntryLike, P: PartialEq>(
+    alloc: Global,
+    cites: DocumentCites<'r, '_, T, P>,
+    usages: &[IdentifierUsage],
+    marked: Marked,
+    effort: &mut Effort,
+) -> Result<FinalCitations<'r, T>, AllocError>
+    requires { ArePrinted T.answers cites marked.marks.items usages.now
+        (cites_seen marked.printed) }
+    ensures citations { (place : T → ℕ) → IfOk result (λ c. map citation_by c.citations.items
+        ≡ document_citations P.eq T.answers place (marked_seen marked).0 cites.entry) }
+    ensures listed { (place : T → ℕ) → IfOk result (λ c.
+        entries_listed T.answers c.marks.items c.listed.items
+        ≡ document_listed P.eq T.answers place (marked_seen marked).0
+        (length marked.marks.items) cites.entry) }
+    ensures marks { IfOk result (λ c. c.marks.items ≡ marked.marks.items) }
+    ensures effort { OnOk result (effort.new ≤ effort.old + cites_count T.answers cites.entry) }
 {
     let Marked {
         marks,
@@ -185,24 +220,17 @@ fn render<'r, T: EntryLike, P: PartialEq>(
     } = marked;
     let letters = suffixes(alloc, &marks, &given)?;
     let mut listed = unlisted(alloc, marks.len())?;
-    let marked = FinalMarks { marks, given };
-    let citations = citations(
-        alloc,
-        requests,
-        contexts,
-        rows,
-        usages,
-        &marked,
-        printed.into_cites(),
-        &letters,
-        &mut listed,
-        effort,
-    )?;
-    let bibliography = bibliography(alloc, request, order, &marked.marks, &listed, effort)?;
-    Ok(Rendered {
-        bibliography,
+    let finals = FinalMarks {
+        marks: &marks,
+        given: &given,
+        letters: &letters,
+    };
+    let printed = printed.into_cites();
+    let citations = citations(alloc, cites, usages, finals, printed, &mut listed, effort)?;
+    Ok(FinalCitations {
         citations,
-        effort: effort.count(),
+        listed,
+        marks,
     })
 }
 

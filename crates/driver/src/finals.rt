@@ -1,10 +1,7 @@
 //! Last prints of cites, and citations from them.
 
-ghost use Rattle.std.specs.Prelude.{◌≡◌, ℕ, ◌+◌, ◌<◌, ◌≤◌, ◌++◌, [], All, None, fold, length, map, zip, replicate, is_some, true, IfOk, OnOk};
-ghost use Rattle.std.specs.List.{range_with_len};
+ghost use Rattle.std.specs.Prelude.{◌≡◌, ℕ, ◌+◌, ◌<◌, ◌≤◌, ◌++◌, [], All, None, fold, length, map, replicate, is_some, true, IfOk, OnOk};
 ghost use Rattle.std.specs.Option.{option_map};
-ghost use Rattle.rendering.specs.Views.{context_seen};
-ghost use Rattle.rendering_context.specs.Views.{state_by};
 ghost use Rattle.rendering_style.specs.Styles as styles;
 ghost use Rattle.rendering_style.specs.Views.{citation_seen};
 ghost use Rattle.rendering_tree.specs.Metas as metas;
@@ -12,32 +9,31 @@ ghost use Rattle.rendering_tree.specs.Trees.{element_with};
 ghost use Rattle.rendering_tree.specs.Views.{tree};
 ghost use Rattle.driver_blocks.specs.Collapsing.{arranged};
 ghost use Rattle.driver_blocks.specs.Views.{arranged_seen, gathered_seen};
-ghost use Rattle.driver_marks.specs.Lettered.{suffixes_by};
-ghost use Rattle.driver_marks.specs.Marks.{Marks, mark_of};
-ghost use Rattle.driver_marks.specs.CitesViews.{cites_seen};
-ghost use Rattle.driver_marks.specs.Views.{givens_by, printed_seen};
+ghost use Rattle.driver_marks.specs.Marks.{Marks};
+ghost use Rattle.driver_marks.specs.Views.{printed_seen};
 ghost use Rattle.driver_requests.specs.Positions as positions;
 ghost use Rattle.driver_requests.specs.SuffixViews.{suffix_by};
-ghost use Rattle.driver_requests.specs.Views.{context_of, item_by, request_by};
-ghost use Rattle.driver.specs.Finals.{IsLeft, all_gathered, arranged_in, final_seen, finals_from, first_listed, firsts, gathered_from, last_arranged, last_seen, listed_as, listed_by, listed_seen, listed_with, nameless, placed_seen, placed_with, row_finals};
+ghost use Rattle.driver_requests.specs.Views.{item_by, request_by};
+ghost use Rattle.driver.specs.CitesInStep.{cites_count};
+ghost use Rattle.driver.specs.Finals.{all_gathered, gathered_from, last_arranged, last_seen, listed_as, listed_by, listed_seen, listed_with, nameless, placed_with};
 ghost use Rattle.driver.specs.Finish as finish;
 ghost use Rattle.driver.specs.Finish.{citation_in};
 ghost use Rattle.driver.specs.Joining.{shown_seen};
+ghost use Rattle.driver.specs.Printing.{ArePlaces, ArePrinted, BelongTogether, HasPrinted, arranged_among, document_citations, document_listed, entries_listed, marks_seen, placed_so_far, printing_final, printing_gathered, printing_prints, request_arranged, request_finals, request_prints};
 ghost use Rattle.driver.specs.RenderedViews.{citation_by};
-ghost use Rattle.driver.specs.Rounding.{AreWithin, disambiguation_seen};
+ghost use Rattle.driver.specs.Rounding.{disambiguation_seen};
 ghost use Rattle.driver.specs.Stages as stages;
-ghost use Rattle.driver.specs.Stages.{arranged_for, counts_at_last, first_print, flattened};
-ghost use Rattle.driver.specs.Views.{marked_by, numbered_seen, row_seen, rows_seen, usage_of};
+ghost use Rattle.driver.specs.Stages.{counts_at_last};
 
 use crate::citation::{ShownCite, citation_of};
 use crate::cite::{NumberedCite, plain_locator};
+use crate::document_cites::{DocumentCites, RequestCites};
+use crate::final_marks::FinalMarks;
 use crate::rendered::RenderedCitation;
-use crate::rounds::FinalMarks;
 use driver_blocks::{Arranged, Gathered, arrange};
 use driver_marks::Printed;
 use driver_requests::{CitationItem, CitationRequest, Suffix, ibid_after};
-use rendering::{Effort, StyleContext};
-use rendering_context::DisambiguateState;
+use rendering::Effort;
 use rendering_entries::EntryLike;
 use rendering_style::Citation;
 use rendering_taxonomy::{CitePurpose, CollapseVerdict, IbidState, IdentifierUsage};
@@ -70,71 +66,53 @@ struct FinalCite<'r, T, P> {
     usage: IdentifierUsage,
 }
 
-/// The cites of a request in the order of its items, and which identifiers they printed at first.
-#[derive(Clone, Copy)]
-struct RequestCites<'c> {
-    row: &'c [NumberedCite],
+/// What the citation of a request is printed from: its cites, which identifiers they printed at first, its style, and the final marks of
+/// all entries.
+#[derive_where(Clone, Copy)]
+struct Printing<'r, 'c, T, P> {
+    cites: RequestCites<'r, 'c, T, P>,
     usages: &'c [IdentifierUsage],
-}
-
-/// What the cites of a request are printed by: its style, and the final marks of all entries.
-#[derive(Clone, Copy)]
-struct Printing<'c> {
-    context: &'c StyleContext<'c>,
-    style: &'c Citation,
-    marks: &'c [DisambiguateState],
+    style: &'r Citation,
+    marked: FinalMarks<'c>,
 }
 
 /// The citations of requests, and of each entry its first cite in the final order. What cites have printed by their final marks goes into
 /// them.
 pub(crate) fn citations<'r, T: EntryLike, P: PartialEq>(
     alloc: Global,
-    requests: &'r [CitationRequest<'r, T, P>],
-    contexts: &[StyleContext<'_>],
-    rows: &[Vec<NumberedCite>],
+    cites: DocumentCites<'r, '_, T, P>,
     usages: &[IdentifierUsage],
-    marked: &FinalMarks,
+    marked: FinalMarks<'_>,
     mut printed: Vec<Printed>,
-    letters: &[Option<Suffix>],
     listed: &mut [Option<ListedCite<'r, T>>],
     effort: &mut Effort,
 ) -> Result<Vec<RenderedCitation>, AllocError>
-    requires contexts { map context_seen contexts.now ≡ map context_of requests.now }
-    requires rows { map (λ v. length v.items) rows.now ≡ map (λ r. length r.items.items) requests.now }
-    requires within { AreWithin (length marked.now.marks.items) rows.now }
-    requires usages { usages.now ≡ map usage_of (flattened (rows_seen T.answers requests.now rows.now)) }
-    requires printed { map printed_seen printed.items ≡ map (marked_by (map state_by marked.now.marks.items)) (flattened (rows_seen T.answers requests.now rows.now)) }
-    requires letters { map (option_map suffix_by) letters.now ≡ suffixes_by (map state_by marked.now.marks.items) (givens_by marked.now.given.items) }
-    requires unlisted { listed.old ≡ replicate (length marked.now.marks.items) None }
-    ensures citations { (place : T → ℕ) → IfOk result (λ v. map citation_by v.items ≡ map citation_in (zip (map (request_by place T.answers) requests.now) (finals_from P.eq (disambiguation_seen marked.now) (map (request_by place T.answers) requests.now) (firsts (rows_seen T.answers requests.now rows.now))))) }
-    ensures listed { (place : T → ℕ) → OnOk result (map (option_map (listed_by T.answers (map state_by marked.now.marks.items))) listed.new ≡ map (first_listed (flattened (finals_from P.eq (disambiguation_seen marked.now) (map (request_by place T.answers) requests.now) (firsts (rows_seen T.answers requests.now rows.now))))) (range_with_len 0 (length marked.now.marks.items))) }
-    ensures effort { OnOk result (effort.new ≤ effort.old + length (flattened (rows_seen T.answers requests.now rows.now))) }
+    requires printed { ArePrinted T.answers cites marked.marks.now usages.now
+        (map printed_seen printed.items) }
+    requires unlisted { listed.old ≡ replicate (length marked.marks.now) None }
+    ensures citations { (place : T → ℕ) → IfOk result (λ v. map citation_by v.items
+        ≡ document_citations P.eq T.answers place (disambiguation_seen marked.entry) cites.entry) }
+    ensures listed { (place : T → ℕ) → OnOk result (
+        entries_listed T.answers marked.entry.marks.now listed.new
+        ≡ document_listed P.eq T.answers place (disambiguation_seen marked.entry)
+        (length marked.entry.marks.now) cites.entry) }
+    ensures effort { OnOk result (effort.new ≤ effort.old + cites_count T.answers cites.entry) }
 {
-    let mut citations = Vec::with_capacity(alloc, requests.len())?;
+    let mut citations = Vec::with_capacity(alloc, cites.requests.len())?;
     let mut last: Option<LastCite<'r, T, P>> = None;
     let mut left = printed.as_mut_slice();
     let mut usages = usages;
-    for (index, request) in requests.iter().enumerate() {
-        let context = &contexts[index];
-        let row = rows[index].as_slice();
-        let (own_printed, other_printed) = left.split_at_mut(row.len());
-        let (own_usages, other_usages) = usages.split_at(row.len());
-        let cites = RequestCites {
-            row,
+    for index in 0..cites.requests.len() {
+        let own = cites.request(index);
+        let (own_printed, other_printed) = left.split_at_mut(own.row.len());
+        let (own_usages, other_usages) = usages.split_at(own.row.len());
+        let printing = Printing {
+            cites: own,
             usages: own_usages,
-        };
-        let citation = request_citation(
-            alloc,
-            request,
-            context,
-            cites,
-            own_printed,
+            style: &own.request.style().parts().citation,
             marked,
-            letters,
-            &mut last,
-            listed,
-            effort,
-        )?;
+        };
+        let citation = request_citation(alloc, printing, own_printed, &mut last, listed, effort)?;
         citations.push(citation)?;
         left = other_printed;
         usages = other_usages;
@@ -145,48 +123,35 @@ pub(crate) fn citations<'r, T: EntryLike, P: PartialEq>(
 /// The citation of a request. Its cites follow the last one in the final order, and list the entries that they are the first cites of.
 fn request_citation<'r, T: EntryLike, P: PartialEq>(
     alloc: Global,
-    request: &'r CitationRequest<'r, T, P>,
-    context: &StyleContext<'_>,
-    cites: RequestCites<'_>,
+    printing: Printing<'r, '_, T, P>,
     printed: &mut [Printed],
-    marked: &FinalMarks,
-    letters: &[Option<Suffix>],
     last: &mut Option<LastCite<'r, T, P>>,
     listed: &mut [Option<ListedCite<'r, T>>],
     effort: &mut Effort,
 ) -> Result<RenderedCitation, AllocError>
-    requires context { context_seen context.now ≡ context_of request.now }
-    requires row { length cites.row.now ≡ length request.now.items.items }
-    requires within { All (λ n. n.entry < length marked.now.marks.items) cites.row.now }
-    requires usages { cites.usages.now ≡ map usage_of (row_seen T.answers (context_of request.now) request.now.items.items cites.row.now) }
-    requires printed { map printed_seen printed.old ≡ map (marked_by (map state_by marked.now.marks.items)) (row_seen T.answers (context_of request.now) request.now.items.items cites.row.now) }
-    requires letters { map (option_map suffix_by) letters.now ≡ suffixes_by (map state_by marked.now.marks.items) (givens_by marked.now.given.items) }
-    requires listed { length listed.old ≡ length marked.now.marks.items }
-    ensures citation { IfOk result (λ c. citation_by c ≡ citation_in (request_by (λ e. 0) T.answers request.now, row_finals P.eq (map state_by marked.now.marks.items) (last_seen T.answers last.old) (arranged_for (disambiguation_seen marked.now) (request_by (λ e. 0) T.answers request.now, map first_print (row_seen T.answers (context_of request.now) request.now.items.items cites.entry.row.now))))) }
-    ensures listed { OnOk result (map (option_map (listed_by T.answers (map state_by marked.now.marks.items))) listed.new ≡ fold listed_with (map (option_map (listed_by T.answers (map state_by marked.now.marks.items))) listed.old) (map listed_as (row_finals P.eq (map state_by marked.now.marks.items) (last_seen T.answers last.old) (arranged_for (disambiguation_seen marked.now) (request_by (λ e. 0) T.answers request.now, map first_print (row_seen T.answers (context_of request.now) request.now.items.items cites.entry.row.now)))))) }
-    ensures last { OnOk result (last_seen T.answers last.new ≡ last_arranged (last_seen T.answers last.old) (arranged_for (disambiguation_seen marked.now) (request_by (λ e. 0) T.answers request.now, map first_print (row_seen T.answers (context_of request.now) request.now.items.items cites.entry.row.now)))) }
-    ensures effort { OnOk result (effort.new ≤ effort.old + length cites.entry.row.now) }
+    requires printing { BelongTogether T.answers printing }
+    requires printed { map printed_seen printed.old ≡ request_prints T.answers printing }
+    requires listed { length listed.old ≡ length printing.marked.marks.now }
+    ensures citation { IfOk result (λ c. citation_by c
+        ≡ citation_in (
+          request_by (λ e. 0) T.answers printing.entry.cites.request.now,
+          request_finals P.eq T.answers (last_seen T.answers last.old) printing.entry,
+        )) }
+    ensures listed { OnOk result (
+        entries_listed T.answers printing.entry.marked.marks.now listed.new
+        ≡ fold listed_with (entries_listed T.answers printing.entry.marked.marks.now listed.old)
+        (map listed_as
+        (request_finals P.eq T.answers (last_seen T.answers last.old) printing.entry))) }
+    ensures last { OnOk result (last_seen T.answers last.new
+        ≡ last_arranged (last_seen T.answers last.old)
+        (request_arranged T.answers printing.entry)) }
+    ensures effort { OnOk result (effort.new ≤ effort.old + length printing.entry.cites.row.now) }
 {
-    let style = &request.style().parts().citation;
+    let request = printing.cites.request;
     let some_purpose = has_purpose(request);
-    let arranged = arranged_cites(
-        alloc,
-        request,
-        style,
-        some_purpose,
-        cites.row,
-        printed,
-        letters,
-    )?;
-    let printing = Printing {
-        context,
-        style,
-        marks: &marked.marks,
-    };
-    let shown = print_arranged(
-        alloc, request, printing, cites, printed, &arranged, last, listed, effort,
-    )?;
-    let citation = citation_of(alloc, &style.layout, some_purpose, shown)?;
+    let arranged = arranged_cites(alloc, printing, some_purpose, printed)?;
+    let shown = print_arranged(alloc, printing, printed, &arranged, last, listed, effort)?;
+    let citation = citation_of(alloc, &printing.style.layout, some_purpose, shown)?;
     Ok(RenderedCitation {
         note_number: request.note_number(),
         citation,
@@ -203,20 +168,21 @@ fn has_purpose<T: EntryLike, P>(request: &CitationRequest<'_, T, P>) -> bool
 /// The cites of a request as they are arranged, without the names by which they were.
 fn arranged_cites<T, P>(
     alloc: Global,
-    request: &CitationRequest<'_, T, P>,
-    style: &Citation,
+    printing: Printing<'_, '_, T, P>,
     some_purpose: bool,
-    row: &[NumberedCite],
     printed: &[Printed],
-    letters: &[Option<Suffix>],
 ) -> Result<Vec<Arranged<'static>>, AllocError>
-    requires row { length row.now ≡ length request.now.items.items }
-    requires printed { length printed.now ≡ length request.now.items.items }
-    requires within { All (λ n. n.entry < length letters.now) row.now }
-    ensures { IfOk result (λ v. map (arranged_seen (citation_seen style.now)) v.items ≡ map nameless (arranged (citation_seen style.now) some_purpose (all_gathered (map (option_map suffix_by) letters.now) 0 request.now.items.items row.now (map printed_seen printed.now)))) }
+    requires row { length printing.cites.row.now ≡ length printing.cites.request.now.items.items }
+    requires printed { length printed.now ≡ length printing.cites.request.now.items.items }
+    requires within { All (λ n. n.entry < length printing.marked.letters.now)
+        printing.cites.row.now }
+    ensures { IfOk result (λ v. map (arranged_seen (citation_seen printing.entry.style.now)) v.items
+        ≡ map nameless (arranged (citation_seen printing.entry.style.now) some_purpose
+        (printing_gathered printing.entry (map printed_seen printed.now)))) }
 {
-    let gathered = gathered_cites(alloc, request, row, printed, letters)?;
-    let arranged = arrange(alloc, style, some_purpose, &gathered)?;
+    let RequestCites { request, row, .. } = printing.cites;
+    let gathered = gathered_cites(alloc, request, row, printed, printing.marked.letters)?;
+    let arranged = arrange(alloc, printing.style, some_purpose, &gathered)?;
     without_names(alloc, &arranged)
 }
 
@@ -307,36 +273,36 @@ fn printed_number(parts: &ElemChildren, number: usize) -> Option<usize>
 }
 
 /// What the shown cites of a request print, in their final order. All of them follow the last one, and list their entries.
-fn print_arranged<'r, 'c, T: EntryLike, P: PartialEq>(
+fn print_arranged<'r, T: EntryLike, P: PartialEq>(
     alloc: Global,
-    request: &'r CitationRequest<'r, T, P>,
-    printing: Printing<'c>,
-    cites: RequestCites<'_>,
+    printing: Printing<'r, '_, T, P>,
     printed: &mut [Printed],
     arranged: &[Arranged<'_>],
     last: &mut Option<LastCite<'r, T, P>>,
     listed: &mut [Option<ListedCite<'r, T>>],
     effort: &mut Effort,
-) -> Result<Vec<ShownCite<'c>>, AllocError>
-    requires row { length cites.row.now ≡ length request.now.items.items }
-    requires within { All (λ n. n.entry < length printing.marks.now) cites.row.now }
-    requires printed { map printed_seen printed.old ≡ map (marked_by (map state_by printing.marks.now)) (row_seen T.answers (context_seen printing.context.now) request.now.items.items cites.row.now) }
-    requires usages { cites.usages.now ≡ map usage_of (row_seen T.answers (context_seen printing.context.now) request.now.items.items cites.row.now) }
-    requires listed { length listed.old ≡ length printing.marks.now }
-    requires places { All (λ a. a.cite.cite < length request.now.items.items) arranged.now }
-    ensures placed { IfOk result (λ v. placed_seen T.answers (map state_by printing.entry.marks.now) v.items listed.new last.new ≡ fold (placed_with P.eq (map state_by printing.entry.marks.now)) (placed_seen T.answers (map state_by printing.entry.marks.now) [] listed.old last.old) (arranged_in (map first_print (row_seen T.answers (context_seen printing.entry.context.now) request.now.items.items cites.entry.row.now)) (map (arranged_seen (citation_seen printing.entry.style.now)) arranged.now))) }
+) -> Result<Vec<ShownCite<'r>>, AllocError>
+    requires printing { BelongTogether T.answers printing }
+    requires printed { map printed_seen printed.old ≡ printing_prints T.answers printing }
+    requires listed { length listed.old ≡ length printing.marked.marks.now }
+    requires places { ArePlaces printing arranged.now }
+    ensures placed { IfOk result (λ v.
+        placed_so_far T.answers printing.entry v.items listed.new last.new
+        ≡ fold (placed_with P.eq (marks_seen printing.entry.marked))
+        (placed_so_far T.answers printing.entry [] listed.old last.old)
+        (arranged_among T.answers printing.entry arranged.now)) }
     ensures effort { OnOk result (effort.new ≤ effort.old + length arranged.now) }
 {
     let mut shown = Vec::with_capacity(alloc, arranged.len())?;
     for cite in arranged {
         let place = cite.cite.cite;
-        let item = &request.items[place];
-        let own = cites.row[place];
+        let item = &printing.cites.request.items[place];
+        let own = printing.cites.row[place];
         let next = FinalCite {
             item,
             cite: own,
             ibid: ibid_at_last(last, item, own.entry),
-            usage: cites.usages[place],
+            usage: printing.usages[place],
         };
         list(&next, listed);
         let tree = printed[place].take_tree(alloc);
@@ -381,17 +347,19 @@ fn list<'r, T: EntryLike, P>(next: &FinalCite<'r, T, P>, listed: &mut [Option<Li
 
 /// Appends what a cite prints, if it is shown. By its final mark and without its locator it has printed this tree, unless nothing is left
 /// of that.
-fn print_shown<'c, T: EntryLike, P>(
-    printing: Printing<'c>,
+fn print_shown<'r, T: EntryLike, P>(
+    printing: Printing<'r, '_, T, P>,
     next: &FinalCite<'_, T, P>,
     cite: &Arranged<'_>,
     printed: ElemChildren,
-    shown: &mut Vec<ShownCite<'c>>,
+    shown: &mut Vec<ShownCite<'r>>,
     effort: &mut Effort,
 ) -> Result<(), AllocError>
-    requires within { next.now.cite.entry < length printing.marks.now }
-    requires printed { IsLeft (tree printed) (stages.printed_by (numbered_seen T.answers (context_seen printing.context.now) next.now.item.now next.now.cite) (mark_of (map state_by printing.marks.now) next.now.cite.entry)).tree }
-    ensures shown { OnOk result (map shown_seen shown.new.items ≡ map shown_seen shown.old.items ++ finish.shown (final_seen T.answers (context_seen printing.entry.context.now) (citation_seen printing.entry.style.now) (map state_by printing.entry.marks.now) next.now cite.now)) }
+    requires within { next.now.cite.entry < length printing.marked.marks.now }
+    requires printed { HasPrinted T.answers printing next.now (tree printed) }
+    ensures shown { OnOk result (map shown_seen shown.new.items
+        ≡ map shown_seen shown.old.items
+        ++ finish.shown (printing_final T.answers printing.entry next.now cite.now)) }
     ensures effort { OnOk result (effort.new ≤ effort.old + 1) }
 {
     if !cite.is_shown {
@@ -409,26 +377,27 @@ fn print_shown<'c, T: EntryLike, P>(
 /// What a cite prints. By its final mark and without its locator it has printed this tree, unless nothing is left of that; it is not printed
 /// again where nothing else is asked for.
 fn printed_at_last<T: EntryLike, P>(
-    printing: Printing<'_>,
+    printing: Printing<'_, '_, T, P>,
     next: &FinalCite<'_, T, P>,
     cite: &Arranged<'_>,
     printed: ElemChildren,
     effort: &mut Effort,
 ) -> Result<ElemChildren, AllocError>
-    requires within { next.now.cite.entry < length printing.marks.now }
-    requires printed { IsLeft (tree printed) (stages.printed_by (numbered_seen T.answers (context_seen printing.context.now) next.now.item.now next.now.cite) (mark_of (map state_by printing.marks.now) next.now.cite.entry)).tree }
-    ensures printed { IfOk result (λ t. tree t ≡ stages.printed_at_last (final_seen T.answers (context_seen printing.entry.context.now) (citation_seen printing.entry.style.now) (map state_by printing.entry.marks.now) next.now cite.now)) }
+    requires within { next.now.cite.entry < length printing.marked.marks.now }
+    requires printed { HasPrinted T.answers printing next.now (tree printed) }
+    ensures printed { IfOk result (λ t. tree t
+        ≡ stages.printed_at_last (printing_final T.answers printing.entry next.now cite.now)) }
     ensures effort { OnOk result (effort.new ≤ effort.old + 1) }
 {
     if !printed.is_empty() && prints_as_before(next, cite) {
         return Ok(printed);
     }
-    let mark = printing.marks[next.cite.entry].clone()?;
+    let mark = printing.marked.marks[next.cite.entry].clone()?;
     let locator = plain_locator(next.item);
     let properties = next
         .cite
         .properties(mark, locator, next.ibid, IdentifierUsage::None);
-    let rendering = printing.context.citation(
+    let rendering = printing.cites.context.citation(
         next.item.entry,
         &properties,
         None,

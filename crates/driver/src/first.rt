@@ -5,14 +5,13 @@ ghost use Rattle.rendering.specs.Purposes.{counted};
 ghost use Rattle.rendering.specs.Views.{context_seen};
 ghost use Rattle.rendering_style.specs.Views.{citation_seen};
 ghost use Rattle.driver_marks.specs.Views.{printed_seen};
-ghost use Rattle.driver_requests.specs.Views.{context_of};
-ghost use Rattle.driver.specs.Stages.{flattened};
-ghost use Rattle.driver.specs.Views.{numbered_seen, row_seen, rows_seen, unmarked, usage_of};
+ghost use Rattle.driver.specs.CitesInStep.{AreInStep, IsInStep, all_cites, cites_count, request_cites, styled_seen};
+ghost use Rattle.driver.specs.Views.{unmarked, usage_of};
 
-use crate::cite::{NumberedCite, has_letter_date, printed_by};
+use crate::cite::{StyledCite, has_letter_date, printed_by};
+use crate::document_cites::{DocumentCites, RequestCites};
 use driver_marks::{Candidate, Printed};
-use driver_requests::{CitationItem, CitationRequest};
-use rendering::{Effort, StyleContext};
+use rendering::Effort;
 use rendering_context::DisambiguateState;
 use rendering_entries::EntryLike;
 use rendering_style::Citation;
@@ -29,24 +28,22 @@ pub(crate) struct FirstPrints {
 /// What the cites of requests print without marks.
 pub(crate) fn first_prints<T: EntryLike, P>(
     alloc: Global,
-    requests: &[CitationRequest<'_, T, P>],
-    contexts: &[StyleContext<'_>],
-    rows: &[Vec<NumberedCite>],
+    cites: DocumentCites<'_, '_, T, P>,
     effort: &mut Effort,
 ) -> Result<FirstPrints, AllocError>
-    requires contexts { map context_seen contexts.now ≡ map context_of requests.now }
-    requires rows { map (λ v. length v.items) rows.now ≡ map (λ r. length r.items.items) requests.now }
-    ensures printed { IfOk result (λ f. map printed_seen f.printed.items ≡ map unmarked (flattened (rows_seen T.answers requests.now rows.now))) }
-    ensures usages { IfOk result (λ f. f.usages.items ≡ map usage_of (flattened (rows_seen T.answers requests.now rows.now))) }
-    ensures effort { OnOk result (effort.new ≤ effort.old + length (flattened (rows_seen T.answers requests.now rows.now))) }
+    requires { AreInStep cites }
+    ensures printed { IfOk result (λ f. map printed_seen f.printed.items
+        ≡ map unmarked (all_cites T.answers cites.entry)) }
+    ensures usages { IfOk result (λ f. f.usages.items
+        ≡ map usage_of (all_cites T.answers cites.entry)) }
+    ensures effort { OnOk result (effort.new ≤ effort.old + cites_count T.answers cites.entry) }
 {
-    let printed = Vec::with_capacity(alloc, requests.len())?;
-    let usages = Vec::with_capacity(alloc, requests.len())?;
+    let printed = Vec::with_capacity(alloc, cites.requests.len())?;
+    let usages = Vec::with_capacity(alloc, cites.requests.len())?;
     let mut prints = FirstPrints { printed, usages };
-    for (index, request) in requests.iter().enumerate() {
-        let context = &contexts[index];
-        let row = rows[index].as_slice();
-        print_row(alloc, context, request, row, &mut prints, effort)?;
+    for index in 0..cites.requests.len() {
+        let own = cites.request(index);
+        print_row(alloc, own, &mut prints, effort)?;
     }
     Ok(prints)
 }
@@ -54,21 +51,27 @@ pub(crate) fn first_prints<T: EntryLike, P>(
 /// Appends what the cites of a request print without marks.
 fn print_row<T: EntryLike, P>(
     alloc: Global,
-    context: &StyleContext<'_>,
-    request: &CitationRequest<'_, T, P>,
-    row: &[NumberedCite],
+    cites: RequestCites<'_, '_, T, P>,
     prints: &mut FirstPrints,
     effort: &mut Effort,
 ) -> Result<(), AllocError>
-    requires context { context_seen context.now ≡ context_of request.now }
-    requires row { length row.now ≡ length request.now.items.items }
-    ensures printed { OnOk result (map printed_seen prints.new.printed.items ≡ map printed_seen prints.old.printed.items ++ map unmarked (row_seen T.answers (context_of request.now) request.now.items.items row.now)) }
-    ensures usages { OnOk result (prints.new.usages.items ≡ prints.old.usages.items ++ map usage_of (row_seen T.answers (context_of request.now) request.now.items.items row.now)) }
-    ensures effort { OnOk result (effort.new ≤ effort.old + length (row_seen T.answers (context_of request.now) request.now.items.items row.now)) }
+    requires { IsInStep cites }
+    ensures printed { OnOk result (map printed_seen prints.new.printed.items
+        ≡ map printed_seen prints.old.printed.items
+        ++ map unmarked (request_cites T.answers cites.entry)) }
+    ensures usages { OnOk result (prints.new.usages.items
+        ≡ prints.old.usages.items ++ map usage_of (request_cites T.answers cites.entry)) }
+    ensures effort { OnOk result (effort.new
+        ≤ effort.old + length (request_cites T.answers cites.entry)) }
 {
-    let style = &request.style().parts().citation;
-    for (index, item) in request.items.iter().enumerate() {
-        print_cite(alloc, context, style, item, row[index], prints, effort)?;
+    let style = &cites.request.style().parts().citation;
+    for (index, item) in cites.request.items.iter().enumerate() {
+        let cite = StyledCite {
+            item,
+            context: cites.context,
+            numbered: cites.row[index],
+        };
+        print_cite(alloc, style, cite, prints, effort)?;
     }
     Ok(())
 }
@@ -76,19 +79,20 @@ fn print_row<T: EntryLike, P>(
 /// Appends what a cite prints without a mark.
 fn print_cite<T: EntryLike, P>(
     alloc: Global,
-    context: &StyleContext<'_>,
     style: &Citation,
-    item: &CitationItem<'_, T, P>,
-    cite: NumberedCite,
+    cite: StyledCite<'_, '_, T, P>,
     prints: &mut FirstPrints,
     effort: &mut Effort,
 ) -> Result<(), AllocError>
-    requires { citation_seen style.now ≡ (context_seen context.now).style.citation }
-    ensures printed { OnOk result (map printed_seen prints.new.printed.items ≡ map printed_seen prints.old.printed.items ++ unmarked (numbered_seen T.answers (context_seen context.now) item.now cite) ∷ []) }
-    ensures usages { OnOk result (prints.new.usages.items ≡ prints.old.usages.items ++ usage_of (numbered_seen T.answers (context_seen context.now) item.now cite) ∷ []) }
+    requires { citation_seen style.now ≡ (context_seen cite.context.now).style.citation }
+    ensures printed { OnOk result (map printed_seen prints.new.printed.items
+        ≡ map printed_seen prints.old.printed.items
+        ++ unmarked (styled_seen T.answers cite.entry) ∷ []) }
+    ensures usages { OnOk result (prints.new.usages.items
+        ≡ prints.old.usages.items ++ usage_of (styled_seen T.answers cite.entry) ∷ []) }
     ensures effort { effort.new ≡ counted effort.old }
 {
-    let (printed, usage) = print_first(alloc, context, style, item, cite, effort)?;
+    let (printed, usage) = print_first(alloc, style, cite, effort)?;
     prints.printed.push(printed)?;
     prints.usages.push(usage)?;
     Ok(())
@@ -97,22 +101,21 @@ fn print_cite<T: EntryLike, P>(
 /// What a cite prints without a mark.
 fn print_first<T: EntryLike, P>(
     alloc: Global,
-    context: &StyleContext<'_>,
     style: &Citation,
-    item: &CitationItem<'_, T, P>,
-    cite: NumberedCite,
+    cite: StyledCite<'_, '_, T, P>,
     effort: &mut Effort,
 ) -> Result<(Printed, IdentifierUsage), AllocError>
-    requires { citation_seen style.now ≡ (context_seen context.now).style.citation }
-    ensures printed { IfOk result (λ p. printed_seen p.0 ≡ unmarked (numbered_seen T.answers (context_seen context.now) item.now cite)) }
-    ensures usage { IfOk result (λ p. p.1 ≡ usage_of (numbered_seen T.answers (context_seen context.now) item.now cite)) }
+    requires { citation_seen style.now ≡ (context_seen cite.context.now).style.citation }
+    ensures printed { IfOk result (λ p. printed_seen p.0
+        ≡ unmarked (styled_seen T.answers cite.entry)) }
+    ensures usage { IfOk result (λ p. p.1 ≡ usage_of (styled_seen T.answers cite.entry)) }
     ensures effort { effort.new ≡ counted effort.old }
 {
-    let first = printed_by(context, item, cite, DisambiguateState::None, effort)?;
+    let first = printed_by(cite, DisambiguateState::None, effort)?;
     let usage = first.identifier_usage;
     let candidate = Candidate::new(
-        cite.entry,
-        has_letter_date(item.entry),
+        cite.numbered.entry,
+        has_letter_date(cite.item.entry),
         style,
         first.met_disambiguate,
         first.names,

@@ -3,6 +3,7 @@ use Rattle.std.specs.Global.{Global}
 use Rattle.std.specs.Option.{option_map, option_map_or}
 use Rattle.std.proofs.lemmas.Result.{IfOk-weaker}
 use Rattle.laws.specs.Results.{Gives}
+use Rattle.rendering.specs.Views.{context_seen}
 use Rattle.driver_requests.specs.CitedEntries.{place_among}
 use Rattle.driver_requests.specs.Errors.{overflow_of}
 use Rattle.driver_requests.specs.Views.{entries_in}
@@ -24,26 +25,38 @@ pub returns-in_err-marked-clause-rendered : goal.returns-in_err-marked-clause-re
 returns-in_err-marked-clause-rendered g c =
     let is : c.from_residual-in_err-marked.result ≡ Err c.in_err-marked.field-0.0 = search rules in
     subst (λ (r : Result Rendered DriverError). Gives overflow_of rendered_by r (finish g.P.PartialEq.eq (document_by g.T.PartialEq.eq g.T.EntryLike.answers c.args.requests.now c.args.offset c.args.request.now))) (sym is)
-    (letters_fail g.T.PartialEq.eq g.T.EntryLike.answers g.P.PartialEq.eq c.args.requests.now c.args.offset c.args.request.now c.in_ok-known.known c.in_ok-known.ensures.known c.deref-4.result.now c.deref-4.ensures.value
+    (letters_fail g.T.PartialEq.eq g.T.EntryLike.answers g.P.PartialEq.eq c.args.requests.now c.args.offset c.args.request.now c.in_ok-known.known c.in_ok-known.ensures.known c.deref-2.result.now c.deref-2.ensures.value
     (overflow_of c.in_err-marked.field-0.0) c.in_err-marked.ensures.marked)
 
-pub render-requires-clause-rows : goal.render-requires-clause-rows
-render-requires-clause-rows g c = ap (λ (vs : List (Vec NumberedCite Global)). map (λ (v : Vec NumberedCite Global). length v.items) vs) c.deref-6.ensures.value ∙ c.in_ok-known.ensures.rows
+pub first_prints-requires : goal.first_prints-requires
+first_prints-requires g c = record {
+  contexts = ap (map context_seen) c.deref.ensures.value ∙ c.in_ok-contexts.ensures;
+  rows = ap (λ (vs : List (Vec NumberedCite Global)). map (λ (v : Vec NumberedCite Global). length v.items) vs) c.deref-2.ensures.value ∙ c.in_ok-known.ensures.rows;
+}
 
-pub render-requires-clause-within : goal.render-requires-clause-within
-render-requires-clause-within g c =
-    cites_within g.T.PartialEq.eq g.T.EntryLike.answers g.P.PartialEq.eq c.args.requests.now c.args.offset c.args.request.now c.in_ok-known.known c.in_ok-known.ensures.known c.deref-4.result.now c.deref-4.ensures.value
-    c.in_ok-marked.marked c.in_ok-marked.ensures.marked c.deref-6.result.now c.deref-6.ensures.value c.in_ok-known.ensures.within
+pub disambiguated-requires-clause-in_step : goal.disambiguated-requires-clause-in_step
+disambiguated-requires-clause-in_step g c = record {
+  contexts = ap (map context_seen) c.deref.ensures.value ∙ c.in_ok-contexts.ensures;
+  rows = ap (λ (vs : List (Vec NumberedCite Global)). map (λ (v : Vec NumberedCite Global). length v.items) vs) c.deref-2.ensures.value ∙ c.in_ok-known.ensures.rows;
+}
+
+pub render-requires-clause-printed : goal.render-requires-clause-printed
+render-requires-clause-printed g c = record {
+  in_step = record {
+    contexts = ap (map context_seen) c.deref.ensures.value ∙ c.in_ok-contexts.ensures;
+    rows = ap (λ (vs : List (Vec NumberedCite Global)). map (λ (v : Vec NumberedCite Global). length v.items) vs) c.deref-2.ensures.value ∙ c.in_ok-known.ensures.rows;
+  };
+  within = cites_within g.T.PartialEq.eq g.T.EntryLike.answers g.P.PartialEq.eq c.args.requests.now c.args.offset c.args.request.now c.in_ok-known.known c.in_ok-known.ensures.known c.deref-2.result.now c.deref-2.ensures.value
+      c.in_ok-marked.marked c.in_ok-marked.ensures.marked c.deref-2.result.now c.deref-2.ensures.value c.in_ok-known.ensures.within;
+  usages = c.deref-4.ensures.value ∙ c.in_ok-first.ensures.usages;
+  printed = prints_known g.T.PartialEq.eq g.T.EntryLike.answers g.P.PartialEq.eq c.args.requests.now c.args.offset c.args.request.now c.in_ok-known.known c.in_ok-known.ensures.known c.deref-2.result.now c.deref-2.ensures.value
+      c.in_ok-marked.marked c.in_ok-marked.ensures.marked c.deref-2.result.now c.deref-2.ensures.value;
+}
 
 pub render-requires-clause-order : goal.render-requires-clause-order
 render-requires-clause-order g c =
-    order_within g.T.PartialEq.eq g.T.EntryLike.answers g.P.PartialEq.eq c.args.requests.now c.args.offset c.args.request.now c.in_ok-known.known c.in_ok-known.ensures.known c.deref-4.result.now c.deref-4.ensures.value
-    c.in_ok-marked.marked c.in_ok-marked.ensures.marked c.deref-7.result.now c.deref-7.ensures.value c.in_ok-known.ensures.order
-
-pub render-requires-clause-printed : goal.render-requires-clause-printed
-render-requires-clause-printed g c =
-    prints_known g.T.PartialEq.eq g.T.EntryLike.answers g.P.PartialEq.eq c.args.requests.now c.args.offset c.args.request.now c.in_ok-known.known c.in_ok-known.ensures.known c.deref-4.result.now c.deref-4.ensures.value
-    c.in_ok-marked.marked c.in_ok-marked.ensures.marked c.deref-6.result.now c.deref-6.ensures.value
+    order_within g.T.PartialEq.eq g.T.EntryLike.answers g.P.PartialEq.eq c.args.requests.now c.args.offset c.args.request.now c.in_ok-known.known c.in_ok-known.ensures.known c.deref-2.result.now c.deref-2.ensures.value
+    c.in_ok-marked.marked c.in_ok-marked.ensures.marked c.deref-3.result.now c.deref-3.ensures.value c.in_ok-known.ensures.order
 
 pub returns-clause-rendered : goal.returns-clause-rendered
 returns-clause-rendered g c =
@@ -52,9 +65,9 @@ returns-clause-rendered g c =
     let rs = c.args.requests.now in
     let d = document_by g.T.PartialEq.eq answers rs c.args.offset c.args.request.now in
     back_gives overflow_of rendered_by c.render.result
-    (rendered_of d.bibliography_context c.deref-7.result.now d.requests (finals_from same (marked_seen c.in_ok-marked.marked).0 d.requests (firsts (rows_seen answers rs c.deref-6.result.now)))) (finish same d)
-    (finish_known g.T.PartialEq.eq answers same rs c.args.offset c.args.request.now c.in_ok-known.known c.in_ok-known.ensures.known c.deref-4.result.now c.deref-4.ensures.value
-    c.in_ok-marked.marked c.in_ok-marked.ensures.marked c.deref-6.result.now c.deref-7.result.now c.deref-6.ensures.value c.deref-7.ensures.value)
+    (rendered_of d.bibliography_context c.deref-3.result.now d.requests (finals_from same (marked_seen c.in_ok-marked.marked).0 d.requests (firsts (rows_seen answers rs c.deref-2.result.now)))) (finish same d)
+    (finish_known g.T.PartialEq.eq answers same rs c.args.offset c.args.request.now c.in_ok-known.known c.in_ok-known.ensures.known c.deref-2.result.now c.deref-2.ensures.value
+    c.in_ok-marked.marked c.in_ok-marked.ensures.marked c.deref-2.result.now c.deref-3.result.now c.deref-2.ensures.value c.deref-3.ensures.value)
     (c.render.ensures.rendered (place_among g.T.PartialEq.eq (entries_in rs)))
 
 pub returns-clause-keys : goal.returns-clause-keys
@@ -64,11 +77,11 @@ returns-clause-keys g c =
     let rs = c.args.requests.now in
     let d = document_by g.T.PartialEq.eq answers rs c.args.offset c.args.request.now in
     IfOk-weaker c.render.result
-    (λ (r : Rendered). option_map keys_by r.bibliography ≡ option_map (λ s. keys_first d.bibliography_context (flattened (finals_from same (marked_seen c.in_ok-marked.marked).0 d.requests (firsts (rows_seen answers rs c.deref-6.result.now)))) c.deref-7.result.now) d.bibliography_context.style.bibliography)
+    (λ (r : Rendered). option_map keys_by r.bibliography ≡ option_map (λ s. keys_first d.bibliography_context (flattened (finals_from same (marked_seen c.in_ok-marked.marked).0 d.requests (firsts (rows_seen answers rs c.deref-2.result.now)))) c.deref-3.result.now) d.bibliography_context.style.bibliography)
     (λ (r : Rendered). option_map keys_by r.bibliography ≡ option_map (λ s. keys_in d) d.bibliography_context.style.bibliography)
     (λ r h. h
-    ∙ keys_known g.T.PartialEq.eq answers same rs c.args.offset c.args.request.now c.in_ok-known.known c.in_ok-known.ensures.known c.deref-4.result.now c.deref-4.ensures.value
-    c.in_ok-marked.marked c.in_ok-marked.ensures.marked g.met.T.Eq.laws g.met.T.EntryLike.alike c.deref-6.result.now c.deref-7.result.now c.deref-6.ensures.value c.deref-7.ensures.value)
+    ∙ keys_known g.T.PartialEq.eq answers same rs c.args.offset c.args.request.now c.in_ok-known.known c.in_ok-known.ensures.known c.deref-2.result.now c.deref-2.ensures.value
+    c.in_ok-marked.marked c.in_ok-marked.ensures.marked g.met.T.Eq.laws g.met.T.EntryLike.alike c.deref-2.result.now c.deref-3.result.now c.deref-2.ensures.value c.deref-3.ensures.value)
     (c.render.ensures.keys (place_among g.T.PartialEq.eq (entries_in rs)))
 
 pub returns-clause-effort : goal.returns-clause-effort
@@ -79,12 +92,10 @@ returns-clause-effort g c =
     let d = document_by g.T.PartialEq.eq answers rs c.args.offset c.args.request.now in
     let known = cites_known g.T.PartialEq.eq answers same rs c.args.offset c.args.request.now c.in_ok-known.known c.in_ok-known.ensures.known in
     let many = many_cited g.T.PartialEq.eq answers same rs c.args.offset c.args.request.now c.in_ok-known.known c.in_ok-known.ensures.known in
-    let at_first = rows_many same d (rows_seen answers rs c.deref-2.result.now) (known c.deref-2.result.now c.deref-2.ensures.value) in
-    let then_on = rows_many same d (rows_seen answers rs c.deref-4.result.now) (known c.deref-4.result.now c.deref-4.ensures.value) in
-    let at_last = rows_many same d (rows_seen answers rs c.deref-6.result.now) (known c.deref-6.result.now c.deref-6.ensures.value) in
+    let count = rows_many same d (rows_seen answers rs c.deref-2.result.now) (known c.deref-2.result.now c.deref-2.ensures.value) in
     IfOk-weaker c.render.result
-    (λ (r : Rendered). r.effort ≤ c.disambiguated.new.effort + length (flattened (rows_seen answers rs c.deref-6.result.now)) + option_map_or (λ s. length c.deref-7.result.now) d.bibliography_context.style.bibliography 0)
+    (λ (r : Rendered). r.effort ≤ c.disambiguated.new.effort + length (flattened (rows_seen answers rs c.deref-2.result.now)) + option_map_or (λ s. length c.deref-3.result.now) d.bibliography_context.style.bibliography 0)
     (λ (r : Rendered). r.effort ≤ effort_bound d)
-    (λ r h. effort_is d c.deref-7.result.now _ c.first_prints.new.effort c.disambiguated.new.effort r.effort (length (flattened (rows_seen answers rs c.deref-2.result.now))) (length (flattened (rows_seen answers rs c.deref-4.result.now)))
-    (length (flattened (rows_seen answers rs c.deref-6.result.now))) c.default-effort.ensures at_first then_on at_last (ap length c.deref-7.ensures.value ∙ c.in_ok-known.ensures.length ∙ sym many) c.in_ok-first.ensures.effort c.in_ok-marked.ensures.effort h)
+    (λ r h. effort_is d c.deref-3.result.now _ c.first_prints.new.effort c.disambiguated.new.effort r.effort (length (flattened (rows_seen answers rs c.deref-2.result.now))) (length (flattened (rows_seen answers rs c.deref-2.result.now)))
+    (length (flattened (rows_seen answers rs c.deref-2.result.now))) c.default-effort.ensures count count count (ap length c.deref-3.ensures.value ∙ c.in_ok-known.ensures.length ∙ sym many) c.in_ok-first.ensures.effort c.in_ok-marked.ensures.effort h)
     c.render.ensures.effort

@@ -8,7 +8,7 @@ use Rattle.driver.proofs.finals.arranged_cites.Goals as goal
 
 pub returns : goal.returns
 returns g c =
-    let style = citation_seen c.args.style.now in
+    let style = citation_seen c.args.printing.style.now in
     IfOk-weaker c.without_names.result (λ v. map (arranged_seen style) v.items ≡ map nameless (map (arranged_seen style) c.deref-2.result.now)) _
     (λ v h. h
     ∙ ap (map nameless) (ap (map (arranged_seen style)) c.deref-2.ensures.value ∙ c.in_ok-arranged.ensures ∙ ap (λ gs. arranged style c.args.some_purpose (map gathered_seen gs)) c.deref.ensures.value ∙ ap (arranged style c.args.some_purpose) c.in_ok-gathered.ensures))

@@ -11,13 +11,15 @@ use Rattle.driver.proofs.finals.citations.Given as goal
 abbrev pub invariant-loop-index : goal.invariant-loop-index
 invariant-loop-index g l =
     let answers = g.T.EntryLike.answers in
-    let marks = map state_by l.marked.marks.items in
-    let left = rows_seen answers (drop l.index l.requests) (drop l.index l.rows) in
+    let requests = l.cites.requests.now in
+    let rows = l.cites.rows.now in
+    let marks = map state_by l.marked.marks.now in
+    let left = rows_seen answers (drop l.index requests) (drop l.index rows) in
     record {
-      same : fold (cited_with g.P.PartialEq.eq (disambiguation_seen l.marked)) (cited_seen answers marks l.citations.items l.listed l.last) (with_prints answers (drop l.index l.requests) (drop l.index l.rows))
-          ≡ fold (cited_with g.P.PartialEq.eq (disambiguation_seen l.marked)) (cited_seen answers marks [] l.fn.listed None) (with_prints answers l.requests l.rows);
+      same : fold (cited_with g.P.PartialEq.eq (disambiguation_seen l.marked)) (cited_seen answers marks l.citations.items l.listed l.last) (with_prints answers (drop l.index requests) (drop l.index rows))
+          ≡ fold (cited_with g.P.PartialEq.eq (disambiguation_seen l.marked)) (cited_seen answers marks [] l.fn.listed None) (with_prints answers requests rows);
       printed : map printed_seen l.left ≡ map (marked_by marks) (flattened left);
       usages : l.usages ≡ map usage_of (flattened left);
       long : length l.listed ≡ length l.fn.listed;
-      effort : l.effort + length (flattened left) ≤ l.fn.effort + length (flattened (rows_seen answers l.requests l.rows));
+      effort : l.effort + length (flattened left) ≤ l.fn.effort + length (flattened (rows_seen answers requests rows));
     }

@@ -12,8 +12,8 @@ use Rattle.driver.proofs.finals.print_arranged.Given as goal
 abbrev pub invariant-loop-cite : goal.invariant-loop-cite
 invariant-loop-cite g l =
     let answers = g.T.EntryLike.answers in
-    let marks = map state_by l.printing.marks.now in
-    let prints = map first_print (row_seen answers (context_seen l.printing.context.now) l.request.items.items l.cites.row.now) in
+    let marks = map state_by l.printing.marked.marks.now in
+    let prints = map first_print (row_seen answers (context_seen l.printing.cites.context.now) l.printing.cites.request.now.items.items l.printing.cites.row.now) in
     let seen = arranged_seen (citation_seen l.printing.style.now) in
     record {
       same : fold (placed_with g.P.PartialEq.eq marks) (placed_seen answers marks l.shown.items l.listed l.last) (arranged_in prints (map seen (drop l.cite-index l.arranged)))

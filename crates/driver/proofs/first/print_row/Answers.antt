@@ -6,31 +6,31 @@ use Rattle.driver.specs.Views.{unmarked, usage_of}
 use Rattle.driver.proofs.RowsSteps.{one_counted, row_counts_on, row_ends, row_goes_on}
 use Rattle.driver.proofs.first.print_row.Goals as goal
 
-pub bounds-row-index : goal.bounds-row-index
-bounds-row-index g c = omega (arith, c.requires.row, c.loop-index-test.true, ap length c.deref-item-items.ensures.value)
+pub bounds-cites-index : goal.bounds-cites-index
+bounds-cites-index g c = omega (arith, c.requires.row, c.loop-index-test.true, ap length c.deref-item-items.ensures.value)
 
 pub print_cite-requires : goal.print_cite-requires
 print_cite-requires g c = ap (λ s. s.citation) (c.parts.ensures.style ∙ c.style.ensures) ∙ ap (λ x. x.style.citation) (sym c.requires.context)
 
 pub loop-index-preserved : goal.loop-index-preserved
 loop-index-preserved g c =
-    let r = c.args.request.now in
+    let r = c.args.cites.request.now in
     let given = c.deref-item-items in
     record {
-      printed = row_goes_on g.T.EntryLike.answers (context_of r) r.items.items c.args.row.now unmarked (context_seen c.args.context.now) given.result.now c.loop-index.index c.item-item.result (map printed_seen c.loop-index.prints.printed.items)
+      printed = row_goes_on g.T.EntryLike.answers (context_of r) r.items.items c.args.cites.row.now unmarked (context_seen c.args.cites.context.now) given.result.now c.loop-index.index c.item-item.result (map printed_seen c.loop-index.prints.printed.items)
           (map printed_seen c.print_cite.new.prints.printed.items) _ c.requires.context given.ensures.value c.loop-index-test.true c.requires.row c.item-item.is c.loop-index.invariant.printed c.in_ok-print_cite.ensures.printed;
-      usages = row_goes_on g.T.EntryLike.answers (context_of r) r.items.items c.args.row.now usage_of (context_seen c.args.context.now) given.result.now c.loop-index.index c.item-item.result c.loop-index.prints.usages.items
+      usages = row_goes_on g.T.EntryLike.answers (context_of r) r.items.items c.args.cites.row.now usage_of (context_seen c.args.cites.context.now) given.result.now c.loop-index.index c.item-item.result c.loop-index.prints.usages.items
           c.print_cite.new.prints.usages.items _ c.requires.context given.ensures.value c.loop-index-test.true c.requires.row c.item-item.is c.loop-index.invariant.usages c.in_ok-print_cite.ensures.usages;
-      effort = row_counts_on g.T.EntryLike.answers (context_of r) r.items.items c.args.row.now (context_seen c.args.context.now) given.result.now c.loop-index.index c.item-item.result c.loop-index.effort c.print_cite.new.effort _ c.requires.context
+      effort = row_counts_on g.T.EntryLike.answers (context_of r) r.items.items c.args.cites.row.now (context_seen c.args.cites.context.now) given.result.now c.loop-index.index c.item-item.result c.loop-index.effort c.print_cite.new.effort _ c.requires.context
           given.ensures.value c.loop-index-test.true c.requires.row c.item-item.is c.loop-index.invariant.effort (one_counted c.loop-index.effort c.print_cite.new.effort c.in_ok-print_cite.ensures.effort);
     }
 
 pub returns-clause-printed : goal.returns-clause-printed
 returns-clause-printed g c =
-    row_ends g.T.EntryLike.answers (context_of c.args.request.now) c.args.request.now.items.items c.args.row.now unmarked c.deref-item-items.result.now c.loop-index.index (map printed_seen c.loop-index.prints.printed.items) _
+    row_ends g.T.EntryLike.answers (context_of c.args.cites.request.now) c.args.cites.request.now.items.items c.args.cites.row.now unmarked c.deref-item-items.result.now c.loop-index.index (map printed_seen c.loop-index.prints.printed.items) _
     c.deref-item-items.ensures.value c.loop-index-test.false c.loop-index.invariant.printed
 
 pub returns-clause-usages : goal.returns-clause-usages
 returns-clause-usages g c =
-    row_ends g.T.EntryLike.answers (context_of c.args.request.now) c.args.request.now.items.items c.args.row.now usage_of c.deref-item-items.result.now c.loop-index.index c.loop-index.prints.usages.items _
+    row_ends g.T.EntryLike.answers (context_of c.args.cites.request.now) c.args.cites.request.now.items.items c.args.cites.row.now usage_of c.deref-item-items.result.now c.loop-index.index c.loop-index.prints.usages.items _
     c.deref-item-items.ensures.value c.loop-index-test.false c.loop-index.invariant.usages

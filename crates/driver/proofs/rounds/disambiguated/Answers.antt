@@ -21,13 +21,13 @@ use Rattle.driver.proofs.rounds.disambiguated.Goals as goal
 
 pub loop-round-init : goal.loop-round-init
 loop-round-init g c =
-    let ns = flattened (rows_seen g.T.EntryLike.answers c.args.requests.now c.args.rows.now) in
-    let names = adds_names (map (request_by (λ e. 0) g.T.EntryLike.answers) c.args.requests.now) in
+    let ns = flattened (rows_seen g.T.EntryLike.answers c.args.cites.requests.now c.args.cites.rows.now) in
+    let names = adds_names (map (request_by (λ e. 0) g.T.EntryLike.answers) c.args.cites.requests.now) in
     let cites = map (λ n. candidate (first_print n)) ns in
     record {
       same = ap (λ ms. fold (rounds.after_round names cites) (record { marks = ms; given = givens_by c.new-2.result.items }) (range_with_len 0 3)) c.in_ok-no_marks.ensures
           ∙ ap (λ gs. fold (rounds.after_round names cites) (record { marks = no_marks c.args.entries; given = givens_by gs }) (range_with_len 0 3)) c.new-2.ensures.items;
-      printed = c.in_ok-printed.ensures ∙ c.requires.printed ∙ unmarked_all c.args.entries ns (rows_within g.T.EntryLike.answers c.args.entries c.args.requests.now c.args.rows.now c.requires.within) ∙ ap (λ ms. map (marked_by ms) ns) (sym c.in_ok-no_marks.ensures);
+      printed = c.in_ok-printed.ensures ∙ c.requires.printed ∙ unmarked_all c.args.entries ns (rows_within g.T.EntryLike.answers c.args.entries c.args.cites.requests.now c.args.cites.rows.now c.requires.within) ∙ ap (λ ms. map (marked_by ms) ns) (sym c.in_ok-no_marks.ensures);
       given = ap (λ gs. suffixes_overflow (givens_by gs)) c.new-2.ensures.items;
       many = sym (length-map c.in_ok-no_marks.field-0.items state_by) ∙ ap length c.in_ok-no_marks.ensures ∙ length-replicate c.args.entries undisturbed;
       effort = omega arith;
@@ -35,7 +35,7 @@ loop-round-init g c =
 
 pub give_round-requires-clause-within : goal.give_round-requires-clause-within
 give_round-requires-clause-within g c =
-    let P : ℕ → Type 0 = λ n. AreWithin n c.args.rows.now in
+    let P : ℕ → Type 0 = λ n. AreWithin n c.args.cites.rows.now in
     subst P (sym c.loop-round.invariant.many) c.requires.within
 
 pub give_round-requires-clause-given : goal.give_round-requires-clause-given
@@ -46,8 +46,8 @@ give_round-requires-clause-printed g c = c.loop-round.invariant.printed
 
 pub loop-round-preserved : goal.loop-round-preserved
 loop-round-preserved g c =
-    let ns = flattened (rows_seen g.T.EntryLike.answers c.args.requests.now c.args.rows.now) in
-    let names = adds_names (map (request_by (λ e. 0) g.T.EntryLike.answers) c.args.requests.now) in
+    let ns = flattened (rows_seen g.T.EntryLike.answers c.args.cites.requests.now c.args.cites.rows.now) in
+    let names = adds_names (map (request_by (λ e. 0) g.T.EntryLike.answers) c.args.cites.requests.now) in
     let on = rounds_go_on names ns c.adds_names-adds_names.result c.loop-round.round (marked_seen c.loop-round.marked).0 (marked_seen c.give_round.new.marked).0 (rounds.disambiguated names c.args.entries (map (λ n. candidate (first_print n)) ns))
     (cites_seen c.give_round.new.marked.printed) c.adds_names-adds_names.ensures c.loop-round-test.true c.loop-round.invariant.same c.in_ok-give_round.ensures.marked in
     record {
@@ -60,16 +60,16 @@ loop-round-preserved g c =
 
 pub returns-in_err-give_round-clause-marked : goal.returns-in_err-give_round-clause-marked
 returns-in_err-give_round-clause-marked g c =
-    let ns = flattened (rows_seen g.T.EntryLike.answers c.args.requests.now c.args.rows.now) in
-    let names = adds_names (map (request_by (λ e. 0) g.T.EntryLike.answers) c.args.requests.now) in
+    let ns = flattened (rows_seen g.T.EntryLike.answers c.args.cites.requests.now c.args.cites.rows.now) in
+    let names = adds_names (map (request_by (λ e. 0) g.T.EntryLike.answers) c.args.cites.requests.now) in
     let p = err_from_is_err_and c.from_residual-in_err-give_round.result c.from_residual-in_err-give_round.ensures.1 in
     rw (p.1, p.2) (rounds_end names ns (overflow_of c.in_err-give_round.field-0.0) c.adds_names-adds_names.result c.loop-round.round (marked_seen c.loop-round.marked).0 (rounds.disambiguated names c.args.entries (map (λ n. candidate (first_print n)) ns))
     c.adds_names-adds_names.ensures c.loop-round-test.true c.loop-round.invariant.same c.in_err-give_round.ensures.marked)
 
 pub returns-clause-marked : goal.returns-clause-marked
 returns-clause-marked g c =
-    let ns = flattened (rows_seen g.T.EntryLike.answers c.args.requests.now c.args.rows.now) in
-    let names = adds_names (map (request_by (λ e. 0) g.T.EntryLike.answers) c.args.requests.now) in
+    let ns = flattened (rows_seen g.T.EntryLike.answers c.args.cites.requests.now c.args.cites.rows.now) in
+    let names = adds_names (map (request_by (λ e. 0) g.T.EntryLike.answers) c.args.cites.requests.now) in
     rounds_done names ns c.loop-round.round (marked_seen c.loop-round.marked).0 (rounds.disambiguated names c.args.entries (map (λ n. candidate (first_print n)) ns)) (cites_seen c.loop-round.marked.printed) c.loop-round-test.false c.loop-round.invariant.same
     c.loop-round.invariant.printed c.loop-round.invariant.given
 

@@ -14,10 +14,10 @@ use Rattle.driver.proofs.rounds.disambiguated.Given as goal
 
 abbrev pub invariant-loop-round : goal.invariant-loop-round
 invariant-loop-round g l = record {
-  same : fold (rounds.after_round (adds_names (map (request_by (λ e. 0) g.T.EntryLike.answers) l.requests)) (map (λ n. candidate (first_print n)) (flattened (rows_seen g.T.EntryLike.answers l.requests l.rows)))) (marked_seen l.marked).0 (range_with_len l.round (3 - l.round))
-      ≡ rounds.disambiguated (adds_names (map (request_by (λ e. 0) g.T.EntryLike.answers) l.requests)) l.entries (map (λ n. candidate (first_print n)) (flattened (rows_seen g.T.EntryLike.answers l.requests l.rows)));
-  printed : cites_seen l.marked.printed ≡ map (marked_by (map state_by l.marked.marks.items)) (flattened (rows_seen g.T.EntryLike.answers l.requests l.rows));
+  same : fold (rounds.after_round (adds_names (map (request_by (λ e. 0) g.T.EntryLike.answers) l.cites.requests.now)) (map (λ n. candidate (first_print n)) (flattened (rows_seen g.T.EntryLike.answers l.cites.requests.now l.cites.rows.now)))) (marked_seen l.marked).0 (range_with_len l.round (3 - l.round))
+      ≡ rounds.disambiguated (adds_names (map (request_by (λ e. 0) g.T.EntryLike.answers) l.cites.requests.now)) l.entries (map (λ n. candidate (first_print n)) (flattened (rows_seen g.T.EntryLike.answers l.cites.requests.now l.cites.rows.now)));
+  printed : cites_seen l.marked.printed ≡ map (marked_by (map state_by l.marked.marks.items)) (flattened (rows_seen g.T.EntryLike.answers l.cites.requests.now l.cites.rows.now));
   given : suffixes_overflow (givens_by l.marked.given.items) ≡ false;
   many : length l.marked.marks.items ≡ l.entries;
-  effort : l.effort + (3 - l.round) * length (flattened (rows_seen g.T.EntryLike.answers l.requests l.rows)) ≤ l.fn.effort + 3 * length (flattened (rows_seen g.T.EntryLike.answers l.requests l.rows));
+  effort : l.effort + (3 - l.round) * length (flattened (rows_seen g.T.EntryLike.answers l.cites.requests.now l.cites.rows.now)) ≤ l.fn.effort + 3 * length (flattened (rows_seen g.T.EntryLike.answers l.cites.requests.now l.cites.rows.now));
 }

@@ -21,13 +21,13 @@ pub returns-in_err-given-clause-marked : goal.returns-in_err-given-clause-marked
 returns-in_err-given-clause-marked g c =
     let p = err_from_is_err_and c.from_residual.result c.from_residual.ensures.1 in
     let old : Disambiguation = record { marks = map state_by c.args.marked.now.marks.items; given = givens_by c.args.marked.now.given.items } in
-    rw (p.1, p.2) (round_ends c.args.adds_names (flattened (rows_seen g.T.EntryLike.answers c.args.requests.now c.args.rows.now)) (overflow_of c.in_err-given.field-0.0) c.args.round old (cites_seen c.args.marked.now.printed) c.requires.printed c.in_err-given.ensures)
+    rw (p.1, p.2) (round_ends c.args.adds_names (flattened (rows_seen g.T.EntryLike.answers c.args.cites.requests.now c.args.cites.rows.now)) (overflow_of c.in_err-given.field-0.0) c.args.round old (cites_seen c.args.marked.now.printed) c.requires.printed c.in_err-given.ensures)
 
 pub print_again-requires-clause-within : goal.print_again-requires-clause-within
 print_again-requires-clause-within g c =
     let filled = with_items_is c.args.marked.now.marks c.mark.new.marks (c.mark.auto.marks ∙ ap length c.deref_mut.ensures.value ∙ sym c.args.marked.now.marks.ok.0) in
     let long : length c.deref-2.result.now ≡ length c.args.marked.now.marks.items = ap length (c.deref-2.ensures.value ∙ filled) ∙ c.mark.auto.marks ∙ ap length c.deref_mut.ensures.value in
-    let P : ℕ → Type 0 = λ n. AreWithin n c.args.rows.now in
+    let P : ℕ → Type 0 = λ n. AreWithin n c.args.cites.rows.now in
     subst P (sym long) c.requires.within
 
 pub print_again-requires-clause-given : goal.print_again-requires-clause-given
@@ -38,11 +38,11 @@ print_again-requires-clause-given g c =
 
 pub print_again-requires-clause-printed : goal.print_again-requires-clause-printed
 print_again-requires-clause-printed g c =
-    ap length c.requires.printed ∙ length-map (flattened (rows_seen g.T.EntryLike.answers c.args.requests.now c.args.rows.now)) (marked_by (map state_by c.args.marked.now.marks.items))
+    ap length c.requires.printed ∙ length-map (flattened (rows_seen g.T.EntryLike.answers c.args.cites.requests.now c.args.cites.rows.now)) (marked_by (map state_by c.args.marked.now.marks.items))
 
 pub returns-clause-marked : goal.returns-clause-marked
 returns-clause-marked g c =
-    let ns = flattened (rows_seen g.T.EntryLike.answers c.args.requests.now c.args.rows.now) in
+    let ns = flattened (rows_seen g.T.EntryLike.answers c.args.cites.requests.now c.args.cites.rows.now) in
     let items = c.args.marked.now.marks.items in
     let old : Disambiguation = record { marks = map state_by items; given = givens_by c.args.marked.now.given.items } in
     let Q : ℕ → Type 0 = λ n. All (λ (m : Numbered g.row.P.Denot). entry_of m.cite < n) ns in
@@ -58,5 +58,5 @@ returns-clause-marked g c =
     c.in_ok-print_again.ensures.printed ∙ (λ j. are_again (map state_by (seen j)) (c.deref-3.ensures.value j) ns (cites_seen c.args.marked.now.printed)) in
     round_given_is c.args.adds_names c.args.round ns old (cites_seen c.args.marked.now.printed) (cites_seen c.print_again.new.printed) (givens_by c.in_ok-given.given.items) (givens_by c.append.new.given.items) (map state_by c.mark.new.marks)
     c.in_ok-is_given.is_given.items c.requires.printed c.in_ok-given.ensures c.requires.given
-    (subst Q (sym (length-map items state_by)) (rows_within g.T.EntryLike.answers (length items) c.args.requests.now c.args.rows.now c.requires.within)) marks_are given_are again_are c.in_ok-append.ensures
+    (subst Q (sym (length-map items state_by)) (rows_within g.T.EntryLike.answers (length items) c.args.cites.requests.now c.args.cites.rows.now c.requires.within)) marks_are given_are again_are c.in_ok-append.ensures
     ∙ (λ j. Ok (record { marks = map state_by (sym filled j); given = givens_by c.append.new.given.items }, cites_seen c.print_again.new.printed))

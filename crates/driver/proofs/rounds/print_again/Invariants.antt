@@ -8,8 +8,8 @@ use Rattle.driver.proofs.rounds.print_again.Given as goal
 
 abbrev pub invariant-loop-index : goal.invariant-loop-index
 invariant-loop-index g l = record {
-  printed : take l.start (cites_seen l.printed) ++ are_again (map state_by l.marks) l.is_given (flattened (rows_seen g.T.EntryLike.answers (drop l.index l.requests) (drop l.index l.rows))) (drop l.start (cites_seen l.printed))
-      ≡ are_again (map state_by l.marks) l.is_given (flattened (rows_seen g.T.EntryLike.answers l.requests l.rows)) (cites_seen l.fn.printed);
-  many : l.start + length (flattened (rows_seen g.T.EntryLike.answers (drop l.index l.requests) (drop l.index l.rows))) ≡ length (cites_seen l.printed);
-  effort : l.effort + length (flattened (rows_seen g.T.EntryLike.answers (drop l.index l.requests) (drop l.index l.rows))) ≤ l.fn.effort + length (flattened (rows_seen g.T.EntryLike.answers l.requests l.rows));
+  printed : take l.start (cites_seen l.printed) ++ are_again (map state_by l.marks) l.is_given (flattened (rows_seen g.T.EntryLike.answers (drop l.index l.cites.requests.now) (drop l.index l.cites.rows.now))) (drop l.start (cites_seen l.printed))
+      ≡ are_again (map state_by l.marks) l.is_given (flattened (rows_seen g.T.EntryLike.answers l.cites.requests.now l.cites.rows.now)) (cites_seen l.fn.printed);
+  many : l.start + length (flattened (rows_seen g.T.EntryLike.answers (drop l.index l.cites.requests.now) (drop l.index l.cites.rows.now))) ≡ length (cites_seen l.printed);
+  effort : l.effort + length (flattened (rows_seen g.T.EntryLike.answers (drop l.index l.cites.requests.now) (drop l.index l.cites.rows.now))) ≤ l.fn.effort + length (flattened (rows_seen g.T.EntryLike.answers l.cites.requests.now l.cites.rows.now));
 }

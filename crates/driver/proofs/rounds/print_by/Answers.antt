@@ -1,9 +1,9 @@
 use Rattle.std.proofs.Common.{set, get_or, ap, refl, ◌∙◌}
 use Rattle.rendering_context.specs.Views.{state_by}
 use Rattle.rendering_tree.proofs.SimplifySteps.{on_ok}
-use Rattle.rendering.specs.Views.{context_seen, rendered_by}
+use Rattle.rendering.specs.Views.{rendered_by}
 use Rattle.driver_marks.specs.CitesViews.{cites_seen}
-use Rattle.driver.specs.Views.{numbered_seen}
+use Rattle.driver.specs.CitesInStep.{styled_seen}
 use Rattle.driver.proofs.AgainSteps.{again_is}
 use Rattle.driver.proofs.RowsSteps.{one_counted}
 use Rattle.driver.proofs.rounds.print_by.Goals as goal
@@ -14,7 +14,7 @@ returns-clause-printed g c =
     on_ok c.print_by.result
     (λ e d. e d
     ∙ ap (set ss c.args.place)
-    (again_is (numbered_seen g.T.EntryLike.answers (context_seen c.args.context.now) c.args.item.now c.args.cite) (get_or ss c.args.place d) _ (state_by c.in_ok-clone.field-0) (state_by c.in_ok-clone-2.field-0)
+    (again_is (styled_seen g.T.EntryLike.answers c.args.cite) (get_or ss c.args.place d) _ (state_by c.in_ok-clone.field-0) (state_by c.in_ok-clone-2.field-0)
     (state_by c.args.mark.now) (rendered_by c.in_ok-rendering.rendering) c.in_ok-clone.ensures c.in_ok-clone-2.ensures c.in_ok-rendering.ensures.prints refl))
     c.print_by.ensures
 

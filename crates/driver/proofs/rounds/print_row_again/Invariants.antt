@@ -8,8 +8,8 @@ use Rattle.driver.proofs.rounds.print_row_again.Given as goal
 
 abbrev pub invariant-loop-index : goal.invariant-loop-index
 invariant-loop-index g l = record {
-  printed : take (l.start + l.index) (cites_seen l.printed) ++ are_again (map state_by l.marks) l.is_given (row_seen g.T.EntryLike.answers (context_of l.request) (drop l.index l.request.items.items) (drop l.index l.row)) (drop (l.start + l.index) (cites_seen l.printed))
-      ≡ take l.start (cites_seen l.fn.printed) ++ are_again (map state_by l.marks) l.is_given (row_seen g.T.EntryLike.answers (context_of l.request) l.request.items.items l.row) (drop l.start (cites_seen l.fn.printed));
+  printed : take (l.start + l.index) (cites_seen l.printed) ++ are_again (map state_by l.marks) l.is_given (row_seen g.T.EntryLike.answers (context_of l.cites.request.now) (drop l.index l.cites.request.now.items.items) (drop l.index l.cites.row.now)) (drop (l.start + l.index) (cites_seen l.printed))
+      ≡ take l.start (cites_seen l.fn.printed) ++ are_again (map state_by l.marks) l.is_given (row_seen g.T.EntryLike.answers (context_of l.cites.request.now) l.cites.request.now.items.items l.cites.row.now) (drop l.start (cites_seen l.fn.printed));
   many : length (cites_seen l.printed) ≡ length (cites_seen l.fn.printed);
-  effort : l.effort + length (row_seen g.T.EntryLike.answers (context_of l.request) (drop l.index l.request.items.items) (drop l.index l.row)) ≤ l.fn.effort + length (row_seen g.T.EntryLike.answers (context_of l.request) l.request.items.items l.row);
+  effort : l.effort + length (row_seen g.T.EntryLike.answers (context_of l.cites.request.now) (drop l.index l.cites.request.now.items.items) (drop l.index l.cites.row.now)) ≤ l.fn.effort + length (row_seen g.T.EntryLike.answers (context_of l.cites.request.now) l.cites.request.now.items.items l.cites.row.now);
 }

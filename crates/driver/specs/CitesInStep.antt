@@ -1,0 +1,51 @@
+-- The cites of a document with what they are printed from.
+use Rattle.std.specs.Prelude.{◌≡◌, ℕ, List, length, map}
+use Rattle.rendering.specs.Views.{context_seen}
+use Rattle.rendering_entries.specs.Answers.{Answers}
+use Rattle.driver_requests.specs.Cites.{Numbered}
+use Rattle.driver_requests.specs.Requests.{Request}
+use Rattle.driver_requests.specs.Views.{context_of, request_by}
+use Rattle.driver_marks.specs.Classes.{Candidate}
+use Rattle.driver.specs.Stages.{candidate, first_print, flattened}
+use Rattle.driver.specs.Views.{numbered_seen, row_seen, rows_seen}
+use Rattle.driver.specs.declared.cite.StyledCite.{StyledCite}
+use Rattle.driver.specs.declared.document_cites.DocumentCites.{DocumentCites}
+use Rattle.driver.specs.declared.document_cites.RequestCites.{RequestCites}
+
+-- The contexts are those of the requests, and each row has a cite for each item of its request.
+pub record AreInStep {T P : Type 0} (d : DocumentCites T P) : Type 0 where
+  pub contexts : map context_seen d.contexts.now ≡ map context_of d.requests.now
+  pub rows : map (λ v. length v.items) d.rows.now ≡ map (λ r. length r.items.items) d.requests.now
+
+-- The context is that of the request, and the row has a cite for each of its items.
+pub record IsInStep {T P : Type 0} (c : RequestCites T P) : Type 0 where
+  pub context : context_seen c.context.now ≡ context_of c.request.now
+  pub row : length c.row.now ≡ length c.request.now.items.items
+
+-- a cite in its style
+abbrev pub styled_seen : {T P : Type 0} → (T → Answers) → StyledCite T P → Numbered P
+styled_seen answers c = numbered_seen answers (context_seen c.context.now) c.item.now c.numbered
+
+-- the cites of a request
+abbrev pub request_cites : {T P : Type 0} → (T → Answers) → RequestCites T P → List (Numbered P)
+request_cites answers c = row_seen answers (context_of c.request.now) c.request.now.items.items c.row.now
+
+-- the requests, where each entry has a place and answers
+abbrev pub requests_by : {T P : Type 0} → (T → ℕ) → (T → Answers) → DocumentCites T P → List (Request P)
+requests_by place answers d = map (request_by place answers) d.requests.now
+
+-- the cites of a document request by request
+abbrev pub document_cites : {T P : Type 0} → (T → Answers) → DocumentCites T P → List (List (Numbered P))
+document_cites answers d = rows_seen answers d.requests.now d.rows.now
+
+-- all cites of a document
+abbrev pub all_cites : {T P : Type 0} → (T → Answers) → DocumentCites T P → List (Numbered P)
+all_cites answers d = flattened (document_cites answers d)
+
+-- how many there are
+abbrev pub cites_count : {T P : Type 0} → (T → Answers) → DocumentCites T P → ℕ
+cites_count answers d = length (all_cites answers d)
+
+-- all of them as candidates
+abbrev pub all_candidates : {T P : Type 0} → (T → Answers) → DocumentCites T P → List Candidate
+all_candidates answers d = map (λ n. candidate (first_print n)) (all_cites answers d)

@@ -1,0 +1,42 @@
+//! The cites of a document with what they are printed from.
+
+ghost use Rattle.std.specs.Prelude.{◌≡◌, ◌<◌, Some, length, map, slice_get};
+ghost use Rattle.driver.specs.CitesInStep.{AreInStep, IsInStep};
+
+use crate::cite::NumberedCite;
+use driver_requests::CitationRequest;
+use rendering::StyleContext;
+
+/// The requests of a document, each with its style and its cites.
+#[derive_where(Clone, Copy)]
+pub(crate) struct DocumentCites<'r, 'c, T, P> {
+    pub(crate) requests: &'r [CitationRequest<'r, T, P>],
+    pub(crate) contexts: &'c [StyleContext<'c>],
+    pub(crate) rows: &'c [Vec<NumberedCite>],
+}
+
+/// A request with its style, and its cites in the order of its items.
+#[derive_where(Clone, Copy)]
+pub(crate) struct RequestCites<'r, 'c, T, P> {
+    pub(crate) request: &'r CitationRequest<'r, T, P>,
+    pub(crate) context: &'c StyleContext<'c>,
+    pub(crate) row: &'c [NumberedCite],
+}
+
+impl<'r, 'c, T, P> DocumentCites<'r, 'c, T, P> {
+    /// The request at an index.
+    pub(crate) fn request(self, index: usize) -> RequestCites<'r, 'c, T, P>
+        requires in_step { AreInStep self }
+        requires index { index < length self.requests.now }
+        ensures request { slice_get self.entry.requests.now index ≡ Some result.request.now }
+        ensures row { slice_get (map (λ v. v.items) self.entry.rows.now) index
+            ≡ Some result.row.now }
+        ensures in_step { IsInStep result }
+    {
+        RequestCites {
+            request: &self.requests[index],
+            context: &self.contexts[index],
+            row: self.rows[index].as_slice(),
+        }
+    }
+}
