@@ -1,12 +1,13 @@
 #!/usr/bin/env python3
-"""Measures what it costs to tell cites apart that print alike.
+"""Measures what it costs to disambiguate cites that print alike.
 
     bench/alike.py [PROGRAM] [N]
 
 N articles, 10,000 where no other number is said, each cited once in a marker of its own, by authors and years: all of other authors; in
-groups of 100 of one author and year, which letters tell apart; and in pairs, of which every other one needs letters and the others names:
+groups of 100 of one author and year, which year suffixes disambiguate; and in pairs, of which every other one needs a year suffix and the
+others names:
 half of these a given name, half the second of four authors; and all by one first author of four, where the second ones differ, so that every
-cite prints the same until names tell it apart. All come of a fixed seed. It prints the bytes of input, the instructions (by
+cite prints the same until names disambiguate it. All come of a fixed seed. It prints the bytes of input, the instructions (by
 `valgrind --tool=callgrind`), the seconds, the peak memory less that of a run on two empty files, and how many times the instructions of
 the first case each case takes. What was found is written down where no number is said.
 """

@@ -4,7 +4,7 @@
     bench/blocks.py [PROGRAM]
 
 PROGRAM is the program that runs cases. A document of one marker cites each of N books, with years that come of a fixed seed, by a style that
-prints family names, or what stands in for them, and years, and gathers the cites of the same names: each cite is a block by itself. The books
+prints family names, or their substitute, and years, and gathers the cites of the same names: each cite is a block by itself. The books
 are by N authors of one family name, or by N editors of one, or by nobody and of N titles, or of one title in which other letters are formulas.
 For N = 1,000, 10,000 and 100,000 it prints the bytes of the case, its instructions (by `valgrind --tool=callgrind`) and its seconds; then the
 growth exponents of the instructions from each size to the next.

@@ -5,7 +5,7 @@
 
 PROGRAM is the program that runs cases. 1,000 articles with two authors come of a fixed seed, each in a case of its own. The instructions are those inside
 `StyleContext::citation`, by `valgrind --tool=callgrind`; for the item the citation has the layout of the bibliography. Where the program has no name for
-that function they are the difference of two runs, which counts some thousand more: in one of them each cite is told apart by its names, for which the same
+that function they are the difference of two runs, which counts some thousand more: in one of them each cite is disambiguated by its names, for which the same
 cite is made once more before it (docs/CASES.md).
 
 Then a text inside 0, 9, 99 and 199 groups, so that 1, 10, 100 and 200 nodes are one inside the other: the instructions of one cite, and its seconds of
@@ -54,7 +54,7 @@ def case(bib, nodes, is_twice=False):
 
 
 def deep(levels):
-    """A text with groups round it, so many nodes in all, after a name, without which nothing would be told apart."""
+    """A text with groups round it, so many nodes in all, after a name, without which nothing would be disambiguated."""
     node = {"node": "text", "variable": "title"}
     for _ in range(levels - 1):
         node = {"node": "group", "nodes": [node]}

@@ -44,8 +44,8 @@ ALIKE = """## Cites that print alike
     bench/alike.py
 
 `cite author-date plain` on articles of one year that are cited once each, in markers of their own: all by other authors; in groups of 100 by one
-author, which letters tell apart; in pairs, of which every other one needs letters and the others names; and all by one first author of four,
-where the second ones tell them apart.
+author, which year suffixes disambiguate; in pairs, of which every other one needs a year suffix and the others names; and all by one first author of four,
+where the second ones disambiguate them.
 """
 
 BLOCKS = """## Blocks of one citation

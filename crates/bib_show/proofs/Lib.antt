@@ -1,5 +1,5 @@
 pub mod ShownMembers
 pub mod ProgramFaults
-pub mod PlaceLines
+pub mod PositionLines
 pub mod ShownPlain
 pub mod ProgramUnique

@@ -1,5 +1,5 @@
 pub mod Shown
-pub mod Place
+pub mod Position
 pub mod Refusals
 pub mod Program
 pub mod Views

@@ -67,26 +67,26 @@ Serves read words P = (output : List ℕ) × IsOutput read words output × P out
 abbrev pub usage : List ℕ
 usage = line (codes "bib_show") (codes "usage: bib_show FILE")
 
--- Why nothing is to be written, and what is said of it: a file cannot be read, or its bytes are refused; an option is no fault; there is
--- not one word. Where memory ran out, that is said.
+-- Why nothing is to be written, and the message for it: a file cannot be read, or its bytes are refused; an option is no fault; there is
+-- not one word. Where memory ran out, that is the message.
 abbrev pub IsFileFault : List ℕ → Outcome → List ℕ → Type 0
-IsFileFault path (Ok source) said = IsSourceFault path source said
-IsFileFault path (Err Unreadable) said = said ≡ line (codes "bib_show") (codes "cannot read " ++ path)
-IsFileFault path (Err Memory) said = ⊥
+IsFileFault path (Ok source) message = IsSourceFault path source message
+IsFileFault path (Err Unreadable) message = message ≡ line (codes "bib_show") (codes "cannot read " ++ path)
+IsFileFault path (Err Memory) message = ⊥
 
 abbrev pub IsWordFault : Option (List ℕ) → List ℕ → Outcome → List ℕ → Type 0
-IsWordFault (Some text) path read said = ⊥
-IsWordFault None path read said = IsFileFault path read said
+IsWordFault (Some text) path read message = ⊥
+IsWordFault None path read message = IsFileFault path read message
 
 abbrev pub IsFault : (List ℕ → Outcome) → List (Bor (List ℕ)) → List ℕ → Type 0
-IsFault read [] said = said ≡ usage
-IsFault read (word ∷ []) said = IsWordFault (information word.now) word.now (read word.now) said
-IsFault read (word ∷ more ∷ words) said = said ≡ usage
+IsFault read [] message = message ≡ usage
+IsFault read (word ∷ []) message = IsWordFault (information word.now) word.now (read word.now) message
+IsFault read (word ∷ more ∷ words) message = message ≡ usage
 
--- what is said of a fault in the program
-abbrev pub said_of : RunFault → List ℕ
-said_of faults.Usage = usage
-said_of (faults.Path path) = line (codes "bib_show") (codes "cannot read " ++ path.now)
-said_of faults.Memory = no_memory (codes "bib_show")
-said_of faults.Write = not_written (codes "bib_show")
-said_of (faults.Refused lines) = string_bytes lines
+-- the message for a fault in the program
+abbrev pub message_of : RunFault → List ℕ
+message_of faults.Usage = usage
+message_of (faults.Path path) = line (codes "bib_show") (codes "cannot read " ++ path.now)
+message_of faults.Memory = no_memory (codes "bib_show")
+message_of faults.Write = not_written (codes "bib_show")
+message_of (faults.Refused lines) = string_bytes lines

@@ -1,4 +1,4 @@
--- What is said of a source that is refused.
+-- The message for a source that is refused.
 use Rattle.std.specs.Prelude.{◌≡◌, ℕ, true, false, List, [], ◌∷◌, ◌++◌, codes, ◌⊎◌, Err}
 use Rattle.std.specs.Str.{chars, is_utf8}
 use Rattle.std.specs.Str.Lossy.{utf8_valid_len}
@@ -6,23 +6,23 @@ use Rattle.std.specs.Fmt.{decimal}
 use Rattle.biblatex.specs.Errors.{reason_text}
 use Rattle.biblatex.specs.Reading.{Refusal}
 use Rattle.biblatex.specs.Resolved.{TextMeans}
-use Rattle.bib_show.specs.Place.{line_at, mark_at, line_number, column_number}
+use Rattle.bib_show.specs.Position.{line_at, mark_at, line_number, column_number}
 
--- FILE:LINE:COLUMN: and why, then the line, then the mark below the place
+-- FILE:LINE:COLUMN: and why, then the line, then the mark below the position
 abbrev pub refusal_lines : List ℕ → List ℕ → ℕ → List ℕ → List ℕ
 refusal_lines path source at why =
     path ++ (58 ∷ (decimal (line_number source at) ++ (58 ∷ (decimal (column_number source at) ++ (codes ": " ++ (why ++ (10 ∷ (line_at source at ++ (10 ∷ (mark_at source at ++ 10 ∷ []))))))))))
 
 -- bytes that are no text, at the first one that is not of a character
 abbrev pub IsNoText : List ℕ → List ℕ → List ℕ → Type 0
-IsNoText path source said = (is_utf8 source ≡ false) × (said ≡ refusal_lines path source (utf8_valid_len source) (codes "not UTF-8"))
+IsNoText path source message = (is_utf8 source ≡ false) × (message ≡ refusal_lines path source (utf8_valid_len source) (codes "not UTF-8"))
 
--- a text that means no entries, at the beginning of what is refused
-pub record IsTextFault (path source said : List ℕ) : Type 0 where
+-- a text that means no entries, at the start of what is refused
+pub record IsTextFault (path source message : List ℕ) : Type 0 where
   pub refusal : Refusal
   pub is_text : is_utf8 source ≡ true
   pub means : TextMeans (chars source) (Err refusal)
-  pub lines : said ≡ refusal_lines path source refusal.start (reason_text refusal.reason)
+  pub lines : message ≡ refusal_lines path source refusal.start (reason_text refusal.reason)
 
 abbrev pub IsSourceFault : List ℕ → List ℕ → List ℕ → Type 0
-IsSourceFault path source said = IsNoText path source said ⊎ IsTextFault path source said
+IsSourceFault path source message = IsNoText path source message ⊎ IsTextFault path source message

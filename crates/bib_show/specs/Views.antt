@@ -1,12 +1,12 @@
 -- What the code holds, as plain data.
 use Rattle.std.specs.Prelude.{[]}
-use Rattle.bib_show.specs.Place as place
-use Rattle.bib_show.specs.declared.place.Position.{Position}
+use Rattle.bib_show.specs.Position as position
+use Rattle.bib_show.specs.declared.position.Position.{Position}
 
 -- where reading has come to
-abbrev pub position : Position → place.Position
-position p = record { ended = p.ended; read = p.read.items }
+abbrev pub position_view : Position → position.Position
+position_view p = record { ended = p.ended; read = p.read.items }
 
--- the beginning
-abbrev pub nothing_read : place.Position
+-- the start
+abbrev pub nothing_read : position.Position
 nothing_read = record { ended = 0; read = [] }

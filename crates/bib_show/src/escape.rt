@@ -10,7 +10,8 @@ use texts::push_character;
 /// Shows the number of a character, as `\u{..}`.
 pub(crate) fn push_escape(out: &mut String, c: char) -> Result<(), AllocError>
     ensures characters { OnOk result (characters out.new ≡ characters out.old ++ escape_unicode c) }
-    ensures bytes { OnOk result (string_bytes out.new ≡ string_bytes out.old ++ text_of (escape_unicode c)) }
+    ensures bytes { OnOk result (string_bytes out.new
+        ≡ string_bytes out.old ++ text_of (escape_unicode c)) }
 {
     for mark in c.escape_unicode() {
         push_character(out, mark)?;

@@ -4,7 +4,7 @@
 
 mod escape;
 mod member;
-mod place;
+mod position;
 mod program;
 mod refusal;
 mod shown;

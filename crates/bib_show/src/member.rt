@@ -2,7 +2,7 @@
 
 ghost use Rattle.std.specs.Prelude.{◌≡◌, ◌++◌, ◌∷◌, [], false, IfOk, OnOk, string_bytes, Bool, List, ℕ};
 ghost use Rattle.std.specs.Str.{chars};
-ghost use Rattle.laws.specs.Runs.{front_of, after};
+ghost use Rattle.laws.specs.Runs.{prefix_of, after};
 ghost use Rattle.laws.specs.Text.{is_filled};
 ghost use Rattle.biblatex.specs.Contents.{members, styled};
 ghost use Rattle.biblatex.specs.Styled.{Member, Math, letters};
@@ -15,7 +15,8 @@ use texts::{CharacterClass, has_text, split_first, split_run};
 
 /// Shows a value: normal text as it is, verbatim text in braces, math between dollar signs.
 pub(crate) fn push_value(out: &mut String, value: &[Spanned<Chunk>]) -> Result<(), AllocError>
-    ensures { OnOk result (string_bytes out.new ≡ string_bytes out.old ++ shown_from false (styled value.now)) }
+    ensures { OnOk result (string_bytes out.new
+        ≡ string_bytes out.old ++ shown_from false (styled value.now)) }
 {
     let mut is_open = false;
     let mut rest = value;
@@ -28,7 +29,9 @@ pub(crate) fn push_value(out: &mut String, value: &[Spanned<Chunk>]) -> Result<(
 
 /// Shows one more chunk, where verbatim text may stand before it, and says whether such stands at its end.
 fn push_chunk(out: &mut String, is_open: bool, chunk: &Chunk) -> Result<bool, AllocError>
-    ensures { IfOk result (λ ends_open. (more : List Member) → string_bytes out.new ++ shown_from ends_open more ≡ string_bytes out.old ++ shown_from is_open (members chunk.now ++ more)) }
+    ensures { IfOk result (λ ends_open. (more : List Member)
+        → string_bytes out.new ++ shown_from ends_open more
+        ≡ string_bytes out.old ++ shown_from is_open (members chunk.now ++ more)) }
 {
     match chunk {
         Chunk::Normal(text) => push_text(out, is_open, false, text.as_str()),
@@ -44,7 +47,9 @@ fn push_text(
     is_verbatim: bool,
     text: &str,
 ) -> Result<bool, AllocError>
-    ensures { IfOk result (λ ends_open. (more : List Member) → string_bytes out.new ++ shown_from ends_open more ≡ string_bytes out.old ++ shown_from is_open (letters (kind_of is_verbatim) (chars text.now) ++ more)) }
+    ensures { IfOk result (λ ends_open. (more : List Member)
+        → string_bytes out.new ++ shown_from ends_open more ≡ string_bytes out.old
+        ++ shown_from is_open (letters (kind_of is_verbatim) (chars text.now) ++ more)) }
 {
     if !has_text(text) {
         return Ok(is_open);
@@ -56,7 +61,9 @@ fn push_text(
 
 /// Shows math.
 fn push_math(out: &mut String, is_open: bool, text: &str) -> Result<bool, AllocError>
-    ensures { IfOk result (λ ends_open. (more : List Member) → string_bytes out.new ++ shown_from ends_open more ≡ string_bytes out.old ++ shown_from is_open (Math (chars text.now) ∷ more)) }
+    ensures { IfOk result (λ ends_open. (more : List Member)
+        → string_bytes out.new ++ shown_from ends_open more
+        ≡ string_bytes out.old ++ shown_from is_open (Math (chars text.now) ∷ more)) }
 {
     turn(out, is_open, false)?;
     out.push('$')?;
@@ -67,7 +74,8 @@ fn push_math(out: &mut String, is_open: bool, text: &str) -> Result<bool, AllocE
 
 /// The brace between verbatim text and other text.
 fn turn(out: &mut String, is_open: bool, is_verbatim: bool) -> Result<(), AllocError>
-    ensures { OnOk result (string_bytes out.new ≡ string_bytes out.old ++ turning is_open is_verbatim) }
+    ensures { OnOk result (string_bytes out.new
+        ≡ string_bytes out.old ++ turning is_open is_verbatim) }
 {
     match (is_open, is_verbatim) {
         (true, false) => out.push('}'),
@@ -78,7 +86,8 @@ fn turn(out: &mut String, is_open: bool, is_verbatim: bool) -> Result<(), AllocE
 
 /// Shows characters.
 fn push_characters(out: &mut String, text: &str) -> Result<(), AllocError>
-    ensures { OnOk result (string_bytes out.new ≡ string_bytes out.old ++ shown_characters (chars text.now)) }
+    ensures { OnOk result (string_bytes out.new
+        ≡ string_bytes out.old ++ shown_characters (chars text.now)) }
 {
     let mut rest = push_plain(out, text)?;
     while let Some((c, more)) = split_first(rest) {
@@ -90,7 +99,8 @@ fn push_characters(out: &mut String, text: &str) -> Result<(), AllocError>
 
 /// Shows the characters before the first one that is marked, in one go, and gives back what follows them.
 fn push_plain<'s>(out: &mut String, text: &'s str) -> Result<&'s str, AllocError>
-    ensures shown { IfOk result (λ rest. string_bytes out.new ++ shown_characters (chars rest.now) ≡ string_bytes out.old ++ shown_characters (chars text.now)) }
+    ensures shown { IfOk result (λ rest. string_bytes out.new ++ shown_characters (chars rest.now)
+        ≡ string_bytes out.old ++ shown_characters (chars text.now)) }
     ensures rest { IfOk result (λ rest. chars rest.now ≡ after is_plain (chars text.now)) }
 {
     let (plain, rest) = split_plain(text);
@@ -112,7 +122,7 @@ impl CharacterClass for Plain {
 
 /// The characters before the first one that is marked, and what follows them.
 fn split_plain(text: &str) -> (&str, &str)
-    ensures front { chars result.0.now ≡ front_of is_plain (chars text.now) }
+    ensures prefix { chars result.0.now ≡ prefix_of is_plain (chars text.now) }
     ensures rest { chars result.1.now ≡ after is_plain (chars text.now) }
 {
     split_run(text, Plain)

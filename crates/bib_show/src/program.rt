@@ -5,9 +5,9 @@ ghost use Rattle.std.specs.Option.{option_copied};
 ghost use Rattle.std.specs.Io.KnownBytes.{Appends};
 ghost use Rattle.sinks.specs.Files.{read_at};
 ghost use Rattle.sinks.specs.Programs.{line, no_memory, IsUntouched, IsReason, Says};
-ghost use Rattle.biblatex.specs.Errors.{reason, reason_text};
+ghost use Rattle.biblatex.specs.Errors.{reason_view, reason_text};
 ghost use Rattle.bib_show.specs.Refusals.{IsSourceFault, refusal_lines};
-ghost use Rattle.bib_show.specs.Program.{information, asked, IsShownOf, IsFileOutput, IsWordOutput, IsOutput, Serves, IsFileFault, IsWordFault, IsFault, said_of};
+ghost use Rattle.bib_show.specs.Program.{information, asked, IsShownOf, IsFileOutput, IsWordOutput, IsOutput, Serves, IsFileFault, IsWordFault, IsFault, message_of};
 ghost use Rattle.bib_show.specs.declared.program.RunFault.TheVariants.{Memory};
 
 use crate::refusal::refusal_lines;
@@ -45,7 +45,7 @@ enum RunFault<'w> {
     Path(&'w str),
     Memory,
     Write,
-    /// The source is refused, of which these lines are said.
+    /// The source is refused, of which these lines are the message.
     Refused(String),
 }
 
@@ -72,7 +72,7 @@ pub fn paths<'s, 'w>(words: &'s [&'w str]) -> &'s [&'w str]
 
 /// Runs the program: `FILE`, `--help` or `--version`. The entries of the file, their references resolved, or the text of the option
 /// go to `out`, and the status is 0; or lines that say why not go to `err`, and the status is 1: of a file that is refused
-/// `FILE:LINE:COLUMN:` and why, the line, and a caret below the place, else one line that begins `bib_show: `. `files` are what was
+/// `FILE:LINE:COLUMN:` and why, the line, and a caret below the position, else one line that begins `bib_show: `. `files` are what was
 /// read of the paths that `paths` names; one that is missing cannot be read. A fault of `err` is passed over.
 pub fn run<O: Sink, E: Sink>(
     alloc: Global,
@@ -83,12 +83,18 @@ pub fn run<O: Sink, E: Sink>(
 ) -> u8
     // After the status 0 `err` is as it was.
     ensures silent { result ≡ 0 → err.new ≡ err.old }
-    // After the status 1 `err` has taken what is said of the fault, or that memory ran out or the write failed; or it failed itself.
-    ensures said { result ≡ 1 → Says (IsReason (codes "bib_show") (IsFault (read_at files.now) words.now) (Serves (read_at files.now) words.now) (O.failures out.old) (O.failures out.new)) (E.contents err.old) (E.contents err.new) (E.failures err.old) (E.failures err.new) }
-    // Then `out` is as it was; or a write of the output failed, and a beginning of it stands.
-    ensures untouched { result ≡ 1 → IsUntouched (Serves (read_at files.now) words.now) out.old out.new (O.contents out.old) (O.contents out.new) (O.failures out.old) (O.failures out.new) }
+    // After the status 1 `err` has taken the message for the fault, or that memory ran out or the write failed; or it failed itself.
+    ensures message { result ≡ 1
+        → Says (IsReason (codes "bib_show") (IsFault (read_at files.now) words.now)
+        (Serves (read_at files.now) words.now) (O.failures out.old) (O.failures out.new))
+        (E.contents err.old) (E.contents err.new) (E.failures err.old) (E.failures err.new) }
+    // Then `out` is as it was; or a write of the output failed, and a prefix of it stands.
+    ensures untouched { result ≡ 1
+        → IsUntouched (Serves (read_at files.now) words.now) out.old out.new
+        (O.contents out.old) (O.contents out.new) (O.failures out.old) (O.failures out.new) }
     // After the status 0 `out` has taken exactly the text of the option, or what is shown of the entries that the file means.
-    ensures served { result ≡ 0 → Serves (read_at files.now) words.now (λ output. Appends (O.contents out.old) (O.contents out.new) output) }
+    ensures served { result ≡ 0 → Serves (read_at files.now) words.now (λ output.
+        Appends (O.contents out.old) (O.contents out.new) output) }
     ensures status { result ≤ 1 }
 {
     match serve(alloc, words, files, out) {
@@ -102,7 +108,9 @@ pub fn run<O: Sink, E: Sink>(
 
 /// Says why not. A fault of `err` is passed over.
 fn say_fault<E: Sink>(alloc: Global, fault: RunFault<'_>, err: &mut E)
-    ensures { Says (λ said. (said ≡ said_of fault.entry) ⊎ (said ≡ no_memory (codes "bib_show"))) (E.contents err.old) (E.contents err.new) (E.failures err.old) (E.failures err.new) }
+    ensures { Says
+        (λ message. (message ≡ message_of fault.entry) ⊎ (message ≡ no_memory (codes "bib_show")))
+        (E.contents err.old) (E.contents err.new) (E.failures err.old) (E.failures err.new) }
 {
     match lines_of(alloc, fault) {
         Ok(lines) => say(lines.as_bytes(), err),
@@ -110,9 +118,9 @@ fn say_fault<E: Sink>(alloc: Global, fault: RunFault<'_>, err: &mut E)
     }
 }
 
-/// What is said of a fault.
+/// The message for a fault.
 fn lines_of(alloc: Global, fault: RunFault<'_>) -> Result<String, AllocError>
-    ensures { IfOk result (λ lines. string_bytes lines ≡ said_of fault.entry) }
+    ensures { IfOk result (λ lines. string_bytes lines ≡ message_of fault.entry) }
 {
     match fault {
         RunFault::Usage => line_of(alloc, PROGRAM, "usage: bib_show FILE", ""),
@@ -130,9 +138,14 @@ fn serve<'w, O: Sink>(
     files: &[FileRead<'_>],
     out: &mut O,
 ) -> Result<(), RunFault<'w>>
-    ensures fault { IfErr result (λ f. IsReason (codes "bib_show") (IsFault (read_at files.now) words.now) (Serves (read_at files.now) words.now) (O.failures out.old) (O.failures out.new) (said_of f)) }
-    ensures served { OnOk result (Serves (read_at files.now) words.now (λ output. Appends (O.contents out.old) (O.contents out.new) output)) }
-    ensures untouched { OnErr result (IsUntouched (Serves (read_at files.now) words.now) out.old out.new (O.contents out.old) (O.contents out.new) (O.failures out.old) (O.failures out.new)) }
+    ensures fault { IfErr result (λ f. IsReason (codes "bib_show")
+        (IsFault (read_at files.now) words.now) (Serves (read_at files.now) words.now)
+        (O.failures out.old) (O.failures out.new) (message_of f)) }
+    ensures served { OnOk result (Serves (read_at files.now) words.now (λ output.
+        Appends (O.contents out.old) (O.contents out.new) output)) }
+    ensures untouched { OnErr result
+        (IsUntouched (Serves (read_at files.now) words.now) out.old out.new
+        (O.contents out.old) (O.contents out.new) (O.failures out.old) (O.failures out.new)) }
 {
     let output = output_of(alloc, words, files)?;
     match write_all(out, output.as_bytes()) {
@@ -148,7 +161,8 @@ fn output_of<'w>(
     files: &[FileRead<'_>],
 ) -> Result<String, RunFault<'w>>
     ensures output { IfOk result (λ s. IsOutput (read_at files.now) words.now (string_bytes s)) }
-    ensures fault { IfErr result (λ f. IsFault (read_at files.now) words.now (said_of f) ⊎ (said_of f ≡ no_memory (codes "bib_show"))) }
+    ensures fault { IfErr result (λ f. IsFault (read_at files.now) words.now (message_of f)
+        ⊎ (message_of f ≡ no_memory (codes "bib_show"))) }
 {
     let [word] = words else {
         return Err(RunFault::Usage);
@@ -162,8 +176,11 @@ fn word_output<'w>(
     word: &'w str,
     files: &[FileRead<'_>],
 ) -> Result<String, RunFault<'w>>
-    ensures output { IfOk result (λ s. IsWordOutput (information word.now) (read_at files.now word.now) (string_bytes s)) }
-    ensures fault { IfErr result (λ f. IsWordFault (information word.now) word.now (read_at files.now word.now) (said_of f) ⊎ (said_of f ≡ no_memory (codes "bib_show"))) }
+    ensures output { IfOk result (λ s.
+        IsWordOutput (information word.now) (read_at files.now word.now) (string_bytes s)) }
+    ensures fault { IfErr result (λ f.
+        IsWordFault (information word.now) word.now (read_at files.now word.now) (message_of f)
+        ⊎ (message_of f ≡ no_memory (codes "bib_show"))) }
 {
     match information(word) {
         Some(text) => Ok(String::from_str(alloc, text)?),
@@ -189,7 +206,8 @@ fn file_output<'w>(
     files: &[FileRead<'_>],
 ) -> Result<String, RunFault<'w>>
     ensures output { IfOk result (λ s. IsFileOutput (read_at files.now path.now) (string_bytes s)) }
-    ensures fault { IfErr result (λ f. IsFileFault path.now (read_at files.now path.now) (said_of f) ⊎ (said_of f ≡ no_memory (codes "bib_show"))) }
+    ensures fault { IfErr result (λ f. IsFileFault path.now (read_at files.now path.now)
+        (message_of f) ⊎ (message_of f ≡ no_memory (codes "bib_show"))) }
 {
     match bytes_at(files, path) {
         Ok(source) => source_output(alloc, path, source),
@@ -201,7 +219,8 @@ fn file_output<'w>(
 /// What is shown of a source.
 fn source_output<'w>(alloc: Global, path: &str, source: &[u8]) -> Result<String, RunFault<'w>>
     ensures shown { IfOk result (λ s. IsShownOf source.now (string_bytes s)) }
-    ensures fault { IfErr result (λ f. IsSourceFault path.now source.now (said_of f) ⊎ (said_of f ≡ no_memory (codes "bib_show"))) }
+    ensures fault { IfErr result (λ f. IsSourceFault path.now source.now (message_of f)
+        ⊎ (message_of f ≡ no_memory (codes "bib_show"))) }
 {
     match str::from_utf8(source) {
         Ok(text) => text_output(alloc, path, text),
@@ -212,7 +231,8 @@ fn source_output<'w>(alloc: Global, path: &str, source: &[u8]) -> Result<String,
 /// What is shown of a text.
 fn text_output<'w>(alloc: Global, path: &str, text: &str) -> Result<String, RunFault<'w>>
     ensures shown { IfOk result (λ s. IsShownOf text.now (string_bytes s)) }
-    ensures fault { IfErr result (λ f. IsSourceFault path.now text.now (said_of f) ⊎ (said_of f ≡ no_memory (codes "bib_show"))) }
+    ensures fault { IfErr result (λ f. IsSourceFault path.now text.now (message_of f)
+        ⊎ (message_of f ≡ no_memory (codes "bib_show"))) }
 {
     match Bibliography::parse(alloc, text) {
         Ok(bibliography) => Ok(show(alloc, &bibliography)?),
@@ -223,7 +243,7 @@ fn text_output<'w>(alloc: Global, path: &str, text: &str) -> Result<String, RunF
     }
 }
 
-/// Why a text is not shown that is refused for this at a place.
+/// Why a text is not shown that is refused for this at a position.
 fn text_fault<'w>(
     alloc: Global,
     path: &str,
@@ -231,7 +251,9 @@ fn text_fault<'w>(
     kind: &ParseErrorKind,
     at: usize,
 ) -> RunFault<'w>
-    ensures { (said_of result ≡ refusal_lines path.now text.now at (reason_text (reason kind.now))) ⊎ (said_of result ≡ no_memory (codes "bib_show")) }
+    ensures { (message_of result
+        ≡ refusal_lines path.now text.now at (reason_text (reason_view kind.now)))
+        ⊎ (message_of result ≡ no_memory (codes "bib_show")) }
 {
     match kind.to_string(alloc) {
         Ok(why) => refused(alloc, path, text.as_bytes(), at, why.as_str()),
@@ -239,9 +261,10 @@ fn text_fault<'w>(
     }
 }
 
-/// Why a source is not shown that is refused at a place.
+/// Why a source is not shown that is refused at a position.
 fn refused<'w>(alloc: Global, path: &str, source: &[u8], at: usize, why: &str) -> RunFault<'w>
-    ensures { (said_of result ≡ refusal_lines path.now source.now at why.now) ⊎ (said_of result ≡ no_memory (codes "bib_show")) }
+    ensures { (message_of result ≡ refusal_lines path.now source.now at why.now)
+        ⊎ (message_of result ≡ no_memory (codes "bib_show")) }
 {
     match refusal_lines(alloc, path, source, at, why) {
         Ok(lines) => RunFault::Refused(lines),

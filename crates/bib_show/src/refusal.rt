@@ -1,14 +1,14 @@
-//! What is said of a source that is refused.
+//! The message for a source that is refused.
 
 ghost use Rattle.std.specs.Prelude.{◌≡◌, ◌++◌, ◌∷◌, [], IfOk, OnOk, string_bytes, codes};
 ghost use Rattle.std.specs.Fmt.{decimal};
 ghost use Rattle.bib_show.specs.Refusals.{refusal_lines};
 
-use crate::place::Place;
+use crate::position::ShownPosition;
 use std::alloc::{AllocError, Global};
 use std::fmt::Write;
 
-/// What is said of a source that is refused at a place: `FILE:LINE:COLUMN:` and why, the line, and a caret below the place.
+/// The message for a source that is refused at a position: `FILE:LINE:COLUMN:` and why, the line, and a caret below the position.
 pub(crate) fn refusal_lines(
     alloc: Global,
     path: &str,
@@ -16,13 +16,14 @@ pub(crate) fn refusal_lines(
     at: usize,
     why: &str,
 ) -> Result<String, AllocError>
-    ensures { IfOk result (λ lines. string_bytes lines ≡ refusal_lines path.now source.now at why.now) }
+    ensures { IfOk result (λ lines. string_bytes lines
+        ≡ refusal_lines path.now source.now at why.now) }
 {
-    let place = Place::new(alloc, source, at)?;
+    let position = ShownPosition::new(alloc, source, at)?;
     let mut lines = String::new(alloc);
-    push_head(&mut lines, path, place.number, place.column, why)?;
-    push_line(&mut lines, place.line.as_str())?;
-    push_line(&mut lines, place.mark.as_str())?;
+    push_head(&mut lines, path, position.number, position.column, why)?;
+    push_line(&mut lines, position.line.as_str())?;
+    push_line(&mut lines, position.mark.as_str())?;
     Ok(lines)
 }
 
@@ -34,14 +35,16 @@ fn push_head(
     column: usize,
     why: &str,
 ) -> Result<(), AllocError>
-    ensures { OnOk result (string_bytes lines.new ≡ string_bytes lines.old ++ (path.now ++ (58 ∷ (decimal number ++ (58 ∷ (decimal column ++ (codes ": " ++ (why.now ++ 10 ∷ [])))))))) }
+    ensures { OnOk result (string_bytes lines.new ≡ string_bytes lines.old ++ (path.now ++ (58
+        ∷ (decimal number ++ (58 ∷ (decimal column ++ (codes ": " ++ (why.now ++ 10 ∷ [])))))))) }
 {
     write!(lines, "{path}:{number}:{column}: {why}\n")
 }
 
 /// A line.
 fn push_line(lines: &mut String, line: &str) -> Result<(), AllocError>
-    ensures { OnOk result (string_bytes lines.new ≡ string_bytes lines.old ++ (line.now ++ 10 ∷ [])) }
+    ensures { OnOk result (string_bytes lines.new
+        ≡ string_bytes lines.old ++ (line.now ++ 10 ∷ [])) }
 {
     lines.push_str(line)?;
     lines.push('\n')

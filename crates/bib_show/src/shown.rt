@@ -1,9 +1,9 @@
 //! How entries are shown.
 
 ghost use Rattle.std.specs.Prelude.{◌≡◌, ◌++◌, IfOk, OnOk, string_bytes, flat_map};
-ghost use Rattle.biblatex.specs.Value.{value_seen};
+ghost use Rattle.biblatex.specs.Value.{field_value_view};
 ghost use Rattle.biblatex.specs.Fields.{AreInOrder};
-ghost use Rattle.biblatex.specs.Entries.{source};
+ghost use Rattle.biblatex.specs.Entries.{source_view};
 ghost use Rattle.bib_show.specs.Shown.{shown, shown_entry, shown_field, AreAllInOrder};
 
 use crate::member::push_value;
@@ -28,7 +28,8 @@ pub fn show(alloc: Global, bibliography: &Bibliography) -> Result<String, AllocE
 
 /// Shows one more entry.
 fn push_entry(out: &mut String, entry: &Entry) -> Result<(), AllocError>
-    ensures shown { OnOk result (string_bytes out.new ≡ string_bytes out.old ++ shown_entry (source entry.now)) }
+    ensures shown { OnOk result (string_bytes out.new
+        ≡ string_bytes out.old ++ shown_entry (source_view entry.now)) }
     ensures order { OnOk result (AreInOrder entry.now.fields) }
 {
     out.push('@')?;
@@ -41,7 +42,8 @@ fn push_entry(out: &mut String, entry: &Entry) -> Result<(), AllocError>
 
 /// Shows the fields of an entry.
 fn push_fields(out: &mut String, fields: &Fields) -> Result<(), AllocError>
-    ensures shown { OnOk result (string_bytes out.new ≡ string_bytes out.old ++ flat_map shown_field fields.now) }
+    ensures shown { OnOk result (string_bytes out.new
+        ≡ string_bytes out.old ++ flat_map shown_field fields.now) }
     ensures order { OnOk result (AreInOrder fields.now) }
 {
     for (name, value) in fields.iter() {
@@ -52,7 +54,8 @@ fn push_fields(out: &mut String, fields: &Fields) -> Result<(), AllocError>
 
 /// Shows one more field.
 fn push_field(out: &mut String, name: &str, value: &Chunks) -> Result<(), AllocError>
-    ensures { OnOk result (string_bytes out.new ≡ string_bytes out.old ++ shown_field (name.now, value_seen value.now.items)) }
+    ensures { OnOk result (string_bytes out.new
+        ≡ string_bytes out.old ++ shown_field (name.now, field_value_view value.now.items)) }
 {
     out.push_str("  ")?;
     out.push_str(name)?;

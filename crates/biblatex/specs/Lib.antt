@@ -5,7 +5,7 @@ pub use Rattle.biblatex_text.specs.Views as RawViews
 pub use Rattle.biblatex_text.specs.declared.token.Fault
 pub use Rattle.biblatex_content.specs.Styled
 pub use Rattle.biblatex_content.specs.Parted
-pub use Rattle.biblatex_content.specs.Places
+pub use Rattle.biblatex_content.specs.Spans
 pub use Rattle.biblatex_content.specs.Writing
 pub use Rattle.biblatex_content.specs.Views as Contents
 pub use Rattle.biblatex_content.specs.declared.chunk.Kind

@@ -1,6 +1,6 @@
-pub mod PlacesBinding
-pub mod PlacesWithin
-pub mod PlacesNames
+pub mod IndicesBinding
+pub mod IndicesWithin
+pub mod IndicesNames
 pub mod LendingBorrowed
 pub mod ResolvedEntries
 pub mod ReadingLoaded

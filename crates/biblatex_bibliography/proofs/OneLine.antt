@@ -31,9 +31,9 @@ use Rattle.biblatex_bibliography.specs.Errors.{fault_text, reason_text}
 use Rattle.biblatex_bibliography.specs.Lines.{HasNoLineFeed}
 use Rattle.biblatex_bibliography.proofs.Lines.{append, passing, spelled}
 
--- what is said of a refusal goes on one line
-abbrev pub IsSaidInLine : Refusal → Type 0
-IsSaidInLine r = HasNoLineFeed (reason_text r.reason)
+-- the message for a refusal goes on one line
+abbrev pub HasLineMessage : Refusal → Type 0
+HasLineMessage r = HasNoLineFeed (reason_text r.reason)
 
 -- and so does the key of an entry
 abbrev pub HasPlainKey : Source → Type 0
@@ -67,32 +67,32 @@ fault-plain (faults.Expected token) = append (codes "expected ") (token_name tok
 
 -- ---- fields and keys
 
-field-plain : (r : abbreviations.Refusal) → RefusesName r → IsSaidInLine (field_refusal r)
+field-plain : (r : abbreviations.Refusal) → RefusesName r → HasLineMessage (field_refusal r)
 field-plain (abbreviations.unknown name) is = append (codes "unknown abbreviation ") (text name.v) refl (spelled name.v (passing is_id_continue name.v refl is))
 field-plain (abbreviations.circular name) is = append (codes "circular abbreviation ") (text name.v) refl (spelled name.v (passing is_id_continue name.v refl is))
 field-plain (abbreviations.malformed start end) is = refl
 
-entry-plain : (g : Glossary) (l : Loaded) (e : Entry) → All HasNames g.definitions → HavePlainKeys l → HasKey e → MatchResult (entry_after g l e) HavePlainKeys IsSaidInLine
+entry-plain : (g : Glossary) (l : Loaded) (e : Entry) → All HasNames g.definitions → HavePlainKeys l → HasKey e → MatchResult (entry_after g l e) HavePlainKeys HasLineMessage
 entry-plain g l e all plain keyed = by_fields (fields_of g e.fields) (fields_of-named g e.fields all keyed.1)
   where
     key : HasNoLineFeed (text e.key.v)
     key = spelled e.key.v (passing is_key e.key.v refl keyed.0)
 
-    by_known : (fs : List Named) (b : Bool) → MatchResult (unless_known b l e.key (source_of e fs)) HavePlainKeys IsSaidInLine
+    by_known : (fs : List Named) (b : Bool) → MatchResult (unless_known b l e.key (source_of e fs)) HavePlainKeys HasLineMessage
     by_known fs true = append (codes "duplicate key ") (text e.key.v) refl key
     by_known fs false = record { keys = All-push IsPlainKey l.keys e.key plain.keys key; entries = All-push HasPlainKey l.listed.entries (source_of e fs) plain.entries key }
 
-    by_fields : (r : Result (List Named) abbreviations.Refusal) → RefusesNames r → MatchResult (or_refusal r >>= λ fs. unless_known (is_some (l.listed.place (text e.key.v))) l e.key (source_of e fs)) HavePlainKeys IsSaidInLine
-    by_fields (Ok fs) is = by_known fs (is_some (l.listed.place (text e.key.v)))
+    by_fields : (r : Result (List Named) abbreviations.Refusal) → RefusesNames r → MatchResult (or_refusal r >>= λ fs. unless_known (is_some (l.listed.index (text e.key.v))) l e.key (source_of e fs)) HavePlainKeys HasLineMessage
+    by_fields (Ok fs) is = by_known fs (is_some (l.listed.index (text e.key.v)))
     by_fields (Err r) is = field-plain r is
 
-entries-plain : (g : Glossary) (l : Loaded) (es : List (At Entry)) → All HasNames g.definitions → HavePlainKeys l → All IsKeyed es → MatchResult (entries_after g l es) HavePlainKeys IsSaidInLine
+entries-plain : (g : Glossary) (l : Loaded) (es : List (At Entry)) → All HasNames g.definitions → HavePlainKeys l → All IsKeyed es → MatchResult (entries_after g l es) HavePlainKeys HasLineMessage
 entries-plain g l [] all plain keyed = plain
 entries-plain g l (e ∷ es) all plain keyed =
-    bind_match HavePlainKeys HavePlainKeys IsSaidInLine (entry_after g l e.v) (λ more. entries_after g more es) (entry-plain g l e.v all plain (All-head IsKeyed e es keyed))
+    bind_match HavePlainKeys HavePlainKeys HasLineMessage (entry_after g l e.v) (λ more. entries_after g more es) (entry-plain g l e.v all plain (All-head IsKeyed e es keyed))
     (λ more fine. entries-plain g more es all fine (All-tail IsKeyed e es keyed))
 
-loaded-plain : (g : Glossary) (es : List (At Entry)) → All HasNames g.definitions → All IsKeyed es → MatchResult (loaded g es) HavePlainKeys IsSaidInLine
+loaded-plain : (g : Glossary) (es : List (At Entry)) → All HasNames g.definitions → All IsKeyed es → MatchResult (loaded g es) HavePlainKeys HasLineMessage
 loaded-plain g es all keyed = entries-plain g nothing_loaded es all (record { keys = All-nil IsPlainKey; entries = All-nil HasPlainKey }) keyed
 
 -- ---- references
@@ -100,21 +100,21 @@ loaded-plain g es all keyed = entries-plain g nothing_loaded es all (record { ke
 some_is : {X : Type 0} (x y : X) → Some x ≡ Some y → x ≡ y
 some_is x y e = cc
 
-at_place : (keys : List (At (List ℕ))) (n : ℕ) (key : At (List ℕ)) → slice_get keys n ≡ Some key → All IsPlainKey keys → IsPlainKey key
-at_place [] n key e all = absurd cc
-at_place (k ∷ ks) zero key e all = subst IsPlainKey (some_is k key e) (All-head IsPlainKey k ks all)
-at_place (k ∷ ks) (suc n) key e all = at_place ks n key e (All-tail IsPlainKey k ks all)
+at_index : (keys : List (At (List ℕ))) (n : ℕ) (key : At (List ℕ)) → slice_get keys n ≡ Some key → All IsPlainKey keys → IsPlainKey key
+at_index [] n key e all = absurd cc
+at_index (k ∷ ks) zero key e all = subst IsPlainKey (some_is k key e) (All-head IsPlainKey k ks all)
+at_index (k ∷ ks) (suc n) key e all = at_index ks n key e (All-tail IsPlainKey k ks all)
 
 cycle-plain : (keys : List (At (List ℕ))) (n : ℕ) (r : Refusal) (o : Option (At (List ℕ))) → All IsPlainKey keys → slice_get keys n ≡ o
-    → option_map (λ key. refused_at key (reference_cycle (text key.v))) o ≡ Some r → IsSaidInLine r
+    → option_map (λ key. refused_at key (reference_cycle (text key.v))) o ≡ Some r → HasLineMessage r
 cycle-plain keys n r None all is e = absurd cc
-cycle-plain keys n r (Some key) all is e = subst IsSaidInLine (some_is (refused_at key (reference_cycle (text key.v))) r e) (append (codes "circular reference ") (text key.v) refl (at_place keys n key is all))
+cycle-plain keys n r (Some key) all is e = subst HasLineMessage (some_is (refused_at key (reference_cycle (text key.v))) r e) (append (codes "circular reference ") (text key.v) refl (at_index keys n key is all))
 
-date-plain : (kind : TypeErrorKind) (r : Refusal) (o : Option (At (List ℕ))) → option_map (λ key. refused_at key (unreadable_date kind)) o ≡ Some r → IsSaidInLine r
+date-plain : (kind : TypeErrorKind) (r : Refusal) (o : Option (At (List ℕ))) → option_map (λ key. refused_at key (unreadable_date kind)) o ≡ Some r → HasLineMessage r
 date-plain kind r None e = absurd cc
-date-plain kind r (Some key) e = subst IsSaidInLine (some_is (refused_at key (unreadable_date kind)) r e) refl
+date-plain kind r (Some key) e = subst HasLineMessage (some_is (refused_at key (unreadable_date kind)) r e) refl
 
-unresolved-plain : (keys : List (At (List ℕ))) (error : ResolveError) (r : Refusal) → All IsPlainKey keys → unresolved_at keys error ≡ Some r → IsSaidInLine r
+unresolved-plain : (keys : List (At (List ℕ))) (error : ResolveError) (r : Refusal) → All IsPlainKey keys → unresolved_at keys error ≡ Some r → HasLineMessage r
 unresolved-plain keys errors.Memory r all e = absurd cc
 unresolved-plain keys (errors.ReferenceCycle n) r all e = cycle-plain keys n r (slice_get keys n) all refl e
 unresolved-plain keys (errors.UnreadableDate f) r all e = date-plain f.kind r (slice_get keys f.reference) e
@@ -129,23 +129,23 @@ of_heads (e ∷ es) all = All-cons HasPlainKey e es (All-head HeadPlain (head e)
 
 -- ---- texts
 
-comes-plain : (read : Loaded) (answer : Result Listed Refusal) → HavePlainKeys read → ComesTo read answer → MatchResult answer FilePlain IsSaidInLine
+comes-plain : (read : Loaded) (answer : Result Listed Refusal) → HavePlainKeys read → ComesTo read answer → MatchResult answer FilePlain HasLineMessage
 comes-plain read (Ok resolved) plain comes = of_heads resolved.entries (subst (All HeadPlain) (sym comes.heads) (All-map HeadPlain head read.listed.entries plain.entries))
 comes-plain read (Err r) plain comes = unresolved-plain read.keys comes.error r plain.keys comes.refusal
 
-means-plain : (x : Result Loaded Refusal) (answer : Result Listed Refusal) → MatchResult x HavePlainKeys IsSaidInLine → Means x answer → MatchResult answer FilePlain IsSaidInLine
+means-plain : (x : Result Loaded Refusal) (answer : Result Listed Refusal) → MatchResult x HavePlainKeys HasLineMessage → Means x answer → MatchResult answer FilePlain HasLineMessage
 means-plain (Ok read) answer plain means = comes-plain read answer plain means.1
-means-plain (Err r) answer plain means = subst (λ (a : Result Listed Refusal). MatchResult a FilePlain IsSaidInLine) (sym means) plain
+means-plain (Err r) answer plain means = subst (λ (a : Result Listed Refusal). MatchResult a FilePlain HasLineMessage) (sym means) plain
 
-meaning-plain : (r : Raw) (answer : Result Listed Refusal) → AreKeyed r → IsMeaningOf r answer → MatchResult answer FilePlain IsSaidInLine
+meaning-plain : (r : Raw) (answer : Result Listed Refusal) → AreKeyed r → IsMeaningOf r answer → MatchResult answer FilePlain HasLineMessage
 meaning-plain r answer keyed m =
     let all : All HasNames m.glossary.definitions = subst (All HasNames) (sym m.definitions) keyed.abbreviations in
     means-plain (loaded m.glossary r.entries) answer (loaded-plain m.glossary r.entries all keyed.entries) m.means
 
 -- what a text means
-pub text-plain : (cs : List ℕ) (answer : Result Listed Refusal) → TextMeans cs answer → MatchResult answer FilePlain IsSaidInLine
+pub text-plain : (cs : List ℕ) (answer : Result Listed Refusal) → TextMeans cs answer → MatchResult answer FilePlain HasLineMessage
 text-plain cs answer means = by_raw (raw_of cs) (raw-keyed cs) means
   where
-    by_raw : (x : Result Raw (Fault × ℕ)) → IfOk x AreKeyed → IsTextMeaningOf x answer → MatchResult answer FilePlain IsSaidInLine
+    by_raw : (x : Result Raw (Fault × ℕ)) → IfOk x AreKeyed → IsTextMeaningOf x answer → MatchResult answer FilePlain HasLineMessage
     by_raw (Ok r) keyed means = meaning-plain r answer keyed means
-    by_raw (Err f) keyed is = subst (λ (a : Result Listed Refusal). MatchResult a FilePlain IsSaidInLine) (sym is) (fault-plain f.0)
+    by_raw (Err f) keyed is = subst (λ (a : Result Listed Refusal). MatchResult a FilePlain HasLineMessage) (sym is) (fault-plain f.0)

@@ -29,8 +29,8 @@ one_joined g l m e is all = by_fields (fields_of g e.fields) refl is
     by_key fs true one is = absurd cc
     by_key fs false one is = subst (λ (x : Loaded). HaveJoinedFields x.listed.entries) (ap (inner m) is) (joined_last l.listed.entries (source_of e fs) all one)
 
-    by_fields : (r : Result (List Named) abbreviations.Refusal) → fields_of g e.fields ≡ r → (or_refusal r >>= λ fs. unless_known (is_some (l.listed.place (text e.key.v))) l e.key (source_of e fs)) ≡ Ok m → HaveJoinedFields m.listed.entries
-    by_fields (Ok fs) read is = by_key fs (is_some (l.listed.place (text e.key.v))) (fields_joined g e.fields fs read) is
+    by_fields : (r : Result (List Named) abbreviations.Refusal) → fields_of g e.fields ≡ r → (or_refusal r >>= λ fs. unless_known (is_some (l.listed.index (text e.key.v))) l e.key (source_of e fs)) ≡ Ok m → HaveJoinedFields m.listed.entries
+    by_fields (Ok fs) read is = by_key fs (is_some (l.listed.index (text e.key.v))) (fields_joined g e.fields fs read) is
     by_fields (Err r) read is = absurd cc
 
 entries_joined : (g : Glossary) (l m : Loaded) (es : List (At Entry)) → entries_after g l es ≡ Ok m → HaveJoinedFields l.listed.entries → HaveJoinedFields m.listed.entries

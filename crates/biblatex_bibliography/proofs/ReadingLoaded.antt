@@ -4,7 +4,7 @@ use Rattle.std.specs.Prelude.{is_some, IfSome}
 use Rattle.laws.specs.Results.{◌>>=◌}
 use Rattle.laws.specs.Text.{text}
 use Rattle.biblatex_text.specs.Raw.{At, Entry, Raw}
-use Rattle.biblatex_text.specs.Views.{part}
+use Rattle.biblatex_text.specs.Views.{spanned_text_view}
 use Rattle.biblatex_text.specs.declared.spanned.Spanned.{Spanned}
 use Rattle.biblatex_fields.specs.Abbreviations.{Glossary, AreFlags}
 use Rattle.biblatex_fields.specs.Fields.{Named, fields_of}
@@ -13,12 +13,12 @@ use Rattle.biblatex_inheritance.specs.Solution.{IsRefusedAs}
 use Rattle.biblatex_inheritance.specs.declared.error.ResolveError.{ResolveError}
 use Rattle.biblatex_inheritance.specs.declared.error.ResolveError.TheVariants as errors
 use Rattle.biblatex_inheritance.proofs.SolutionAlong.{fault_within}
-use Rattle.biblatex_bibliography.specs.Bibliographies.{Listed, Indexed, seen, nothing, pushed, IsAsRead, references}
+use Rattle.biblatex_bibliography.specs.Bibliographies.{Listed, Indexed, listed_view, nothing, pushed, IsAsRead, references}
 use Rattle.biblatex_bibliography.specs.Reading.{Refusal, Loaded, nothing_loaded, refused_at, duplicate_key, or_refusal, source_of, unless_known, entry_after, entries_after, loaded}
 use Rattle.biblatex_bibliography.specs.Resolved.{number_of, unresolved_at, ComesTo, Means, IsMeaningOf}
-use Rattle.biblatex_bibliography.specs.Errors.{loaded_of}
-use Rattle.biblatex_bibliography.proofs.PlacesWithin.{length_last}
-use Rattle.biblatex_bibliography.proofs.PlacesNames.{pushed-read}
+use Rattle.biblatex_bibliography.specs.Errors.{loaded_with_keys}
+use Rattle.biblatex_bibliography.proofs.IndicesWithin.{length_last}
+use Rattle.biblatex_bibliography.proofs.IndicesNames.{pushed-read}
 
 abbrev inner : Loaded → Result Loaded Refusal → Loaded
 inner d (Ok l) = l
@@ -32,18 +32,18 @@ ok_same : (l m : Loaded) → Same (Ok l) (Ok m) → l ≡ m
 ok_same l m e = ap (inner l) e
 
 -- an entry whose key has a meaning already
-pub entry_known : (g : Glossary) (l : Loaded) (e : Entry) (fs : List Named) (key : List ℕ) → or_refusal (fields_of g e.fields) ≡ Ok fs → key ≡ text e.key.v → is_some (l.listed.place key) ≡ true
+pub entry_known : (g : Glossary) (l : Loaded) (e : Entry) (fs : List Named) (key : List ℕ) → or_refusal (fields_of g e.fields) ≡ Ok fs → key ≡ text e.key.v → is_some (l.listed.index key) ≡ true
     → entry_after g l e ≡ Err (refused_at e.key (duplicate_key key))
 entry_known g l e fs key read is known = rw (read, ← is, known) refl
 
 -- an entry whose key has none
-pub entry_fresh : (g : Glossary) (l : Loaded) (e : Entry) (fs : List Named) (key : List ℕ) → or_refusal (fields_of g e.fields) ≡ Ok fs → key ≡ text e.key.v → is_some (l.listed.place key) ≡ false
+pub entry_fresh : (g : Glossary) (l : Loaded) (e : Entry) (fs : List Named) (key : List ℕ) → or_refusal (fields_of g e.fields) ≡ Ok fs → key ≡ text e.key.v → is_some (l.listed.index key) ≡ false
     → entry_after g l e ≡ Ok (record { listed = pushed (source_of e fs) l.listed; keys = l.keys ++ e.key ∷ [] })
 entry_fresh g l e fs key read is fresh = rw (read, ← is, fresh) refl
 
--- at the beginning
-pub begins : (b : Indexed) (keys : List (Spanned (Bor (List ℕ)))) → seen b ≡ nothing → keys ≡ [] → loaded_of b keys ≡ nothing_loaded
-begins b keys e k = ap (λ (l : Listed). loaded_with l (map part keys)) e ∙ ap (λ (ks : List (Spanned (Bor (List ℕ)))). loaded_with nothing (map part ks)) k
+-- at the start
+pub begins : (b : Indexed) (keys : List (Spanned (Bor (List ℕ)))) → listed_view b ≡ nothing → keys ≡ [] → loaded_with_keys b keys ≡ nothing_loaded
+begins b keys e k = ap (λ (l : Listed). loaded_with l (map spanned_text_view keys)) e ∙ ap (λ (ks : List (Spanned (Bor (List ℕ)))). loaded_with nothing (map spanned_text_view ks)) k
   where
     loaded_with : Listed → List (At (List ℕ)) → Loaded
     loaded_with l ks = record { listed = l; keys = ks }
@@ -72,8 +72,8 @@ one_more g l m e is = by_fields (or_refusal (fields_of g e.fields)) is
     by_key fs true is = absurd cc
     by_key fs false is = subst (λ (x : Loaded). More l x 1) (ok_same _ m is) (added (source_of e fs))
 
-    by_fields : (r : Result (List Named) Refusal) → (r >>= λ fs. unless_known (is_some (l.listed.place (text e.key.v))) l e.key (source_of e fs)) ≡ Ok m → More l m 1
-    by_fields (Ok fs) is = by_key fs (is_some (l.listed.place (text e.key.v))) is
+    by_fields : (r : Result (List Named) Refusal) → (r >>= λ fs. unless_known (is_some (l.listed.index (text e.key.v))) l e.key (source_of e fs)) ≡ Ok m → More l m 1
+    by_fields (Ok fs) is = by_key fs (is_some (l.listed.index (text e.key.v))) is
     by_fields (Err r) is = absurd cc
 
 -- as many as there are
@@ -101,8 +101,8 @@ one_as_read g l m e is read = by_fields (or_refusal (fields_of g e.fields)) is
     by_key fs true is = absurd cc
     by_key fs false is = subst (λ (x : Loaded). IsAsRead x.listed) (ok_same _ m is) (pushed-read (source_of e fs) l.listed read)
 
-    by_fields : (r : Result (List Named) Refusal) → (r >>= λ fs. unless_known (is_some (l.listed.place (text e.key.v))) l e.key (source_of e fs)) ≡ Ok m → IsAsRead m.listed
-    by_fields (Ok fs) is = by_key fs (is_some (l.listed.place (text e.key.v))) is
+    by_fields : (r : Result (List Named) Refusal) → (r >>= λ fs. unless_known (is_some (l.listed.index (text e.key.v))) l e.key (source_of e fs)) ≡ Ok m → IsAsRead m.listed
+    by_fields (Ok fs) is = by_key fs (is_some (l.listed.index (text e.key.v))) is
     by_fields (Err r) is = absurd cc
 
 entries_as_read : (g : Glossary) (l m : Loaded) (es : List (At Entry)) → entries_after g l es ≡ Ok m → IsAsRead l.listed → IsAsRead m.listed

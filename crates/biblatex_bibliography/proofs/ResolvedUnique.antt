@@ -20,7 +20,7 @@ use Rattle.biblatex_text.specs.declared.token.Fault.{Fault}
 use Rattle.biblatex_fields.specs.Fields.{Named, value_named, AreInOrder}
 use Rattle.biblatex_fields.specs.Abbreviations.{Glossary, AreFlags}
 use Rattle.biblatex_entries.specs.Entries.{Source}
-use Rattle.biblatex_inheritance.specs.Resolved.{Table, offers, offer_seen}
+use Rattle.biblatex_inheritance.specs.Resolved.{Table, offers, offer_if}
 use Rattle.biblatex_inheritance.specs.Solution.{IsRefusedAs, fault_in, fault_at}
 use Rattle.biblatex_inheritance.specs.declared.error.DateFault.{DateFault}
 use Rattle.biblatex_inheritance.specs.declared.error.ResolveError.{ResolveError}
@@ -88,17 +88,17 @@ one_resolved : (read x y : Listed) → IsResolved read x → IsResolved read y �
 one_resolved read x y a b =
     let long : length x.entries ≡ length read.entries = sym (length-map x.entries head) ∙ (ap length a.heads ∙ length-map read.entries head) in
     let es : x.entries ≡ y.entries = one_list x.entries y.entries (a.heads ∙ sym b.heads) a.ordered b.ordered (λ i low. a.only (tables y.entries) b.equation i (omega (arith, low, long))) in
-    let places = a.place ∙ sym b.place in
-    λ i. record { entries = es i; place = places i }
+    let indices = a.index ∙ sym b.index in
+    λ i. record { entries = es i; index = indices i }
 
 -- faults are told alike by tables that agree
 same_offers : (es : List Source) (see other : ℕ → Table) (rs : List ℕ) → ((i : ℕ) → i < length es → (q : List ℕ) → see i q ≡ other i q) → offers es see rs ≡ offers es other rs
 same_offers es see other [] same = refl
 same_offers es see other (r ∷ rs) same = rw (same_offers es see other rs same, here (slice_get es r) (λ e is. fun_ext (same r (slice_get_within es r e is)))) refl
   where
-    here : (o : Option Source) → ((e : Source) → o ≡ Some e → see r ≡ other r) → offer_seen r o (see r) ≡ offer_seen r o (other r)
+    here : (o : Option Source) → ((e : Source) → o ≡ Some e → see r ≡ other r) → offer_if r o (see r) ≡ offer_if r o (other r)
     here None f = refl
-    here (Some e) f = ap (offer_seen r (Some e)) (f e refl)
+    here (Some e) f = ap (offer_if r (Some e)) (f e refl)
 
 same_fault : (es : List Source) (R : List (List ℕ)) (see other : ℕ → Table) → ((i : ℕ) → i < length es → (q : List ℕ) → see i q ≡ other i q) → (n : ℕ) → fault_at es R see n ≡ fault_at es R other n
 same_fault es R see other same n = ap (fault_in (slice_get es n)) (same_offers es see other (references_of R n) same)

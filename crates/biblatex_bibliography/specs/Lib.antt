@@ -1,4 +1,4 @@
-pub mod Places
+pub mod Indices
 pub mod Bibliographies
 pub mod Lending
 pub mod Keys

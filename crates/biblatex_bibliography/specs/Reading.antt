@@ -64,7 +64,7 @@ unless_known false l key e = Ok (record { listed = pushed e l.listed; keys = l.k
 
 -- one more entry: its fields are read, then its key is looked at
 abbrev pub entry_after : Glossary → Loaded → Entry → Result Loaded Refusal
-entry_after g l e = or_refusal (fields_of g e.fields) >>= λ fs. unless_known (is_some (l.listed.place (text e.key.v))) l e.key (source_of e fs)
+entry_after g l e = or_refusal (fields_of g e.fields) >>= λ fs. unless_known (is_some (l.listed.index (text e.key.v))) l e.key (source_of e fs)
 
 -- entries in the order of the text, after those that were read
 abbrev pub entries_after : Glossary → Loaded → List (At Entry) → Result Loaded Refusal

@@ -28,12 +28,12 @@ table_of (Some e) name = value_named name e.fields
 abbrev pub tables : List Source → ℕ → Table
 tables es i = table_of (slice_get es i)
 
--- Entries with their references resolved: each keeps its place, key and type, and names mean what they meant; the fields are the one
+-- Entries with their references resolved: each keeps its index, key and type, and names mean what they meant; the fields are the one
 -- solution of the equation of inheritance, each entry's in the order of their names; no entry reaches itself, and no entry that needs
 -- a date has a reference whose date cannot be read.
 pub record IsResolved (read resolved : Listed) : Type 0 where
   pub heads : map head resolved.entries ≡ map head read.entries
-  pub place : resolved.place ≡ read.place
+  pub index : resolved.index ≡ read.index
   pub equation : Solves read.entries (references read) (tables resolved.entries)
   pub only : IsOnly read.entries (references read) (tables resolved.entries)
   pub ordered : (i : ℕ) → IfSome (slice_get resolved.entries i) (λ e. AreInOrder e.fields)

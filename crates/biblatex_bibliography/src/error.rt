@@ -1,7 +1,7 @@
 //! Why a text could not be read.
 
 ghost use Rattle.std.specs.Prelude.{◌≡◌, Some};
-ghost use Rattle.biblatex_bibliography.specs.Errors.{reason, reason_text, error_text};
+ghost use Rattle.biblatex_bibliography.specs.Errors.{reason_view, reason_text, error_text};
 ghost use Rattle.biblatex_bibliography.specs.declared.error.ParseError.TheVariants.{Memory};
 
 use biblatex_dates::TypeErrorKind;
@@ -16,7 +16,7 @@ use std::fmt;
 pub enum ParseErrorKind {
     /// The text ends where an item is open.
     UnexpectedEof,
-    /// The mark has no place there.
+    /// The mark may not stand there.
     Unexpected(Token),
     /// Another mark must stand there.
     Expected(Token),
@@ -52,7 +52,7 @@ pub enum ParseError {
 
 /// What is wrong, in a line.
 impl fmt::Display for ParseErrorKind {
-    ghost output = { λ kind. Some (reason_text (reason kind)) };
+    ghost output = { λ kind. Some (reason_text (reason_view kind)) };
 
     fn fmt<W: fmt::Write>(&self, f: &mut fmt::Formatter<W>) -> fmt::Result {
         match self {

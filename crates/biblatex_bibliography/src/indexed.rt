@@ -1,10 +1,10 @@
-//! Entries, and the places that names mean among them, changed together.
+//! Entries, and the indices that names mean among them, changed together.
 
 ghost use Rattle.std.specs.Prelude.{◌≡◌, ◌<◌, ◌∷◌, [], Some, map, length, slice_get, slice_set, string_bytes, IfOk, OnOk, OnErr};
-ghost use Rattle.biblatex_entries.specs.Entries.{source, sources};
+ghost use Rattle.biblatex_entries.specs.Entries.{source_view, sources_view};
 ghost use Rattle.biblatex_bibliography.specs.Bibliographies as specs;
 
-use crate::places::{bind_all, take_out};
+use crate::indices::{bind_all, take_out};
 use biblatex_entries::Entry;
 use std::alloc::{AllocError, Global};
 use std::collections::HashMap;
@@ -22,41 +22,49 @@ pub(crate) fn key_alone(alloc: Global, entry: &Entry) -> Result<Vec<String>, All
 /// Appends an entry, which these names mean from now on. Unchanged where there is no memory for it.
 pub(crate) fn put_last(
     entries: &mut Vec<Entry>,
-    places: &mut HashMap<String, usize>,
+    indices: &mut HashMap<String, usize>,
     names: Vec<String>,
     entry: Entry,
 ) -> Result<(), AllocError>
-    ensures ok { OnOk result (specs.seen (specs.indexed entries.new.items places.new) ≡ specs.put_last (map string_bytes names.items) (source entry) (specs.seen (specs.indexed entries.old.items places.old))) }
-    ensures within { specs.IsWithin (specs.indexed entries.old.items places.old) → specs.IsWithin (specs.indexed entries.new.items places.new) }
-    ensures err { OnErr result (specs.indexed entries.new.items places.new ≡ specs.indexed entries.old.items places.old) }
+    ensures ok { OnOk result (specs.listed_view (specs.indexed entries.new.items indices.new)
+        ≡ specs.put_last (map string_bytes names.items) (source_view entry)
+        (specs.listed_view (specs.indexed entries.old.items indices.old))) }
+    ensures within { specs.IsWithin (specs.indexed entries.old.items indices.old)
+        → specs.IsWithin (specs.indexed entries.new.items indices.new) }
+    ensures err { OnErr result (specs.indexed entries.new.items indices.new
+        ≡ specs.indexed entries.old.items indices.old) }
 {
-    let place = entries.len();
+    let index = entries.len();
     entries.reserve(1)?;
-    bind_all(places, names, place)?;
+    bind_all(indices, names, index)?;
     entries.push(entry).unwrap();
     Ok(())
 }
 
-/// Puts an entry in the place of another, which is given back.
-pub(crate) fn replace(entries: &mut Vec<Entry>, place: usize, entry: Entry) -> Entry
-    requires { place < length (sources entries.old.items) }
-    ensures items { sources entries.new.items ≡ slice_set (sources entries.old.items) place (source entry) }
-    ensures value { slice_get (sources entries.old.items) place ≡ Some (source result) }
+/// Puts an entry instead of another, which is given back.
+pub(crate) fn replace(entries: &mut Vec<Entry>, index: usize, entry: Entry) -> Entry
+    requires { index < length (sources_view entries.old.items) }
+    ensures items { sources_view entries.new.items
+        ≡ slice_set (sources_view entries.old.items) index (source_view entry) }
+    ensures value { slice_get (sources_view entries.old.items) index ≡ Some (source_view result) }
 {
-    mem::replace(&mut entries[place], entry)
+    mem::replace(&mut entries[index], entry)
 }
 
-/// Takes the entry at a place out, with all its names. The places after it move up by one.
+/// Takes the entry at an index out, with all its names. The indices after it move up by one.
 pub(crate) fn take(
     entries: &mut Vec<Entry>,
-    places: &mut HashMap<String, usize>,
-    place: usize,
+    indices: &mut HashMap<String, usize>,
+    index: usize,
 ) -> Entry
-    requires { place < length (sources entries.old.items) }
-    ensures rest { specs.seen (specs.indexed entries.new.items places.new) ≡ specs.removed_at (Some place) (specs.seen (specs.indexed entries.old.items places.old)) }
-    ensures within { specs.IsWithin (specs.indexed entries.old.items places.old) → specs.IsWithin (specs.indexed entries.new.items places.new) }
-    ensures value { slice_get (sources entries.old.items) place ≡ Some (source result) }
+    requires { index < length (sources_view entries.old.items) }
+    ensures rest { specs.listed_view (specs.indexed entries.new.items indices.new)
+        ≡ specs.removed_at (Some index)
+        (specs.listed_view (specs.indexed entries.old.items indices.old)) }
+    ensures within { specs.IsWithin (specs.indexed entries.old.items indices.old)
+        → specs.IsWithin (specs.indexed entries.new.items indices.new) }
+    ensures value { slice_get (sources_view entries.old.items) index ≡ Some (source_view result) }
 {
-    take_out(places, place);
-    entries.remove(place)
+    take_out(indices, index);
+    entries.remove(index)
 }

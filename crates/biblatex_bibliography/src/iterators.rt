@@ -8,7 +8,7 @@ ghost use Rattle.std.specs.Vec.Iter.{into_iter_steps, into_iter_items, into_iter
 ghost use Rattle.std.specs.Iterator.Runs.{EveryRun, ItemsMapTo, ItemsAre};
 ghost use Rattle.std.specs.Global.{Global};
 ghost use Rattle.biblatex_entries.specs.declared.entry.Entry.{Entry};
-ghost use Rattle.biblatex_entries.specs.Entries.{sources};
+ghost use Rattle.biblatex_entries.specs.Entries.{sources_view};
 ghost use Rattle.biblatex_bibliography.specs.Lending.{LendsEntries};
 
 use crate::Bibliography;
@@ -21,7 +21,9 @@ impl IntoIterator for Bibliography {
 
     type IntoIter = IntoIter<Entry>;
 
-    ghost into_iter_gives = { λ b r. (sources (into_iter_items r) ≡ b.entries) × (into_iter_len r ≡ length b.entries) × EveryRun (into_iter_steps {X = Entry} {Z = Global}) (λ p. ItemsAre p (into_iter_items p.from)) };
+    ghost into_iter_gives = { λ b r. (sources_view (into_iter_items r) ≡ b.entries)
+        × (into_iter_len r ≡ length b.entries) × EveryRun
+        (into_iter_steps {X = Entry} {Z = Global}) (λ p. ItemsAre p (into_iter_items p.from)) };
 
     fn into_iter(self) -> IntoIter<Entry> {
         self.into_vec().into_iter()
@@ -33,7 +35,9 @@ impl<'a> IntoIterator for &'a Bibliography {
 
     type IntoIter = Iter<'a, Entry>;
 
-    ghost into_iter_gives = { λ b r. (sources (iter_rest r) ≡ b.now.entries) × (length (iter_rest r) < 2 ^ 64) × EveryRun (iter_steps {A = Entry}) (λ p. ItemsMapTo p (λ y. y.now) (iter_rest p.from)) };
+    ghost into_iter_gives = { λ b r. (sources_view (iter_rest r) ≡ b.now.entries)
+        × (length (iter_rest r) < 2 ^ 64)
+        × EveryRun (iter_steps {A = Entry}) (λ p. ItemsMapTo p (λ y. y.now) (iter_rest p.from)) };
 
     fn into_iter(self) -> Iter<'a, Entry> {
         self.entries().iter()
@@ -45,11 +49,13 @@ impl<'a> IntoIterator for &'a mut Bibliography {
 
     type IntoIter = IterMut<'a, Entry>;
 
-    ghost into_iter_gives = { λ b r. (sources (iter_mut_rest r) ≡ b.now.entries) × IterMutYieldsInOrder Entry };
+    ghost into_iter_gives = { λ b r. (sources_view (iter_mut_rest r) ≡ b.now.entries)
+        × IterMutYieldsInOrder Entry };
 
     fn into_iter(self) -> IterMut<'a, Entry>
         ensures* writes_back { sem 𝓛 (LendsEntries self.entry (iter_mut_name result)) }
-        ensures into_iter_gives { (sources (iter_mut_rest result) ≡ self.old.entries) × IterMutYieldsInOrder Entry }
+        ensures into_iter_gives { (sources_view (iter_mut_rest result) ≡ self.old.entries)
+            × IterMutYieldsInOrder Entry }
     {
         self.iter_mut()
     }

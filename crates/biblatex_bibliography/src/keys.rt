@@ -2,7 +2,7 @@
 
 ghost use Rattle.std.specs.Prelude.{◌≡◌, map, string_bytes};
 ghost use Rattle.std.specs.Iterator.{YieldsFirstBy, item_count};
-ghost use Rattle.biblatex_entries.specs.Entries.{sources};
+ghost use Rattle.biblatex_entries.specs.Entries.{sources_view};
 ghost use Rattle.biblatex_bibliography.specs.Keys.{keys_left};
 
 use biblatex_entries::Entry;
@@ -16,7 +16,7 @@ pub struct Keys<'a> {
 impl<'a> Keys<'a> {
     /// The keys of all of them.
     pub(crate) fn new(entries: &'a [Entry]) -> Keys<'a>
-        ensures { keys_left result ≡ map (λ e. e.key) (sources entries.now) }
+        ensures { keys_left result ≡ map (λ e. e.key) (sources_view entries.now) }
     {
         Keys { rest: entries }
     }

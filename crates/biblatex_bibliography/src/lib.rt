@@ -4,10 +4,10 @@
 mod bibliography;
 mod error;
 mod indexed;
+mod indices;
 mod iterators;
 mod keys;
 mod parsing;
-mod places;
 mod reading;
 
 pub use bibliography::Bibliography;

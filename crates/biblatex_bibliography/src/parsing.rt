@@ -3,13 +3,13 @@
 ghost use Rattle.std.specs.Prelude.{◌≡◌, ◌<◌, map, IfOk, IfSome, Some, length};
 ghost use Rattle.std.specs.Str.{chars};
 ghost use Rattle.laws.specs.Text.{text as text_of};
-ghost use Rattle.biblatex_text.specs.Views.{part, raw as written};
+ghost use Rattle.biblatex_text.specs.Views.{spanned_text_view, raw_view as written};
 ghost use Rattle.biblatex_entries.specs.Entries.{HaveJoinedFields};
 ghost use Rattle.biblatex_bibliography.specs.Reading.{raw, refused_at, reference_cycle, unreadable_date};
 ghost use Rattle.biblatex_bibliography.specs.Resolved.{IsMeaningOf, TextMeans, unresolved_at, number_of};
 ghost use Rattle.laws.specs.Results.{Answers};
-ghost use Rattle.biblatex_bibliography.specs.Bibliographies.{seen};
-ghost use Rattle.biblatex_bibliography.specs.Errors.{reason, refusal_of};
+ghost use Rattle.biblatex_bibliography.specs.Bibliographies.{listed_view};
+ghost use Rattle.biblatex_bibliography.specs.Errors.{reason_view, refusal_of};
 
 use crate::Bibliography;
 use crate::error::{ParseError, ParseErrorKind};
@@ -32,7 +32,7 @@ pub struct Counted {
 
 /// The kind of a fault of the raw grammar.
 fn kind_of(fault: Fault) -> ParseErrorKind
-    ensures { reason result ≡ raw fault }
+    ensures { reason_view result ≡ raw fault }
 {
     match fault {
         Fault::UnexpectedEof => ParseErrorKind::UnexpectedEof,
@@ -48,7 +48,8 @@ fn unresolved(
     error: ResolveError,
 ) -> Result<ParseError, AllocError>
     requires { IfSome (number_of error) (λ n. n < length keys.now) }
-    ensures { IfOk result (λ e. refusal_of e ≡ unresolved_at (map part keys.now) error) }
+    ensures { IfOk result (λ e. refusal_of e
+        ≡ unresolved_at (map spanned_text_view keys.now) error) }
 {
     match error {
         ResolveError::Memory => Ok(ParseError::Memory),
@@ -61,7 +62,8 @@ fn unresolved(
 
 /// The entry of this key reaches itself.
 fn circular(alloc: Global, key: &Spanned<&str>) -> Result<ParseError, AllocError>
-    ensures { IfOk result (λ e. refusal_of e ≡ Some (refused_at (part key.now) (reference_cycle (text_of (chars key.now.v.now))))) }
+    ensures { IfOk result (λ e. refusal_of e ≡ Some (refused_at
+        (spanned_text_view key.now) (reference_cycle (text_of (chars key.now.v.now))))) }
 {
     Ok(ParseError::Refused {
         kind: ParseErrorKind::ReferenceCycle(owned(alloc, key.v)?),
@@ -71,7 +73,8 @@ fn circular(alloc: Global, key: &Spanned<&str>) -> Result<ParseError, AllocError
 
 /// The entry of this key has a date that cannot be read and that another one would inherit.
 fn unreadable(key: &Spanned<&str>, kind: TypeErrorKind) -> ParseError
-    ensures { refusal_of result ≡ Some (refused_at (part key.now) (unreadable_date kind)) }
+    ensures { refusal_of result
+        ≡ Some (refused_at (spanned_text_view key.now) (unreadable_date kind)) }
 {
     ParseError::Refused {
         kind: ParseErrorKind::ResolutionError(kind),
@@ -90,7 +93,7 @@ impl Bibliography {
     /// memory was refused.
     pub fn parse(alloc: Global, source: &str) -> Result<Bibliography, ParseError>
         // What the text means: of each field the text, and where its chunks stand.
-        ensures meaning { Answers refusal_of seen result (TextMeans (chars source.now)) }
+        ensures meaning { Answers refusal_of listed_view result (TextMeans (chars source.now)) }
         // In each field of each entry no text is empty, and no two neighbours are text of one kind.
         ensures joined { IfOk result (λ b. HaveJoinedFields b.entries) }
     {
@@ -104,12 +107,12 @@ impl Bibliography {
         }
     }
 
-    /// Reads the entries of a raw text, and resolves their references. Chunks are joined and placed as by `parse`.
+    /// Reads the entries of a raw text, and resolves their references. Chunks are joined and given spans as by `parse`.
     ///
     /// # Errors
     /// As those of `parse`, but for faults of the raw grammar.
     pub fn from_raw(alloc: Global, raw: RawBibliography) -> Result<Bibliography, ParseError>
-        ensures meaning { Answers refusal_of seen result (IsMeaningOf (written raw.entry)) }
+        ensures meaning { Answers refusal_of listed_view result (IsMeaningOf (written raw.entry)) }
         ensures joined { IfOk result (λ b. HaveJoinedFields b.entries) }
     {
         Ok(Bibliography::from_raw_counted(alloc, raw)?.bibliography)
@@ -120,7 +123,8 @@ impl Bibliography {
     /// # Errors
     /// Those of `from_raw`.
     pub fn from_raw_counted(alloc: Global, raw: RawBibliography) -> Result<Counted, ParseError>
-        ensures meaning { Answers refusal_of (λ c. seen c.bibliography) result (IsMeaningOf (written raw.entry)) }
+        ensures meaning { Answers refusal_of (λ c. listed_view c.bibliography) result
+            (IsMeaningOf (written raw.entry)) }
         ensures joined { IfOk result (λ c. HaveJoinedFields c.bibliography.entries) }
         ensures count { IfOk result (λ c. c.count ≡ length raw.entry.entries.items) }
     {

@@ -3,14 +3,14 @@
 ghost use Rattle.std.specs.Prelude.{◌≡◌, Some, IfOk, map, length, string_bytes};
 ghost use Rattle.std.specs.Str.{chars};
 ghost use Rattle.laws.specs.Text.{text as text_of, lowered};
-ghost use Rattle.biblatex_text.specs.Views.{entry, fields, piece, raw_entry};
-ghost use Rattle.biblatex_fields.specs.Value.{value_seen, value_in};
+ghost use Rattle.biblatex_text.specs.Views.{entry_view, fields_view, piece_view, raw_entry_view};
+ghost use Rattle.biblatex_fields.specs.Value.{field_value_view, value_in};
 ghost use Rattle.biblatex_fields.specs.Fields.{fields_of};
-ghost use Rattle.biblatex_fields.specs.Views.{refusal};
-ghost use Rattle.biblatex_entries.specs.Entries.{source};
+ghost use Rattle.biblatex_fields.specs.Views.{refusal_view};
+ghost use Rattle.biblatex_entries.specs.Entries.{source_view};
 ghost use Rattle.biblatex_bibliography.specs.Reading as specs;
 ghost use Rattle.biblatex_bibliography.specs.Reading.{field_refusal, or_refusal, source_of, refused_at, duplicate_key};
-ghost use Rattle.biblatex_bibliography.specs.Errors.{loaded_of, loaded_in, refusal_of};
+ghost use Rattle.biblatex_bibliography.specs.Errors.{loaded_with_keys, loaded_view, refusal_of};
 ghost use Rattle.laws.specs.Results.{Leaves, Gives};
 
 use crate::Bibliography;
@@ -32,7 +32,7 @@ pub(crate) struct Loaded<'s> {
 
 /// The fault of a field, as an error of the text.
 fn refused(alloc: Global, fault: FieldFault) -> Result<ParseError, AllocError>
-    ensures { IfOk result (λ e. refusal_of e ≡ Some (field_refusal (refusal fault.entry))) }
+    ensures { IfOk result (λ e. refusal_of e ≡ Some (field_refusal (refusal_view fault.entry))) }
 {
     match fault {
         FieldFault::UnknownAbbreviation(name) => Ok(ParseError::Refused {
@@ -61,7 +61,8 @@ pub fn parse_field<'s>(
     field: &[Spanned<RawChunk<'s>>],
     abbreviations: &Abbreviations<'_, 's>,
 ) -> Result<Chunks, ParseError>
-    ensures { Gives refusal_of (λ v. value_seen v.items) result (or_refusal (value_in abbreviations.now (chars key.now) (map piece field.now))) }
+    ensures { Gives refusal_of (λ v. field_value_view v.items) result
+        (or_refusal (value_in abbreviations.now (chars key.now) (map piece_view field.now))) }
 {
     match abbreviations.parse_field(alloc, key, field) {
         Ok(value) => Ok(value),
@@ -76,7 +77,8 @@ fn fields_of(
     abbreviations: &Abbreviations,
     raw: &RawEntry,
 ) -> Result<Fields, ParseError>
-    ensures { Gives refusal_of (λ fs. fs) result (or_refusal (fields_of abbreviations.now (fields raw.now.fields))) }
+    ensures { Gives refusal_of (λ fs. fs) result
+        (or_refusal (fields_of abbreviations.now (fields_view raw.now.fields))) }
 {
     match read_fields(alloc, abbreviations, raw) {
         Ok(fields) => Ok(fields),
@@ -87,7 +89,7 @@ fn fields_of(
 
 /// The entry of these fields.
 fn entry_of(alloc: Global, raw: &RawEntry, fields: Fields) -> Result<Entry, AllocError>
-    ensures { IfOk result (λ e. source e ≡ source_of (raw_entry raw.now) fields) }
+    ensures { IfOk result (λ e. source_view e ≡ source_of (raw_entry_view raw.now) fields) }
 {
     let key = owned(alloc, raw.key.v)?;
     let entry_type = EntryType::new(alloc, raw.kind.v)?;
@@ -106,11 +108,13 @@ fn load_entry<'s>(
     keys: &mut Vec<Spanned<&'s str>>,
     raw: RawEntry<'s>,
 ) -> Result<(), ParseError>
-    ensures { Leaves refusal_of result (loaded_of bibliography.new keys.new.items) (specs.entry_after abbreviations.now (loaded_of bibliography.old keys.old.items) (raw_entry raw.entry)) }
+    ensures { Leaves refusal_of result (loaded_with_keys bibliography.new keys.new.items)
+        (specs.entry_after abbreviations.now
+        (loaded_with_keys bibliography.old keys.old.items) (raw_entry_view raw.entry)) }
 {
     let fields = fields_of(alloc, abbreviations, &raw)?;
     let entry = entry_of(alloc, &raw, fields)?;
-    if bibliography.place(entry.key.as_str()).is_some() {
+    if bibliography.index(entry.key.as_str()).is_some() {
         return Err(ParseError::Refused {
             kind: ParseErrorKind::DuplicateKey(entry.key),
             span: raw.key.span,
@@ -127,7 +131,8 @@ pub(crate) fn load<'s>(
     abbreviations: &Abbreviations<'_, 's>,
     entries: Vec<Spanned<RawEntry<'s>>>,
 ) -> Result<Loaded<'s>, ParseError>
-    ensures { Gives refusal_of loaded_in result (specs.loaded abbreviations.now (map entry entries.entry.items)) }
+    ensures { Gives refusal_of loaded_view result
+        (specs.loaded abbreviations.now (map entry_view entries.entry.items)) }
 {
     let mut bibliography = Bibliography::new(alloc);
     let mut keys = Vec::with_capacity(alloc, entries.len())?;

@@ -4,12 +4,12 @@ pub mod OrdinaryPieces
 pub mod PartedNeighbours
 pub mod PartedShapes
 pub mod OrdinaryPlain
-pub mod PlacesForgotten
-pub mod PlacesReached
+pub mod SpansForgotten
+pub mod SpansReached
 pub mod TidyTexts
-pub mod TidyPlaces
-pub mod WritingRows
+pub mod TidySpans
+pub mod WritingCases
 pub mod WritingPieces
-pub mod TidyFronts
+pub mod TidyPrefixes
 pub mod TidyRests
 pub mod VerbatimLiteral

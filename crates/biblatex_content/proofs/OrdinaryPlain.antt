@@ -2,8 +2,8 @@
 use Rattle.std.proofs.Common.{◌≡◌, ℕ, Bool, true, false, cond, not, ◌||◌, eqb, List, [], ◌∷◌, ◌++◌, Some, Result, Ok, refl, ap, ◌∙◌}
 use Rattle.std.proofs.lemmas.List.{append-nil}
 use Rattle.laws.specs.Results.{◌>>=◌}
-use Rattle.laws.specs.Runs.{front_of, after}
-use Rattle.laws.proofs.Runs.{front-after}
+use Rattle.laws.specs.Runs.{prefix_of, after}
+use Rattle.laws.proofs.Runs.{prefix-after}
 use Rattle.laws.proofs.Steps.{each-none, each-some}
 use Rattle.biblatex_tex.specs.Character.{passes}
 use Rattle.biblatex_tex.specs.declared.character.Class.TheVariants.{Plain}
@@ -28,7 +28,7 @@ not_true true e = absurd cc
 not_true false e = refl
 
 -- a plain character begins a text
-text_at : (c : ℕ) (cs : List ℕ) → passes Plain c ≡ true → token_at (c ∷ cs) ≡ Ok (Some (Text (front_of (passes Plain) (c ∷ cs))), after (passes Plain) (c ∷ cs))
+text_at : (c : ℕ) (cs : List ℕ) → passes Plain c ≡ true → token_at (c ∷ cs) ≡ Ok (Some (Text (prefix_of (passes Plain) (c ∷ cs))), after (passes Plain) (c ∷ cs))
 unfolding token_at passes
 text_at c cs plain =
     let none = not_true _ plain in
@@ -59,7 +59,7 @@ tokens_of-nil = rw (each-none token_at [] [] refl) refl
 tokens_of-plain : (c : ℕ) (cs : List ℕ) → after (passes Plain) (c ∷ cs) ≡ [] → tokens_of (c ∷ cs) ≡ Ok (Text (c ∷ cs) ∷ [])
 unfolding tokens_of token_at
 tokens_of-plain c cs e =
-    let all : c ∷ cs ≡ front_of (passes Plain) (c ∷ cs) = front-after (passes Plain) (c ∷ cs) ∙ (ap (λ (x : List ℕ). front_of (passes Plain) (c ∷ cs) ++ x) e ∙ append-nil _) in
+    let all : c ∷ cs ≡ prefix_of (passes Plain) (c ∷ cs) = prefix-after (passes Plain) (c ∷ cs) ∙ (ap (λ (x : List ℕ). prefix_of (passes Plain) (c ∷ cs) ++ x) e ∙ append-nil _) in
     let one : token_at (c ∷ cs) ≡ Ok (Some (Text (c ∷ cs)), []) = text_at c cs (run_begins (passes Plain) c cs e) ∙ rw (e, ← all) refl in
     ap (λ (r : Result (List Token × List ℕ) Malformed). r >>= λ p. Ok p.0) (each-some token_at tokens_shorten (c ∷ cs) [] (Text (c ∷ cs)) one)
     ∙ rw (each-none token_at [] [] refl) refl

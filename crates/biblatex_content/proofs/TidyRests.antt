@@ -10,7 +10,7 @@ use Rattle.biblatex_content.specs.declared.tidy.Gap.{Gap}
 use Rattle.biblatex_content.specs.declared.tidy.Gap.TheVariants.{Beginning, Nothing, Space}
 use Rattle.biblatex_content.specs.Styled.{Member, Letter, letters}
 use Rattle.biblatex_content.specs.Tidy.{spaced, squeezed, without_last_space, stays, is_tidy, owed, tidied_after}
-use Rattle.biblatex_content.specs.Places.{all_at, spaced_at, squeezed_at, without_last_space_at, owed_at, tidied_after_at}
+use Rattle.biblatex_content.specs.Spans.{all_at, spaced_at, squeezed_at, without_last_space_at, owed_at, tidied_after_at}
 
 first_of_two : (a b : Bool) → a && b ≡ true → a ≡ true
 first_of_two true b e = refl
@@ -50,13 +50,13 @@ tidy_too : (cs : List ℕ) → is_tidy true cs ≡ true → is_tidy false cs ≡
 tidy_too [] e = absurd cc
 tidy_too (c ∷ cs) e = both (stays false c) _ (stays_too (is_blank c) (eqb c 32) (first_of_two (stays true c) _ e)) (second_of_two (stays true c) _ e)
 
--- with places
-squeezed_at-front : (kind : Kind) (start end : ℕ) (after_space : Bool) (cs : List ℕ) (ms : List (At Member)) → is_tidy after_space cs ≡ true
+-- with spans
+squeezed_at-prefix : (kind : Kind) (start end : ℕ) (after_space : Bool) (cs : List ℕ) (ms : List (At Member)) → is_tidy after_space cs ≡ true
     → squeezed_at after_space (map spaced_at (all_at start end (letters kind cs) ++ ms)) ≡ all_at start end (letters kind cs) ++ squeezed_at false (map spaced_at ms)
-squeezed_at-front kind start end after_space [] ms e =
+squeezed_at-prefix kind start end after_space [] ms e =
     let same = not_true after_space e in
     rw same refl
-squeezed_at-front kind start end after_space (c ∷ cs) ms e = by_test (eqb c 32) refl (squeezed_at-front kind start end (eqb c 32) cs ms (second_of_two (stays after_space c) _ e))
+squeezed_at-prefix kind start end after_space (c ∷ cs) ms e = by_test (eqb c 32) refl (squeezed_at-prefix kind start end (eqb c 32) cs ms (second_of_two (stays after_space c) _ e))
   where
     rest : List (At Member)
     rest = all_at start end (letters kind cs) ++ ms
@@ -83,39 +83,39 @@ squeezed_at-front kind start end after_space (c ∷ cs) ms e = by_test (eqb c 32
         let kept : squeezed_at after_space (letter c ∷ map spaced_at rest) ≡ letter c ∷ squeezed_at false (map spaced_at rest) = rw is refl in
         ap (λ (m : At Member). squeezed_at after_space (m ∷ map spaced_at rest)) same ∙ (kept ∙ ap (λ (x : List (At Member)). letter c ∷ x) then)
 
-last_at-front : (kind : Kind) (start end : ℕ) (after_space : Bool) (cs : List ℕ) (ms : List (At Member)) → is_tidy after_space cs ≡ true
+last_at-prefix : (kind : Kind) (start end : ℕ) (after_space : Bool) (cs : List ℕ) (ms : List (At Member)) → is_tidy after_space cs ≡ true
     → without_last_space_at (all_at start end (letters kind cs) ++ ms) ≡ all_at start end (letters kind cs) ++ without_last_space_at ms
-last_at-front kind start end after_space [] ms e = refl
-last_at-front kind start end after_space (c ∷ []) [] e =
+last_at-prefix kind start end after_space [] ms e = refl
+last_at-prefix kind start end after_space (c ∷ []) [] e =
     let other = not_true (eqb c 32) (second_of_two (stays after_space c) _ e) in
     rw other refl
-last_at-front kind start end after_space (c ∷ []) (m ∷ ms) e = refl
-last_at-front kind start end after_space (c ∷ d ∷ cs) ms e =
-    ap (λ (x : List (At Member)). record { v = Letter kind c; start = start; end = end } ∷ x) (last_at-front kind start end (eqb c 32) (d ∷ cs) ms (second_of_two (stays after_space c) _ e))
+last_at-prefix kind start end after_space (c ∷ []) (m ∷ ms) e = refl
+last_at-prefix kind start end after_space (c ∷ d ∷ cs) ms e =
+    ap (λ (x : List (At Member)). record { v = Letter kind c; start = start; end = end } ∷ x) (last_at-prefix kind start end (eqb c 32) (d ∷ cs) ms (second_of_two (stays after_space c) _ e))
 
-front_at : (kind : Kind) (start end : ℕ) (after_space : Bool) (cs : List ℕ) (ms : List (At Member)) → is_tidy after_space cs ≡ true
+prefix_at : (kind : Kind) (start end : ℕ) (after_space : Bool) (cs : List ℕ) (ms : List (At Member)) → is_tidy after_space cs ≡ true
     → without_last_space_at (squeezed_at after_space (map spaced_at (all_at start end (letters kind cs) ++ ms))) ≡ all_at start end (letters kind cs) ++ without_last_space_at (squeezed_at false (map spaced_at ms))
-front_at kind start end after_space cs ms e =
-    ap without_last_space_at (squeezed_at-front kind start end after_space cs ms e) ∙ last_at-front kind start end after_space cs (squeezed_at false (map spaced_at ms)) e
+prefix_at kind start end after_space cs ms e =
+    ap without_last_space_at (squeezed_at-prefix kind start end after_space cs ms e) ∙ last_at-prefix kind start end after_space cs (squeezed_at false (map spaced_at ms)) e
 
-pub front_comes_at : (gap : Gap) (s e : ℕ) (kind : Kind) (start end : ℕ) (cs : List ℕ) (ms : List (At Member)) → is_tidy true cs ≡ true
+pub prefix_comes_at : (gap : Gap) (s e : ℕ) (kind : Kind) (start end : ℕ) (cs : List ℕ) (ms : List (At Member)) → is_tidy true cs ≡ true
     → owed_at s e gap ++ (all_at start end (letters kind cs) ++ tidied_after_at s e Nothing ms) ≡ tidied_after_at s e gap (all_at start end (letters kind cs) ++ ms)
-front_comes_at Beginning s e kind start end cs ms tidy = sym (front_at kind start end true cs ms tidy)
-front_comes_at Nothing s e kind start end cs ms tidy = sym (front_at kind start end false cs ms (tidy_too cs tidy))
-front_comes_at (Space other) s e kind start end [] ms tidy = absurd cc
-front_comes_at (Space other) s e kind start end (c ∷ cs) ms tidy =
+prefix_comes_at Beginning s e kind start end cs ms tidy = sym (prefix_at kind start end true cs ms tidy)
+prefix_comes_at Nothing s e kind start end cs ms tidy = sym (prefix_at kind start end false cs ms (tidy_too cs tidy))
+prefix_comes_at (Space other) s e kind start end [] ms tidy = absurd cc
+prefix_comes_at (Space other) s e kind start end (c ∷ cs) ms tidy =
     let space : At Member = record { v = Letter other 32; start = s; end = e } in
     let rest : List (At Member) = squeezed_at false (map spaced_at ms) in
-    sym (ap (λ (x : List (At Member)). without_last_space_at (space ∷ x)) (squeezed_at-front kind start end true (c ∷ cs) ms tidy)
-    ∙ ap (λ (x : List (At Member)). space ∷ x) (last_at-front kind start end true (c ∷ cs) rest tidy))
+    sym (ap (λ (x : List (At Member)). without_last_space_at (space ∷ x)) (squeezed_at-prefix kind start end true (c ∷ cs) ms tidy)
+    ∙ ap (λ (x : List (At Member)). space ∷ x) (last_at-prefix kind start end true (c ∷ cs) rest tidy))
 
--- without places
-squeezed-front : (kind : Kind) (after_space : Bool) (cs : List ℕ) (ms : List Member) → is_tidy after_space cs ≡ true
+-- without spans
+squeezed-prefix : (kind : Kind) (after_space : Bool) (cs : List ℕ) (ms : List Member) → is_tidy after_space cs ≡ true
     → squeezed after_space (map spaced (letters kind cs ++ ms)) ≡ letters kind cs ++ squeezed false (map spaced ms)
-squeezed-front kind after_space [] ms e =
+squeezed-prefix kind after_space [] ms e =
     let same = not_true after_space e in
     rw same refl
-squeezed-front kind after_space (c ∷ cs) ms e = by_test (eqb c 32) refl (squeezed-front kind (eqb c 32) cs ms (second_of_two (stays after_space c) _ e))
+squeezed-prefix kind after_space (c ∷ cs) ms e = by_test (eqb c 32) refl (squeezed-prefix kind (eqb c 32) cs ms (second_of_two (stays after_space c) _ e))
   where
     rest : List Member
     rest = letters kind cs ++ ms
@@ -139,27 +139,27 @@ squeezed-front kind after_space (c ∷ cs) ms e = by_test (eqb c 32) refl (squee
         let kept : squeezed after_space (Letter kind c ∷ map spaced rest) ≡ Letter kind c ∷ squeezed false (map spaced rest) = rw is refl in
         ap (λ (m : Member). squeezed after_space (m ∷ map spaced rest)) same ∙ (kept ∙ ap (λ (x : List Member). Letter kind c ∷ x) then)
 
-last-front : (kind : Kind) (after_space : Bool) (cs : List ℕ) (ms : List Member) → is_tidy after_space cs ≡ true
+last-prefix : (kind : Kind) (after_space : Bool) (cs : List ℕ) (ms : List Member) → is_tidy after_space cs ≡ true
     → without_last_space (letters kind cs ++ ms) ≡ letters kind cs ++ without_last_space ms
-last-front kind after_space [] ms e = refl
-last-front kind after_space (c ∷ []) [] e =
+last-prefix kind after_space [] ms e = refl
+last-prefix kind after_space (c ∷ []) [] e =
     let other = not_true (eqb c 32) (second_of_two (stays after_space c) _ e) in
     rw other refl
-last-front kind after_space (c ∷ []) (m ∷ ms) e = refl
-last-front kind after_space (c ∷ d ∷ cs) ms e = ap (λ (x : List Member). Letter kind c ∷ x) (last-front kind (eqb c 32) (d ∷ cs) ms (second_of_two (stays after_space c) _ e))
+last-prefix kind after_space (c ∷ []) (m ∷ ms) e = refl
+last-prefix kind after_space (c ∷ d ∷ cs) ms e = ap (λ (x : List Member). Letter kind c ∷ x) (last-prefix kind (eqb c 32) (d ∷ cs) ms (second_of_two (stays after_space c) _ e))
 
-front_of : (kind : Kind) (after_space : Bool) (cs : List ℕ) (ms : List Member) → is_tidy after_space cs ≡ true
+prefix_of : (kind : Kind) (after_space : Bool) (cs : List ℕ) (ms : List Member) → is_tidy after_space cs ≡ true
     → without_last_space (squeezed after_space (map spaced (letters kind cs ++ ms))) ≡ letters kind cs ++ without_last_space (squeezed false (map spaced ms))
-front_of kind after_space cs ms e = ap without_last_space (squeezed-front kind after_space cs ms e) ∙ last-front kind after_space cs (squeezed false (map spaced ms)) e
+prefix_of kind after_space cs ms e = ap without_last_space (squeezed-prefix kind after_space cs ms e) ∙ last-prefix kind after_space cs (squeezed false (map spaced ms)) e
 
-pub front_comes : (gap : Gap) (kind : Kind) (cs : List ℕ) (ms : List Member) → is_tidy true cs ≡ true
+pub prefix_comes : (gap : Gap) (kind : Kind) (cs : List ℕ) (ms : List Member) → is_tidy true cs ≡ true
     → owed gap ++ (letters kind cs ++ tidied_after Nothing ms) ≡ tidied_after gap (letters kind cs ++ ms)
-front_comes Beginning kind cs ms tidy = sym (front_of kind true cs ms tidy)
-front_comes Nothing kind cs ms tidy = sym (front_of kind false cs ms (tidy_too cs tidy))
-front_comes (Space other) kind [] ms tidy = absurd cc
-front_comes (Space other) kind (c ∷ cs) ms tidy =
-    sym (ap (λ (x : List Member). without_last_space (Letter other 32 ∷ x)) (squeezed-front kind true (c ∷ cs) ms tidy)
-    ∙ ap (λ (x : List Member). Letter other 32 ∷ x) (last-front kind true (c ∷ cs) (squeezed false (map spaced ms)) tidy))
+prefix_comes Beginning kind cs ms tidy = sym (prefix_of kind true cs ms tidy)
+prefix_comes Nothing kind cs ms tidy = sym (prefix_of kind false cs ms (tidy_too cs tidy))
+prefix_comes (Space other) kind [] ms tidy = absurd cc
+prefix_comes (Space other) kind (c ∷ cs) ms tidy =
+    sym (ap (λ (x : List Member). without_last_space (Letter other 32 ∷ x)) (squeezed-prefix kind true (c ∷ cs) ms tidy)
+    ∙ ap (λ (x : List Member). Letter other 32 ∷ x) (last-prefix kind true (c ∷ cs) (squeezed false (map spaced ms)) tidy))
 
 -- parts of a text
 pub letters_parted : (kind : Kind) (cs ds : List ℕ) (ms : List Member) → letters kind (cs ++ ds) ++ ms ≡ letters kind cs ++ (letters kind ds ++ ms)
@@ -174,6 +174,6 @@ letters_parted_at kind start end cs ds ms =
 pub text_put : (done gap text rest : List Member) → ((done ++ gap) ++ text) ++ rest ≡ done ++ (gap ++ (text ++ rest))
 text_put done gap text rest = append_assoc (done ++ gap) text rest ∙ append_assoc done gap (text ++ rest)
 
-pub shorter : (whole front rest : List ℕ) → is_filled front ≡ true → whole ≡ front ++ rest → length rest < length whole
+pub shorter : (whole prefix rest : List ℕ) → is_filled prefix ≡ true → whole ≡ prefix ++ rest → length rest < length whole
 shorter whole [] rest filled parts = absurd cc
-shorter whole (c ∷ front) rest filled parts = omega (arith, ap length parts, length-append front rest)
+shorter whole (c ∷ prefix) rest filled parts = omega (arith, ap length parts, length-append prefix rest)

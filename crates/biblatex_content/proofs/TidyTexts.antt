@@ -13,8 +13,8 @@ use Rattle.biblatex_tex.specs.Character.{is_blank}
 use Rattle.biblatex_content.specs.Styled.{Member, Letter, letters}
 use Rattle.laws.specs.Text.{characters, is_filled}
 use Rattle.biblatex_content.specs.Tidy.{spaced, is_space, squeezed, without_last_space, tidied, stays, is_tidy, is_tidy_text}
-use Rattle.biblatex_content.specs.Places.{all_at, spaced_at, squeezed_at, without_last_space_at, tidied_at, places_of, AreDone}
-use Rattle.biblatex_content.proofs.PlacesReached.{one_place}
+use Rattle.biblatex_content.specs.Spans.{all_at, spaced_at, squeezed_at, without_last_space_at, tidied_at, member_spans, AreDone}
+use Rattle.biblatex_content.proofs.SpansReached.{one_span}
 
 first_of_two : (a b : Bool) → a && b ≡ true → a ≡ true
 first_of_two true b e = refl
@@ -74,7 +74,7 @@ without_last-tidy kind after_space (c ∷ d ∷ cs) e =
 pub tidied_stays : (kind : Kind) (cs : List ℕ) → is_tidy true cs ≡ true → tidied (letters kind cs) ≡ letters kind cs
 tidied_stays kind cs e = ap without_last_space (squeezed-tidy kind true cs e) ∙ without_last-tidy kind true cs e
 
--- Members at one place are tidied as they are without it.
+-- Members with one span are tidied as they are without it.
 squeezed-at : (start end : ℕ) (after_space : Bool) (ms : List Member) → squeezed_at after_space (map spaced_at (all_at start end ms)) ≡ all_at start end (squeezed after_space (map spaced ms))
 squeezed-at start end after_space [] = refl
 squeezed-at start end after_space (m ∷ ms) = by_tests (is_space (spaced m)) after_space (squeezed-at start end true ms) (squeezed-at start end false ms)
@@ -107,14 +107,14 @@ filled-tidy : (cs : List ℕ) → is_tidy true cs ≡ true → is_filled cs ≡ 
 filled-tidy [] e = absurd cc
 filled-tidy (c ∷ cs) e = refl
 
-places-tidy : (kind : Kind) (start end : ℕ) (cs : List ℕ) → is_tidy true cs ≡ true → (start, end) ∷ [] ≡ places_of (tidied_at (all_at start end (letters kind cs) ++ []))
-places-tidy kind start end cs e =
-    sym (ap (λ (x : List (At Member)). places_of (tidied_at x)) (append-nil (all_at start end (letters kind cs)))
-    ∙ (ap places_of (tidied-at start end (letters kind cs) ∙ ap (all_at start end) (tidied_stays kind cs e)) ∙ one cs e))
+spans-tidy : (kind : Kind) (start end : ℕ) (cs : List ℕ) → is_tidy true cs ≡ true → (start, end) ∷ [] ≡ member_spans (tidied_at (all_at start end (letters kind cs) ++ []))
+spans-tidy kind start end cs e =
+    sym (ap (λ (x : List (At Member)). member_spans (tidied_at x)) (append-nil (all_at start end (letters kind cs)))
+    ∙ (ap member_spans (tidied-at start end (letters kind cs) ∙ ap (all_at start end) (tidied_stays kind cs e)) ∙ one cs e))
   where
-    one : (ds : List ℕ) → is_tidy true ds ≡ true → places_of (all_at start end (letters kind ds)) ≡ (start, end) ∷ []
+    one : (ds : List ℕ) → is_tidy true ds ≡ true → member_spans (all_at start end (letters kind ds)) ≡ (start, end) ∷ []
     one [] h = absurd cc
-    one (d ∷ ds) h = one_place kind start end d ds
+    one (d ∷ ds) h = one_span kind start end d ds
 
 styled-tidy : (kind : Kind) (cs : List ℕ) → is_tidy true cs ≡ true → letters kind cs ++ [] ≡ tidied (letters kind cs ++ [])
 styled-tidy kind cs e =
@@ -126,6 +126,6 @@ pub done_alone : (c : Spanned Chunk) → is_tidy_text c.v ≡ true → AreDone (
 done_alone c e = by_kind c.v c.span.start c.span.end e
   where
     by_kind : (chunk : Chunk) (start end : ℕ) → is_tidy_text chunk ≡ true → AreDone (record { v = chunk; span = record { start = start; end = end } } ∷ [])
-    by_kind (chunks.Normal s) start end h = record { styled = styled-tidy Normal (characters s) h; places = places-tidy Normal start end (characters s) h; parted = rw (filled-tidy (characters s) h) refl }
-    by_kind (chunks.Verbatim s) start end h = record { styled = styled-tidy Verbatim (characters s) h; places = places-tidy Verbatim start end (characters s) h; parted = rw (filled-tidy (characters s) h) refl }
+    by_kind (chunks.Normal s) start end h = record { styled = styled-tidy Normal (characters s) h; spans = spans-tidy Normal start end (characters s) h; parted = rw (filled-tidy (characters s) h) refl }
+    by_kind (chunks.Verbatim s) start end h = record { styled = styled-tidy Verbatim (characters s) h; spans = spans-tidy Verbatim start end (characters s) h; parted = rw (filled-tidy (characters s) h) refl }
     by_kind (chunks.Math s) start end h = absurd cc

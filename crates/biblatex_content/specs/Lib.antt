@@ -5,6 +5,6 @@ pub mod Ordinary
 pub mod OrdinaryViews
 pub mod Views
 pub mod Parted
-pub mod Places
+pub mod Spans
 pub mod Writing
 pub mod Lending

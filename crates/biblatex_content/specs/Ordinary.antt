@@ -180,7 +180,7 @@ ended_in Free [] done = Ok done
 ended_in (Groups kept) [] done = Ok done
 ended_in mode fs done = Err MalformedText
 
--- at the beginning of a piece, after what was read before it
+-- at the start of a piece, after what was read before it
 abbrev pub begun : List Member → State
 begun done = record { done = done; kind = Normal; frames = []; marks = []; mode = Free; math = [] }
 

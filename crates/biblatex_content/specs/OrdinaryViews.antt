@@ -5,8 +5,8 @@ use Rattle.biblatex_content.specs.Ordinary.{State}
 use Rattle.biblatex_content.specs.Views.{joined}
 use Rattle.laws.specs.Text.{characters}
 
-abbrev pub state : Reading → State
-state r = record {
+abbrev pub state_view : Reading → State
+state_view r = record {
   done = joined r.contents;
   kind = r.kind;
   frames = reverse r.frames.items;

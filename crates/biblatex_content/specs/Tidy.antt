@@ -20,7 +20,7 @@ abbrev pub is_space : Member → Bool
 is_space (Letter kind c) = c == 32
 is_space (Math text) = false
 
--- a space goes where a space, or the beginning, stands before it
+-- a space goes where a space, or the start, stands before it
 abbrev pub squeezed : Bool → List Member → List Member
 squeezed after_space [] = []
 squeezed after_space (m ∷ ms) = if is_space m then (if after_space then squeezed true ms else m ∷ squeezed true ms) else m ∷ squeezed false ms
@@ -39,21 +39,21 @@ tidied ms = without_last_space (squeezed true (map spaced ms))
 abbrev pub stays : Bool → ℕ → Bool
 stays after_space c = not (is_blank c && (after_space || not (c == 32)))
 
--- whether tidying leaves characters as they are, where a space, or the beginning, stands before them or not; no characters
+-- whether tidying leaves characters as they are, where a space, or the start, stands before them or not; no characters
 -- after a space are not, since the space would go
 abbrev pub is_tidy : Bool → List ℕ → Bool
 is_tidy after_space [] = not after_space
 is_tidy after_space (c ∷ cs) = stays after_space c && is_tidy (c == 32) cs
 
--- A text has a front of this length that is empty, or that tidying leaves as it is.
+-- A text has a prefix of this length that is empty, or that tidying leaves as it is.
 pub record EndsTidily (whole : List ℕ) (end : ℕ) : Type 0 where
-  pub front : List ℕ
+  pub prefix : List ℕ
   pub rest : List ℕ
-  pub parts : whole ≡ front ++ rest
-  pub long : length front ≡ end
-  pub front_utf8 : IsUtf8 front
+  pub parts : whole ≡ prefix ++ rest
+  pub long : length prefix ≡ end
+  pub prefix_utf8 : IsUtf8 prefix
   pub rest_utf8 : IsUtf8 rest
-  pub tidy : is_filled (chars front) ≡ true → is_tidy true (chars front) ≡ true
+  pub tidy : is_filled (chars prefix) ≡ true → is_tidy true (chars prefix) ≡ true
 
 -- whether a chunk is text that tidying leaves as it is
 abbrev pub is_tidy_text : Chunk → Bool

@@ -31,7 +31,7 @@ closing true = 125 ∷ []
 closing false = []
 
 -- what stands before a character of the kind, where a group of verbatim characters may be open: the end of the group before
--- a normal one, the beginning of a group before a verbatim one
+-- a normal one, the start of a group before a verbatim one
 abbrev pub turning : Bool → Kind → ℕ → List ℕ
 turning is_open Normal c = closing is_open
 turning true Verbatim c = []

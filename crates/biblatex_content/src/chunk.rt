@@ -76,7 +76,8 @@ pub trait ChunksExt {
     /// text stands in braces, math between dollar signs. In a verbatim field all is text, in which `{ } \` stand after a
     /// backslash. No braces stand round the whole.
     fn to_biblatex_string(&self, alloc: Global, is_verbatim: bool) -> Result<String, AllocError>
-        ensures { IfOk result (λ s. characters s ≡ written_content is_verbatim (styled (chunks self.now))) };
+        ensures { IfOk result (λ s. characters s
+            ≡ written_content is_verbatim (styled (chunks self.now))) };
 
     /// From where the first chunk begins to where the last one ends, but not before the first one ends; `0..0` where there
     /// is none.

@@ -6,7 +6,7 @@ ghost use Rattle.biblatex_content.specs.declared.chunk.Kind.TheVariants.{Normal,
 ghost use Rattle.biblatex_content.specs.Styled.{letters};
 ghost use Rattle.biblatex_content.specs.Ordinary.{ordinary};
 ghost use Rattle.biblatex_content.specs.Parted.{are_parted, is_full};
-ghost use Rattle.biblatex_content.specs.Places.{all_at, placed_so_far, after_at, tidied_at, places, places_of};
+ghost use Rattle.biblatex_content.specs.Spans.{all_at, spanned_so_far, after_at, tidied_at, chunk_spans, member_spans};
 ghost use Rattle.biblatex_content.specs.Tidy.{tidied};
 ghost use Rattle.biblatex_content.specs.Verbatim.{verbatim_text};
 ghost use Rattle.biblatex_content.specs.Views.{so_far, styled, members, following};
@@ -33,7 +33,7 @@ fn is_full(chunk: &Chunk) -> bool
     }
 }
 
-/// The content of a field, as far as its pieces have been read: the chunks of each piece, at its place.
+/// The content of a field, as far as its pieces have been read: the chunks of each piece, with its span.
 #[derive(Drop)]
 pub struct Contents {
     alloc: Global,
@@ -44,7 +44,7 @@ impl Contents {
     /// Nothing has been read.
     pub fn new(alloc: Global) -> Contents
         ensures so_far { so_far result ≡ [] }
-        ensures placed { placed_so_far result ≡ [] }
+        ensures spanned { spanned_so_far result ≡ [] }
     {
         Contents {
             alloc,
@@ -54,7 +54,7 @@ impl Contents {
 
     /// Whether the pieces that have been read give nothing; a blank counts, also where tidying drops it.
     pub fn is_empty(&self) -> bool
-        ensures { IsTrue result ↔ (placed_so_far self.now ≡ []) }
+        ensures { IsTrue result ↔ (spanned_so_far self.now ≡ []) }
     {
         for chunk in self.chunks.as_slice() {
             if is_full(&chunk.v) {
@@ -67,7 +67,8 @@ impl Contents {
     /// Appends a chunk of a piece at the span.
     fn push_chunk(&mut self, span: &Span, chunk: Chunk) -> Result<(), AllocError>
         ensures styled { OnOk result (so_far self.new ≡ so_far self.old ++ members chunk) }
-        ensures placed { OnOk result (placed_so_far self.new ≡ placed_so_far self.old ++ all_at span.now.start span.now.end (members chunk)) }
+        ensures spanned { OnOk result (spanned_so_far self.new
+            ≡ spanned_so_far self.old ++ all_at span.now.start span.now.end (members chunk)) }
     {
         if self.chunks.is_empty() {
             self.chunks.reserve_exact(1)?;
@@ -78,7 +79,7 @@ impl Contents {
     /// Makes room for so many more chunks.
     fn make_room(&mut self, count: usize) -> Result<(), AllocError>
         ensures styled { OnOk result (so_far self.new ≡ so_far self.old) }
-        ensures placed { OnOk result (placed_so_far self.new ≡ placed_so_far self.old) }
+        ensures spanned { OnOk result (spanned_so_far self.new ≡ spanned_so_far self.old) }
     {
         if self.chunks.is_empty() {
             return self.chunks.reserve_exact(count);
@@ -89,7 +90,8 @@ impl Contents {
     /// Appends the chunks of a piece at the span.
     fn push_chunks(&mut self, span: &Span, chunks: Chunks) -> Result<(), AllocError>
         ensures styled { OnOk result (so_far self.new ≡ so_far self.old ++ styled chunks.items) }
-        ensures placed { OnOk result (placed_so_far self.new ≡ placed_so_far self.old ++ all_at span.now.start span.now.end (styled chunks.items)) }
+        ensures spanned { OnOk result (spanned_so_far self.new
+            ≡ spanned_so_far self.old ++ all_at span.now.start span.now.end (styled chunks.items)) }
     {
         self.make_room(chunks.len())?;
         for chunk in chunks {
@@ -100,8 +102,10 @@ impl Contents {
 
     /// Appends a piece whose characters stand for themselves, in the kind.
     fn push_plain(&mut self, kind: Kind, piece: Spanned<&str>) -> Result<(), AllocError>
-        ensures styled { OnOk result (so_far self.new ≡ so_far self.old ++ letters kind (chars piece.entry.v.now)) }
-        ensures placed { OnOk result (placed_so_far self.new ≡ placed_so_far self.old ++ all_at piece.entry.span.start piece.entry.span.end (letters kind (chars piece.entry.v.now))) }
+        ensures styled { OnOk result (so_far self.new
+            ≡ so_far self.old ++ letters kind (chars piece.entry.v.now)) }
+        ensures spanned { OnOk result (spanned_so_far self.new ≡ spanned_so_far self.old ++ all_at
+            piece.entry.span.start piece.entry.span.end (letters kind (chars piece.entry.v.now))) }
     {
         let text = String::from_str(self.alloc, piece.v)?;
         self.push_chunk(&piece.span, chunk_of(kind, text))
@@ -112,15 +116,17 @@ impl Contents {
     /// space, `\,` a thin space, `\-` and `\/` nothing; accents are composed with their arguments; commands of letters are
     /// characters or are passed over; a backslash and another character is that character; groups are verbatim but for
     /// arguments, groups after a command that is passed over, and groups that begin with a backslash; math stands between
-    /// dollar signs of one depth, and a dollar sign without a partner is itself. What the piece gives has its place.
+    /// dollar signs of one depth, and a dollar sign without a partner is itself. What the piece gives has its span.
     ///
     /// # Errors
     ///
     /// `MalformedCommand` where a brace has no partner, the last character is a lone backslash, or an accent has no argument.
     #[tactic(auto, using(crate::proofs::OrdinaryPlain::ordinary_plain))]
     pub fn push_ordinary(mut self, piece: Spanned<&str>) -> Result<Contents, ContentError>
-        ensures read { Gives refusal_of so_far result (following (so_far self) (ordinary (chars piece.entry.v.now))) }
-        ensures placed { Gives refusal_of placed_so_far result (after_at piece.entry.span.start piece.entry.span.end (placed_so_far self) (ordinary (chars piece.entry.v.now))) }
+        ensures read { Gives refusal_of so_far result
+            (following (so_far self) (ordinary (chars piece.entry.v.now))) }
+        ensures spanned { Gives refusal_of spanned_so_far result (after_at piece.entry.span.start
+            piece.entry.span.end (spanned_so_far self) (ordinary (chars piece.entry.v.now))) }
     {
         if is_plain(piece.v) {
             self.push_plain(Kind::Normal, piece)?;
@@ -132,10 +138,13 @@ impl Contents {
     }
 
     /// These contents with a piece of a verbatim field after them: a backslash before one of `{ } \ ~ ^ # & % $ _` gives that
-    /// character, other braces give nothing, and all else is itself. What the piece gives has its place.
+    /// character, other braces give nothing, and all else is itself. What the piece gives has its span.
     pub fn push_verbatim(mut self, piece: Spanned<&str>) -> Result<Contents, AllocError>
-        ensures read { IfOk result (λ c. so_far c ≡ so_far self ++ letters Verbatim (verbatim_text (chars piece.entry.v.now))) }
-        ensures placed { IfOk result (λ c. placed_so_far c ≡ placed_so_far self ++ all_at piece.entry.span.start piece.entry.span.end (letters Verbatim (verbatim_text (chars piece.entry.v.now)))) }
+        ensures read { IfOk result (λ c. so_far c
+            ≡ so_far self ++ letters Verbatim (verbatim_text (chars piece.entry.v.now))) }
+        ensures spanned { IfOk result (λ c. spanned_so_far c
+            ≡ spanned_so_far self ++ all_at piece.entry.span.start piece.entry.span.end
+            (letters Verbatim (verbatim_text (chars piece.entry.v.now)))) }
     {
         if is_literal(piece.v) {
             self.push_plain(Kind::Verbatim, piece)?;
@@ -150,7 +159,8 @@ impl Contents {
     /// begins that it has a character of to where the one ends that ends last; a math piece where its piece stands.
     pub fn finish(self) -> Result<Chunks, AllocError>
         ensures styled { IfOk result (λ cs. styled cs.items ≡ tidied (so_far self)) }
-        ensures places { IfOk result (λ cs. places cs.items ≡ places_of (tidied_at (placed_so_far self))) }
+        ensures spans { IfOk result (λ cs. chunk_spans cs.items
+            ≡ member_spans (tidied_at (spanned_so_far self))) }
         ensures parted { IfOk result (λ cs. are_parted cs.items ≡ true) }
     {
         if are_done(self.chunks.as_slice()) {

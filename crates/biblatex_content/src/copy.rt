@@ -8,10 +8,10 @@ use crate::chunk::{Chunk, Chunks};
 use biblatex_text::Spanned;
 use std::alloc::{AllocError, Global};
 
-/// The same chunks, at the same places.
+/// The same chunks, with the same spans.
 pub fn copied(alloc: Global, chunks: &[Spanned<Chunk>]) -> Result<Chunks, AllocError>
     ensures styled { IfOk result (λ cs. styled cs.items ≡ styled chunks.now) }
-    ensures places { IfOk result (λ cs. spans cs.items ≡ spans chunks.now) }
+    ensures spans { IfOk result (λ cs. spans cs.items ≡ spans chunks.now) }
     ensures parted { IfOk result (λ cs. are_parted cs.items ≡ are_parted chunks.now) }
 {
     let mut copies = Vec::with_capacity(alloc, chunks.len())?;

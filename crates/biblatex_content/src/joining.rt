@@ -5,7 +5,7 @@ ghost use Rattle.std.specs.Str.{chars};
 ghost use Rattle.biblatex_text.specs.Raw.{At};
 ghost use Rattle.biblatex_content.specs.Styled.{Member, Letter, Math, letters};
 ghost use Rattle.biblatex_content.specs.Parted.{is_full, kind_of, is_apart, are_parted, last_kind, IsTurned, IsReady, IsLastOrNone};
-ghost use Rattle.biblatex_content.specs.Places.{all_at, kind_in, places, places_of, places_with};
+ghost use Rattle.biblatex_content.specs.Spans.{all_at, kind_in, chunk_spans, member_spans, spans_with};
 ghost use Rattle.biblatex_content.specs.Views.{members, joined, styled};
 ghost use Rattle.laws.specs.Text.{characters, is_filled};
 
@@ -70,7 +70,7 @@ impl Joining {
     /// Nothing has been joined.
     pub(crate) fn new(alloc: Global) -> Joining
         ensures joined { joined result ≡ [] }
-        ensures places { (ms : List (At Member)) → places_with result ms ≡ places_of ms }
+        ensures spans { (ms : List (At Member)) → spans_with result ms ≡ member_spans ms }
         ensures ready { IsReady result }
     {
         Joining {
@@ -92,12 +92,16 @@ impl Joining {
     /// Appends a chunk after the finished ones, at the bytes from the start to the end.
     #[tactic(auto, using(crate::proofs::PartedNeighbours::last_kind_after, crate::proofs::PartedNeighbours::parted_after))]
     fn push_chunk(&mut self, chunk: Chunk, start: usize, end: usize) -> Result<(), AllocError>
-        ensures chunks { OnOk result (styled self.new.chunks.items ≡ styled self.old.chunks.items ++ members chunk) }
-        ensures places { OnOk result (places self.new.chunks.items ≡ places self.old.chunks.items ++ (start, end) ∷ []) }
+        ensures chunks { OnOk result (styled self.new.chunks.items
+            ≡ styled self.old.chunks.items ++ members chunk) }
+        ensures spans { OnOk result (chunk_spans self.new.chunks.items
+            ≡ chunk_spans self.old.chunks.items ++ (start, end) ∷ []) }
         ensures run { self.new.run ≡ self.old.run }
         ensures kind { self.new.kind ≡ self.old.kind }
         ensures last { OnOk result (last_kind self.new.chunks.items ≡ kind_of chunk) }
-        ensures parted { OnOk result (are_parted self.old.chunks.items ≡ true → is_full chunk ≡ true → is_apart (last_kind self.old.chunks.items) (kind_of chunk) ≡ true → are_parted self.new.chunks.items ≡ true) }
+        ensures parted { OnOk result (are_parted self.old.chunks.items ≡ true → is_full chunk ≡ true
+            → is_apart (last_kind self.old.chunks.items) (kind_of chunk) ≡ true
+            → are_parted self.new.chunks.items ≡ true) }
     {
         if self.chunks.is_empty() {
             self.chunks.reserve_exact(1)?;
@@ -108,11 +112,12 @@ impl Joining {
     /// Makes a chunk of the text that was begun.
     fn close_run(&mut self) -> Result<(), AllocError>
         ensures styled { OnOk result (joined self.new ≡ joined self.old) }
-        ensures places { OnOk result (places self.new.chunks.items ≡ places_with self.old []) }
+        ensures spans { OnOk result (chunk_spans self.new.chunks.items ≡ spans_with self.old []) }
         ensures run { OnOk result (characters self.new.run ≡ []) }
         ensures kind { self.new.kind ≡ self.old.kind }
         ensures parted { IsReady self.old → OnOk result (are_parted self.new.chunks.items ≡ true) }
-        ensures last { IsReady self.old → OnOk result (IsLastOrNone self.old.kind (last_kind self.new.chunks.items)) }
+        ensures last { IsReady self.old
+            → OnOk result (IsLastOrNone self.old.kind (last_kind self.new.chunks.items)) }
     {
         if !has_text(self.run.as_str()) {
             return Ok(());
@@ -126,7 +131,8 @@ impl Joining {
     fn turn(&mut self, kind: Kind) -> Result<(), AllocError>
         ensures styled { OnOk result (joined self.new ≡ joined self.old) }
         ensures kind { OnOk result (self.new.kind ≡ kind) }
-        ensures places { OnOk result ((m : At Member) (ms : List (At Member)) → kind_in m.v ≡ Some kind → places_with self.new (m ∷ ms) ≡ places_with self.old (m ∷ ms)) }
+        ensures spans { OnOk result ((m : At Member) (ms : List (At Member)) → kind_in m.v
+            ≡ Some kind → spans_with self.new (m ∷ ms) ≡ spans_with self.old (m ∷ ms)) }
         ensures turned { IsReady self.old → OnOk result (IsTurned self.new) }
     {
         if self.kind != kind {
@@ -138,8 +144,10 @@ impl Joining {
 
     /// Sees to it that text that stands at the span may follow what was begun.
     fn reach(&mut self, span: &Span)
-        ensures start { self.new.span.start ≡ (if is_filled (characters self.old.run) then self.old.span.start else span.now.start) }
-        ensures end { self.new.span.end ≡ (if is_filled (characters self.old.run) then max self.old.span.end span.now.end else span.now.end) }
+        ensures start { self.new.span.start ≡ (if is_filled (characters self.old.run)
+            then self.old.span.start else span.now.start) }
+        ensures end { self.new.span.end ≡ (if is_filled (characters self.old.run)
+            then max self.old.span.end span.now.end else span.now.end) }
         ensures chunks { self.new.chunks ≡ self.old.chunks }
         ensures run { self.new.run ≡ self.old.run }
         ensures kind { self.new.kind ≡ self.old.kind }
@@ -154,7 +162,9 @@ impl Joining {
     /// Appends a character of the kind, which stands at the span.
     pub(crate) fn push_at(&mut self, span: &Span, kind: Kind, c: char) -> Result<(), AllocError>
         ensures joined { OnOk result (joined self.new ≡ joined self.old ++ Letter kind c ∷ []) }
-        ensures places { OnOk result ((ms : List (At Member)) → places_with self.new ms ≡ places_with self.old (record { v = Letter kind c; start = span.now.start; end = span.now.end } ∷ ms)) }
+        ensures spans { OnOk result ((ms : List (At Member))
+            → spans_with self.new ms ≡ spans_with self.old
+            (record { v = Letter kind c; start = span.now.start; end = span.now.end } ∷ ms)) }
         ensures ready { IsReady self.old → OnOk result (IsReady self.new) }
     {
         self.turn(kind)?;
@@ -172,8 +182,10 @@ impl Joining {
         text: &str,
     ) -> Result<(), AllocError>
         requires { is_filled (chars text.now) ≡ true }
-        ensures joined { OnOk result (joined self.new ≡ joined self.old ++ letters kind (chars text.now)) }
-        ensures places { OnOk result ((ms : List (At Member)) → places_with self.new ms ≡ places_with self.old (all_at span.now.start span.now.end (letters kind (chars text.now)) ++ ms)) }
+        ensures joined { OnOk result (joined self.new
+            ≡ joined self.old ++ letters kind (chars text.now)) }
+        ensures spans { OnOk result ((ms : List (At Member)) → spans_with self.new ms ≡ spans_with
+            self.old (all_at span.now.start span.now.end (letters kind (chars text.now)) ++ ms)) }
         ensures ready { IsReady self.old → OnOk result (IsReady self.new) }
     {
         self.turn(kind)?;
@@ -201,7 +213,8 @@ impl Joining {
 
     /// Appends characters of the kind, of which the first is the last of the list.
     pub(crate) fn push_reversed(&mut self, kind: Kind, mut cs: Vec<char>) -> Result<(), AllocError>
-        ensures { OnOk result (joined self.new ≡ joined self.old ++ letters kind (reverse cs.items)) }
+        ensures { OnOk result (joined self.new
+            ≡ joined self.old ++ letters kind (reverse cs.items)) }
     {
         while let Some(c) = cs.pop() {
             self.push(kind, c)?;
@@ -211,8 +224,12 @@ impl Joining {
 
     /// Appends a math piece, which stands at the span.
     pub(crate) fn push_math(&mut self, span: &Span, text: String) -> Result<(), AllocError>
-        ensures styled { OnOk result (joined self.new ≡ joined self.old ++ Math (characters text) ∷ []) }
-        ensures places { OnOk result ((ms : List (At Member)) → places_with self.new ms ≡ places_with self.old (record { v = Math (characters text); start = span.now.start; end = span.now.end } ∷ ms)) }
+        ensures styled { OnOk result (joined self.new
+            ≡ joined self.old ++ Math (characters text) ∷ []) }
+        ensures spans { OnOk result ((ms : List (At Member))
+            → spans_with self.new ms ≡ spans_with self.old
+            (record { v = Math (characters text); start = span.now.start; end = span.now.end }
+            ∷ ms)) }
         ensures ready { IsReady self.old → OnOk result (IsReady self.new) }
     {
         self.close_run()?;
@@ -222,7 +239,7 @@ impl Joining {
     /// The chunks of what was joined.
     pub(crate) fn into_chunks(mut self) -> Result<Chunks, AllocError>
         ensures styled { IfOk result (λ cs. styled cs.items ≡ joined self) }
-        ensures places { IfOk result (λ cs. places cs.items ≡ places_with self []) }
+        ensures spans { IfOk result (λ cs. chunk_spans cs.items ≡ spans_with self []) }
         ensures parted { IsReady self → IfOk result (λ cs. are_parted cs.items ≡ true) }
     {
         self.close_run()?;

@@ -10,11 +10,11 @@ ghost use Rattle.biblatex_tex.specs.declared.error.ContentError.TheVariants.{Mem
 ghost use Rattle.biblatex_content.specs.Ordinary.{kept_in, given, marked_after, given_text, text_in, accented, opened, closed_to, closed_in, dollar, dashes, hyphens_in, sign, command, unit, in_math, step, begun, ended_in, ordinary};
 ghost use Rattle.biblatex_tex.specs.Command.{sign_mark, letter_mark};
 ghost use Rattle.biblatex_tex.specs.Token.{written};
-ghost use Rattle.biblatex_tex.specs.TokenViews.{token};
+ghost use Rattle.biblatex_tex.specs.TokenViews.{token_view};
 ghost use Rattle.biblatex_content.specs.Views.{joined, styled, following};
 ghost use Rattle.biblatex_tex.specs.Results.{refusal_of};
 ghost use Rattle.laws.specs.Results.{Gives, Leaves};
-ghost use Rattle.biblatex_content.specs.OrdinaryViews.{state};
+ghost use Rattle.biblatex_content.specs.OrdinaryViews.{state_view};
 ghost use Rattle.biblatex_tex.specs.Results.{refusal_of};
 
 use crate::chunk::{Chunks, Kind};
@@ -77,7 +77,8 @@ fn push_dashes(text: &mut String, count: usize) -> Result<(), AllocError>
 
 /// Puts a token last as it was written.
 fn push_written(text: &mut String, read: Token<'_>) -> Result<(), AllocError>
-    ensures { OnOk result (characters text.new ≡ characters text.old ++ written (token read.entry)) }
+    ensures { OnOk result (characters text.new
+        ≡ characters text.old ++ written (token_view read.entry)) }
 {
     match read {
         Token::Text(piece) | Token::Hyphens(piece) => push_text(text, piece),
@@ -112,7 +113,7 @@ struct Reading {
 impl Reading {
     /// Before the first token.
     fn new(alloc: Global, contents: Joining) -> Reading
-        ensures { state result ≡ begun (joined contents) }
+        ensures { state_view result ≡ begun (joined contents) }
     {
         Reading {
             alloc,
@@ -137,7 +138,7 @@ impl Reading {
 
     /// Nothing is given: the marks that waited for it go.
     fn give_nothing(&mut self)
-        ensures { state self.new ≡ given [] (state self.old) }
+        ensures { state_view self.new ≡ given [] (state_view self.old) }
     {
         let kept = self.kept();
         self.marks.truncate(kept);
@@ -146,7 +147,8 @@ impl Reading {
 
     /// Appends letters, with the marks that wait on the first, which is the last of the list.
     fn push_letters(&mut self, mut letters: Vec<char>) -> Result<(), AllocError>
-        ensures { OnOk result (state self.new ≡ marked_after (reverse letters.items) (state self.old)) }
+        ensures { OnOk result (state_view self.new
+            ≡ marked_after (reverse letters.items) (state_view self.old)) }
     {
         put_marks(self.alloc, &mut letters, &mut self.marks)?;
         self.contents.push_reversed(self.kind, letters)
@@ -154,7 +156,8 @@ impl Reading {
 
     /// Appends a text, with the marks that wait on its first character.
     fn push_text(&mut self, piece: &str) -> Result<(), AllocError>
-        ensures { OnOk result (state self.new ≡ marked_after (chars piece.now) (state self.old)) }
+        ensures { OnOk result (state_view self.new
+            ≡ marked_after (chars piece.now) (state_view self.old)) }
     {
         if self.marks.is_empty() {
             return self.contents.push_str(self.kind, piece);
@@ -164,7 +167,7 @@ impl Reading {
 
     /// Appends a character, with the marks that wait.
     fn push_character(&mut self, c: char) -> Result<(), AllocError>
-        ensures { OnOk result (state self.new ≡ marked_after (c ∷ []) (state self.old)) }
+        ensures { OnOk result (state_view self.new ≡ marked_after (c ∷ []) (state_view self.old)) }
     {
         if self.marks.is_empty() {
             return self.contents.push(self.kind, c);
@@ -176,7 +179,7 @@ impl Reading {
 
     /// Gives a character.
     fn give_character(&mut self, c: char) -> Result<(), AllocError>
-        ensures { OnOk result (state self.new ≡ given (c ∷ []) (state self.old)) }
+        ensures { OnOk result (state_view self.new ≡ given (c ∷ []) (state_view self.old)) }
     {
         self.push_character(c)?;
         self.mode = Mode::Free;
@@ -185,7 +188,8 @@ impl Reading {
 
     /// Gives a text, or waits on where there is none.
     fn give_text(&mut self, piece: &str) -> Result<(), AllocError>
-        ensures { OnOk result (state self.new ≡ given_text (chars piece.now) (state self.old)) }
+        ensures { OnOk result (state_view self.new
+            ≡ given_text (chars piece.now) (state_view self.old)) }
     {
         if split_first(piece).is_some() {
             self.push_text(piece)?;
@@ -196,7 +200,8 @@ impl Reading {
 
     /// Reads a text of plain characters.
     fn text(&mut self, piece: &str) -> Result<(), AllocError>
-        ensures { OnOk result (state self.new ≡ given_text (text_in self.old.mode (chars piece.now)) (state self.old)) }
+        ensures { OnOk result (state_view self.new
+            ≡ given_text (text_in self.old.mode (chars piece.now)) (state_view self.old)) }
     {
         match self.mode {
             Mode::Argument(_) => self.give_text(split_run(piece, Class::Blank).1),
@@ -206,7 +211,7 @@ impl Reading {
 
     /// Begins to wait for the argument of an accent.
     fn accent(&mut self, mark: char) -> Result<(), ContentError>
-        ensures accented { OnOk result (state self.new ≡ accented mark (state self.old)) }
+        ensures accented { OnOk result (state_view self.new ≡ accented mark (state_view self.old)) }
         ensures memory { IsOkUnless result Memory }
     {
         let kept = self.kept();
@@ -217,7 +222,8 @@ impl Reading {
 
     /// Begins a group.
     fn open(&mut self, is_command: bool) -> Result<(), ContentError>
-        ensures opened { OnOk result (state self.new ≡ opened is_command (state self.old)) }
+        ensures opened { OnOk result (state_view self.new
+            ≡ opened is_command (state_view self.old)) }
         ensures memory { IsOkUnless result Memory }
     {
         self.frames.push(Frame {
@@ -234,7 +240,8 @@ impl Reading {
 
     /// Ends a group, if one is open.
     fn close_group(&mut self) -> Result<(), ContentError>
-        ensures { Leaves refusal_of result (state self.new) (closed_to (state self.old).frames (state self.old)) }
+        ensures { Leaves refusal_of result (state_view self.new)
+            (closed_to (state_view self.old).frames (state_view self.old)) }
     {
         let Some(frame) = self.frames.pop() else {
             return Err(ContentError::MalformedCommand);
@@ -250,7 +257,8 @@ impl Reading {
 
     /// Ends a group, in which no accent may wait for an argument.
     fn close(&mut self) -> Result<(), ContentError>
-        ensures { Leaves refusal_of result (state self.new) (closed_in self.old.mode (state self.old)) }
+        ensures { Leaves refusal_of result (state_view self.new)
+            (closed_in self.old.mode (state_view self.old)) }
     {
         match self.mode {
             Mode::Argument(_) => Err(ContentError::MalformedCommand),
@@ -260,7 +268,7 @@ impl Reading {
 
     /// Begins a math piece, or gives a dollar sign that has no partner.
     fn dollar(&mut self, has_partner: bool) -> Result<(), AllocError>
-        ensures { OnOk result (state self.new ≡ dollar has_partner (state self.old)) }
+        ensures { OnOk result (state_view self.new ≡ dollar has_partner (state_view self.old)) }
     {
         if !has_partner {
             return self.give_character('$');
@@ -272,7 +280,8 @@ impl Reading {
 
     /// Reads a run of hyphens.
     fn hyphens(&mut self, run: &str) -> Result<(), AllocError>
-        ensures { OnOk result (state self.new ≡ given (hyphens_in self.old.mode (length (chars run.now))) (state self.old)) }
+        ensures { OnOk result (state_view self.new
+            ≡ given (hyphens_in self.old.mode (length (chars run.now))) (state_view self.old)) }
     {
         let count = count_of(run);
         match self.mode {
@@ -283,7 +292,7 @@ impl Reading {
 
     /// Gives the dashes of a run of so many hyphens.
     fn dashes(&mut self, count: usize) -> Result<(), AllocError>
-        ensures { OnOk result (state self.new ≡ given (dashes count) (state self.old)) }
+        ensures { OnOk result (state_view self.new ≡ given (dashes count) (state_view self.old)) }
     {
         match count {
             1 => self.give_character('-'),
@@ -298,7 +307,8 @@ impl Reading {
 
     /// Gives a hyphen, and the dashes of the others of a run of so many.
     fn hyphen_argument(&mut self, count: usize) -> Result<(), AllocError>
-        ensures { OnOk result (state self.new ≡ given (45 ∷ dashes (count - 1)) (state self.old)) }
+        ensures { OnOk result (state_view self.new
+            ≡ given (45 ∷ dashes (count - 1)) (state_view self.old)) }
     {
         if count <= 1 {
             return self.give_character('-');
@@ -311,7 +321,8 @@ impl Reading {
 
     /// Gives a text.
     fn give(&mut self, piece: &str) -> Result<(), AllocError>
-        ensures { OnOk result (state self.new ≡ given (chars piece.now) (state self.old)) }
+        ensures { OnOk result (state_view self.new
+            ≡ given (chars piece.now) (state_view self.old)) }
     {
         if split_first(piece).is_none() {
             self.give_nothing();
@@ -322,7 +333,8 @@ impl Reading {
 
     /// Reads a backslash and a sign.
     fn sign(&mut self, c: char) -> Result<(), ContentError>
-        ensures sign { OnOk result (state self.new ≡ sign (sign_mark c) c (state self.old)) }
+        ensures sign { OnOk result (state_view self.new
+            ≡ sign (sign_mark c) c (state_view self.old)) }
         ensures memory { IsOkUnless result Memory }
     {
         if let Some(mark) = sign_mark(c) {
@@ -338,7 +350,8 @@ impl Reading {
     /// Reads a command of letters.
     #[tactic(auto, using(laws::proofs::Text::text_of_chars))]
     fn command(&mut self, name: &str) -> Result<(), ContentError>
-        ensures command { OnOk result (state self.new ≡ command (letter_mark (text (chars name.now))) (text (chars name.now)) (state self.old)) }
+        ensures command { OnOk result (state_view self.new ≡ command
+            (letter_mark (text (chars name.now))) (text (chars name.now)) (state_view self.old)) }
         ensures memory { IsOkUnless result Memory }
     {
         if let Some(mark) = letter_mark(name) {
@@ -353,7 +366,8 @@ impl Reading {
 
     /// Reads a token outside math.
     fn unit(&mut self, read: Token<'_>) -> Result<(), ContentError>
-        ensures { Leaves refusal_of result (state self.new) (unit (token read.entry) (state self.old)) }
+        ensures { Leaves refusal_of result (state_view self.new)
+            (unit (token_view read.entry) (state_view self.old)) }
     {
         match read {
             Token::Text(text) => self.text(text)?,
@@ -370,7 +384,8 @@ impl Reading {
 
     /// Reads a token in a math piece that stands in so many groups.
     fn in_math(&mut self, depth: usize, read: Token<'_>) -> Result<(), ContentError>
-        ensures { Leaves refusal_of result (state self.new) (in_math depth (token read.entry) (state self.old)) }
+        ensures { Leaves refusal_of result (state_view self.new)
+            (in_math depth (token_view read.entry) (state_view self.old)) }
     {
         match read {
             Token::Dollar(_) if self.frames.len() == depth => {
@@ -389,7 +404,8 @@ impl Reading {
     /// Reads a token.
     #[tactic(auto, unfolding(crate::specs::Ordinary::step))]
     fn step(&mut self, read: Token<'_>) -> Result<(), ContentError>
-        ensures { Leaves refusal_of result (state self.new) (step (token read.entry) (state self.old)) }
+        ensures { Leaves refusal_of result (state_view self.new)
+            (step (token_view read.entry) (state_view self.old)) }
     {
         match (self.mode, read) {
             (Mode::InMath(depth), _) => return self.in_math(depth, read),
@@ -402,7 +418,8 @@ impl Reading {
 
     /// What was read, where the piece may end.
     fn end(self) -> Result<Joining, ContentError>
-        ensures { Gives refusal_of joined result (ended_in self.mode (reverse self.frames.items) (joined self.contents)) }
+        ensures { Gives refusal_of joined result
+            (ended_in self.mode (reverse self.frames.items) (joined self.contents)) }
     {
         match self.mode {
             Mode::Free | Mode::Groups(_) if self.frames.is_empty() => Ok(self.contents),
@@ -414,7 +431,8 @@ impl Reading {
 impl Joining {
     /// What was joined so far, with a piece of an ordinary field after it.
     fn push_tokens(self, piece: &str) -> Result<Joining, ContentError>
-        ensures { Gives refusal_of joined result (following (joined self) (ordinary (chars piece.now))) }
+        ensures { Gives refusal_of joined result
+            (following (joined self) (ordinary (chars piece.now))) }
     {
         let alloc = self.allocator();
         let mut tokens = paired_tokens(alloc, piece)?;

@@ -8,7 +8,7 @@ ghost use Rattle.biblatex_content.specs.declared.tidy.Gap.TheVariants.{Nothing};
 ghost use Rattle.biblatex_tex.specs.Character.{is_blank};
 ghost use Rattle.biblatex_content.specs.Styled.{Member, Letter, Math, letters};
 ghost use Rattle.biblatex_content.specs.Parted.{IsReady};
-ghost use Rattle.biblatex_content.specs.Places.{all_at, placed, placed_in, places_of, tidied_at, places_with, owed_at, places_to_come, AreDone};
+ghost use Rattle.biblatex_content.specs.Spans.{all_at, spanned, spanned_in, member_spans, tidied_at, spans_with, owed_at, spans_to_come, AreDone};
 ghost use Rattle.biblatex_content.specs.Tidy.{tidied, is_tidy, is_tidy_text, stays, owed, to_come, EndsTidily};
 ghost use Rattle.biblatex_content.specs.Views.{joined, styled, members};
 ghost use Rattle.laws.specs.Text.{characters, is_filled};
@@ -42,7 +42,8 @@ struct Tidying {
 impl Tidying {
     fn new(alloc: Global) -> Tidying
         ensures to_come { (ms : List Member) → to_come result ms ≡ tidied ms }
-        ensures places { (ms : List (At Member)) → places_to_come result ms ≡ places_of (tidied_at ms) }
+        ensures spans { (ms : List (At Member))
+            → spans_to_come result ms ≡ member_spans (tidied_at ms) }
         ensures ready { IsReady result.contents }
     {
         Tidying {
@@ -54,8 +55,11 @@ impl Tidying {
 
     /// Makes a space of a gap that is one.
     fn close_gap(&mut self) -> Result<(), AllocError>
-        ensures written { OnOk result (joined self.new.contents ≡ joined self.old.contents ++ owed self.old.gap) }
-        ensures places { OnOk result ((ms : List (At Member)) → places_with self.new.contents ms ≡ places_with self.old.contents (owed_at self.old.space.start self.old.space.end self.old.gap ++ ms)) }
+        ensures written { OnOk result (joined self.new.contents
+            ≡ joined self.old.contents ++ owed self.old.gap) }
+        ensures spans { OnOk result ((ms : List (At Member))
+            → spans_with self.new.contents ms ≡ spans_with self.old.contents
+            (owed_at self.old.space.start self.old.space.end self.old.gap ++ ms)) }
         ensures gap { OnOk result (self.new.gap ≡ Nothing) }
         ensures ready { IsReady self.old.contents → OnOk result (IsReady self.new.contents) }
     {
@@ -69,8 +73,10 @@ impl Tidying {
     /// Appends a blank.
     fn push_blank(&mut self, span: &Span, kind: Kind, c: char)
         requires { is_blank c ≡ true }
-        ensures to_come { (ms : List Member) → to_come self.new ms ≡ to_come self.old (Letter kind c ∷ ms) }
-        ensures places { (ms : List (At Member)) → places_to_come self.new ms ≡ places_to_come self.old (record { v = Letter kind c; start = span.now.start; end = span.now.end } ∷ ms) }
+        ensures to_come { (ms : List Member)
+            → to_come self.new ms ≡ to_come self.old (Letter kind c ∷ ms) }
+        ensures spans { (ms : List (At Member)) → spans_to_come self.new ms ≡ spans_to_come self.old
+            (record { v = Letter kind c; start = span.now.start; end = span.now.end } ∷ ms) }
         ensures contents { self.new.contents ≡ self.old.contents }
     {
         match self.gap {
@@ -84,8 +90,11 @@ impl Tidying {
 
     /// Appends a character of the kind.
     fn push(&mut self, span: &Span, kind: Kind, c: char) -> Result<(), AllocError>
-        ensures to_come { OnOk result ((ms : List Member) → to_come self.new ms ≡ to_come self.old (Letter kind c ∷ ms)) }
-        ensures places { OnOk result ((ms : List (At Member)) → places_to_come self.new ms ≡ places_to_come self.old (record { v = Letter kind c; start = span.now.start; end = span.now.end } ∷ ms)) }
+        ensures to_come { OnOk result ((ms : List Member)
+            → to_come self.new ms ≡ to_come self.old (Letter kind c ∷ ms)) }
+        ensures spans { OnOk result ((ms : List (At Member))
+            → spans_to_come self.new ms ≡ spans_to_come self.old
+            (record { v = Letter kind c; start = span.now.start; end = span.now.end } ∷ ms)) }
         ensures ready { IsReady self.old.contents → OnOk result (IsReady self.new.contents) }
     {
         if is_blank(c) {
@@ -99,8 +108,11 @@ impl Tidying {
     /// Appends a text of the kind that tidying leaves as it is.
     fn push_tidy(&mut self, span: &Span, kind: Kind, text: &str) -> Result<(), AllocError>
         requires { is_tidy true (chars text.now) ≡ true }
-        ensures to_come { OnOk result ((ms : List Member) → to_come self.new ms ≡ to_come self.old (letters kind (chars text.now) ++ ms)) }
-        ensures places { OnOk result ((ms : List (At Member)) → places_to_come self.new ms ≡ places_to_come self.old (all_at span.now.start span.now.end (letters kind (chars text.now)) ++ ms)) }
+        ensures to_come { OnOk result ((ms : List Member)
+            → to_come self.new ms ≡ to_come self.old (letters kind (chars text.now) ++ ms)) }
+        ensures spans { OnOk result ((ms : List (At Member))
+            → spans_to_come self.new ms ≡ spans_to_come self.old
+            (all_at span.now.start span.now.end (letters kind (chars text.now)) ++ ms)) }
         ensures ready { IsReady self.old.contents → OnOk result (IsReady self.new.contents) }
     {
         self.close_gap()?;
@@ -110,21 +122,28 @@ impl Tidying {
 
     /// Appends what stands first in a text of the kind, and returns what follows it: all that tidying leaves as it is, or else
     /// a character.
-    fn push_front<'t>(
+    fn push_prefix<'t>(
         &mut self,
         span: &Span,
         kind: Kind,
         text: &'t str,
     ) -> Result<&'t str, AllocError>
-        ensures to_come { IfOk result (λ rest. (ms : List Member) → to_come self.new (letters kind (chars rest.now) ++ ms) ≡ to_come self.old (letters kind (chars text.now) ++ ms)) }
-        ensures places { IfOk result (λ rest. (ms : List (At Member)) → places_to_come self.new (all_at span.now.start span.now.end (letters kind (chars rest.now)) ++ ms) ≡ places_to_come self.old (all_at span.now.start span.now.end (letters kind (chars text.now)) ++ ms)) }
-        ensures ready { IsReady self.old.contents → IfOk result (λ rest. IsReady self.new.contents) }
+        ensures to_come { IfOk result (λ rest. (ms : List Member)
+            → to_come self.new (letters kind (chars rest.now) ++ ms)
+            ≡ to_come self.old (letters kind (chars text.now) ++ ms)) }
+        ensures spans { IfOk result (λ rest. (ms : List (At Member)) → spans_to_come self.new
+            (all_at span.now.start span.now.end (letters kind (chars rest.now)) ++ ms)
+            ≡ spans_to_come self.old
+            (all_at span.now.start span.now.end (letters kind (chars text.now)) ++ ms)) }
+        ensures ready { IsReady self.old.contents
+            → IfOk result (λ rest. IsReady self.new.contents) }
         ensures utf8 { IfOk result (λ rest. IsUtf8 rest.now) }
-        ensures shorter { is_filled (chars text.now) ≡ true → IfOk result (λ rest. length (chars rest.now) < length (chars text.now)) }
+        ensures shorter { is_filled (chars text.now) ≡ true
+            → IfOk result (λ rest. length (chars rest.now) < length (chars text.now)) }
     {
-        let (front, rest) = split_tidy(text);
-        if has_text(front) {
-            self.push_tidy(span, kind, front)?;
+        let (prefix, rest) = split_tidy(text);
+        if has_text(prefix) {
+            self.push_tidy(span, kind, prefix)?;
             return Ok(rest);
         }
         match split_first(text) {
@@ -138,21 +157,28 @@ impl Tidying {
 
     /// Appends a text of the kind.
     fn push_str(&mut self, span: &Span, kind: Kind, text: &str) -> Result<(), AllocError>
-        ensures to_come { OnOk result ((ms : List Member) → to_come self.new ms ≡ to_come self.old (letters kind (chars text.now) ++ ms)) }
-        ensures places { OnOk result ((ms : List (At Member)) → places_to_come self.new ms ≡ places_to_come self.old (all_at span.now.start span.now.end (letters kind (chars text.now)) ++ ms)) }
+        ensures to_come { OnOk result ((ms : List Member)
+            → to_come self.new ms ≡ to_come self.old (letters kind (chars text.now) ++ ms)) }
+        ensures spans { OnOk result ((ms : List (At Member))
+            → spans_to_come self.new ms ≡ spans_to_come self.old
+            (all_at span.now.start span.now.end (letters kind (chars text.now)) ++ ms)) }
         ensures ready { IsReady self.old.contents → OnOk result (IsReady self.new.contents) }
     {
         let mut rest = text;
         while has_text(rest) {
-            rest = self.push_front(span, kind, rest)?;
+            rest = self.push_prefix(span, kind, rest)?;
         }
         Ok(())
     }
 
     /// Appends a math piece.
     fn push_math(&mut self, span: &Span, text: String) -> Result<(), AllocError>
-        ensures to_come { OnOk result ((ms : List Member) → to_come self.new ms ≡ to_come self.old (Math (characters text) ∷ ms)) }
-        ensures places { OnOk result ((ms : List (At Member)) → places_to_come self.new ms ≡ places_to_come self.old (record { v = Math (characters text); start = span.now.start; end = span.now.end } ∷ ms)) }
+        ensures to_come { OnOk result ((ms : List Member)
+            → to_come self.new ms ≡ to_come self.old (Math (characters text) ∷ ms)) }
+        ensures spans { OnOk result ((ms : List (At Member))
+            → spans_to_come self.new ms ≡ spans_to_come self.old
+            (record { v = Math (characters text); start = span.now.start; end = span.now.end }
+            ∷ ms)) }
         ensures ready { IsReady self.old.contents → OnOk result (IsReady self.new.contents) }
     {
         self.close_gap()?;
@@ -161,8 +187,10 @@ impl Tidying {
 
     /// Appends a chunk.
     fn push_chunk(&mut self, chunk: Spanned<Chunk>) -> Result<(), AllocError>
-        ensures to_come { OnOk result ((ms : List Member) → to_come self.new ms ≡ to_come self.old (members chunk.v ++ ms)) }
-        ensures places { OnOk result ((ms : List (At Member)) → places_to_come self.new ms ≡ places_to_come self.old (placed_in chunk ++ ms)) }
+        ensures to_come { OnOk result ((ms : List Member)
+            → to_come self.new ms ≡ to_come self.old (members chunk.v ++ ms)) }
+        ensures spans { OnOk result ((ms : List (At Member))
+            → spans_to_come self.new ms ≡ spans_to_come self.old (spanned_in chunk ++ ms)) }
         ensures ready { IsReady self.old.contents → OnOk result (IsReady self.new.contents) }
     {
         let Spanned { v, span } = chunk;
@@ -177,7 +205,8 @@ impl Tidying {
 /// The chunks, tidied.
 pub(crate) fn tidy(alloc: Global, chunks: Chunks) -> Result<Joining, AllocError>
     ensures joined { IfOk result (λ c. joined c ≡ tidied (styled chunks.items)) }
-    ensures places { IfOk result (λ c. places_with c [] ≡ places_of (tidied_at (placed chunks.items))) }
+    ensures spans { IfOk result (λ c. spans_with c []
+        ≡ member_spans (tidied_at (spanned chunks.items))) }
     ensures ready { IfOk result IsReady }
 {
     let mut tidying = Tidying::new(alloc);
@@ -187,14 +216,14 @@ pub(crate) fn tidy(alloc: Global, chunks: Chunks) -> Result<Joining, AllocError>
     Ok(tidying.contents)
 }
 
-/// Whether tidying leaves the character as it is, after a space, or at the beginning, or not.
+/// Whether tidying leaves the character as it is, after a space, or at the start, or not.
 fn stays(is_after_space: bool, c: char) -> bool
     ensures { result ≡ stays is_after_space c }
 {
     !is_blank(c) || (c == ' ' && !is_after_space)
 }
 
-/// Where the longest front ends that tidying leaves as it is; at the beginning, where there is none.
+/// Where the longest prefix ends that tidying leaves as it is; at the start, where there is none.
 fn tidy_end(text: &str) -> usize
     ensures { EndsTidily text.now result }
 {
@@ -220,11 +249,12 @@ fn tidy_end(text: &str) -> usize
     text.len()
 }
 
-/// The longest front that tidying leaves as it is, and what follows it.
+/// The longest prefix that tidying leaves as it is, and what follows it.
 fn split_tidy(text: &str) -> (&str, &str)
     ensures parts { chars text.now ≡ chars result.0.now ++ chars result.1.now }
     ensures utf8 { IsUtf8 result.1.now }
-    ensures tidy { is_filled (chars result.0.now) ≡ true → is_tidy true (chars result.0.now) ≡ true }
+    ensures tidy { is_filled (chars result.0.now) ≡ true
+        → is_tidy true (chars result.0.now) ≡ true }
 {
     text.split_at(tidy_end(text))
 }

@@ -58,7 +58,8 @@ pub(crate) fn is_literal(piece: &str) -> bool
 impl Joining {
     /// What was joined so far, with a piece of a verbatim field after it.
     fn push_verbatim(mut self, piece: &str) -> Result<Joining, AllocError>
-        ensures { IfOk result (λ c. joined c ≡ joined self ++ letters Verbatim (verbatim_text (chars piece.now))) }
+        ensures { IfOk result (λ c. joined c
+            ≡ joined self ++ letters Verbatim (verbatim_text (chars piece.now))) }
     {
         let mut is_escaped = false;
         for c in piece.chars() {
@@ -72,7 +73,8 @@ impl Joining {
 
     /// Reads a character after a backslash or not, and says whether it is a backslash that the next one decides about.
     fn push_verbatim_character(&mut self, is_escaped: bool, c: char) -> Result<bool, AllocError>
-        ensures pushed { IfOk result (λ is_next. joined self.new ≡ joined self.old ++ letters Verbatim (verbatim_piece is_escaped c)) }
+        ensures pushed { IfOk result (λ is_next. joined self.new
+            ≡ joined self.old ++ letters Verbatim (verbatim_piece is_escaped c)) }
         ensures next { IfOk result (λ is_next. is_next ≡ is_verbatim_escape is_escaped c) }
     {
         if !is_escaped && c == '\\' {
@@ -90,7 +92,8 @@ impl Joining {
 
 /// The chunks of a piece of a verbatim field.
 pub(crate) fn read_verbatim(alloc: Global, piece: &str) -> Result<Chunks, AllocError>
-    ensures { IfOk result (λ cs. styled cs.items ≡ letters Verbatim (verbatim_text (chars piece.now))) }
+    ensures { IfOk result (λ cs. styled cs.items
+        ≡ letters Verbatim (verbatim_text (chars piece.now))) }
 {
     Joining::new(alloc).push_verbatim(piece)?.into_chunks()
 }

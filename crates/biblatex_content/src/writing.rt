@@ -65,7 +65,8 @@ fn close_group(text: &mut String, is_open: bool) -> Result<(), AllocError>
 /// Begins a group whose first character is given: an empty group comes first where else the group would begin with a
 /// backslash.
 fn open_group(text: &mut String, c: char) -> Result<(), AllocError>
-    ensures { OnOk result (characters text.new ≡ characters text.old ++ 123 ∷ guard (written_character c)) }
+    ensures { OnOk result (characters text.new
+        ≡ characters text.old ++ 123 ∷ guard (written_character c)) }
 {
     if is_command(c) {
         return push_text(text, "{{}");
@@ -86,7 +87,8 @@ fn turn(text: &mut String, is_open: bool, kind: Kind, c: char) -> Result<(), All
 
 /// Writes characters of the kind after a text in which a group may be open, and says whether one is open then.
 fn push_run(text: &mut String, is_open: bool, kind: Kind, run: &str) -> Result<bool, AllocError>
-    ensures { IfOk result (λ is_next. (ms : List Member) → written_after text.new is_next ms ≡ written_after text.old is_open (letters kind (chars run.now) ++ ms)) }
+    ensures { IfOk result (λ is_next. (ms : List Member) → written_after text.new is_next ms
+        ≡ written_after text.old is_open (letters kind (chars run.now) ++ ms)) }
 {
     let mut is_open = is_open;
     for c in run.chars() {
@@ -99,7 +101,8 @@ fn push_run(text: &mut String, is_open: bool, kind: Kind, run: &str) -> Result<b
 
 /// Writes a math piece after a text in which a group may be open; then none is open.
 fn push_math(text: &mut String, is_open: bool, math: &str) -> Result<(), AllocError>
-    ensures { OnOk result ((ms : List Member) → written_after text.new false ms ≡ written_after text.old is_open (Math (chars math.now) ∷ ms)) }
+    ensures { OnOk result ((ms : List Member) → written_after text.new false ms
+        ≡ written_after text.old is_open (Math (chars math.now) ∷ ms)) }
 {
     close_group(text, is_open)?;
     push_character(text, '$')?;
@@ -109,7 +112,8 @@ fn push_math(text: &mut String, is_open: bool, math: &str) -> Result<(), AllocEr
 
 /// Writes a chunk after a text in which a group may be open, and says whether one is open then.
 fn push_chunk(text: &mut String, is_open: bool, chunk: &Chunk) -> Result<bool, AllocError>
-    ensures { IfOk result (λ is_next. (ms : List Member) → written_after text.new is_next ms ≡ written_after text.old is_open (members chunk.now ++ ms)) }
+    ensures { IfOk result (λ is_next. (ms : List Member) → written_after text.new is_next ms
+        ≡ written_after text.old is_open (members chunk.now ++ ms)) }
 {
     match chunk {
         Chunk::Normal(normal) => push_run(text, is_open, Kind::Normal, normal.as_str()),
@@ -123,7 +127,8 @@ fn push_chunk(text: &mut String, is_open: bool, chunk: &Chunk) -> Result<bool, A
 
 /// Writes the chunks of an ordinary field after a text.
 fn push_ordinary(text: &mut String, chunks: &[Spanned<Chunk>]) -> Result<(), AllocError>
-    ensures { OnOk result (characters text.new ≡ characters text.old ++ written_ordinary (styled chunks.now)) }
+    ensures { OnOk result (characters text.new
+        ≡ characters text.old ++ written_ordinary (styled chunks.now)) }
 {
     let mut is_open = false;
     for chunk in chunks.iter() {
@@ -134,7 +139,8 @@ fn push_ordinary(text: &mut String, chunks: &[Spanned<Chunk>]) -> Result<(), All
 
 /// Writes the text of a chunk of a verbatim field after a text.
 fn push_as_is(text: &mut String, more: &str) -> Result<(), AllocError>
-    ensures { OnOk result (characters text.new ≡ characters text.old ++ flat_map written_as_is (chars more.now)) }
+    ensures { OnOk result (characters text.new
+        ≡ characters text.old ++ flat_map written_as_is (chars more.now)) }
 {
     for c in more.chars() {
         push_escaped(text, is_escapable(c, true, false), c)?;
@@ -144,7 +150,8 @@ fn push_as_is(text: &mut String, more: &str) -> Result<(), AllocError>
 
 /// Writes the chunks of a verbatim field after a text.
 fn push_verbatim(text: &mut String, chunks: &[Spanned<Chunk>]) -> Result<(), AllocError>
-    ensures { OnOk result (characters text.new ≡ characters text.old ++ written_verbatim (styled chunks.now)) }
+    ensures { OnOk result (characters text.new
+        ≡ characters text.old ++ written_verbatim (styled chunks.now)) }
 {
     for chunk in chunks.iter() {
         push_as_is(text, chunk.v.get())?;
@@ -161,7 +168,8 @@ pub fn push_biblatex(
     chunks: &[Spanned<Chunk>],
     is_verbatim: bool,
 ) -> Result<(), AllocError>
-    ensures { OnOk result (characters text.new ≡ characters text.old ++ written_content is_verbatim (styled chunks.now)) }
+    ensures { OnOk result (characters text.new
+        ≡ characters text.old ++ written_content is_verbatim (styled chunks.now)) }
 {
     if is_verbatim {
         push_verbatim(text, chunks)

@@ -8,7 +8,7 @@ use Rattle.std.proofs.lemmas.Bool.{leb-true, eqb-true, and_parts}
 use Rattle.std.proofs.lemmas.Bool.Decides.{nat_tests}
 use Rattle.jiff.specs.Words.{days_in_month}
 use Rattle.laws.specs.Results.{◌>>=◌}
-use Rattle.laws.specs.Runs.{front_of, after}
+use Rattle.laws.specs.Runs.{prefix_of, after}
 use Rattle.laws.proofs.Results.{bind_if_ok}
 use Rattle.texts.specs.Character.{passes}
 use Rattle.texts.specs.Reading.{digits_at, token_at, end_at, taken}
@@ -43,9 +43,9 @@ four_small ds small = by_test (eqb (length ds) 4) refl
     by_test false e = tt
 
 four_at_small : (cs : List ℕ) → IfOk (four_at cs) (λ p. IfSome p.0 (λ n. n < 10000))
-four_at_small cs = by_test (four_small (front_of (passes Digit) cs) (run_below cs 4)) (eqb (length (front_of (passes Digit) cs)) 0)
+four_at_small cs = by_test (four_small (prefix_of (passes Digit) cs) (run_below cs 4)) (eqb (length (prefix_of (passes Digit) cs)) 0)
   where
-    by_test : IfSome (four (front_of (passes Digit) cs)) (λ n. n < 10000) → (b : Bool) → IfOk {T = Option ℕ × List ℕ} (cond b (Err NotThere) (Ok (four (front_of (passes Digit) cs), after (passes Digit) cs))) (λ p. IfSome p.0 (λ n. n < 10000))
+    by_test : IfSome (four (prefix_of (passes Digit) cs)) (λ n. n < 10000) → (b : Bool) → IfOk {T = Option ℕ × List ℕ} (cond b (Err NotThere) (Ok (four (prefix_of (passes Digit) cs), after (passes Digit) cs))) (λ p. IfSome p.0 (λ n. n < 10000))
     by_test small true = tt
     by_test small false = small
 
@@ -64,11 +64,11 @@ year_small is_negative cs =
 
 -- a number of so many digits
 pub digits_small : (least most : ℕ) (cs : List ℕ) → IfOk (digits_at least most cs) (λ p. p.0 < 10 ^ most)
-digits_small least most cs = by_test (leb least (length (front_of (passes Digit) cs)) && leb (length (front_of (passes Digit) cs)) most) refl
+digits_small least most cs = by_test (leb least (length (prefix_of (passes Digit) cs)) && leb (length (prefix_of (passes Digit) cs)) most) refl
   where
-    by_test : (b : Bool) → leb least (length (front_of (passes Digit) cs)) && leb (length (front_of (passes Digit) cs)) most ≡ b
-        → IfOk {T = ℕ × List ℕ} (cond b (Ok (digits_value 10 (front_of (passes Digit) cs), after (passes Digit) cs)) (Err NotThere)) (λ p. p.0 < 10 ^ most)
-    by_test true e = run_below cs most (leb-true _ _ (and_parts (leb least (length (front_of (passes Digit) cs))) (leb (length (front_of (passes Digit) cs)) most) e).1)
+    by_test : (b : Bool) → leb least (length (prefix_of (passes Digit) cs)) && leb (length (prefix_of (passes Digit) cs)) most ≡ b
+        → IfOk {T = ℕ × List ℕ} (cond b (Ok (digits_value 10 (prefix_of (passes Digit) cs), after (passes Digit) cs)) (Err NotThere)) (λ p. p.0 < 10 ^ most)
+    by_test true e = run_below cs most (leb-true _ _ (and_parts (leb least (length (prefix_of (passes Digit) cs))) (leb (length (prefix_of (passes Digit) cs)) most) e).1)
     by_test false e = tt
 
 abbrev AreTwo : (ℕ × ℕ) × List ℕ → Type 0

@@ -46,7 +46,7 @@ four_again n rest small bars =
     let value : digits_value 10 (padded 4 n) ≡ n = zeros_value (4 - length (decimal n)) (decimal n) ∙ digits_value-decimal own n (omega arith) in
     let is_four : four (padded 4 n) ≡ Some n = rw (many, value) refl in
     let some : eqb (length (padded 4 n)) 0 ≡ false = rw many refl in
-    rw (c.front, c.after, some, is_four) refl
+    rw (c.prefix, c.after, some, is_four) refl
 
 -- a year that was written is read back
 year_again : (y : ℤ) (rest : List ℕ) → unsigned_abs y ≤ 9999 → Bars (passes Digit) rest → year_at (taken 45 (year_text y ++ rest)).0 (taken 45 (year_text y ++ rest)).1 ≡ Ok (Some y, rest)

@@ -14,7 +14,7 @@ use Rattle.biblatex_dates.specs.declared.shape.Shape.TheVariants.{One, Since, Un
 use Rattle.biblatex_dates.specs.declared.side.Mark.{Mark}
 use Rattle.biblatex_dates.specs.declared.side.Side.{Side}
 
--- whether the beginning is open, as a slash after two points or nothing says, and what follows
+-- whether the start is open, as a slash after two points or nothing says, and what follows
 abbrev pub opening_at : List ℕ → Result (Bool × List ℕ) Unreadable
 opening_at [] = Ok (false, [])
 opening_at (c ∷ cs) = if c == 47 then Ok (true, cs) else (if c == 46 then (token_at 46 cs >>= λ points. token_at 47 points >>= λ rest. Ok (true, rest)) else Ok (false, c ∷ cs))
@@ -33,12 +33,12 @@ abbrev pub first_after : Side → Bool × List ℕ → Result Shape Unreadable
 first_after a (false, rest) = end_at rest >>= λ rest. Ok (One a)
 first_after a (true, rest) = slash_after a rest
 
--- after the beginning, which may be open
+-- after the start, which may be open
 abbrev pub opening_after : Bool × List ℕ → Result Shape Unreadable
 opening_after (true, rest) = last_at rest >>= λ b. Ok (Until b)
 opening_after (false, rest) = side_at rest >>= λ a. first_after a.0 (taken 47 a.1)
 
--- one side, two sides with a slash between, or one side with an open end or beginning
+-- one side, two sides with a slash between, or one side with an open end or start
 unfoldable pub shape_of : List ℕ → Result Shape Unreadable
 shape_of cs = opening_at cs >>= opening_after
 

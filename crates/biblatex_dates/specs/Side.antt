@@ -3,7 +3,7 @@ use Rattle.std.specs.Prelude.{ℕ, Bool, true, false, ◌==◌, ◌||◌, List, 
 use Rattle.std.specs.Option.{option_map}
 use Rattle.std.specs.Str.Parse.{digits_value}
 use Rattle.laws.specs.Results.{◌>>=◌}
-use Rattle.laws.specs.Runs.{front_of, after}
+use Rattle.laws.specs.Runs.{prefix_of, after}
 use Rattle.texts.specs.Character.{passes}
 use Rattle.texts.specs.Reading.{digits_at, token_at, taken}
 use Rattle.texts.specs.declared.character.Class.TheVariants.{Digit}
@@ -23,7 +23,7 @@ four digits = if length digits == 4 then Some (digits_value 10 digits) else None
 
 -- one digit or more
 abbrev pub four_at : List ℕ → Result (Option ℕ × List ℕ) Unreadable
-four_at cs = if length (front_of (passes Digit) cs) == 0 then Err NotThere else Ok (four (front_of (passes Digit) cs), after (passes Digit) cs)
+four_at cs = if length (prefix_of (passes Digit) cs) == 0 then Err NotThere else Ok (four (prefix_of (passes Digit) cs), after (passes Digit) cs)
 
 -- the digits of a year
 abbrev pub year_at : Bool → List ℕ → Result (Option ℤ × List ℕ) Unreadable

@@ -51,7 +51,7 @@ month_text (Some m) day time = counted_text m ++ day_text day time
 abbrev pub datetime_text : Datetime → List ℕ
 datetime_text d = year_text d.year ++ month_text d.month d.day d.time
 
--- the sides, with two points and a slash for an open beginning
+-- the sides, with two points and a slash for an open start
 abbrev pub sides_text : DateValue → List ℕ
 sides_text (At d) = datetime_text d
 sides_text (After d) = datetime_text d

@@ -48,7 +48,8 @@ impl Date {
         // The date exists: there are its year, its month, its day and its time.
         ensures exists { IfOk result (λ d. SidesExist d.value) }
         // What was written of a date that exists is read back.
-        ensures back { (d : Date) → SidesExist d.value → chars text.now ≡ date_text d → result ≡ Ok d }
+        ensures back { (d : Date) → SidesExist d.value
+            → chars text.now ≡ date_text d → result ≡ Ok d }
     {
         read_date(text)
     }
@@ -61,7 +62,8 @@ impl Date {
     /// No date where the year cannot be read.
     pub fn from_parts(year: &str, month: Option<&str>, day: Option<&str>) -> Option<Date>
         // The date that the parts spell, as far as they can be read.
-        ensures reading { result ≡ of_parts (chars year.now) (option_map (λ m. chars m.now) month.entry) (option_map (λ d. chars d.now) day.entry) }
+        ensures reading { result ≡ of_parts (chars year.now)
+            (option_map (λ m. chars m.now) month.entry) (option_map (λ d. chars d.now) day.entry) }
         // The date exists.
         ensures exists { IfSome result (λ d. SidesExist d.value) }
     {

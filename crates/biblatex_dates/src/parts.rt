@@ -16,7 +16,8 @@ use texts::{Reader, Unreadable};
 
 /// The date, as far as its parts can be read.
 pub(crate) fn dated_by_parts(year: &str, month: Option<&str>, day: Option<&str>) -> Option<Date>
-    ensures { result ≡ of_parts (chars year.now) (option_map (λ m. chars m.now) month.entry) (option_map (λ d. chars d.now) day.entry) }
+    ensures { result ≡ of_parts (chars year.now) (option_map (λ m. chars m.now) month.entry)
+        (option_map (λ d. chars d.now) day.entry) }
 {
     match read_year(year) {
         Err(_) => None,
@@ -31,7 +32,8 @@ pub(crate) fn dated_by_parts(year: &str, month: Option<&str>, day: Option<&str>)
 /// The year, and the month and the day of it that can be read.
 fn parts_read(year: i32, month: Option<&str>, day: Option<&str>) -> Datetime
     requires years { unsigned_abs year ≤ 9999 }
-    ensures { result ≡ parts_read year (option_map (λ m. chars m.now) month.entry) (option_map (λ d. chars d.now) day.entry) }
+    ensures { result ≡ parts_read year (option_map (λ m. chars m.now) month.entry)
+        (option_map (λ d. chars d.now) day.entry) }
 {
     let Some(month) = month else {
         return year_alone(year);

@@ -18,7 +18,7 @@ pub(crate) enum Shape {
     One(Side),
     /// A side with an open end.
     Since(Side),
-    /// A side with an open beginning.
+    /// A side with an open start.
     Until(Side),
     /// Two sides.
     Range(Side, Side),
@@ -90,7 +90,7 @@ pub(crate) fn read_shape(text: &str) -> Result<Shape, Unreadable>
     Ok(Shape::One(first))
 }
 
-/// Takes an open beginning, and says whether there is one.
+/// Takes an open start, and says whether there is one.
 fn read_opening(reader: &mut Reader) -> Result<bool, Unreadable>
     ensures { Reads (λ b. b) result (left reader.new) (opening_at (left reader.old)) }
 {

@@ -44,7 +44,8 @@ pub(crate) fn read_side(reader: &mut Reader) -> Result<Side, Unreadable>
 
 /// The year that stands here, before or after the year 0, or none where there are not four digits.
 fn read_year(reader: &mut Reader, is_negative: bool) -> Result<Option<i32>, Unreadable>
-    ensures reads { Reads (λ y. y) result (left reader.new) (year_at is_negative (left reader.old)) }
+    ensures reads { Reads (λ y. y) result (left reader.new)
+        (year_at is_negative (left reader.old)) }
     ensures years { IfOk result (λ o. IfSome o (λ y. unsigned_abs y ≤ 9999)) }
 {
     match read_four(reader)? {
@@ -140,7 +141,8 @@ fn read_offset(reader: &mut Reader) -> Result<Option<TimeOffset>, Unreadable>
 
 /// The hours and minutes after a sign.
 fn read_signed_offset(reader: &mut Reader, positive: bool) -> Result<Option<TimeOffset>, Unreadable>
-    ensures { Reads (λ o. o) result (left reader.new) (signed_offset_at positive (left reader.old)) }
+    ensures { Reads (λ o. o) result (left reader.new)
+        (signed_offset_at positive (left reader.old)) }
 {
     let (hours, minutes) = read_minutes(reader)?;
     Ok(Some(TimeOffset::Offset {

@@ -23,7 +23,7 @@ impl Display for Datetime {
     }
 }
 
-/// The sides with a slash between; an open beginning as `../`; the mark `?`, `~` or `%` after the last side; an open end
+/// The sides with a slash between; an open start as `../`; the mark `?`, `~` or `%` after the last side; an open end
 /// as `/..`.
 impl Display for Date {
     ghost output = { λ d. Some (text_of (date_text d)) };
@@ -35,9 +35,10 @@ impl Display for Date {
     }
 }
 
-/// Writes the sides, and an open beginning.
+/// Writes the sides, and an open start.
 fn write_sides<W: fmt::Write>(value: DateValue, f: &mut fmt::Formatter<W>) -> fmt::Result
-    ensures { DisplaysOnOk W.write_str_gives f.old result (Some (text_of (sides_text value))) f.new }
+    ensures { DisplaysOnOk W.write_str_gives f.old result
+        (Some (text_of (sides_text value))) f.new }
 {
     match value {
         DateValue::At(at) => at.fmt(f),
@@ -56,7 +57,8 @@ fn write_range<W: fmt::Write>(
     end: Datetime,
     f: &mut fmt::Formatter<W>,
 ) -> fmt::Result
-    ensures { DisplaysOnOk W.write_str_gives f.old result (Some (text_of (sides_text (Between start end)))) f.new }
+    ensures { DisplaysOnOk W.write_str_gives f.old result
+        (Some (text_of (sides_text (Between start end)))) f.new }
 {
     start.fmt(f)?;
     f.write_str("/")?;
@@ -79,7 +81,8 @@ fn write_mark<W: fmt::Write>(
     is_approximate: bool,
     f: &mut fmt::Formatter<W>,
 ) -> fmt::Result
-    ensures { DisplaysOnOk W.write_str_gives f.old result (Some (text_of (mark_text is_uncertain is_approximate))) f.new }
+    ensures { DisplaysOnOk W.write_str_gives f.old result
+        (Some (text_of (mark_text is_uncertain is_approximate))) f.new }
 {
     match (is_uncertain, is_approximate) {
         (false, false) => Ok(()),
@@ -91,7 +94,8 @@ fn write_mark<W: fmt::Write>(
 
 /// Writes a character, and after it a number in two digits or more.
 fn write_after<W: fmt::Write>(mark: char, number: u8, f: &mut fmt::Formatter<W>) -> fmt::Result
-    ensures { DisplaysOnOk W.write_str_gives f.old result (Some (text_of (following mark number))) f.new }
+    ensures { DisplaysOnOk W.write_str_gives f.old result
+        (Some (text_of (following mark number))) f.new }
 {
     f.write_char(mark)?;
     write_padded(u32::from(number), 2, f)
@@ -104,7 +108,8 @@ fn write_month<W: fmt::Write>(
     time: Option<Time>,
     f: &mut fmt::Formatter<W>,
 ) -> fmt::Result
-    ensures { DisplaysOnOk W.write_str_gives f.old result (Some (text_of (month_text month day time))) f.new }
+    ensures { DisplaysOnOk W.write_str_gives f.old result
+        (Some (text_of (month_text month day time))) f.new }
 {
     let Some(month) = month else {
         return Ok(());
@@ -119,7 +124,8 @@ fn write_day<W: fmt::Write>(
     time: Option<Time>,
     f: &mut fmt::Formatter<W>,
 ) -> fmt::Result
-    ensures { DisplaysOnOk W.write_str_gives f.old result (Some (text_of (day_text day time))) f.new }
+    ensures { DisplaysOnOk W.write_str_gives f.old result
+        (Some (text_of (day_text day time))) f.new }
 {
     let Some(day) = day else {
         return Ok(());
@@ -143,7 +149,8 @@ fn write_clock<W: fmt::Write>(time: Time, f: &mut fmt::Formatter<W>) -> fmt::Res
 
 /// Writes an offset.
 fn write_offset<W: fmt::Write>(offset: Option<TimeOffset>, f: &mut fmt::Formatter<W>) -> fmt::Result
-    ensures { DisplaysOnOk W.write_str_gives f.old result (Some (text_of (offset_text offset))) f.new }
+    ensures { DisplaysOnOk W.write_str_gives f.old result
+        (Some (text_of (offset_text offset))) f.new }
 {
     match offset {
         None => Ok(()),
@@ -165,7 +172,8 @@ fn write_signed_offset<W: fmt::Write>(
     minutes: u8,
     f: &mut fmt::Formatter<W>,
 ) -> fmt::Result
-    ensures { DisplaysOnOk W.write_str_gives f.old result (Some (text_of (signed_offset_text positive hours minutes))) f.new }
+    ensures { DisplaysOnOk W.write_str_gives f.old result
+        (Some (text_of (signed_offset_text positive hours minutes))) f.new }
 {
     write_after(sign(positive), hours, f)?;
     write_after(':', minutes, f)

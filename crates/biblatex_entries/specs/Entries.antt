@@ -15,11 +15,11 @@ pub record Source : Type 0 where
   pub entry_type : TypeName
   pub fields : List Named
 
-abbrev pub source : Entry → Source
-source e = record { key = string_bytes e.key; entry_type = type_name e.entry_type; fields = e.fields }
+abbrev pub source_view : Entry → Source
+source_view e = record { key = string_bytes e.key; entry_type = type_name e.entry_type; fields = e.fields }
 
-abbrev pub sources : List Entry → List Source
-sources es = map source es
+abbrev pub sources_view : List Entry → List Source
+sources_view es = map source_view es
 
 -- the chunks of each field of each entry are joined
 abbrev pub HaveJoinedFields : List Source → Type 0

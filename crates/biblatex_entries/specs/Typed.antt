@@ -13,7 +13,7 @@ use Rattle.biblatex_dates.specs.Parts.{of_parts}
 use Rattle.biblatex_dates.specs.declared.date.Date.{Date}
 use Rattle.biblatex_dates.specs.declared.error.TypeErrorKind.{TypeErrorKind}
 use Rattle.biblatex_people.specs.Reading.{Named as PersonName, people_in}
-use Rattle.biblatex_people.specs.Views.{named}
+use Rattle.biblatex_people.specs.Views.{named_view}
 use Rattle.biblatex_people.specs.declared.person.Person.{Person}
 use Rattle.biblatex_values.specs.Dates.{reads_date}
 use Rattle.biblatex_values.specs.EditorType.{EditorName, known, editor_of, editor_name}
@@ -29,8 +29,8 @@ abbrev pub retrieval_error : FieldTypeError → RetrievalError
 retrieval_error refusals.Memory = errors.Memory
 retrieval_error (refusals.TypeError e) = errors.TypeError e
 
--- What was returned, seen by view, is what the field reads as; Missing says that there is no such field, and a fault is that
--- of its text. Nothing is said where memory ran out.
+-- What was returned, under the view, is what the field reads as; Missing says that there is no such field, and a fault is that
+-- of its text. Nothing is promised where memory ran out.
 abbrev pub Retrieves : {X V : Type 0} → (X → V) → Result X RetrievalError → Option (Result V TypeErrorKind) → Type 0
 Retrieves view (Ok x) read = read ≡ Some (Ok (view x))
 Retrieves view (Err errors.Memory) read = Unit {0}
@@ -72,7 +72,7 @@ field_characters name fs = characters_of (text_named name fs)
 abbrev pub date_of_parts : List Named → Option Date
 date_of_parts fs = of_parts (field_characters (codes "year") fs) (Some (field_characters (codes "month") fs)) (Some (field_characters (codes "day") fs))
 
--- a date, and no text in its place
+-- a date, and no text instead
 abbrev pub sure : Date → Result (Permitted Date) TypeErrorKind
 sure d = Ok (Value d)
 
@@ -99,5 +99,5 @@ abbrev pub editors_in : List Named → List (List PersonName × EditorName)
 editors_in fs = option_to_list (option_map (editors_of (type_or_editor (text_named (codes "editortype") fs))) (text_named (codes "editor") fs))
 
 -- people with what they did, as they stand in memory
-abbrev pub people_and_type : Vec Person Global × EditorType → List PersonName × EditorName
-people_and_type e = (map named e.0.items, editor_name e.1)
+abbrev pub editors_view : Vec Person Global × EditorType → List PersonName × EditorName
+editors_view e = (map named_view e.0.items, editor_name e.1)

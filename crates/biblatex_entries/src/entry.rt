@@ -6,10 +6,10 @@ ghost use Rattle.std.specs.Str.{chars};
 ghost use Rattle.laws.specs.Text.{text as text_of, lowered};
 ghost use Rattle.biblatex_content.specs.Views.{styled};
 ghost use Rattle.biblatex_fields.specs.Fields.{value_named, without_field};
-ghost use Rattle.biblatex_fields.specs.Value.{value_seen};
+ghost use Rattle.biblatex_fields.specs.Value.{field_value_view};
 ghost use Rattle.biblatex_entries.specs.TypeNames.{type_name};
 ghost use Rattle.biblatex_entries.specs.Names.{trimmed, listed};
-ghost use Rattle.biblatex_entries.specs.Entries.{source, with_value, field_text, parents_of, names_of};
+ghost use Rattle.biblatex_entries.specs.Entries.{source_view, with_value, field_text, parents_of, names_of};
 ghost use Rattle.biblatex_content.specs.Styled.{plain};
 
 use crate::entry_type::EntryType;
@@ -29,7 +29,8 @@ pub struct Entry {
 impl Entry {
     /// An entry without fields.
     pub fn new(alloc: Global, key: String, entry_type: EntryType) -> Entry
-        ensures { source result ≡ record { key = string_bytes key; entry_type = type_name entry_type; fields = [] } }
+        ensures { source_view result
+            ≡ record { key = string_bytes key; entry_type = type_name entry_type; fields = [] } }
     {
         Entry {
             key,
@@ -40,15 +41,17 @@ impl Entry {
 
     /// The value of the field of that name in lower case.
     pub fn get(&self, name: &str) -> Option<&Chunks>
-        ensures { option_map (λ v. value_seen v.now.items) result ≡ value_named name.now self.now.fields }
+        ensures { option_map (λ v. field_value_view v.now.items) result
+            ≡ value_named name.now self.now.fields }
     {
         self.fields.get(name)
     }
 
     /// Gives the field of that name, in lower ASCII case, the value.
     pub fn set(&mut self, name: &str, value: Chunks) -> Result<(), AllocError>
-        ensures ok { OnOk result (source self.new ≡ with_value (source self.old) (lowered (chars name.now)) (value_seen value.items)) }
-        ensures err { OnErr result (source self.new ≡ source self.old) }
+        ensures ok { OnOk result (source_view self.new ≡ with_value (source_view self.old)
+            (lowered (chars name.now)) (field_value_view value.items)) }
+        ensures err { OnErr result (source_view self.new ≡ source_view self.old) }
     {
         let name = lower_name(*self.key.allocator(), name)?;
         self.fields.insert(name, value)
@@ -56,8 +59,9 @@ impl Entry {
 
     /// Takes the field of that name in lower case out.
     pub fn remove(&mut self, name: &str) -> Option<Chunks>
-        ensures value { option_map (λ v. value_seen v.items) result ≡ value_named name.now self.old.fields }
-        ensures rest { source self.new ≡ record { key = string_bytes self.old.key; entry_type = type_name self.old.entry_type; fields = without_field name.now self.old.fields } }
+        ensures value { option_map (λ v. field_value_view v.items) result
+            ≡ value_named name.now self.old.fields }
+        ensures rest { source_view self.new ≡ record { key = string_bytes self.old.key; entry_type = type_name self.old.entry_type; fields = without_field name.now self.old.fields } }
     {
         self.fields.remove(name)
     }
@@ -75,7 +79,7 @@ impl Entry {
 
     /// Its names: the key, then those in `ids`, parted by commas; without white space at their ends, and without empty ones.
     pub fn names(&self, alloc: Global) -> Result<Vec<String>, AllocError>
-        ensures { IfOk result (λ v. map string_bytes v.items ≡ names_of (source self.now)) }
+        ensures { IfOk result (λ v. map string_bytes v.items ≡ names_of (source_view self.now)) }
     {
         let mut names = Vec::new(alloc);
         names.push(self.key.clone()?)?;
@@ -111,7 +115,8 @@ pub fn field_text(alloc: Global, fields: &Fields, name: &str) -> Result<String, 
 
 /// Appends the names of a list after those of another.
 fn append(names: &mut Vec<String>, more: Vec<String>) -> Result<(), AllocError>
-    ensures { OnOk result (map string_bytes names.new.items ≡ map string_bytes names.old.items ++ map string_bytes more.items) }
+    ensures { OnOk result (map string_bytes names.new.items
+        ≡ map string_bytes names.old.items ++ map string_bytes more.items) }
 {
     names.reserve_exact(more.len())?;
     for name in more {

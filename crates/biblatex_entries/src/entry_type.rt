@@ -127,7 +127,8 @@ impl EntryType {
 
 /// The type of a known name in lower case.
 fn known(name: &str) -> Option<EntryType>
-    ensures { MatchOption result (type_of name.now ≡ record { name = name.now; is_known = false }) (λ t. type_name t ≡ type_of name.now) }
+    ensures { MatchOption result (type_of name.now ≡ record { name = name.now; is_known = false })
+        (λ t. type_name t ≡ type_of name.now) }
 {
     match name {
         "article" => Some(EntryType::Article),

@@ -31,7 +31,8 @@ pub fn name_alone(alloc: Global, text: &str) -> Result<Vec<String>, AllocError>
 
 /// The text before the first comma, and what follows it.
 fn split_comma(text: &str) -> Option<(&str, &str)>
-    ensures parts { MatchOption result (slice_split (λ b. b == 44) text.now ≡ text.now ∷ []) (λ x. slice_split (λ b. b == 44) text.now ≡ x.0.now ∷ slice_split (λ b. b == 44) x.1.now) }
+    ensures parts { MatchOption result (slice_split (λ b. b == 44) text.now ≡ text.now ∷ []) (λ x.
+        slice_split (λ b. b == 44) text.now ≡ x.0.now ∷ slice_split (λ b. b == 44) x.1.now) }
     ensures shorter { MatchOption result ⊤ (λ x. length x.1.now < length text.now) }
 {
     text.split_once(',')
@@ -43,7 +44,8 @@ pub(crate) fn push_trimmed(
     names: &mut Vec<String>,
     name: &str,
 ) -> Result<(), AllocError>
-    ensures { OnOk result (map string_bytes names.new.items ≡ map string_bytes names.old.items ++ trimmed name.now) }
+    ensures { OnOk result (map string_bytes names.new.items
+        ≡ map string_bytes names.old.items ++ trimmed name.now) }
 {
     let name = name.trim();
     if name.is_empty() {

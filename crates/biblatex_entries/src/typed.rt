@@ -6,14 +6,14 @@ ghost use Rattle.std.specs.Str.{chars};
 ghost use Rattle.laws.specs.Text.{lowered, characters};
 ghost use Rattle.biblatex_content.specs.Views.{styled};
 ghost use Rattle.biblatex_fields.specs.Fields.{text_named};
-ghost use Rattle.biblatex_fields.specs.Value.{value_seen};
-ghost use Rattle.biblatex_people.specs.Views.{named};
+ghost use Rattle.biblatex_fields.specs.Value.{field_value_view};
+ghost use Rattle.biblatex_people.specs.Views.{named_view};
 ghost use Rattle.biblatex_values.specs.Dates.{reads_date};
 ghost use Rattle.biblatex_values.specs.EditorType.{editor_name};
 ghost use Rattle.biblatex_values.specs.Permissive.{reads_permissive};
-ghost use Rattle.biblatex_field_types.specs.Views.{permitted, reads_people};
-ghost use Rattle.biblatex_entries.specs.Entries.{source, HasSet};
-ghost use Rattle.biblatex_entries.specs.Typed.{Retrieves, IsAt, IsLent, read_as, sure, field_characters, date_of_parts, date_in_fields, type_or_editor, editors_in, people_and_type, refusal_of};
+ghost use Rattle.biblatex_field_types.specs.Views.{permitted_view, reads_people};
+ghost use Rattle.biblatex_entries.specs.Entries.{source_view, HasSet};
+ghost use Rattle.biblatex_entries.specs.Typed.{Retrieves, IsAt, IsLent, read_as, sure, field_characters, date_of_parts, date_in_fields, type_or_editor, editors_in, editors_view, refusal_of};
 ghost use Rattle.laws.specs.Results.{GivesBack};
 
 use crate::entry::Entry;
@@ -37,7 +37,9 @@ impl Entry {
         // What the field reads as, or its fault, or that it is missing.
         ensures reading { Retrieves T.view result (read_as T.reads name.now self.now.fields) }
         // Of what is written of a value of the type's class that value comes back.
-        ensures back { (v : T.View) → T.InClass v → text_named name.now self.now.fields ≡ Some (T.writes v) → GivesBack refusal_of T.view result v }
+        ensures back { (v : T.View) → T.InClass v
+            → text_named name.now self.now.fields ≡ Some (T.writes v)
+            → GivesBack refusal_of T.view result v }
     {
         match self.fields.get(name) {
             Some(value) => read_value(alloc, value.as_slice()),
@@ -48,10 +50,12 @@ impl Entry {
     /// Gives the field of that name, in lower ASCII case, what is written of the value.
     #[tactic(auto, using(crate::proofs::TypedStored::has_set))]
     pub fn set_as<T: FieldType>(&mut self, name: &str, value: &T) -> Result<(), AllocError>
-        ensures ok { OnOk result (HasSet (source self.old) (lowered (chars name.now)) (T.writes (T.view value.now)) (source self.new)) }
+        ensures ok { OnOk result (HasSet (source_view self.old) (lowered (chars name.now))
+            (T.writes (T.view value.now)) (source_view self.new)) }
         // The field of that name has what is written of the value.
-        ensures written { OnOk result (text_named (lowered (chars name.now)) self.new.fields ≡ Some (T.writes (T.view value.now))) }
-        ensures err { OnErr result (source self.new ≡ source self.old) }
+        ensures written { OnOk result (text_named (lowered (chars name.now)) self.new.fields
+            ≡ Some (T.writes (T.view value.now))) }
+        ensures err { OnErr result (source_view self.new ≡ source_view self.old) }
     {
         let chunks = value.to_chunks(*self.key.allocator())?;
         self.set(name, chunks)
@@ -75,7 +79,8 @@ impl Entry {
     /// # Errors
     /// `Missing` where there is no such field; `Memory` where a request for memory was refused.
     pub fn author(&self, alloc: Global) -> Result<Vec<Person>, RetrievalError>
-        ensures { Retrieves (λ v. map named v.items) result (read_as reads_people (codes "author") self.now.fields) }
+        ensures { Retrieves (λ v. map named_view v.items) result
+            (read_as reads_people (codes "author") self.now.fields) }
     {
         self.get_as(alloc, "author")
     }
@@ -85,7 +90,8 @@ impl Entry {
     /// # Errors
     /// `Missing` where there is no such field; `Memory` where a request for memory was refused.
     pub fn translator(&self, alloc: Global) -> Result<Vec<Person>, RetrievalError>
-        ensures { Retrieves (λ v. map named v.items) result (read_as reads_people (codes "translator") self.now.fields) }
+        ensures { Retrieves (λ v. map named_view v.items) result
+            (read_as reads_people (codes "translator") self.now.fields) }
     {
         self.get_as(alloc, "translator")
     }
@@ -93,7 +99,7 @@ impl Entry {
     /// The people in `editor` with what they did, as `editortype` says; they are editors where there is none. No list where
     /// there is no `editor`. No text is refused.
     pub fn editors(&self, alloc: Global) -> Result<Vec<(Vec<Person>, EditorType)>, AllocError>
-        ensures { IfOk result (λ v. map people_and_type v.items ≡ editors_in self.now.fields) }
+        ensures { IfOk result (λ v. map editors_view v.items ≡ editors_in self.now.fields) }
     {
         let mut editors = Vec::new(alloc);
         if let Some(value) = self.fields.get("editor") {
@@ -110,7 +116,7 @@ impl Entry {
     /// # Errors
     /// `Missing` where `date` is missing or empty and `year` is no year; `Memory` where a request for memory was refused.
     pub fn date(&self, alloc: Global) -> Result<PermissiveType<Date>, RetrievalError>
-        ensures { Retrieves (permitted (λ d. d)) result (date_in_fields self.now.fields) }
+        ensures { Retrieves (permitted_view (λ d. d)) result (date_in_fields self.now.fields) }
     {
         let date = text_of(alloc, &self.fields, "date")?;
         if split_first(date.as_str()).is_some() {
@@ -124,7 +130,8 @@ impl Entry {
     /// # Errors
     /// `Missing` where there is no such field; `Memory` where a request for memory was refused.
     pub fn event_date(&self, alloc: Global) -> Result<PermissiveType<Date>, RetrievalError>
-        ensures { Retrieves (permitted (λ d. d)) result (read_as (reads_permissive reads_date) (codes "eventdate") self.now.fields) }
+        ensures { Retrieves (permitted_view (λ d. d)) result
+            (read_as (reads_permissive reads_date) (codes "eventdate") self.now.fields) }
     {
         self.get_as(alloc, "eventdate")
     }
@@ -134,7 +141,8 @@ impl Entry {
     /// # Errors
     /// `Missing` where there is no such field; `Memory` where a request for memory was refused.
     pub fn orig_date(&self, alloc: Global) -> Result<PermissiveType<Date>, RetrievalError>
-        ensures { Retrieves (permitted (λ d. d)) result (read_as (reads_permissive reads_date) (codes "origdate") self.now.fields) }
+        ensures { Retrieves (permitted_view (λ d. d)) result
+            (read_as (reads_permissive reads_date) (codes "origdate") self.now.fields) }
     {
         self.get_as(alloc, "origdate")
     }
@@ -144,7 +152,8 @@ impl Entry {
     /// # Errors
     /// `Missing` where there is no such field; `Memory` where a request for memory was refused.
     pub fn url_date(&self, alloc: Global) -> Result<PermissiveType<Date>, RetrievalError>
-        ensures { Retrieves (permitted (λ d. d)) result (read_as (reads_permissive reads_date) (codes "urldate") self.now.fields) }
+        ensures { Retrieves (permitted_view (λ d. d)) result
+            (read_as (reads_permissive reads_date) (codes "urldate") self.now.fields) }
     {
         self.get_as(alloc, "urldate")
     }
@@ -153,7 +162,7 @@ impl Entry {
 /// The value that the chunks of a field are read as.
 fn read_value<T: FieldType>(alloc: Global, value: &[Spanned<Chunk>]) -> Result<T, RetrievalError>
     ensures reading { Retrieves T.view result (Some (T.reads (styled value.now))) }
-    ensures place { IsAt result value.now }
+    ensures index { IsAt result value.now }
 {
     match value.parse(alloc) {
         Ok(read) => Ok(read),
@@ -163,7 +172,8 @@ fn read_value<T: FieldType>(alloc: Global, value: &[Spanned<Chunk>]) -> Result<T
 
 /// What the people in an `editor` field did: what the field names, or editors where there is none.
 fn editor_type(alloc: Global, value: Option<&Chunks>) -> Result<EditorType, AllocError>
-    ensures { IfOk result (λ t. editor_name t ≡ type_or_editor (option_map (λ v. v.text) (option_map (λ v. value_seen v.now.items) value.entry))) }
+    ensures { IfOk result (λ t. editor_name t ≡ type_or_editor
+        (option_map (λ v. v.text) (option_map (λ v. field_value_view v.now.items) value.entry))) }
 {
     match value {
         Some(value) => EditorType::new(alloc, plain_text(alloc, value.as_slice())?.as_str()),
@@ -193,7 +203,7 @@ fn date_of_parts(alloc: Global, fields: &Fields) -> Result<Option<Date>, AllocEr
 
 /// The date, if there is one.
 fn or_missing(date: Option<Date>) -> Result<PermissiveType<Date>, RetrievalError>
-    ensures { Retrieves (permitted (λ d. d)) result (option_map sure date) }
+    ensures { Retrieves (permitted_view (λ d. d)) result (option_map sure date) }
 {
     match date {
         Some(date) => Ok(PermissiveType::Typed(date)),

@@ -48,5 +48,5 @@ marks_exact R i = elim (cases_lt i (length R)) [
 pub flags_there : (ds : List Field) → AreFlags (marks_of (references ds)) ds
 flags_there ds = record {
   long = marks_long (references ds) ∙ length-map ds _;
-  exact = λ place low. marks_exact (references ds) place;
+  exact = λ index low. marks_exact (references ds) index;
 }

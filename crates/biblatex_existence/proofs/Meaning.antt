@@ -78,10 +78,10 @@ acyclic_comes read long none = by (first_or_none (Faulty es R see) (λ n. faulty
     by (inl (n, low, (f, at), before)) =
         unreadable_comes read long f (fault_within es R see n f at) (none, (see, resolved.equation, resolved.only, (n, at, λ k less. no_fault (fault_at es R see k) (before k less))))
     by (inr readable) = (
-      Ok (record { entries = resolved_entries es R; place = read.listed.place }),
+      Ok (record { entries = resolved_entries es R; index = read.listed.index }),
       record {
         heads = resolved.heads;
-        place = refl;
+        index = refl;
         equation = resolved.equation;
         only = resolved.only;
         ordered = resolved.ordered;

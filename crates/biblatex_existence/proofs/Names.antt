@@ -13,7 +13,7 @@ use Rattle.biblatex_entries.specs.Roles.{role_of, is_multi_volume}
 use Rattle.biblatex_entries.specs.Entries.{Source}
 use Rattle.reference_graph.specs.References.{references_of}
 use Rattle.biblatex_inheritance.specs.Table.{inherits, is_xdata, is_periodical, is_part, is_volume, is_part_of_book, is_book, renamed_in_part, renamed, source_name}
-use Rattle.biblatex_inheritance.specs.Resolved.{Table, Offer, first, first_offer, own, undated, dated, date_for, resolved, offers, offer_seen}
+use Rattle.biblatex_inheritance.specs.Resolved.{Table, Offer, first, first_offer, own, undated, dated, date_for, resolved, offers, offer_if}
 use Rattle.biblatex_existence.proofs.Equation.{iterated}
 use Rattle.biblatex_existence.proofs.Solving.{resolved_in, rule, no_fields, solution_of}
 
@@ -93,7 +93,7 @@ none_offered q n to es see (r ∷ rs) h = by (slice_get es r) (none_offered q n 
     one true x y no_x no_y = ap (λ (z : Option Value). first z y) no_x ∙ no_y
     one false x y no_x no_y = no_y
 
-    by : (s : Option Source) → first_offer to (offers es see rs) q ≡ None → first_offer to (offer_seen r s (see r) ++ offers es see rs) q ≡ None
+    by : (s : Option Source) → first_offer to (offers es see rs) q ≡ None → first_offer to (offer_if r s (see r) ++ offers es see rs) q ≡ None
     by None rest = rest
     by (Some e) rest = one (inherits to q) (see r (source_name to (role_of e.entry_type) q)) (first_offer to (offers es see rs) q) (ap (see r) (same_name to (role_of e.entry_type) q n) ∙ h r) rest
 

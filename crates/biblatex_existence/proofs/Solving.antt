@@ -5,7 +5,7 @@ use Rattle.std.proofs.Math.Path.{fun_ext}
 use Rattle.std.proofs.lemmas.Option.{slice_get_within}
 use Rattle.reference_graph.specs.References.{references_of}
 use Rattle.biblatex_entries.specs.Entries.{Source}
-use Rattle.biblatex_inheritance.specs.Resolved.{Table, Offer, resolved, offers, offer_seen}
+use Rattle.biblatex_inheritance.specs.Resolved.{Table, Offer, resolved, offers, offer_if}
 use Rattle.biblatex_inheritance.specs.Solution.{Solves, IsOnly, NoneIsCircular}
 use Rattle.biblatex_existence.proofs.Equation.{IsLocal, solution, solves, agree}
 
@@ -25,9 +25,9 @@ offers_agree es see other [] same = refl
 offers_agree es see other (r ∷ rs) same =
     rw (offers_agree es see other rs (λ x c. same x (suc c.0, omega (arith, c.1), c.2)), here (slice_get es r) (λ e is. same r (0, omega arith, refl) (slice_get_within es r e is))) refl
   where
-    here : (o : Option Source) → ((e : Source) → o ≡ Some e → see r ≡ other r) → offer_seen r o (see r) ≡ offer_seen r o (other r)
+    here : (o : Option Source) → ((e : Source) → o ≡ Some e → see r ≡ other r) → offer_if r o (see r) ≡ offer_if r o (other r)
     here None f = refl
-    here (Some e) f = ap (offer_seen r (Some e)) (f e refl)
+    here (Some e) f = ap (offer_if r (Some e)) (f e refl)
 
 rule_local : (es : List Source) (R : List (List ℕ)) → length R ≡ length es → IsLocal R (rule es R)
 rule_local es R same f g i alike = ap (resolved_in (slice_get es i)) (offers_agree es f g (references_of R i) (λ r has low. alike r has (omega (arith, low, same))))

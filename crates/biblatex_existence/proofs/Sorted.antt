@@ -47,17 +47,17 @@ put None name fs = fs
 put (Some v) name fs = with_field fs name v
 
 -- the values of a table under these names, in their order
-abbrev pub row : List (List ℕ) → Table → List Named
-row [] t = []
-row (n ∷ names) t = put (t n) n (row names t)
+abbrev pub ordered_fields : List (List ℕ) → Table → List Named
+ordered_fields [] t = []
+ordered_fields (n ∷ names) t = put (t n) n (ordered_fields names t)
 
-pub row_sorted : (names : List (List ℕ)) (t : Table) → AreInOrder (row names t)
-row_sorted [] t = nil_sorted
-row_sorted (n ∷ names) t = by (t n) (row_sorted names t)
+pub fields_sorted : (names : List (List ℕ)) (t : Table) → AreInOrder (ordered_fields names t)
+fields_sorted [] t = nil_sorted
+fields_sorted (n ∷ names) t = by (t n) (fields_sorted names t)
   where
-    by : (o : Option Value) → AreInOrder (row names t) → AreInOrder (put o n (row names t))
+    by : (o : Option Value) → AreInOrder (ordered_fields names t) → AreInOrder (put o n (ordered_fields names t))
     by None sorted = sorted
-    by (Some v) sorted = put_sorted (row names t) n v sorted
+    by (Some v) sorted = put_sorted (ordered_fields names t) n v sorted
 
 -- what a look-up finds
 abbrev found : Bool → Option Value → Option Value → Option Value
@@ -75,14 +75,14 @@ chosen true c (Some v) t same = sym (same refl)
 chosen false c None t same = refl
 chosen false c (Some v) t same = refl
 
-row_at : (names : List (List ℕ)) (t : Table) (q : List ℕ) → value_named q (row names t) ≡ cond (list_any (bytes_eq q) names) (t q) None
-row_at [] t q = refl
-row_at (n ∷ names) t q =
-    put_at (t n) n (row names t) q ∙ (ap (found (bytes_eq q n) (t n)) (row_at names t q)
+fields_at : (names : List (List ℕ)) (t : Table) (q : List ℕ) → value_named q (ordered_fields names t) ≡ cond (list_any (bytes_eq q) names) (t q) None
+fields_at [] t q = refl
+fields_at (n ∷ names) t q =
+    put_at (t n) n (ordered_fields names t) q ∙ (ap (found (bytes_eq q n) (t n)) (fields_at names t q)
     ∙ chosen (bytes_eq q n) (list_any (bytes_eq q) names) (t n) (t q) (λ e. ap t ((bytes_eq-Decides q n).0 e)))
 
-pub row_is : (names : List (List ℕ)) (t : Table) (q : List ℕ) → (list_any (bytes_eq q) names ≡ false → t q ≡ None) → value_named q (row names t) ≡ t q
-row_is names t q outside = row_at names t q ∙ by (list_any (bytes_eq q) names) refl
+pub fields_is : (names : List (List ℕ)) (t : Table) (q : List ℕ) → (list_any (bytes_eq q) names ≡ false → t q ≡ None) → value_named q (ordered_fields names t) ≡ t q
+fields_is names t q outside = fields_at names t q ∙ by (list_any (bytes_eq q) names) refl
   where
     by : (b : Bool) → list_any (bytes_eq q) names ≡ b → cond b (t q) None ≡ t q
     by true e = refl

@@ -5,7 +5,7 @@ use Rattle.biblatex_entries.specs.Entries.{Source}
 use Rattle.biblatex_inheritance.specs.Solution.{Solves, IsOnly, NoneIsCircular}
 use Rattle.biblatex_bibliography.specs.Resolved.{head, tables}
 
--- Entries that resolve others: each has its place, its key and its type; the fields are the one solution of the equation of
+-- Entries that resolve others: each has its index, its key and its type; the fields are the one solution of the equation of
 -- inheritance, each entry's in the order of their names.
 pub record AreResolved (read : List Source) (references : List (List ℕ)) (resolved : List Source) : Type 0 where
   pub heads : map head resolved ≡ map head read

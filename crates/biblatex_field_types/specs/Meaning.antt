@@ -16,21 +16,21 @@ refusal_of errors.Memory = None
 refusal_of (errors.TypeError e) = Some e.kind
 
 -- A fault stands from where the first chunk begins to where the last one ends.
-abbrev pub IsPlaced : {X : Type 0} → Result X FieldTypeError → List (Spanned Chunk) → Type 0
-IsPlaced (Ok x) cs = Unit {0}
-IsPlaced (Err errors.Memory) cs = Unit {0}
-IsPlaced (Err (errors.TypeError e)) cs = (e.span.start ≡ span_start cs) × (e.span.end ≡ span_end cs)
+abbrev pub IsSpanned : {X : Type 0} → Result X FieldTypeError → List (Spanned Chunk) → Type 0
+IsSpanned (Ok x) cs = Unit {0}
+IsSpanned (Err errors.Memory) cs = Unit {0}
+IsSpanned (Err (errors.TypeError e)) cs = (e.span.start ≡ span_start cs) × (e.span.end ≡ span_end cs)
 
--- a fault of chunks, at their place
+-- a fault of chunks, with their span
 abbrev pub fault_at : List (Spanned Chunk) → TypeErrorKind → FieldTypeError
 fault_at cs kind = errors.TypeError (record { span = record { start = span_start cs; end = span_end cs }; kind = kind })
 
--- what was read of chunks, or its fault at their place
-abbrev pub with_place : {X : Type 0} → List (Spanned Chunk) → Result X TypeErrorKind → Result X FieldTypeError
-with_place cs (Ok x) = Ok x
-with_place cs (Err kind) = Err (fault_at cs kind)
+-- what was read of chunks, or its fault with their span
+abbrev pub with_span : {X : Type 0} → List (Spanned Chunk) → Result X TypeErrorKind → Result X FieldTypeError
+with_span cs (Ok x) = Ok x
+with_span cs (Err kind) = Err (fault_at cs kind)
 
--- a list that was read of chunks, or its fault at their place
+-- a list that was read of chunks, or its fault with their span
 abbrev pub listed : {X : Type 0} → List (Spanned Chunk) → Result X ListError → Result X FieldTypeError
 listed cs (Ok x) = Ok x
 listed cs (Err list_errors.Memory) = Err errors.Memory

@@ -9,10 +9,10 @@ use Rattle.biblatex_values.specs.Permissive.{Permitted, Value, Text}
 use Rattle.biblatex_field_types.specs.declared.permissive.PermissiveType.{PermissiveType}
 use Rattle.biblatex_field_types.specs.declared.permissive.PermissiveType.TheVariants as permissive
 
--- the value seen by view, or the styled text of the chunks
-abbrev pub permitted : {X V : Type 0} → (X → V) → PermissiveType X → Permitted V
-permitted view (permissive.Typed x) = Value (view x)
-permitted view (permissive.Chunks cs) = Text (styled cs.items)
+-- the value under the view, or the styled text of the chunks
+abbrev pub permitted_view : {X V : Type 0} → (X → V) → PermissiveType X → Permitted V
+permitted_view view (permissive.Typed x) = Value (view x)
+permitted_view view (permissive.Chunks cs) = Text (styled cs.items)
 
 -- each styled text is read, as the texts between the words `and` that are not empty
 abbrev pub reads_texts : List Member → Result (List (List ℕ)) TypeErrorKind

@@ -46,7 +46,8 @@ pub fn ranges_are_read_back()
 
 /// Every list of one range or more, of pages up to 2147483647, is read back.
 pub fn lists_of_ranges_are_read_back()
-    ensures { (r : Pages ℕ) (rs : List (Pages ℕ)) → AreShort (r ∷ rs) → ⟦<Vec<Range<u32>> as FieldType>⟧.InClass (r ∷ rs) }
+    ensures { (r : Pages ℕ) (rs : List (Pages ℕ)) → AreShort (r ∷ rs)
+        → ⟦<Vec<Range<u32>> as FieldType>⟧.InClass (r ∷ rs) }
 {}
 
 /// Every list of texts that are not empty is read back.
@@ -73,5 +74,6 @@ pub fn typed_values_are_read_back<T: FieldType>()
 
 /// Chunks that are no value of the type are read back.
 pub fn refused_chunks_are_read_back<T: FieldType>()
-    ensures { (ms : List Member) (kind : TypeErrorKind) → T.reads ms ≡ Err kind → ⟦<PermissiveType<T> as FieldType>⟧.InClass (Text ms) }
+    ensures { (ms : List Member) (kind : TypeErrorKind) → T.reads ms ≡ Err kind
+        → ⟦<PermissiveType<T> as FieldType>⟧.InClass (Text ms) }
 {}

@@ -5,7 +5,7 @@ ghost use Rattle.biblatex_values.specs.Dates.{reads_date, writes_date, IsDate};
 ghost use Rattle.biblatex_values.proofs.DatesBack.{date_back};
 
 use crate::error::FieldTypeError;
-use crate::field_type::{FieldType, placed};
+use crate::field_type::{FieldType, at_span};
 use biblatex_content::{Chunk, Chunks, Spanned};
 use biblatex_dates::Date;
 use biblatex_values::{date_text, normal_chunks, plain_text};
@@ -27,7 +27,7 @@ impl FieldType for Date {
 
     fn from_chunks(alloc: Global, chunks: &[Spanned<Chunk>]) -> Result<Date, FieldTypeError> {
         let text = plain_text(alloc, chunks)?;
-        placed(chunks, Date::read(text.as_str()))
+        at_span(chunks, Date::read(text.as_str()))
     }
 
     fn to_chunks(&self, alloc: Global) -> Result<Chunks, AllocError> {

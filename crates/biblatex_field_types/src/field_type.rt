@@ -3,7 +3,7 @@
 ghost use Rattle.std.specs.Prelude.{◌≡◌, IfOk, List, Result, Ok};
 ghost use Rattle.biblatex_content.specs.Styled.{Member};
 ghost use Rattle.biblatex_content.specs.Views.{styled};
-ghost use Rattle.biblatex_field_types.specs.Meaning.{IsPlaced, with_place, refusal_of};
+ghost use Rattle.biblatex_field_types.specs.Meaning.{IsSpanned, with_span, refusal_of};
 ghost use Rattle.laws.specs.Results.{GivesBack, Gives};
 
 use crate::error::{FieldTypeError, TypeError};
@@ -40,10 +40,10 @@ pub trait FieldType: Drop {
         Self: Sized,
         // What the chunks read as, or their fault.
         ensures reading { Gives refusal_of view result (reads (styled chunks.now)) }
-        // A fault's place is that of the chunks.
-        ensures place { IsPlaced result chunks.now };
+        // A fault's span is that of the chunks.
+        ensures span { IsSpanned result chunks.now };
 
-    /// Writes the value. What is made anew is of no source; chunks that the value holds keep their places.
+    /// Writes the value. What is made anew is of no source; chunks that the value holds keep their spans.
     fn to_chunks(&self, alloc: Global) -> Result<Chunks, AllocError>
         ensures { IfOk result (λ cs. styled cs.items ≡ writes (view self.now)) };
 
@@ -57,7 +57,8 @@ pub trait FieldType: Drop {
 /// `Memory` where a request for memory was refused; `TypeError` for values outside the type's class alone.
 pub fn reread<T: FieldType>(alloc: Global, value: &T) -> Result<T, FieldTypeError>
     // A value of the class comes back.
-    ensures back { T.InClass (T.view value.now) → GivesBack refusal_of T.view result (T.view value.now) }
+    ensures back { T.InClass (T.view value.now)
+        → GivesBack refusal_of T.view result (T.view value.now) }
     // Of any other value comes what its text reads as.
     ensures reading { Gives refusal_of T.view result (T.reads (T.writes (T.view value.now))) }
 {
@@ -65,12 +66,12 @@ pub fn reread<T: FieldType>(alloc: Global, value: &T) -> Result<T, FieldTypeErro
     T::from_chunks(alloc, chunks.as_slice())
 }
 
-/// What was read of chunks, or its fault at their place.
-pub(crate) fn placed<T>(
+/// What was read of chunks, or its fault with their span.
+pub(crate) fn at_span<T>(
     chunks: &[Spanned<Chunk>],
     read: Result<T, TypeErrorKind>,
 ) -> Result<T, FieldTypeError>
-    ensures { result ≡ with_place chunks.now read }
+    ensures { result ≡ with_span chunks.now read }
 {
     match read {
         Ok(value) => Ok(value),

@@ -13,7 +13,7 @@ ghost use Rattle.biblatex_field_types.specs.Meaning.{listed};
 ghost use Rattle.biblatex_field_types.specs.Views.{reads_texts};
 
 use crate::error::FieldTypeError;
-use crate::field_type::{FieldType, placed};
+use crate::field_type::{FieldType, at_span};
 use biblatex_content::{Chunk, Chunks, Spanned};
 use biblatex_dates::TypeErrorKind;
 use biblatex_lists::{read_texts, write_texts};
@@ -39,7 +39,7 @@ impl FieldType for Range<u32> {
 
     fn from_chunks(alloc: Global, chunks: &[Spanned<Chunk>]) -> Result<Range<u32>, FieldTypeError> {
         let text = plain_text(alloc, chunks)?;
-        placed(chunks, read_range(text.as_str()))
+        at_span(chunks, read_range(text.as_str()))
     }
 
     fn to_chunks(&self, alloc: Global) -> Result<Chunks, AllocError> {
@@ -66,7 +66,7 @@ impl FieldType for Vec<Range<u32>> {
         chunks: &[Spanned<Chunk>],
     ) -> Result<Vec<Range<u32>>, FieldTypeError> {
         let text = plain_text(alloc, chunks)?;
-        placed_list(chunks, read_ranges(alloc, text.as_str()))
+        list_at_span(chunks, read_ranges(alloc, text.as_str()))
     }
 
     fn to_chunks(&self, alloc: Global) -> Result<Chunks, AllocError> {
@@ -100,8 +100,8 @@ impl FieldType for Vec<String> {
     }
 }
 
-/// The list that was read of chunks, or its fault at their place.
-fn placed_list<T>(
+/// The list that was read of chunks, or its fault with their span.
+fn list_at_span<T>(
     chunks: &[Spanned<Chunk>],
     read: Result<T, ListError>,
 ) -> Result<T, FieldTypeError>
@@ -110,6 +110,6 @@ fn placed_list<T>(
     match read {
         Ok(list) => Ok(list),
         Err(ListError::Memory) => Err(FieldTypeError::Memory),
-        Err(ListError::Unreadable) => placed(chunks, Err(TypeErrorKind::Unreadable)),
+        Err(ListError::Unreadable) => at_span(chunks, Err(TypeErrorKind::Unreadable)),
     }
 }

@@ -4,7 +4,7 @@ ghost use Rattle.std.specs.Prelude.{List};
 ghost use Rattle.biblatex_text.specs.declared.spanned.Spanned.{Spanned};
 ghost use Rattle.biblatex_content.specs.declared.chunk.Chunk.{Chunk};
 ghost use Rattle.biblatex_content.specs.Views.{styled};
-ghost use Rattle.biblatex_field_types.specs.Meaning.{IsPlaced, refusal_of};
+ghost use Rattle.biblatex_field_types.specs.Meaning.{IsSpanned, refusal_of};
 ghost use Rattle.laws.specs.Results.{Gives};
 
 use crate::error::FieldTypeError;
@@ -24,8 +24,8 @@ pub trait ChunksParse {
     fn parse<T: FieldType>(&self, alloc: Global) -> Result<T, FieldTypeError>
         // What the chunks read as, or their fault.
         ensures reading { Gives refusal_of T.view result (T.reads (styled (chunks self.now))) }
-        // A fault's place is that of the chunks.
-        ensures place { IsPlaced result (chunks self.now) };
+        // A fault's span is that of the chunks.
+        ensures span { IsSpanned result (chunks self.now) };
 }
 
 impl ChunksParse for &[Spanned<Chunk>] {

@@ -3,7 +3,7 @@
 ghost use Rattle.std.specs.Prelude.{List, Ok, map};
 ghost use Rattle.std.proofs.Common.{ap};
 ghost use Rattle.biblatex_people.specs.Reading.{Named};
-ghost use Rattle.biblatex_people.specs.Views.{named};
+ghost use Rattle.biblatex_people.specs.Views.{named_view};
 ghost use Rattle.biblatex_people.specs.Writing.{written_people};
 ghost use Rattle.biblatex_people.specs.Laws.{AreReadBack};
 ghost use Rattle.biblatex_people.proofs.ReadBack.{people_are_back};
@@ -19,7 +19,7 @@ use std::alloc::{AllocError, Global};
 impl FieldType for Vec<Person> {
     ghost View = { List Named };
 
-    ghost view = { λ v. map named v.items };
+    ghost view = { λ v. map named_view v.items };
 
     ghost reads = { reads_people };
 

@@ -2,7 +2,7 @@
 
 ghost use Rattle.biblatex_values.specs.Permissive.{Permitted, reads_permissive, writes_permissive, IsPermitted};
 ghost use Rattle.biblatex_values.proofs.PermissiveBack.{permissive_back};
-ghost use Rattle.biblatex_field_types.specs.Views.{permitted};
+ghost use Rattle.biblatex_field_types.specs.Views.{permitted_view};
 
 use crate::error::FieldTypeError;
 use crate::field_type::FieldType;
@@ -20,7 +20,7 @@ pub enum PermissiveType<T> {
 impl<T: FieldType> FieldType for PermissiveType<T> {
     ghost View = { Permitted T.View };
 
-    ghost view = { permitted T.view };
+    ghost view = { permitted_view T.view };
 
     ghost reads = { reads_permissive T.reads };
 

@@ -14,7 +14,7 @@ ghost use Rattle.biblatex_values.proofs.GenderBack.{gender_again};
 ghost use Rattle.biblatex_values.proofs.EditorTypeBack.{editor_again};
 
 use crate::error::FieldTypeError;
-use crate::field_type::{FieldType, placed};
+use crate::field_type::{FieldType, at_span};
 use biblatex_content::{Chunk, Chunks, Spanned};
 use biblatex_dates::TypeErrorKind;
 use biblatex_values::{
@@ -38,7 +38,7 @@ impl FieldType for i64 {
 
     fn from_chunks(alloc: Global, chunks: &[Spanned<Chunk>]) -> Result<i64, FieldTypeError> {
         let text = plain_text(alloc, chunks)?;
-        placed(chunks, read_integer(text.as_str()))
+        at_span(chunks, read_integer(text.as_str()))
     }
 
     fn to_chunks(&self, alloc: Global) -> Result<Chunks, AllocError> {
@@ -86,7 +86,7 @@ impl FieldType for Gender {
     fn from_chunks(alloc: Global, chunks: &[Spanned<Chunk>]) -> Result<Gender, FieldTypeError> {
         let text = plain_text(alloc, chunks)?;
         let gender = Gender::read(alloc, text.as_str())?;
-        placed(chunks, gender.ok_or(TypeErrorKind::Unreadable))
+        at_span(chunks, gender.ok_or(TypeErrorKind::Unreadable))
     }
 
     fn to_chunks(&self, alloc: Global) -> Result<Chunks, AllocError> {

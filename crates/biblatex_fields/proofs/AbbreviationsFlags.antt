@@ -22,17 +22,17 @@ newest (x ∷ flags) b = newest flags b
 pub copied_more : (flags marks : List Bool) (count : ℕ) (b : Bool) → Copied flags marks count → b ≡ is_marked marks count → Copied (flags ++ b ∷ []) marks (count + 1)
 copied_more flags marks count b c e = record {
   long = let l = one_longer flags b in let h = c.long in omega (arith, l, h);
-  same = λ i within. by_place i (last_or_before i within);
+  same = λ i within. by_index i (last_or_before i within);
 }
   where
     last_or_before : (i : ℕ) → i < count + 1 → (i ≡ count) ⊎ (i < count)
     last_or_before i within = eq-or-lt_of_le (omega (arith, within))
 
-    by_place : (i : ℕ) → (i ≡ count) ⊎ (i < count) → get_or (flags ++ b ∷ []) i false ≡ is_marked marks i
-    by_place i (inl at) =
-        let place : i ≡ length flags = at ∙ sym c.long in
-        ap (λ (k : ℕ). get_or (flags ++ b ∷ []) k false) place ∙ (newest flags b ∙ (e ∙ ap (is_marked marks) (sym at)))
-    by_place i (inr before) =
+    by_index : (i : ℕ) → (i ≡ count) ⊎ (i < count) → get_or (flags ++ b ∷ []) i false ≡ is_marked marks i
+    by_index i (inl at) =
+        let index : i ≡ length flags = at ∙ sym c.long in
+        ap (λ (k : ℕ). get_or (flags ++ b ∷ []) k false) index ∙ (newest flags b ∙ (e ∙ ap (is_marked marks) (sym at)))
+    by_index i (inr before) =
         let h = c.long in
         earlier flags b i (omega (arith, before, h)) ∙ c.same i before
 
@@ -40,13 +40,13 @@ copied_more flags marks count b c e = record {
 pub copied_all : (flags marks : List Bool) (ds : List Field) → MarksCircular (references ds) marks → Copied flags marks (length ds) → AreFlags flags ds
 copied_all flags marks ds marked c = record {
   long = c.long;
-  exact = λ place within. subst (λ (b : Bool). IsTrue b ↔ IsCircular (references ds) place) (sym (c.same place within)) (marked place);
+  exact = λ index within. subst (λ (b : Bool). IsTrue b ↔ IsCircular (references ds) index) (sym (c.same index within)) (marked index);
 }
 
 -- what the search answers, of the definitions
 pub arranged : {E : Type 0} (r : Result Arranged E) (rs : List (List ℕ)) (ds : List Field) → rs ≡ references ds → IfOk r (λ o. MarksCircular rs o.circular) → IfOk r (λ o. IsOrder rs o.order) → IfOk r (IsArranged ds)
 arranged (Ok o) rs ds e marks order = record {
   marks = subst (λ (x : List (List ℕ)). MarksCircular x o.circular) e marks;
-  within = subst (λ (n : ℕ). All (λ place. place < n) o.order) (ap length e ∙ length-map ds (λ (d : Field). references_of ds d.value.v)) order.below;
+  within = subst (λ (n : ℕ). All (λ index. index < n) o.order) (ap length e ∙ length-map ds (λ (d : Field). references_of ds d.value.v)) order.below;
 }
 arranged (Err f) rs ds e marks order = tt

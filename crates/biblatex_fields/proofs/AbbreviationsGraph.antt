@@ -5,9 +5,9 @@ use Rattle.laws.specs.Text.{lowered}
 use Rattle.std.proofs.lemmas.List.Elements.{All-contains, All-nil, All-cons, All-weaker, Contains-append_left, Contains-append_right}
 use Rattle.biblatex_text.specs.Raw.{At, Piece, Field}
 use Rattle.reference_graph.specs.References.{Walk}
-use Rattle.biblatex_fields.specs.Abbreviations.{place_of, later, pieces_at, named, references_of, references}
+use Rattle.biblatex_fields.specs.Abbreviations.{index_of, later, pieces_at, named, references_of, references}
 
--- from one place to another by one reference or more
+-- from one index to another by one reference or more
 abbrev pub Reaches : List (List ℕ) → ℕ → ℕ → Type 0
 Reaches rs a b = (n : ℕ) × Walk rs a b (suc n)
 
@@ -36,22 +36,22 @@ contains_each {X} {Y} f (x ∷ xs) =
 pub contains_flat_map : {X Y : Type 0} (f : X → List Y) (xs : List X) (x : X) (y : Y) → Contains xs x → Contains (f x) y → Contains (flat_map f xs) y
 contains_flat_map f xs x y k h = All-contains (Given f xs) xs x (contains_each f xs) k y h
 
--- a name's place is a definition's
-pub place_within : (name : List ℕ) (ds : List Field) (place : ℕ) → place_of name ds ≡ Some place → place < length ds
-place_within name [] place e = absurd cc
-place_within name (d ∷ ds) place e = by_place (place_of name ds) (λ i h. place_within name ds i h) (bytes_eq name (lowered d.name.v)) e
+-- a name's index is a definition's
+pub index_within : (name : List ℕ) (ds : List Field) (index : ℕ) → index_of name ds ≡ Some index → index < length ds
+index_within name [] index e = absurd cc
+index_within name (d ∷ ds) index e = by_index (index_of name ds) (λ i h. index_within name ds i h) (bytes_eq name (lowered d.name.v)) e
   where
-    by_place : (o : Option ℕ) → ((i : ℕ) → o ≡ Some i → i < length ds) → (b : Bool) → later o b ≡ Some place → place < length (d ∷ ds)
-    by_place (Some i) h b e = let within = h i refl in let same : suc i ≡ place = cc in omega (arith, within, same)
-    by_place None h true e = let same : 0 ≡ place = cc in omega (arith, same)
-    by_place None h false e = absurd cc
+    by_index : (o : Option ℕ) → ((i : ℕ) → o ≡ Some i → i < length ds) → (b : Bool) → later o b ≡ Some index → index < length (d ∷ ds)
+    by_index (Some i) h b e = let within = h i refl in let same : suc i ≡ index = cc in omega (arith, within, same)
+    by_index None h true e = let same : 0 ≡ index = cc in omega (arith, same)
+    by_index None h false e = absurd cc
 
--- the references of the definition at a place
-pub references_at : (all ds : List Field) (place : ℕ) → get_or (map (λ (d : Field). references_of all d.value.v) ds) place [] ≡ references_of all (pieces_at ds place)
-references_at all [] place = refl
+-- the references of the definition at an index
+pub references_at : (all ds : List Field) (index : ℕ) → get_or (map (λ (d : Field). references_of all d.value.v) ds) index [] ≡ references_of all (pieces_at ds index)
+references_at all [] index = refl
 references_at all (d ∷ ds) zero = refl
-references_at all (d ∷ ds) (suc place) = references_at all ds place
+references_at all (d ∷ ds) (suc index) = references_at all ds index
 
 -- what a piece of a definition names, the definition refers to
-pub refers : (ds : List Field) (place : ℕ) (q : At Piece) (i : ℕ) → Contains (pieces_at ds place) q → Contains (named ds q.v) i → Contains (get_or (references ds) place []) i
-refers ds place q i k h = subst (λ (rs : List ℕ). Contains rs i) (sym (references_at ds ds place)) (contains_flat_map (λ (p : At Piece). named ds p.v) (pieces_at ds place) q i k h)
+pub refers : (ds : List Field) (index : ℕ) (q : At Piece) (i : ℕ) → Contains (pieces_at ds index) q → Contains (named ds q.v) i → Contains (get_or (references ds) index []) i
+refers ds index q i k h = subst (λ (rs : List ℕ). Contains rs i) (sym (references_at ds ds index)) (contains_flat_map (λ (p : At Piece). named ds p.v) (pieces_at ds index) q i k h)

@@ -4,7 +4,7 @@ pub mod AbbreviationsIndexes
 pub mod ValueStack
 pub mod OpeningsEffort
 pub mod AbbreviationsTaken
-pub mod OpeningsStandIns
+pub mod OpeningsReplacements
 pub mod ViewsFrames
 pub mod ValueRefused
 pub mod FieldsEntries

@@ -11,11 +11,11 @@ use Rattle.biblatex_text.proofs.Names.{HasName, IsNamed, HasNames}
 use Rattle.biblatex_content.specs.Styled.{Member}
 use Rattle.biblatex_content.specs.Verbatim.{is_verbatim_name}
 use Rattle.biblatex_content.specs.Ordinary.{ordinary}
-use Rattle.biblatex_content.specs.Places.{after_at}
+use Rattle.biblatex_content.specs.Spans.{after_at}
 use Rattle.biblatex_fields.specs.Month.{month}
-use Rattle.biblatex_fields.specs.Abbreviations.{Refusal, unknown, circular, malformed, Glossary, place_of, pieces_at, Sense, spelled, defined, month_or_unknown, sense_of, sense_in, sense}
+use Rattle.biblatex_fields.specs.Abbreviations.{Refusal, unknown, circular, malformed, Glossary, index_of, pieces_at, Sense, spelled, defined, month_or_unknown, sense_of, sense_in, sense}
 use Rattle.biblatex_fields.specs.Fields.{Named, with_field, fields_after, fields_of}
-use Rattle.biblatex_fields.specs.Value.{Reading, placed, text_read, in_order, by_sense, reading, deep, read, members_of, value_in, value_of}
+use Rattle.biblatex_fields.specs.Value.{Reading, spanned, text_read, in_order, by_sense, reading, deep, read, members_of, value_in, value_of}
 
 -- a name for which a field is refused has characters of identifiers
 abbrev pub RefusesName : Refusal → Type 0
@@ -35,10 +35,10 @@ SenseNamed (defined ps) = All IsNamed ps
 abbrev Whatever : {A : Type 0} → A → Type 0
 Whatever x = Unit {0}
 
-pieces_at-named : (ds : List Field) (place : ℕ) → All HasNames ds → All IsNamed (pieces_at ds place)
-pieces_at-named [] place all = All-nil IsNamed
+pieces_at-named : (ds : List Field) (index : ℕ) → All HasNames ds → All IsNamed (pieces_at ds index)
+pieces_at-named [] index all = All-nil IsNamed
 pieces_at-named (d ∷ ds) zero all = All-head HasNames d ds all
-pieces_at-named (d ∷ ds) (suc place) all = pieces_at-named ds place (All-tail HasNames d ds all)
+pieces_at-named (d ∷ ds) (suc index) all = pieces_at-named ds index (All-tail HasNames d ds all)
 
 month-named : (name : At (List ℕ)) (o : Option (List ℕ)) → AllPassTest is_id_continue name.v → MatchResult (month_or_unknown name o) SenseNamed RefusesName
 month-named name None is = is
@@ -46,23 +46,23 @@ month-named name (Some text) is = tt
 
 sense_of-named : (g : Glossary) (name : At (List ℕ)) (o : Option ℕ) → All HasNames g.definitions → AllPassTest is_id_continue name.v → MatchResult (sense_of g name o) SenseNamed RefusesName
 sense_of-named g name None all is = month-named name (month (lowered name.v)) is
-sense_of-named g name (Some place) all is = by_flag (get_or g.flags place false)
+sense_of-named g name (Some index) all is = by_flag (get_or g.flags index false)
   where
-    by_flag : (b : Bool) → MatchResult (cond b (Err (circular name)) (Ok (defined (pieces_at g.definitions place)))) SenseNamed RefusesName
+    by_flag : (b : Bool) → MatchResult (cond b (Err (circular name)) (Ok (defined (pieces_at g.definitions index)))) SenseNamed RefusesName
     by_flag true = is
-    by_flag false = pieces_at-named g.definitions place all
+    by_flag false = pieces_at-named g.definitions index all
 
 sense_in-named : (g : Glossary) (start end : ℕ) (p : Piece) → All HasNames g.definitions → HasName p → MatchResult (sense_in g start end p) SenseNamed RefusesName
 sense_in-named g start end (normal cs) all is = tt
-sense_in-named g start end (abbreviation name) all is = sense_of-named g (record { v = name; start = start; end = end }) (place_of (lowered name) g.definitions) all is
+sense_in-named g start end (abbreviation name) all is = sense_of-named g (record { v = name; start = start; end = end }) (index_of (lowered name) g.definitions) all is
 
-placed-named : {F : Type 0} (start end : ℕ) (r : Result (List (At Member)) F) → RefusesNames (placed start end r)
-placed-named start end (Ok ms) = tt
-placed-named start end (Err f) = tt
+spanned-named : {F : Type 0} (start end : ℕ) (r : Result (List (At Member)) F) → RefusesNames (spanned start end r)
+spanned-named start end (Ok ms) = tt
+spanned-named start end (Err f) = tt
 
 text_read-named : (is_verbatim : Bool) (start end : ℕ) (cs : List ℕ) (done : List (At Member)) → RefusesNames (text_read is_verbatim start end cs done)
 text_read-named true start end cs done = tt
-text_read-named false start end cs done = placed-named start end (after_at start end done (ordinary cs))
+text_read-named false start end cs done = spanned-named start end (after_at start end done (ordinary cs))
 
 abbrev ReadsNamed : (At Piece → Reading) → Type 0
 ReadsNamed inner = (p : At Piece) (done : List (At Member)) → IsNamed p → RefusesNames (inner p done)

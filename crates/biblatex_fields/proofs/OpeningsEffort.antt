@@ -3,7 +3,7 @@ use Rattle.std.proofs.Common.{◌≡◌, ℕ, ◌<◌, ◌+◌, Bool, List, [], 
 use Rattle.std.proofs.lemmas.List.Elements.{All-head, All-tail}
 use Rattle.biblatex_text.specs.Raw.{At, Piece}
 use Rattle.biblatex_fields.specs.Abbreviations.{Glossary, AreFlags, defined, pieces_at}
-use Rattle.biblatex_fields.specs.Openings.{Resolved, StandIn, parts, parts_in, resolved_sense, resolved_steps, steps, steps_of, total, unresolved, unresolved_at}
+use Rattle.biblatex_fields.specs.Openings.{Resolved, Replacement, parts, parts_in, resolved_sense, resolved_steps, steps, steps_of, total, unresolved, unresolved_at}
 use Rattle.biblatex_fields.proofs.ValueDepth.{IsLocal, deep_enough}
 
 same_total : (f h : At Piece → ℕ) (ps : List (At Piece)) → All (λ q. f q ≡ h q) ps → total f ps ≡ total h ps
@@ -47,15 +47,15 @@ less_frames g fs = let e = left_last g fs [] in omega (arith, e)
 pub less_pieces : (g : Glossary) (fs : List (List Resolved)) (p : Resolved) (ps : List Resolved) → left g (fs ++ ps ∷ []) < left g (fs ++ (p ∷ ps) ∷ [])
 less_pieces g fs p ps = let e = left_last g fs (p ∷ ps) in let h = left_last g fs ps in omega (arith, e, h)
 
--- a piece goes, and what is read in place of the pieces that it stands for comes
-pub opened_pieces : (g : Glossary) (is_verbatim : Bool) → AreFlags g.flags g.definitions → (fs : List (List Resolved)) (p : Resolved) (ps qs : List Resolved) (place : ℕ)
-    → resolved_sense g p ≡ Ok (defined (pieces_at g.definitions place)) → StandIn g is_verbatim qs (unresolved_at g.definitions place)
+-- a piece goes, and what is read instead of the pieces that it stands for comes
+pub opened_pieces : (g : Glossary) (is_verbatim : Bool) → AreFlags g.flags g.definitions → (fs : List (List Resolved)) (p : Resolved) (ps qs : List Resolved) (index : ℕ)
+    → resolved_sense g p ≡ Ok (defined (pieces_at g.definitions index)) → Replacement g is_verbatim qs (unresolved_at g.definitions index)
     → left g ((fs ++ ps ∷ []) ++ qs ∷ []) < left g (fs ++ (p ∷ ps) ∷ [])
-opened_pieces g is_verbatim flags fs p ps qs place is stands =
+opened_pieces g is_verbatim flags fs p ps qs index is stands =
     let e = left_last g fs (p ∷ ps) in
     let h = left_last g fs ps in
     let k = left_last g (fs ++ ps ∷ []) qs in
-    let t : total (λ q. steps g q) (parts_in (resolved_sense g p)) ≡ total (λ q. steps g q) (pieces_at g.definitions place) = ap (λ r. total (λ q. steps g q) (parts_in r)) is in
-    let s = steps_unresolved g flags (pieces_at g.definitions place) in
+    let t : total (λ q. steps g q) (parts_in (resolved_sense g p)) ≡ total (λ q. steps g q) (pieces_at g.definitions index) = ap (λ r. total (λ q. steps g q) (parts_in r)) is in
+    let s = steps_unresolved g flags (pieces_at g.definitions index) in
     let u = stands.fewer in
     omega (arith, e, h, k, s, t, u)

@@ -9,10 +9,10 @@ use Rattle.std.proofs.lemmas.Map.Steps.{length-le_from_distinct_below}
 use Rattle.laws.specs.Text.{lowered}
 use Rattle.biblatex_text.specs.Raw.{At, Piece, normal, abbreviation}
 use Rattle.biblatex_fields.specs.Month.{month}
-use Rattle.biblatex_fields.specs.Abbreviations.{Glossary, month_or_unknown, places, place_of, pieces_at, named, references, AreFlags}
+use Rattle.biblatex_fields.specs.Abbreviations.{Glossary, month_or_unknown, indices, index_of, pieces_at, named, references, AreFlags}
 use Rattle.biblatex_fields.specs.Openings.{parts_in, parts}
 use Rattle.biblatex_fields.specs.Value.{deep}
-use Rattle.biblatex_fields.proofs.AbbreviationsGraph.{Reaches, one_step, step_on, place_within, refers}
+use Rattle.biblatex_fields.proofs.AbbreviationsGraph.{Reaches, one_step, step_on, index_within, refers}
 
 -- a rule asks about the pieces alone that a piece stands for
 abbrev pub IsLocal : {A : Type 0} → Glossary → ((At Piece → A) → At Piece → A) → Type 0
@@ -20,56 +20,56 @@ IsLocal {A} g rule = (f h : At Piece → A) (p : At Piece) → All (λ q. f q �
 
 -- what a piece opens, if it opens anything
 abbrev Opens : Glossary → At Piece → Type 0
-Opens g p = (place : ℕ) × (place < length g.definitions) × Contains (named g.definitions p.v) place × (get_or g.flags place false ≡ false) × (parts g p ≡ pieces_at g.definitions place)
+Opens g p = (index : ℕ) × (index < length g.definitions) × Contains (named g.definitions p.v) index × (get_or g.flags index false ≡ false) × (parts g p ≡ pieces_at g.definitions index)
 
-first_of : (place : ℕ) → Contains (place ∷ []) place
-first_of place = (zero, omega arith, refl)
+first_of : (index : ℕ) → Contains (index ∷ []) index
+first_of index = (zero, omega arith, refl)
 
 unnamed : (start end : ℕ) (name : List ℕ) (o : Option (List ℕ)) → parts_in (month_or_unknown (record { v = name; start = start; end = end }) o) ≡ []
 unnamed start end name None = refl
 unnamed start end name (Some text) = refl
 
-by_flag : (g : Glossary) (start end : ℕ) (name : List ℕ) (place : ℕ) → place_of (lowered name) g.definitions ≡ Some place → (b : Bool) → get_or g.flags place false ≡ b
+by_flag : (g : Glossary) (start end : ℕ) (name : List ℕ) (index : ℕ) → index_of (lowered name) g.definitions ≡ Some index → (b : Bool) → get_or g.flags index false ≡ b
     → (parts g (record { v = abbreviation name; start = start; end = end }) ≡ []) ⊎ Opens g (record { v = abbreviation name; start = start; end = end })
-by_flag g start end name place e true h = inl (rw (e, h) refl)
-by_flag g start end name place e false h = inr (place, place_within (lowered name) g.definitions place e, subst (λ (o : Option ℕ). Contains (places o) place) (sym e) (first_of place), h, rw (e, h) refl)
+by_flag g start end name index e true h = inl (rw (e, h) refl)
+by_flag g start end name index e false h = inr (index, index_within (lowered name) g.definitions index e, subst (λ (o : Option ℕ). Contains (indices o) index) (sym e) (first_of index), h, rw (e, h) refl)
 
-by_place : (g : Glossary) (start end : ℕ) (name : List ℕ) (o : Option ℕ) → place_of (lowered name) g.definitions ≡ o
+by_index : (g : Glossary) (start end : ℕ) (name : List ℕ) (o : Option ℕ) → index_of (lowered name) g.definitions ≡ o
     → (parts g (record { v = abbreviation name; start = start; end = end }) ≡ []) ⊎ Opens g (record { v = abbreviation name; start = start; end = end })
-by_place g start end name None e = inl (rw e (unnamed start end name (month (lowered name))))
-by_place g start end name (Some place) e = by_flag g start end name place e (get_or g.flags place false) refl
+by_index g start end name None e = inl (rw e (unnamed start end name (month (lowered name))))
+by_index g start end name (Some index) e = by_flag g start end name index e (get_or g.flags index false) refl
 
 by_piece : (g : Glossary) (start end : ℕ) (v : Piece) → (parts g (record { v = v; start = start; end = end }) ≡ []) ⊎ Opens g (record { v = v; start = start; end = end })
 by_piece g start end (normal cs) = inl refl
-by_piece g start end (abbreviation name) = by_place g start end name (place_of (lowered name) g.definitions) refl
+by_piece g start end (abbreviation name) = by_index g start end name (index_of (lowered name) g.definitions) refl
 
 -- a piece opens nothing, or a definition that is not circular
 opened : (g : Glossary) (p : At Piece) → (parts g p ≡ []) ⊎ Opens g p
 opened g p = by_piece g p.start p.end p.v
 
--- whether a place is on a way
+-- whether an index is on a way
 abbrev is_on : ℕ → List ℕ → Bool
-is_on place way = list_any (eqb place) way
+is_on index way = list_any (eqb index) way
 
 -- The way inwards to a piece: the definitions that are open, each of which reaches what the piece names.
 record Way (g : Glossary) (way : List ℕ) (p : At Piece) : Type 0 where
   pub distinct : IsDistinct eqb way
-  pub within : (place : ℕ) → is_on place way ≡ true → place < length g.definitions
-  pub leads : (place : ℕ) → is_on place way ≡ true → (next : ℕ) → Contains (named g.definitions p.v) next → Reaches (references g.definitions) place next
+  pub within : (index : ℕ) → is_on index way ≡ true → index < length g.definitions
+  pub leads : (index : ℕ) → is_on index way ≡ true → (next : ℕ) → Contains (named g.definitions p.v) next → Reaches (references g.definitions) index next
 
-apart : (place : ℕ) (way : List ℕ) → is_on place way ≡ false → AllByRecursion (λ y. eqb place y ≡ false) way
-apart place [] e = tt
-apart place (y ∷ way) e = by_test (eqb place y) refl (λ h. apart place way h) e
+apart : (index : ℕ) (way : List ℕ) → is_on index way ≡ false → AllByRecursion (λ y. eqb index y ≡ false) way
+apart index [] e = tt
+apart index (y ∷ way) e = by_test (eqb index y) refl (λ h. apart index way h) e
   where
-    by_test : (b : Bool) → eqb place y ≡ b → (is_on place way ≡ false → AllByRecursion (λ z. eqb place z ≡ false) way) → b || is_on place way ≡ false → AllByRecursion (λ z. eqb place z ≡ false) (y ∷ way)
+    by_test : (b : Bool) → eqb index y ≡ b → (is_on index way ≡ false → AllByRecursion (λ z. eqb index z ≡ false) way) → b || is_on index way ≡ false → AllByRecursion (λ z. eqb index z ≡ false) (y ∷ way)
     by_test true h more e = absurd cc
     by_test false h more e = (h, more e)
 
-on_longer : (place first : ℕ) (way : List ℕ) → is_on place (first ∷ way) ≡ true → (place ≡ first) ⊎ (is_on place way ≡ true)
-on_longer place first way e = by_test (eqb place first) refl e
+on_longer : (index first : ℕ) (way : List ℕ) → is_on index (first ∷ way) ≡ true → (index ≡ first) ⊎ (is_on index way ≡ true)
+on_longer index first way e = by_test (eqb index first) refl e
   where
-    by_test : (b : Bool) → eqb place first ≡ b → b || is_on place way ≡ true → (place ≡ first) ⊎ (is_on place way ≡ true)
-    by_test true h e = inl (eqb-true place first h)
+    by_test : (b : Bool) → eqb index first ≡ b → b || is_on index way ≡ true → (index ≡ first) ⊎ (is_on index way ≡ true)
+    by_test true h e = inl (eqb-true index first h)
     by_test false h e = inr e
 
 -- a definition that a piece opens is not on the way to it, else it would be circular
@@ -87,17 +87,17 @@ fresh g way p flags w o = by_test (is_on o.0 way) refl
 inwards : (g : Glossary) (way : List ℕ) (p : At Piece) → AreFlags g.flags g.definitions → Way g way p → (o : Opens g p) → (q : At Piece) → Contains (pieces_at g.definitions o.0) q → Way g (o.0 ∷ way) q
 inwards g way p flags w o q k = record {
   distinct = IsDistinct-cons eqb o.0 way (apart o.0 way (fresh g way p flags w o)) w.distinct;
-  within = λ place e. inside place (on_longer place o.0 way e);
-  leads = λ place e next h. goes place next h (on_longer place o.0 way e);
+  within = λ index e. inside index (on_longer index o.0 way e);
+  leads = λ index e next h. goes index next h (on_longer index o.0 way e);
 }
   where
-    inside : (place : ℕ) → (place ≡ o.0) ⊎ (is_on place way ≡ true) → place < length g.definitions
-    inside place (inl e) = subst (λ (x : ℕ). x < length g.definitions) (sym e) o.1
-    inside place (inr e) = w.within place e
+    inside : (index : ℕ) → (index ≡ o.0) ⊎ (is_on index way ≡ true) → index < length g.definitions
+    inside index (inl e) = subst (λ (x : ℕ). x < length g.definitions) (sym e) o.1
+    inside index (inr e) = w.within index e
 
-    goes : (place next : ℕ) → Contains (named g.definitions q.v) next → (place ≡ o.0) ⊎ (is_on place way ≡ true) → Reaches (references g.definitions) place next
-    goes place next h (inl e) = subst (λ (x : ℕ). Reaches (references g.definitions) x next) (sym e) (one_step _ o.0 next (refers g.definitions o.0 q next k h))
-    goes place next h (inr e) = step_on _ place o.0 next (w.leads place e o.0 o.2) (refers g.definitions o.0 q next k h)
+    goes : (index next : ℕ) → Contains (named g.definitions q.v) next → (index ≡ o.0) ⊎ (is_on index way ≡ true) → Reaches (references g.definitions) index next
+    goes index next h (inl e) = subst (λ (x : ℕ). Reaches (references g.definitions) x next) (sym e) (one_step _ o.0 next (refers g.definitions o.0 q next k h))
+    goes index next h (inr e) = step_on _ index o.0 next (w.leads index e o.0 o.2) (refers g.definitions o.0 q next k h)
 
 -- no way is longer than there are definitions
 short : (g : Glossary) (way : List ℕ) (p : At Piece) → Way g way p → length way ≤ length g.definitions
@@ -126,4 +126,4 @@ distinct-nil = tt
 pub deep_enough : {A : Type 0} (g : Glossary) (rule : (At Piece → A) → At Piece → A) (bottom : A) → IsLocal g rule → AreFlags g.flags g.definitions
     → (p : At Piece) → deep rule bottom (suc (length g.definitions)) p ≡ rule (λ q. deep rule bottom (suc (length g.definitions)) q) p
 deep_enough g rule bottom local flags p = enough g rule bottom local flags (suc (length g.definitions)) (suc (suc (length g.definitions))) [] p
-    (record { distinct = distinct-nil; within = λ place e. absurd cc; leads = λ place e next h. absurd cc }) (omega arith) (omega arith)
+    (record { distinct = distinct-nil; within = λ index e. absurd cc; leads = λ index e next h. absurd cc }) (omega arith) (omega arith)

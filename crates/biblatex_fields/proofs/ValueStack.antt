@@ -7,7 +7,7 @@ use Rattle.biblatex_text.specs.Raw.{At, Piece}
 use Rattle.biblatex_content.specs.Styled.{Member}
 use Rattle.biblatex_fields.specs.Abbreviations.{Refusal, Glossary, Sense, spelled, defined, sense, pieces_at, AreFlags}
 use Rattle.biblatex_fields.specs.Value.{Reading, in_order, by_sense, reading, read, text_read, ReadsByTheRule}
-use Rattle.biblatex_fields.specs.Openings.{Resolved, StandIn, parts_in, resolved_read, resolved_sense, unresolved, unresolved_at}
+use Rattle.biblatex_fields.specs.Openings.{Resolved, Replacement, parts_in, resolved_read, resolved_sense, unresolved, unresolved_at}
 use Rattle.biblatex_fields.proofs.ValueDepth.{IsLocal, deep_enough}
 
 -- Reading.
@@ -100,19 +100,19 @@ next_spelled g is_verbatim fs p ps done cs r is given = first_piece (resolved_re
     ∙ (ap (λ (x : Result Sense Refusal). after_frame g is_verbatim fs ps (by_its_sense g is_verbatim p done x)) is
     ∙ ap (after_frame g is_verbatim fs ps) given)
 
--- the pieces of a definition, of which others are read in their place
-pub next_opened : (g : Glossary) (is_verbatim : Bool) → AreFlags g.flags g.definitions → (fs : List (List Resolved)) (p : Resolved) (ps qs : List Resolved) (place : ℕ) (done : List (At Member))
-    → resolved_sense g p ≡ Ok (defined (pieces_at g.definitions place)) → StandIn g is_verbatim qs (unresolved_at g.definitions place)
+-- the pieces of a definition, of which others are read instead of them
+pub next_opened : (g : Glossary) (is_verbatim : Bool) → AreFlags g.flags g.definitions → (fs : List (List Resolved)) (p : Resolved) (ps qs : List Resolved) (index : ℕ) (done : List (At Member))
+    → resolved_sense g p ≡ Ok (defined (pieces_at g.definitions index)) → Replacement g is_verbatim qs (unresolved_at g.definitions index)
     → stack_read (resolved_read g is_verbatim) (fs ++ (p ∷ ps) ∷ []) done ≡ stack_read (resolved_read g is_verbatim) ((fs ++ ps ∷ []) ++ qs ∷ []) done
-next_opened g is_verbatim flags fs p ps qs place done is s = first_piece (resolved_read g is_verbatim) fs p ps done
+next_opened g is_verbatim flags fs p ps qs index done is s = first_piece (resolved_read g is_verbatim) fs p ps done
     ∙ (ap (λ (x : Result Sense Refusal). after_frame g is_verbatim fs ps (by_its_sense g is_verbatim p done x)) is
-    ∙ (ap (after_frame g is_verbatim fs ps) (sym (s.same done ∙ in_order_unresolved g is_verbatim flags (pieces_at g.definitions place) done))
+    ∙ (ap (after_frame g is_verbatim fs ps) (sym (s.same done ∙ in_order_unresolved g is_verbatim flags (pieces_at g.definitions index) done))
     ∙ sym (pushed (resolved_read g is_verbatim) (fs ++ ps ∷ []) qs done)))
 
 -- one frame
-pub one_frame : (g : Glossary) (is_verbatim : Bool) → AreFlags g.flags g.definitions → (qs : List Resolved) (place : ℕ) (done : List (At Member)) → StandIn g is_verbatim qs (unresolved_at g.definitions place)
-    → stack_read (resolved_read g is_verbatim) (qs ∷ []) done ≡ in_order (read g is_verbatim) (pieces_at g.definitions place) done
-one_frame g is_verbatim flags qs place done s = s.same done ∙ in_order_unresolved g is_verbatim flags (pieces_at g.definitions place) done
+pub one_frame : (g : Glossary) (is_verbatim : Bool) → AreFlags g.flags g.definitions → (qs : List Resolved) (index : ℕ) (done : List (At Member)) → Replacement g is_verbatim qs (unresolved_at g.definitions index)
+    → stack_read (resolved_read g is_verbatim) (qs ∷ []) done ≡ in_order (read g is_verbatim) (pieces_at g.definitions index) done
+one_frame g is_verbatim flags qs index done s = s.same done ∙ in_order_unresolved g is_verbatim flags (pieces_at g.definitions index) done
 
 -- One piece as it is written, by what it stands for.
 

@@ -16,32 +16,32 @@ pub data Refusal : Type 0 where
   circular : At (List ℕ) → Refusal
   malformed : ℕ → ℕ → Refusal
 
--- a place after another, or the first one
+-- an index after another, or the first one
 abbrev pub later : Option ℕ → Bool → Option ℕ
-later (Some place) is_first = Some (suc place)
+later (Some index) is_first = Some (suc index)
 later None is_first = if is_first then Some 0 else None
 
--- the place of the last definition of a name in lower case, if it has one
-abbrev pub place_of : List ℕ → List Field → Option ℕ
-place_of name [] = None
-place_of name (d ∷ ds) = later (place_of name ds) (bytes_eq name (lowered d.name.v))
+-- the index of the last definition of a name in lower case, if it has one
+abbrev pub index_of : List ℕ → List Field → Option ℕ
+index_of name [] = None
+index_of name (d ∷ ds) = later (index_of name ds) (bytes_eq name (lowered d.name.v))
 
--- the pieces of the definition at a place
+-- the pieces of the definition at an index
 abbrev pub pieces_in : Option Field → List (At Piece)
 pieces_in None = []
 pieces_in (Some d) = d.value.v
 
 abbrev pub pieces_at : List Field → ℕ → List (At Piece)
-pieces_at ds place = pieces_in (slice_get ds place)
+pieces_at ds index = pieces_in (slice_get ds index)
 
 -- the definition that a piece names, if there is one
-abbrev pub places : Option ℕ → List ℕ
-places None = []
-places (Some place) = place ∷ []
+abbrev pub indices : Option ℕ → List ℕ
+indices None = []
+indices (Some index) = index ∷ []
 
 abbrev pub named : List Field → Piece → List ℕ
 named ds (normal cs) = []
-named ds (abbreviation name) = places (place_of (lowered name) ds)
+named ds (abbreviation name) = indices (index_of (lowered name) ds)
 
 -- of each definition, the definitions that its pieces name
 abbrev pub references_of : List Field → List (At Piece) → List ℕ
@@ -53,12 +53,12 @@ references ds = map (λ d. references_of ds d.value.v) ds
 -- flags that say of each definition whether it reaches itself through the names in its pieces
 pub record AreFlags (flags : List Bool) (ds : List Field) : Type 0 where
   pub long : length flags ≡ length ds
-  pub exact : (place : ℕ) → place < length ds → IsTrue (get_or flags place false) ↔ IsCircular (references ds) place
+  pub exact : (index : ℕ) → index < length ds → IsTrue (get_or flags index false) ↔ IsCircular (references ds) index
 
 -- definitions in an order, and marks that say which of all reach themselves
 pub record IsArranged (ds : List Field) (o : Arranged) : Type 0 where
   pub marks : MarksCircular (references ds) o.circular
-  pub within : All (λ place. place < length ds) o.order
+  pub within : All (λ index. index < length ds) o.order
 
 -- so many flags, which are the first of the marks
 pub record Copied (flags marks : List Bool) (count : ℕ) : Type 0 where
@@ -80,14 +80,14 @@ abbrev pub month_or_unknown : At (List ℕ) → Option (List ℕ) → Result Sen
 month_or_unknown name None = Err (unknown name)
 month_or_unknown name (Some text) = Ok (spelled (chars text))
 
--- a name by the place of its last definition
+-- a name by the index of its last definition
 abbrev pub sense_of : Glossary → At (List ℕ) → Option ℕ → Result Sense Refusal
 sense_of g name None = month_or_unknown name (month (lowered name.v))
-sense_of g name (Some place) = if get_or g.flags place false then Err (circular name) else Ok (defined (pieces_at g.definitions place))
+sense_of g name (Some index) = if get_or g.flags index false then Err (circular name) else Ok (defined (pieces_at g.definitions index))
 
 abbrev pub sense_in : Glossary → ℕ → ℕ → Piece → Result Sense Refusal
 sense_in g start end (normal cs) = Ok (spelled cs)
-sense_in g start end (abbreviation name) = sense_of g (record { v = name; start = start; end = end }) (place_of (lowered name) g.definitions)
+sense_in g start end (abbreviation name) = sense_of g (record { v = name; start = start; end = end }) (index_of (lowered name) g.definitions)
 
 -- what a piece stands for
 abbrev pub sense : Glossary → At Piece → Result Sense Refusal

@@ -15,13 +15,13 @@ use Rattle.biblatex_text.specs.declared.spanned.Spanned.{Spanned}
 use Rattle.biblatex_content.specs.Styled.{Member}
 use Rattle.biblatex_content.specs.declared.chunk.Chunk.{Chunk}
 use Rattle.biblatex_fields.specs.Abbreviations.{Refusal, Glossary}
-use Rattle.biblatex_fields.specs.Value.{Value, value_seen, value_of}
+use Rattle.biblatex_fields.specs.Value.{Value, field_value_view, value_of}
 
 -- a name and its value
 abbrev pub Named : Type 0
 Named = List ℕ × Value
 
--- fields with one more, which takes the place of an equal name, or its own place in the order of names
+-- fields with one more, which replaces an equal name, or stands where its name comes in the order of names
 abbrev pub with_field : List Named → List ℕ → Value → List Named
 with_field fs name value = insert_entry (slice_cmp nat_cmp) fs name value
 
@@ -58,8 +58,8 @@ abbrev pub AreJoined : List Named → Type 0
 AreJoined fs = (name : List ℕ) → IsJoined (value_named name fs)
 
 -- the fields of a map, as names and values
-abbrev pub named_in : String Global × Vec (Spanned Chunk) Global → Named
-named_in e = (string_bytes e.0, value_seen e.1.items)
+abbrev pub named_field_view : String Global × Vec (Spanned Chunk) Global → Named
+named_field_view e = (string_bytes e.0, field_value_view e.1.items)
 
-abbrev pub named_of : List (String Global × Vec (Spanned Chunk) Global) → List Named
-named_of es = map named_in es
+abbrev pub named_fields_view : List (String Global × Vec (Spanned Chunk) Global) → List Named
+named_fields_view es = map named_field_view es

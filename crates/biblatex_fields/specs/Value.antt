@@ -1,5 +1,5 @@
 -- The value of a field: what its pieces give, one after the other, with abbreviations opened, or the first fault. What a piece
--- of a definition gives has its place in the definition.
+-- of a definition gives has its span in the definition.
 use Rattle.std.specs.Prelude.{◌≡◌, ℕ, zero, suc, Bool, true, false, List, [], ◌∷◌, ◌++◌, length, Result, Ok, Err}
 use Rattle.laws.specs.Results.{◌>>=◌}
 use Rattle.laws.specs.Text.{lowered}
@@ -12,33 +12,33 @@ use Rattle.biblatex_content.specs.Verbatim.{verbatim_text, is_verbatim_name}
 use Rattle.biblatex_content.specs.Ordinary.{ordinary}
 use Rattle.biblatex_content.specs.Tidy.{tidied}
 use Rattle.biblatex_content.specs.Parted.{are_parted}
-use Rattle.biblatex_content.specs.Places.{all_at, without_places, after_at, tidied_at, places, places_of}
+use Rattle.biblatex_content.specs.Spans.{all_at, without_spans, after_at, tidied_at, chunk_spans, member_spans}
 use Rattle.biblatex_content.specs.Views.{styled}
 use Rattle.biblatex_fields.specs.Abbreviations.{Refusal, malformed, Glossary, Sense, spelled, defined, sense}
 
--- What is seen of the chunks of a value: the styled text that they spell, where each of them stands, and whether they are joined, so
+-- The view of the chunks of a value: the styled text that they spell, where each of them stands, and whether they are joined, so
 -- that no text is empty and no two neighbours are text of one kind.
 pub record Value : Type 0 where
   pub text : List Member
-  pub places : List (ℕ × ℕ)
+  pub spans : List (ℕ × ℕ)
   pub is_joined : Bool
 
-abbrev pub value_seen : List (Spanned Chunk) → Value
-value_seen cs = record { text = styled cs; places = places cs; is_joined = are_parted cs }
+abbrev pub field_value_view : List (Spanned Chunk) → Value
+field_value_view cs = record { text = styled cs; spans = chunk_spans cs; is_joined = are_parted cs }
 
 -- What is read after what was read before.
 abbrev pub Reading : Type 0
 Reading = List (At Member) → Result (List (At Member)) Refusal
 
 -- what was read, or a malformed command, by the piece that it stands in
-abbrev pub placed : {F : Type 0} → ℕ → ℕ → Result (List (At Member)) F → Result (List (At Member)) Refusal
-placed start end (Ok ms) = Ok ms
-placed start end (Err f) = Err (malformed start end)
+abbrev pub spanned : {F : Type 0} → ℕ → ℕ → Result (List (At Member)) F → Result (List (At Member)) Refusal
+spanned start end (Ok ms) = Ok ms
+spanned start end (Err f) = Err (malformed start end)
 
 -- a text, in a verbatim field or an ordinary one
 abbrev pub text_read : Bool → ℕ → ℕ → List ℕ → Reading
 text_read true start end cs done = Ok (done ++ all_at start end (letters Verbatim (verbatim_text cs)))
-text_read false start end cs done = placed start end (after_at start end done (ordinary cs))
+text_read false start end cs done = spanned start end (after_at start end done (ordinary cs))
 
 -- pieces in order, up to the first fault
 abbrev pub in_order : {X : Type 0} → (X → Reading) → List X → Reading
@@ -68,13 +68,13 @@ read g is_verbatim p done = deep (reading g is_verbatim) (λ ms. Ok ms) (suc (le
 abbrev pub ReadsByTheRule : Glossary → Type 0
 ReadsByTheRule g = (is_verbatim : Bool) (p : At Piece) → read g is_verbatim p ≡ reading g is_verbatim (read g is_verbatim) p
 
--- what pieces give in the kind of a field of that name, each member with its place
+-- what pieces give in the kind of a field of that name, each member with its span
 abbrev pub members_of : Glossary → List ℕ → List (At Piece) → Result (List (At Member)) Refusal
 members_of g name ps = in_order (read g (is_verbatim_name (lowered name))) ps []
 
--- members as a value: tidied and joined, each chunk at the place of its members
+-- members as a value: tidied and joined, each chunk with the span of its members
 abbrev pub value_from : List (At Member) → Value
-value_from ms = record { text = tidied (without_places ms); places = places_of (tidied_at ms); is_joined = true }
+value_from ms = record { text = tidied (without_spans ms); spans = member_spans (tidied_at ms); is_joined = true }
 
 -- what pieces give as the value of a field of that name, in the kind of the field
 unfoldable pub value_in : Glossary → List ℕ → List (At Piece) → Result Value Refusal

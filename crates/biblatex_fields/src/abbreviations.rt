@@ -1,15 +1,15 @@
 //! Abbreviations: what their names mean, and what is read where they are opened.
 
 ghost use Rattle.std.specs.Prelude.{◌≡◌, map, false, true, IfOk};
-ghost use Rattle.biblatex_text.specs.Views.{field, piece};
+ghost use Rattle.biblatex_text.specs.Views.{field_view, piece_view};
 ghost use Rattle.biblatex_fields.specs.Abbreviations.{Glossary, AreFlags, sense};
-ghost use Rattle.biblatex_fields.specs.Openings.{AreOpenings, AreResolved, StandIn, piece_seen, resolved_sense, unresolved_at};
+ghost use Rattle.biblatex_fields.specs.Openings.{AreOpenings, AreResolved, Replacement, resolved_piece_view, resolved_sense, unresolved_at};
 ghost use Rattle.biblatex_fields.specs.Value.{ReadsByTheRule};
-ghost use Rattle.biblatex_fields.specs.Views.{sense_seen, refusal_of};
+ghost use Rattle.biblatex_fields.specs.Views.{sense_view, refusal_of};
 ghost use Rattle.laws.specs.Results.{Gives};
 
 use crate::error::FieldError;
-use crate::glossary::{Glossary, Sense, places_of};
+use crate::glossary::{Glossary, Sense, indices_of};
 use crate::openings::{Opening, ResolvedPiece};
 use crate::references::{circular_in, order_of};
 use biblatex_text::{Pair, RawChunk, Spanned};
@@ -23,7 +23,7 @@ pub struct Abbreviations<'r, 's> {
     glossary: Glossary<'r, 's>,
     /// The pieces of each definition.
     resolved: Vec<Vec<ResolvedPiece<'s>>>,
-    /// What is read in ordinary fields in place of the pieces of each definition.
+    /// What is read in ordinary fields instead of the pieces of each definition.
     ordinary: Vec<Opening<'s>>,
     /// The same in verbatim fields.
     verbatim: Vec<Opening<'s>>,
@@ -34,7 +34,9 @@ impl<'r, 's> Model for Abbreviations<'r, 's> {
 
     ghost view = { λ a. a.glossary };
 
-    ghost invariant = { λ a. AreResolved a.glossary a.resolved.items × AreOpenings a.glossary false a.resolved.items a.ordinary.items × AreOpenings a.glossary true a.resolved.items a.verbatim.items };
+    ghost invariant = { λ a. AreResolved a.glossary a.resolved.items
+        × AreOpenings a.glossary false a.resolved.items a.ordinary.items
+        × AreOpenings a.glossary true a.resolved.items a.verbatim.items };
 }
 
 impl<'r, 's> Abbreviations<'r, 's> {
@@ -43,16 +45,16 @@ impl<'r, 's> Abbreviations<'r, 's> {
         alloc: Global,
         definitions: &'r [Pair<'s>],
     ) -> Result<Abbreviations<'r, 's>, AllocError>
-        ensures definitions { IfOk result (λ a. a.definitions ≡ map field definitions.now) }
+        ensures definitions { IfOk result (λ a. a.definitions ≡ map field_view definitions.now) }
         ensures flags { IfOk result (λ a. AreFlags a.flags a.definitions) }
         ensures rule { IfOk result ReadsByTheRule }
     {
-        let places = places_of(alloc, definitions)?;
-        let order = order_of(alloc, &places, definitions)?;
+        let indices = indices_of(alloc, definitions)?;
+        let order = order_of(alloc, &indices, definitions)?;
         let circular = circular_in(alloc, &order, definitions.len())?;
         let glossary = Glossary {
             definitions,
-            places,
+            indices,
             circular,
         };
         let resolved = glossary.resolved(alloc)?;
@@ -72,7 +74,8 @@ impl<'r, 's> Abbreviations<'r, 's> {
         alloc: Global,
         raw: &Spanned<RawChunk<'s>>,
     ) -> Result<Sense<'s>, FieldError<'s>>
-        ensures sense { Gives refusal_of (sense_seen self.now.definitions) result (sense self.now (piece raw.now)) }
+        ensures sense { Gives refusal_of (sense_view self.now.definitions) result
+            (sense self.now (piece_view raw.now)) }
         ensures flags { AreFlags self.now.flags self.now.definitions }
     {
         self.glossary.sense(alloc, raw)
@@ -84,17 +87,19 @@ impl<'r, 's> Abbreviations<'r, 's> {
         alloc: Global,
         piece: &ResolvedPiece<'s>,
     ) -> Result<Sense<'s>, FieldError<'s>>
-        ensures { Gives refusal_of (sense_seen self.now.definitions) result (resolved_sense self.now (piece_seen piece.now)) }
+        ensures { Gives refusal_of (sense_view self.now.definitions) result
+            (resolved_sense self.now (resolved_piece_view piece.now)) }
     {
-        match piece.place {
-            Some(place) => Ok(Sense::Defined(place)),
+        match piece.index {
+            Some(index) => Ok(Sense::Defined(index)),
             None => self.sense(alloc, &piece.raw),
         }
     }
 
-    /// What is read of the definition at the place.
-    pub(crate) fn pieces<'a>(&'a self, is_verbatim: bool, place: usize) -> &'a [ResolvedPiece<'s>]
-        ensures stand_in { StandIn self.now is_verbatim (map piece_seen result.now) (unresolved_at self.now.definitions place) }
+    /// What is read of the definition at the index.
+    pub(crate) fn pieces<'a>(&'a self, is_verbatim: bool, index: usize) -> &'a [ResolvedPiece<'s>]
+        ensures replaced { Replacement self.now is_verbatim
+            (map resolved_piece_view result.now) (unresolved_at self.now.definitions index) }
         ensures flags { AreFlags self.now.flags self.now.definitions }
     {
         let openings = if is_verbatim {
@@ -103,6 +108,6 @@ impl<'r, 's> Abbreviations<'r, 's> {
             self.ordinary.as_slice()
         };
         self.glossary
-            .pieces(is_verbatim, &self.resolved, openings, place)
+            .pieces(is_verbatim, &self.resolved, openings, index)
     }
 }

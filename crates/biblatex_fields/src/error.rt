@@ -7,7 +7,7 @@ use biblatex_content::{Span, Spanned};
 use std::alloc::{AllocError, AllocFailed};
 use thiserror::Error;
 
-/// What is wrong with a field. Places are bytes of the whole source.
+/// What is wrong with a field. Offsets are bytes of the whole source.
 #[derive(Clone, Debug, PartialEq, Eq, Drop, Error)]
 pub enum FieldFault<'s> {
     /// The name that is opened there, as it is written, has no definition and is no month's.

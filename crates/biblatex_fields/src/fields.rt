@@ -3,10 +3,10 @@
 ghost use Rattle.std.specs.Prelude.{◌≡◌, ◌==◌, ℕ, [], List, if◌then◌else◌, Some, None, length, OnOk, OnErr, string_bytes};
 ghost use Rattle.std.specs.Option.{option_map};
 ghost use Rattle.std.specs.Str.{bytes_eq};
-ghost use Rattle.biblatex_text.specs.Views.{fields};
-ghost use Rattle.biblatex_fields.specs.Fields.{Named, named_of, value_named, with_field, without_field, AreInOrder, fields_of};
+ghost use Rattle.biblatex_text.specs.Views.{fields_view};
+ghost use Rattle.biblatex_fields.specs.Fields.{Named, named_fields_view, value_named, with_field, without_field, AreInOrder, fields_of};
 ghost use Rattle.biblatex_fields.specs.Slots.{AreMarked};
-ghost use Rattle.biblatex_fields.specs.Value.{value_seen};
+ghost use Rattle.biblatex_fields.specs.Value.{field_value_view};
 ghost use Rattle.biblatex_fields.specs.Views.{refusal_of};
 ghost use Rattle.laws.specs.Results.{Gives};
 
@@ -32,9 +32,10 @@ pub struct Fields {
 impl Model for Fields {
     ghost Value = { List Named };
 
-    ghost view = { λ f. named_of f.values.entries };
+    ghost view = { λ f. named_fields_view f.values.entries };
 
-    ghost invariant = { λ f. AreInOrder (named_of f.values.entries) × AreMarked f.slots.marks (named_of f.values.entries) };
+    ghost invariant = { λ f. AreInOrder (named_fields_view f.values.entries)
+        × AreMarked f.slots.marks (named_fields_view f.values.entries) };
 }
 
 impl Fields {
@@ -64,7 +65,8 @@ impl Fields {
 
     /// The value of the field of that name.
     pub fn get(&self, name: &str) -> Option<&Chunks>
-        ensures { option_map (λ v. value_seen v.now.items) result ≡ value_named name.now self.now }
+        ensures { option_map (λ v. field_value_view v.now.items) result
+            ≡ value_named name.now self.now }
     {
         if !self.slots.is_marked(name) {
             return None;
@@ -72,11 +74,14 @@ impl Fields {
         self.values.get(name)
     }
 
-    /// Puts a field in, in place of one of equal name. The name is taken as it is given; fields that are written in a text have names in
+    /// Puts a field in, instead of one of equal name. The name is taken as it is given; fields that are written in a text have names in
     /// lower ASCII case.
     pub fn insert(&mut self, name: String, value: Chunks) -> Result<(), AllocError>
-        ensures ok { OnOk result (self.new ≡ with_field self.old (string_bytes name) (value_seen value.items)) }
-        ensures found { OnOk result ((q : List ℕ) → value_named q self.new ≡ (if bytes_eq q (string_bytes name) then Some (value_seen value.items) else value_named q self.old)) }
+        ensures ok { OnOk result (self.new
+            ≡ with_field self.old (string_bytes name) (field_value_view value.items)) }
+        ensures found { OnOk result ((q : List ℕ)
+            → value_named q self.new ≡ (if bytes_eq q (string_bytes name)
+            then Some (field_value_view value.items) else value_named q self.old)) }
         ensures err { OnErr result (self.new ≡ self.old) }
     {
         self.slots.mark(name.as_str());
@@ -86,9 +91,11 @@ impl Fields {
 
     /// Takes the field of that name out.
     pub fn remove(&mut self, name: &str) -> Option<Chunks>
-        ensures value { option_map (λ v. value_seen v.items) result ≡ value_named name.now self.old }
+        ensures value { option_map (λ v. field_value_view v.items) result
+            ≡ value_named name.now self.old }
         ensures rest { self.new ≡ without_field name.now self.old }
-        ensures found { (q : List ℕ) → value_named q self.new ≡ (if bytes_eq q name.now then None else value_named q self.old) }
+        ensures found { (q : List ℕ) → value_named q self.new
+            ≡ (if bytes_eq q name.now then None else value_named q self.old) }
     {
         if !self.slots.is_marked(name) {
             return None;
@@ -98,7 +105,7 @@ impl Fields {
 
     /// The fields in the order of their names.
     pub fn iter(&self) -> Iter<'_, String, Chunks>
-        ensures rest { named_of result ≡ self.now }
+        ensures rest { named_fields_view result ≡ self.now }
         ensures ordered { AreInOrder self.now }
     {
         self.values.iter()
@@ -116,7 +123,8 @@ pub fn read_fields<'s>(
     abbreviations: &Abbreviations<'_, 's>,
     entry: &RawEntry<'s>,
 ) -> Result<Fields, FieldError<'s>>
-    ensures { Gives refusal_of (λ fs. fs) result (fields_of abbreviations.now (fields entry.now.fields)) }
+    ensures { Gives refusal_of (λ fs. fs) result
+        (fields_of abbreviations.now (fields_view entry.now.fields)) }
 {
     let mut read = Fields::new(alloc);
     for pair in entry.fields.iter() {

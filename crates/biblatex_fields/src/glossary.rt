@@ -3,10 +3,10 @@
 ghost use Rattle.std.specs.Prelude.{◌≡◌, ◌<◌, length, map, IfOk, Some, string_bytes};
 ghost use Rattle.std.specs.Str.{chars};
 ghost use Rattle.laws.specs.Text.{lowered};
-ghost use Rattle.biblatex_text.specs.Views.{field, part, piece};
+ghost use Rattle.biblatex_text.specs.Views.{field_view, spanned_text_view, piece_view};
 ghost use Rattle.biblatex_fields.specs.Month.{month};
-ghost use Rattle.biblatex_fields.specs.Abbreviations.{Glossary, AreFlags, place_of, month_or_unknown, sense, sense_of, spelled};
-ghost use Rattle.biblatex_fields.specs.Views.{IsIndex, all_of, sense_seen, refusal_of};
+ghost use Rattle.biblatex_fields.specs.Abbreviations.{Glossary, AreFlags, index_of, month_or_unknown, sense, sense_of, spelled};
+ghost use Rattle.biblatex_fields.specs.Views.{IsIndex, definitions_view, sense_view, refusal_of};
 ghost use Rattle.laws.specs.Results.{Gives};
 
 use crate::error::{FieldError, FieldFault};
@@ -22,16 +22,18 @@ use std::marker::Model;
 #[derive(Drop)]
 pub(crate) struct Glossary<'r, 's> {
     pub definitions: &'r [Pair<'s>],
-    pub places: HashMap<String, usize>,
+    pub indices: HashMap<String, usize>,
     pub circular: Vec<bool>,
 }
 
 impl<'r, 's> Model for Glossary<'r, 's> {
     ghost Value = { Glossary };
 
-    ghost view = { λ g. record { definitions = all_of g.definitions; flags = g.circular.items } };
+    ghost view = { λ g.
+        record { definitions = definitions_view g.definitions; flags = g.circular.items } };
 
-    ghost invariant = { λ g. IsIndex g.places (all_of g.definitions) × AreFlags g.circular.items (all_of g.definitions) };
+    ghost invariant = { λ g. IsIndex g.indices (definitions_view g.definitions)
+        × AreFlags g.circular.items (definitions_view g.definitions) };
 }
 
 /// What a piece of a value stands for.
@@ -39,7 +41,7 @@ impl<'r, 's> Model for Glossary<'r, 's> {
 pub(crate) enum Sense<'s> {
     /// A text.
     Spelled(&'s str),
-    /// The pieces of the definition at the place.
+    /// The pieces of the definition at the index.
     Defined(usize),
 }
 
@@ -50,19 +52,19 @@ pub(crate) fn lowered(alloc: Global, text: &str) -> Result<String, AllocError>
     text.to_ascii_lowercase(alloc)
 }
 
-/// The place of the last definition of each name.
-pub(crate) fn places_of(
+/// The index of the last definition of each name.
+pub(crate) fn indices_of(
     alloc: Global,
     definitions: &[Pair],
 ) -> Result<HashMap<String, usize>, AllocError>
-    ensures { IfOk result (λ index. IsIndex index (map field definitions.now)) }
+    ensures { IfOk result (λ table. IsIndex table (map field_view definitions.now)) }
 {
-    let mut places = HashMap::new(alloc);
-    for place in 0..definitions.len() {
-        let name = lowered(alloc, definitions[place].key.v)?;
-        places.insert(name, place)?;
+    let mut indices = HashMap::new(alloc);
+    for index in 0..definitions.len() {
+        let name = lowered(alloc, definitions[index].key.v)?;
+        indices.insert(name, index)?;
     }
-    Ok(places)
+    Ok(indices)
 }
 
 /// The month of that name in lower case, or the fault that the name means nothing.
@@ -70,7 +72,8 @@ fn month_or_unknown<'s>(
     lowered: &str,
     name: Spanned<&'s str>,
 ) -> Result<&'static str, FieldError<'s>>
-    ensures { Gives refusal_of (λ text. spelled (chars text.now)) result (month_or_unknown (part name.entry) (month lowered.now)) }
+    ensures { Gives refusal_of (λ text. spelled (chars text.now)) result
+        (month_or_unknown (spanned_text_view name.entry) (month lowered.now)) }
 {
     match month(lowered) {
         Some(text) => Ok(text),
@@ -79,24 +82,27 @@ fn month_or_unknown<'s>(
 }
 
 impl<'r, 's> Glossary<'r, 's> {
-    /// What the definition at the place stands for, where the name is opened.
-    fn defined(&self, place: usize, name: Spanned<&'s str>) -> Result<Sense<'s>, FieldError<'s>>
-        requires { place < length self.now.definitions }
-        ensures { Gives refusal_of (sense_seen self.now.definitions) result (sense_of self.now (part name.entry) (Some place)) }
+    /// What the definition at the index stands for, where the name is opened.
+    fn defined(&self, index: usize, name: Spanned<&'s str>) -> Result<Sense<'s>, FieldError<'s>>
+        requires { index < length self.now.definitions }
+        ensures { Gives refusal_of (sense_view self.now.definitions) result
+            (sense_of self.now (spanned_text_view name.entry) (Some index)) }
     {
-        if self.circular[place] {
+        if self.circular[index] {
             return Err(FieldError::Fault(FieldFault::AbbreviationCycle(name)));
         }
-        Ok(Sense::Defined(place))
+        Ok(Sense::Defined(index))
     }
 
     /// What the name stands for, where it is opened.
     fn sense_of(&self, alloc: Global, name: Spanned<&'s str>) -> Result<Sense<'s>, FieldError<'s>>
-        ensures { Gives refusal_of (sense_seen self.now.definitions) result (sense_of self.now (part name.entry) (place_of (lowered (chars name.entry.v.now)) self.now.definitions)) }
+        ensures { Gives refusal_of (sense_view self.now.definitions) result
+            (sense_of self.now (spanned_text_view name.entry)
+            (index_of (lowered (chars name.entry.v.now)) self.now.definitions)) }
     {
         let lowered = lowered(alloc, name.v)?;
-        match self.places.get(lowered.as_str()) {
-            Some(&place) => self.defined(place, name),
+        match self.indices.get(lowered.as_str()) {
+            Some(&index) => self.defined(index, name),
             None => Ok(Sense::Spelled(month_or_unknown(lowered.as_str(), name)?)),
         }
     }
@@ -107,7 +113,8 @@ impl<'r, 's> Glossary<'r, 's> {
         alloc: Global,
         raw: &Spanned<RawChunk<'s>>,
     ) -> Result<Sense<'s>, FieldError<'s>>
-        ensures sense { Gives refusal_of (sense_seen self.now.definitions) result (sense self.now (piece raw.now)) }
+        ensures sense { Gives refusal_of (sense_view self.now.definitions) result
+            (sense self.now (piece_view raw.now)) }
         ensures flags { AreFlags self.now.flags self.now.definitions }
     {
         let _flags_are_exact = &self.circular;

@@ -1,14 +1,14 @@
-//! What is read of definitions in place of their pieces, so that nothing is opened that gives nothing: pieces that give nothing
+//! What is read of definitions instead of their pieces, so that nothing is opened that gives nothing: pieces that give nothing
 //! are left out, and where one name is left, the pieces that it opens are read at once. A name that opens a definition is looked
 //! up here, and not again where it is opened.
 
 ghost use Rattle.std.specs.Prelude.{◌≡◌, ◌<◌, ◌∷◌, All, Bool, List, [], length, map, replicate, true, IfOk, IfSome, Ok};
 ghost use Rattle.std.specs.Str.{chars};
 ghost use Rattle.biblatex_text.specs.Raw.{At};
-ghost use Rattle.biblatex_text.specs.Views.{piece};
+ghost use Rattle.biblatex_text.specs.Views.{piece_view};
 ghost use Rattle.biblatex_content.specs.Styled.{Member};
 ghost use Rattle.biblatex_fields.specs.Abbreviations.{sense};
-ghost use Rattle.biblatex_fields.specs.Openings.{AreOpenings, AreResolved, Opens, OpensAlone, StandIn, pieces_of_opening, piece_seen, resolved_at, sense_by, target, unresolved, unresolved_at};
+ghost use Rattle.biblatex_fields.specs.Openings.{AreOpenings, AreResolved, Opens, OpensAlone, Replacement, pieces_of_opening, resolved_piece_view, resolved_at, sense_by, target, unresolved, unresolved_at};
 ghost use Rattle.biblatex_fields.specs.Value.{text_read};
 ghost use Rattle.biblatex_fields.specs.declared.openings.Opening.TheVariants.{Whole};
 
@@ -23,17 +23,17 @@ use std::alloc::{AllocError, Global};
 #[derive(Drop)]
 pub(crate) struct ResolvedPiece<'s> {
     pub raw: Spanned<RawChunk<'s>>,
-    pub place: Option<usize>,
+    pub index: Option<usize>,
 }
 
-/// What is read in place of the pieces of a definition.
+/// What is read instead of the pieces of a definition.
 #[derive(Drop)]
 pub(crate) enum Opening<'s> {
     /// They themselves.
     Whole,
     /// Those of them that do not give nothing.
     Part(Vec<ResolvedPiece<'s>>),
-    /// What is read of the definition at the place.
+    /// What is read of the definition at the index.
     SameAs(usize),
 }
 
@@ -45,7 +45,8 @@ fn is_empty_text(
     span: &Span,
     text: &str,
 ) -> Result<bool, AllocError>
-    ensures { IfOk result (λ b. b ≡ true → (done : List (At Member)) → text_read is_verbatim span.now.start span.now.end (chars text.now) done ≡ Ok done) }
+    ensures { IfOk result (λ b. b ≡ true → (done : List (At Member))
+        → text_read is_verbatim span.now.start span.now.end (chars text.now) done ≡ Ok done) }
 {
     if !text.is_empty() && !text.contains(['\\', '{', '}']) {
         return Ok(false);
@@ -57,40 +58,41 @@ fn is_empty_text(
     }
 }
 
-/// The definition of which pieces are read in place of those of the one at the place.
-fn target(openings: &[Opening], place: usize) -> usize
-    ensures { result ≡ target openings.now place }
+/// The definition of which pieces are read instead of those of the one at the index.
+fn target(openings: &[Opening], index: usize) -> usize
+    ensures { result ≡ target openings.now index }
 {
-    match openings.get(place) {
+    match openings.get(index) {
         Some(Opening::SameAs(other)) => *other,
-        _ => place,
+        _ => index,
     }
 }
 
-/// All pieces of the definition at the place.
+/// All pieces of the definition at the index.
 fn resolved_at<'a, 's>(
     resolved: &'a [Vec<ResolvedPiece<'s>>],
-    place: usize,
+    index: usize,
 ) -> &'a [ResolvedPiece<'s>]
-    ensures { map piece_seen result.now ≡ resolved_at resolved.now place }
+    ensures { map resolved_piece_view result.now ≡ resolved_at resolved.now index }
 {
     resolved
-        .get(place)
+        .get(index)
         .map(|pieces| pieces.as_slice())
         .unwrap_or_default()
 }
 
-/// Those pieces of the definition at the place that are read.
+/// Those pieces of the definition at the index that are read.
 fn pieces_of_opening<'a, 's>(
     openings: &'a [Opening<'s>],
     resolved: &'a [Vec<ResolvedPiece<'s>>],
-    place: usize,
+    index: usize,
 ) -> &'a [ResolvedPiece<'s>]
-    ensures { map piece_seen result.now ≡ pieces_of_opening openings.now resolved.now place }
+    ensures { map resolved_piece_view result.now
+        ≡ pieces_of_opening openings.now resolved.now index }
 {
-    match openings.get(place) {
+    match openings.get(index) {
         Some(Opening::Part(kept)) => kept.as_slice(),
-        _ => resolved_at(resolved, place),
+        _ => resolved_at(resolved, index),
     }
 }
 
@@ -107,25 +109,26 @@ fn all_whole<'s>(alloc: Global, count: usize) -> Result<Vec<Opening<'s>>, AllocE
 
 /// The definition that the one piece that there is opens, if it opens one.
 fn opened_alone(pieces: &[ResolvedPiece]) -> Option<usize>
-    ensures { IfSome result (OpensAlone (map piece_seen pieces.now)) }
+    ensures { IfSome result (OpensAlone (map resolved_piece_view pieces.now)) }
 {
     match pieces {
-        [piece] => piece.place,
+        [piece] => piece.index,
         _ => None,
     }
 }
 
 impl<'r, 's> Glossary<'r, 's> {
     /// The definition that the piece opens, if it opens one.
-    fn place_opened(
+    fn index_opened(
         &self,
         alloc: Global,
         raw: &Spanned<RawChunk<'s>>,
     ) -> Result<Option<usize>, AllocError>
-        ensures { IfOk result (λ place. sense_by self.now (piece raw.now) place ≡ sense self.now (piece raw.now)) }
+        ensures { IfOk result (λ index. sense_by self.now (piece_view raw.now) index
+            ≡ sense self.now (piece_view raw.now)) }
     {
         match self.sense(alloc, raw) {
-            Ok(Sense::Defined(place)) => Ok(Some(place)),
+            Ok(Sense::Defined(index)) => Ok(Some(index)),
             Err(FieldError::Memory) => Err(AllocError),
             Ok(Sense::Spelled(_)) | Err(FieldError::Fault(_)) => Ok(None),
         }
@@ -137,13 +140,14 @@ impl<'r, 's> Glossary<'r, 's> {
         alloc: Global,
         raws: &[Spanned<RawChunk<'s>>],
     ) -> Result<Vec<ResolvedPiece<'s>>, AllocError>
-        ensures { (is_verbatim : Bool) → IfOk result (λ v. StandIn self.now is_verbatim (map piece_seen v.items) (map unresolved (map piece raws.now))) }
+        ensures { (is_verbatim : Bool) → IfOk result (λ v. Replacement self.now is_verbatim
+            (map resolved_piece_view v.items) (map unresolved (map piece_view raws.now))) }
     {
         let mut pieces = Vec::with_capacity(alloc, raws.len())?;
         for raw in raws.iter() {
-            let place = self.place_opened(alloc, raw)?;
+            let index = self.index_opened(alloc, raw)?;
             let raw = Spanned::new(raw.v, raw.span.start..raw.span.end);
-            pieces.push(ResolvedPiece { raw, place })?;
+            pieces.push(ResolvedPiece { raw, index })?;
         }
         Ok(pieces)
     }
@@ -159,20 +163,21 @@ impl<'r, 's> Glossary<'r, 's> {
         Ok(resolved)
     }
 
-    /// What is read of the definition at the place.
-    #[tactic(auto, using(crate::proofs::OpeningsStandIns::stand_read))]
+    /// What is read of the definition at the index.
+    #[tactic(auto, using(crate::proofs::OpeningsReplacements::replacement_read))]
     pub fn pieces<'a>(
         &self,
         is_verbatim: bool,
         resolved: &'a [Vec<ResolvedPiece<'s>>],
         openings: &'a [Opening<'s>],
-        place: usize,
+        index: usize,
     ) -> &'a [ResolvedPiece<'s>]
         requires resolved { AreResolved self.now resolved.now }
         requires openings { AreOpenings self.now is_verbatim resolved.now openings.now }
-        ensures { StandIn self.now is_verbatim (map piece_seen result.now) (unresolved_at self.now.definitions place) }
+        ensures { Replacement self.now is_verbatim (map resolved_piece_view result.now)
+            (unresolved_at self.now.definitions index) }
     {
-        pieces_of_opening(openings, resolved, target(openings, place))
+        pieces_of_opening(openings, resolved, target(openings, index))
     }
 
     /// Whether the piece gives nothing.
@@ -186,12 +191,13 @@ impl<'r, 's> Glossary<'r, 's> {
     ) -> Result<bool, AllocError>
         requires resolved { AreResolved self.now resolved.now }
         requires openings { AreOpenings self.now is_verbatim resolved.now openings.now }
-        ensures { IfOk result (λ b. b ≡ true → StandIn self.now is_verbatim [] (piece_seen piece.now ∷ [])) }
+        ensures { IfOk result (λ b. b ≡ true
+            → Replacement self.now is_verbatim [] (resolved_piece_view piece.now ∷ [])) }
     {
-        match (piece.place, piece.raw.v) {
-            (Some(place), _) => {
+        match (piece.index, piece.raw.v) {
+            (Some(index), _) => {
                 Ok(
-                    self.pieces(is_verbatim, resolved, openings, place)
+                    self.pieces(is_verbatim, resolved, openings, index)
                         .is_empty(),
                 )
             }
@@ -213,7 +219,8 @@ impl<'r, 's> Glossary<'r, 's> {
     ) -> Result<Vec<ResolvedPiece<'s>>, AllocError>
         requires resolved { AreResolved self.now resolved.now }
         requires openings { AreOpenings self.now is_verbatim resolved.now openings.now }
-        ensures { IfOk result (λ v. StandIn self.now is_verbatim (map piece_seen v.items) (map piece_seen pieces.now)) }
+        ensures { IfOk result (λ v. Replacement self.now is_verbatim
+            (map resolved_piece_view v.items) (map resolved_piece_view pieces.now)) }
     {
         let mut kept = Vec::new(alloc);
         for piece in pieces.iter() {
@@ -223,27 +230,27 @@ impl<'r, 's> Glossary<'r, 's> {
             let raw = Spanned::new(piece.raw.v, piece.raw.span.start..piece.raw.span.end);
             kept.push(ResolvedPiece {
                 raw,
-                place: piece.place,
+                index: piece.index,
             })?;
         }
         Ok(kept)
     }
 
-    /// What is read in place of the pieces of the definition at the place.
-    #[tactic(auto, using(crate::proofs::OpeningsStandIns::opens_part, crate::proofs::OpeningsStandIns::opens_whole, crate::proofs::OpeningsStandIns::opens_same))]
+    /// What is read instead of the pieces of the definition at the index.
+    #[tactic(auto, using(crate::proofs::OpeningsReplacements::opens_part, crate::proofs::OpeningsReplacements::opens_whole, crate::proofs::OpeningsReplacements::opens_same))]
     fn opening(
         &self,
         alloc: Global,
         is_verbatim: bool,
         resolved: &[Vec<ResolvedPiece<'s>>],
         openings: &[Opening<'s>],
-        place: usize,
+        index: usize,
     ) -> Result<Opening<'s>, AllocError>
         requires resolved { AreResolved self.now resolved.now }
         requires openings { AreOpenings self.now is_verbatim resolved.now openings.now }
-        ensures { IfOk result (λ o. Opens self.now is_verbatim resolved.now o place) }
+        ensures { IfOk result (λ o. Opens self.now is_verbatim resolved.now o index) }
     {
-        let pieces = resolved_at(resolved, place);
+        let pieces = resolved_at(resolved, index);
         let kept = self.without_empty(alloc, is_verbatim, resolved, openings, pieces)?;
         if let Some(other) = opened_alone(kept.as_slice()) {
             return Ok(Opening::SameAs(target(openings, other)));
@@ -254,9 +261,9 @@ impl<'r, 's> Glossary<'r, 's> {
         Ok(Opening::Part(kept))
     }
 
-    /// What is read in place of the pieces of each definition in fields of that kind. Where each definition stands in the order
+    /// What is read instead of the pieces of each definition in fields of that kind. Where each definition stands in the order
     /// after those that its pieces name, nothing is read that gives nothing.
-    #[tactic(auto, using(crate::proofs::OpeningsStandIns::openings_whole, crate::proofs::OpeningsStandIns::openings_set))]
+    #[tactic(auto, using(crate::proofs::OpeningsReplacements::openings_whole, crate::proofs::OpeningsReplacements::openings_set))]
     pub fn openings(
         &self,
         alloc: Global,
@@ -265,12 +272,12 @@ impl<'r, 's> Glossary<'r, 's> {
         order: &[usize],
     ) -> Result<Vec<Opening<'s>>, AllocError>
         requires resolved { AreResolved self.now resolved.now }
-        requires order { All (λ place. place < length self.now.definitions) order.now }
+        requires order { All (λ index. index < length self.now.definitions) order.now }
         ensures { IfOk result (λ v. AreOpenings self.now is_verbatim resolved.now v.items) }
     {
         let mut openings = all_whole(alloc, self.definitions.len())?;
-        for &place in order {
-            openings[place] = self.opening(alloc, is_verbatim, resolved, &openings, place)?;
+        for &index in order {
+            openings[index] = self.opening(alloc, is_verbatim, resolved, &openings, index)?;
         }
         Ok(openings)
     }

@@ -2,9 +2,9 @@
 
 ghost use Rattle.std.specs.Prelude.{◌≡◌, List, map, IfOk};
 ghost use Rattle.biblatex_text.specs.Raw.{Field};
-ghost use Rattle.biblatex_text.specs.Views.{chunk, field, piece};
+ghost use Rattle.biblatex_text.specs.Views.{chunk_view, field_view, piece_view};
 ghost use Rattle.reference_graph.specs.References.{lists};
-ghost use Rattle.biblatex_fields.specs.Abbreviations.{places, named, references_of, references, Copied, IsArranged};
+ghost use Rattle.biblatex_fields.specs.Abbreviations.{indices, named, references_of, references, Copied, IsArranged};
 ghost use Rattle.biblatex_fields.specs.Views.{IsIndex};
 
 use crate::glossary::lowered;
@@ -13,51 +13,54 @@ use reference_graph::{ReferenceOrder, reference_order};
 use std::alloc::{AllocError, Global};
 use std::collections::HashMap;
 
-/// The place of the definition that the piece names, if there is one.
+/// The index of the definition that the piece names, if there is one.
 fn named(
     alloc: Global,
-    index: &HashMap<String, usize>,
+    table: &HashMap<String, usize>,
     raw: RawChunk,
 ) -> Result<Option<usize>, AllocError>
-    ensures { (ds : List Field) → IsIndex index.now ds → IfOk result (λ place. places place ≡ named ds (chunk raw.entry)) }
+    ensures { (ds : List Field) → IsIndex table.now ds
+        → IfOk result (λ index. indices index ≡ named ds (chunk_view raw.entry)) }
 {
     match raw {
         RawChunk::Normal(_) => Ok(None),
         RawChunk::Abbreviation(name) => {
             let name = lowered(alloc, name)?;
-            Ok(index.get(name.as_str()).copied())
+            Ok(table.get(name.as_str()).copied())
         }
     }
 }
 
-/// The places of the definitions that the pieces name.
+/// The indices of the definitions that the pieces name.
 fn references_of(
     alloc: Global,
-    index: &HashMap<String, usize>,
+    table: &HashMap<String, usize>,
     raws: &[Spanned<RawChunk>],
 ) -> Result<Vec<usize>, AllocError>
-    ensures { (ds : List Field) → IsIndex index.now ds → IfOk result (λ v. v.items ≡ references_of ds (map piece raws.now)) }
+    ensures { (ds : List Field) → IsIndex table.now ds
+        → IfOk result (λ v. v.items ≡ references_of ds (map piece_view raws.now)) }
 {
     let mut found = Vec::new(alloc);
     for raw in raws.iter() {
-        if let Some(place) = named(alloc, index, raw.v)? {
-            found.push(place)?;
+        if let Some(index) = named(alloc, table, raw.v)? {
+            found.push(index)?;
         }
     }
     Ok(found)
 }
 
-/// Of each definition, the places of the definitions that its pieces name.
+/// Of each definition, the indices of the definitions that its pieces name.
 pub(crate) fn references(
     alloc: Global,
-    index: &HashMap<String, usize>,
+    table: &HashMap<String, usize>,
     definitions: &[Pair],
 ) -> Result<Vec<Vec<usize>>, AllocError>
-    ensures { IsIndex index.now (map field definitions.now) → IfOk result (λ v. lists v.items ≡ references (map field definitions.now)) }
+    ensures { IsIndex table.now (map field_view definitions.now)
+        → IfOk result (λ v. lists v.items ≡ references (map field_view definitions.now)) }
 {
     let mut all = Vec::with_capacity(alloc, definitions.len())?;
     for definition in definitions.iter() {
-        all.push(references_of(alloc, index, definition.value.v.as_slice())?)?;
+        all.push(references_of(alloc, table, definition.value.v.as_slice())?)?;
     }
     Ok(all)
 }
@@ -71,8 +74,8 @@ pub(crate) fn circular_in(
     ensures { IfOk result (λ flags. Copied flags.items order.now.circular count) }
 {
     let mut circular = Vec::with_capacity(alloc, count)?;
-    for place in 0..count {
-        circular.push(order.is_circular(place))?;
+    for index in 0..count {
+        circular.push(order.is_circular(index))?;
     }
     Ok(circular)
 }
@@ -80,11 +83,12 @@ pub(crate) fn circular_in(
 /// Which definitions reach themselves through the names in their pieces, and an order of all.
 pub(crate) fn order_of(
     alloc: Global,
-    index: &HashMap<String, usize>,
+    table: &HashMap<String, usize>,
     definitions: &[Pair],
 ) -> Result<ReferenceOrder, AllocError>
-    ensures { IsIndex index.now (map field definitions.now) → IfOk result (IsArranged (map field definitions.now)) }
+    ensures { IsIndex table.now (map field_view definitions.now)
+        → IfOk result (IsArranged (map field_view definitions.now)) }
 {
-    let references = references(alloc, index, definitions)?;
+    let references = references(alloc, table, definitions)?;
     reference_order(alloc, references.as_slice())
 }

@@ -3,7 +3,7 @@
 ghost use Rattle.std.specs.Prelude.{◌≡◌, ◌==◌, ◌<◌, ◌||◌, ℕ, false, List};
 ghost use Rattle.biblatex_fields.specs.Slots.{slot, is_marked};
 
-/// Which slots are marked. Names that share a slot are not told apart.
+/// Which slots are marked. Names that share a slot are not distinguished.
 #[derive(Clone, Copy)]
 pub(crate) struct Slots {
     /// One bit a slot.
@@ -28,7 +28,8 @@ impl Slots {
 
     /// Marks the slot of the name.
     pub fn mark(&mut self, name: &str)
-        ensures { (q : List ℕ) → is_marked self.new.marks q ≡ (slot q == slot name.now || is_marked self.old.marks q) }
+        ensures { (q : List ℕ)
+            → is_marked self.new.marks q ≡ (slot q == slot name.now || is_marked self.old.marks q) }
     {
         self.marks |= 1 << slot_of(name);
     }

@@ -1,7 +1,7 @@
 //! The text of a piece as content of a field.
 
 ghost use Rattle.std.specs.Str.{chars};
-ghost use Rattle.biblatex_content.specs.Places.{placed_so_far};
+ghost use Rattle.biblatex_content.specs.Spans.{spanned_so_far};
 ghost use Rattle.biblatex_fields.specs.Value.{text_read};
 ghost use Rattle.biblatex_fields.specs.Views.{refusal_of};
 ghost use Rattle.laws.specs.Results.{Gives};
@@ -17,7 +17,8 @@ pub(crate) fn push_text<'s>(
     span: &Span,
     text: &str,
 ) -> Result<Contents, FieldError<'s>>
-    ensures { Gives refusal_of placed_so_far result (text_read is_verbatim span.now.start span.now.end (chars text.now) (placed_so_far contents)) }
+    ensures { Gives refusal_of spanned_so_far result (text_read is_verbatim
+        span.now.start span.now.end (chars text.now) (spanned_so_far contents)) }
 {
     let piece = Spanned::new(text, span.start..span.end);
     if is_verbatim {

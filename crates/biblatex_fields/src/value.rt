@@ -2,10 +2,10 @@
 
 ghost use Rattle.std.specs.Prelude.{◌≡◌, ℕ, List, [], map};
 ghost use Rattle.std.specs.Str.{chars};
-ghost use Rattle.biblatex_text.specs.Views.{field, piece};
-ghost use Rattle.biblatex_content.specs.Places.{placed_so_far};
+ghost use Rattle.biblatex_text.specs.Views.{field_view, piece_view};
+ghost use Rattle.biblatex_content.specs.Spans.{spanned_so_far};
 ghost use Rattle.biblatex_fields.specs.Abbreviations.{pieces_at};
-ghost use Rattle.biblatex_fields.specs.Value.{in_order, read, value_seen, value_in, value_of};
+ghost use Rattle.biblatex_fields.specs.Value.{in_order, read, field_value_view, value_in, value_of};
 ghost use Rattle.biblatex_fields.specs.Views.{refusal_of};
 ghost use Rattle.laws.specs.Results.{Gives};
 ghost use Rattle.laws.specs.Text.{lowered};
@@ -19,18 +19,19 @@ use biblatex_text::{Pair, RawChunk, Spanned};
 use std::alloc::Global;
 
 impl<'r, 's> Abbreviations<'r, 's> {
-    /// The contents with what the definition at the place gives after them.
+    /// The contents with what the definition at the index gives after them.
     fn push_definition<'a>(
         &'a self,
         alloc: Global,
         is_verbatim: bool,
         mut contents: Contents,
-        place: usize,
+        index: usize,
     ) -> Result<Contents, FieldError<'s>>
-        ensures { Gives refusal_of placed_so_far result (in_order (read self.now is_verbatim) (pieces_at self.now.definitions place) (placed_so_far contents)) }
+        ensures { Gives refusal_of spanned_so_far result (in_order (read self.now is_verbatim)
+            (pieces_at self.now.definitions index) (spanned_so_far contents)) }
     {
         let mut frames = Vec::with_capacity(alloc, 1)?;
-        frames.push(self.pieces(is_verbatim, place))?;
+        frames.push(self.pieces(is_verbatim, index))?;
         while let Some(frame) = frames.pop() {
             let Some((next, rest)) = frame.split_first() else {
                 continue;
@@ -40,7 +41,7 @@ impl<'r, 's> Abbreviations<'r, 's> {
                 Sense::Spelled(text) => {
                     contents = push_text(contents, is_verbatim, &next.raw.span, text)?;
                 }
-                Sense::Defined(place) => frames.push(self.pieces(is_verbatim, place))?,
+                Sense::Defined(index) => frames.push(self.pieces(is_verbatim, index))?,
             }
         }
         Ok(contents)
@@ -54,11 +55,12 @@ impl<'r, 's> Abbreviations<'r, 's> {
         contents: Contents,
         raw: &Spanned<RawChunk<'s>>,
     ) -> Result<Contents, FieldError<'s>>
-        ensures { Gives refusal_of placed_so_far result (read self.now is_verbatim (piece raw.now) (placed_so_far contents)) }
+        ensures { Gives refusal_of spanned_so_far result
+            (read self.now is_verbatim (piece_view raw.now) (spanned_so_far contents)) }
     {
         match self.sense(alloc, raw)? {
             Sense::Spelled(text) => push_text(contents, is_verbatim, &raw.span, text),
-            Sense::Defined(place) => self.push_definition(alloc, is_verbatim, contents, place),
+            Sense::Defined(index) => self.push_definition(alloc, is_verbatim, contents, index),
         }
     }
 
@@ -69,7 +71,8 @@ impl<'r, 's> Abbreviations<'r, 's> {
         is_verbatim: bool,
         pieces: &[Spanned<RawChunk<'s>>],
     ) -> Result<Contents, FieldError<'s>>
-        ensures { Gives refusal_of placed_so_far result (in_order (read self.now is_verbatim) (map piece pieces.now) []) }
+        ensures { Gives refusal_of spanned_so_far result
+            (in_order (read self.now is_verbatim) (map piece_view pieces.now) []) }
     {
         let mut contents = Contents::new(alloc);
         for raw in pieces.iter() {
@@ -92,7 +95,8 @@ impl<'r, 's> Abbreviations<'r, 's> {
         key: &str,
         field: &[Spanned<RawChunk<'s>>],
     ) -> Result<Chunks, FieldError<'s>>
-        ensures { Gives refusal_of (λ cs. value_seen cs.items) result (value_in self.now (chars key.now) (map piece field.now)) }
+        ensures { Gives refusal_of (λ cs. field_value_view cs.items) result
+            (value_in self.now (chars key.now) (map piece_view field.now)) }
     {
         let name = lowered(alloc, key)?;
         self.value_named(alloc, name.as_str(), field)
@@ -106,7 +110,9 @@ impl<'r, 's> Abbreviations<'r, 's> {
         name: &str,
         field: &[Spanned<RawChunk<'s>>],
     ) -> Result<Chunks, FieldError<'s>>
-        ensures { (key : List ℕ) → name.now ≡ lowered key → Gives refusal_of (λ cs. value_seen cs.items) result (value_in self.now key (map piece field.now)) }
+        ensures { (key : List ℕ) → name.now ≡ lowered key
+            → Gives refusal_of (λ cs. field_value_view cs.items) result
+            (value_in self.now key (map piece_view field.now)) }
     {
         let contents = self.contents(alloc, is_verbatim_field(name), field)?;
         Ok(contents.finish()?)
@@ -118,7 +124,8 @@ impl<'r, 's> Abbreviations<'r, 's> {
     ///
     /// Those of `parse_field`.
     pub fn read(&self, alloc: Global, pair: &Pair<'s>) -> Result<Chunks, FieldError<'s>>
-        ensures { Gives refusal_of (λ cs. value_seen cs.items) result (value_of self.now (field pair.now)) }
+        ensures { Gives refusal_of (λ cs. field_value_view cs.items) result
+            (value_of self.now (field_view pair.now)) }
     {
         self.parse_field(alloc, pair.key.v, pair.value.v.as_slice())
     }

@@ -40,7 +40,7 @@ first_fault-append : (os more : List Offer) → first_fault (os ++ more) ≡ ear
 first_fault-append [] more = refl
 first_fault-append (o ∷ os) more = ap (earlier (fault o.number (date_in o.fields))) (first_fault-append os more) ∙ sym (earlier_twice (fault o.number (date_in o.fields)) (first_fault os) (first_fault more))
 
--- the reference at a place, and those after it
+-- the reference at an index, and those after it
 pub offers_from : (es : List Entry) (rs : List ℕ) (k d : ℕ) → k < length rs → offers_in es (drop k rs) ≡ offer_in (get_or rs k d) (slice_get es (get_or rs k d)) ++ offers_in es (drop (k + 1) rs)
 offers_from es rs k d low = let e : k + 1 ≡ suc k = omega arith in rw e (ap (offers_in es) (drop-cons rs k d low))
 

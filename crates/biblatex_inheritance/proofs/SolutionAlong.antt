@@ -7,7 +7,7 @@ use Rattle.std.proofs.lemmas.List.{length-set, take_all}
 use Rattle.std.proofs.lemmas.Option.{slice_get-map, slice_get-get_or, slice_get_within}
 use Rattle.biblatex_fields.specs.Fields.{AreInOrder}
 use Rattle.biblatex_entries.specs.TypeNames.{type_name}
-use Rattle.biblatex_entries.specs.Entries.{Source, source, sources, HaveJoinedFields}
+use Rattle.biblatex_entries.specs.Entries.{Source, source_view, sources_view, HaveJoinedFields}
 use Rattle.biblatex_entries.specs.declared.entry.Entry.{Entry}
 use Rattle.biblatex_entries.specs.Roles.{role_of}
 use Rattle.biblatex_dates.specs.declared.date.Date.{Date}
@@ -15,10 +15,10 @@ use Rattle.biblatex_dates.specs.declared.error.TypeErrorKind.{TypeErrorKind}
 use Rattle.biblatex_inheritance.specs.declared.error.DateFault.{DateFault}
 use Rattle.reference_graph.specs.References.{lists, references_of, IsCircular}
 use Rattle.reference_graph.specs.Order.{is_marked, MarksCircular, IsOrder}
-use Rattle.reference_graph.proofs.OrderUses.{all_after, stands_in_order}
-use Rattle.biblatex_inheritance.specs.Resolved.{Table, Offer, resolved, needs_date, date_in, fault, earlier, first_fault, offers, offer_seen}
+use Rattle.reference_graph.proofs.OrderUses.{all_after, contained_in_order}
+use Rattle.biblatex_inheritance.specs.Resolved.{Table, Offer, resolved, needs_date, date_in, fault, earlier, first_fault, offers, offer_if}
 use Rattle.biblatex_inheritance.specs.Views.{offer_in, offers_in}
-use Rattle.biblatex_inheritance.specs.Solution.{Solves, seen, value_in, HasSameHead, HaveSameHeads, IsOnly, fault_in, fault_at, IsFirstFault, IsFirst, IsResolvedAt, AreResolved, NoneIsCircular}
+use Rattle.biblatex_inheritance.specs.Solution.{Solves, tables_view, entry_table_view, HasSameHead, HaveSameHeads, IsOnly, fault_in, fault_at, IsFirstFault, IsFirst, IsResolvedAt, AreResolved, NoneIsCircular}
 use Rattle.biblatex_inheritance.proofs.SolutionSteps.{slice_get-set_other, slice_get-set_same, offers_apart}
 use Rattle.biblatex_inheritance.proofs.SolutionJoined.{joined_more}
 use Rattle.biblatex_inheritance.proofs.SolutionOrder.{not_before, below_order, not_itself, not_from_before, up_to, last_in, one_more, number_is}
@@ -29,10 +29,10 @@ pub record IsResolvedUpTo (old cur : List Entry) (R : List (List ℕ)) (done : L
   pub many : length faults ≡ length old
   pub heads : HaveSameHeads old cur
   pub fresh : (i : ℕ) → (Contains done i → ⊥) → slice_get cur i ≡ slice_get old i
-  pub equation : (i : ℕ) → Contains done i → IfSome (slice_get old i) (λ e. (q : List ℕ) → seen cur i q ≡ resolved (source e) (offers_in cur (references_of R i)) q)
+  pub equation : (i : ℕ) → Contains done i → IfSome (slice_get old i) (λ e. (q : List ℕ) → tables_view cur i q ≡ resolved (source_view e) (offers_in cur (references_of R i)) q)
   pub ordered : (i : ℕ) → Contains done i → IfSome (slice_get cur i) (λ e. AreInOrder e.fields)
-  pub faulted : (i : ℕ) → Contains done i → slice_get faults i ≡ Some (fault_in (option_map source (slice_get old i)) (offers_in cur (references_of R i)))
-  pub joined : HaveJoinedFields (sources old) → HaveJoinedFields (sources cur)
+  pub faulted : (i : ℕ) → Contains done i → slice_get faults i ≡ Some (fault_in (option_map source_view (slice_get old i)) (offers_in cur (references_of R i)))
+  pub joined : HaveJoinedFields (sources_view old) → HaveJoinedFields (sources_view cur)
 
 head_same : (o : Option Entry) → HasSameHead o o
 head_same None = tt
@@ -50,7 +50,7 @@ resolved_first old R faults many = record {
   joined = λ all. all;
 }
 
--- the head at another place, and at the place that was written
+-- the head at another index, and at the index that was written
 head_at : (o c : Option Entry) (e d : Entry) → o ≡ Some e → c ≡ Some d → string_bytes d.key ≡ string_bytes e.key → type_name d.entry_type ≡ type_name e.entry_type → HasSameHead o c
 head_at o c e d is_o is_c key kind = rw (is_o, is_c) (key, kind)
 
@@ -73,40 +73,40 @@ resolved_more old cur new R order k faults fault o none same low h (d, new_is, (
     record {
       long = ap length new_is ∙ (length-set cur n d ∙ h.long);
       many = length-set faults n fault ∙ h.many;
-      heads = λ i. by_place i (number_is i n) (h.heads i) (other i) (head_at (slice_get old n) (slice_get new n) e d old_n new_n key kind);
+      heads = λ i. by_index i (number_is i n) (h.heads i) (other i) (head_at (slice_get old n) (slice_get new n) e d old_n new_n key kind);
       fresh = λ i undone. other i (λ is. undone (subst (λ (x : ℕ). Contains (take (k + 1) order) x) (sym is) (last_in order k low))) ∙ h.fresh i (λ c. undone (one_more order k i low c));
       equation = λ i c. elim (up_to order k i low c) [
-        | inl before ↦ if_some (slice_get old i) (λ x q before_q. ap (λ (o : Option Entry). value_in o q) (other i (done_apart i before)) ∙ (before_q ∙ ap (λ (os : List Offer). resolved (source x) os q) (sym (stay i (not_from_before R order k i o none low before))))) (h.equation i before)
-        | inr is ↦ subst (λ (x : ℕ). IfSome (slice_get old x) (λ e. (q : List ℕ) → seen new x q ≡ resolved (source e) (offers_in new (references_of R x)) q)) is
-            (rw old_n (λ q. ap (λ (o : Option Entry). value_in o q) new_n ∙ (table_is q ∙ ap (λ (os : List Offer). resolved (source e) os q) (sym (stay n (not_itself R n none))))))
+        | inl before ↦ if_some (slice_get old i) (λ x q before_q. ap (λ (o : Option Entry). entry_table_view o q) (other i (done_apart i before)) ∙ (before_q ∙ ap (λ (os : List Offer). resolved (source_view x) os q) (sym (stay i (not_from_before R order k i o none low before))))) (h.equation i before)
+        | inr is ↦ subst (λ (x : ℕ). IfSome (slice_get old x) (λ e. (q : List ℕ) → tables_view new x q ≡ resolved (source_view e) (offers_in new (references_of R x)) q)) is
+            (rw old_n (λ q. ap (λ (o : Option Entry). entry_table_view o q) new_n ∙ (table_is q ∙ ap (λ (os : List Offer). resolved (source_view e) os q) (sym (stay n (not_itself R n none))))))
       ];
       ordered = λ i c. elim (up_to order k i low c) [
         | inl before ↦ subst (λ (x : Option Entry). IfSome x (λ e. AreInOrder e.fields)) (sym (other i (done_apart i before))) (h.ordered i before)
         | inr is ↦ subst (λ (x : ℕ). IfSome (slice_get new x) (λ e. AreInOrder e.fields)) is (subst (λ (x : Option Entry). IfSome x (λ e. AreInOrder e.fields)) (sym new_n) in_order)
       ];
       faulted = λ i c. elim (up_to order k i low c) [
-        | inl before ↦ slice_get-set_other faults n i fault (done_apart i before) ∙ (h.faulted i before ∙ ap (λ (os : List Offer). Some (fault_in (option_map source (slice_get old i)) os)) (sym (stay i (not_from_before R order k i o none low before))))
-        | inr is ↦ subst (λ (x : ℕ). slice_get (set faults n fault) x ≡ Some (fault_in (option_map source (slice_get old x)) (offers_in new (references_of R x)))) is
+        | inl before ↦ slice_get-set_other faults n i fault (done_apart i before) ∙ (h.faulted i before ∙ ap (λ (os : List Offer). Some (fault_in (option_map source_view (slice_get old i)) os)) (sym (stay i (not_from_before R order k i o none low before))))
+        | inr is ↦ subst (λ (x : ℕ). slice_get (set faults n fault) x ≡ Some (fault_in (option_map source_view (slice_get old x)) (offers_in new (references_of R x)))) is
             (slice_get-set_same faults n fault (omega (arith, n_low, same, h.many)) ∙ ap (λ (f : Option DateFault). Some f) (fault_is ∙ rw (old_n, stay n (not_itself R n none)) refl))
       ];
       joined = λ all. joined_more cur new n (references_of R n) d n_cur new_is table_is (h.joined all);
     }
   where
-    by_place : (i : ℕ) → (i ≡ get_or order k 0) ⊎ (i ≡ get_or order k 0 → ⊥) → HasSameHead (slice_get old i) (slice_get cur i) → ((i ≡ get_or order k 0 → ⊥) → slice_get new i ≡ slice_get cur i)
+    by_index : (i : ℕ) → (i ≡ get_or order k 0) ⊎ (i ≡ get_or order k 0 → ⊥) → HasSameHead (slice_get old i) (slice_get cur i) → ((i ≡ get_or order k 0 → ⊥) → slice_get new i ≡ slice_get cur i)
         → HasSameHead (slice_get old (get_or order k 0)) (slice_get new (get_or order k 0)) → HasSameHead (slice_get old i) (slice_get new i)
-    by_place i (inl is) before other there = subst (λ (x : ℕ). HasSameHead (slice_get old x) (slice_get new x)) (sym is) there
-    by_place i (inr apart) before other there = subst (λ (c : Option Entry). HasSameHead (slice_get old i) c) (sym (other apart)) before
+    by_index i (inl is) before other there = subst (λ (x : ℕ). HasSameHead (slice_get old x) (slice_get new x)) (sym is) there
+    by_index i (inr apart) before other there = subst (λ (c : Option Entry). HasSameHead (slice_get old i) c) (sym (other apart)) before
 
     if_some : (o : Option Entry) {P Q : Entry → List ℕ → Type 0} → ((x : Entry) (q : List ℕ) → P x q → Q x q) → IfSome o (λ x. (q : List ℕ) → P x q) → IfSome o (λ x. (q : List ℕ) → Q x q)
     if_some None f h = tt
     if_some (Some x) f h = λ q. f x q (h q)
 
--- what references offer, seen either way
-offers_same : (old cur : List Entry) → HaveSameHeads old cur → (rs : List ℕ) → offers_in cur rs ≡ offers (sources old) (seen cur) rs
+-- what references offer, viewed either way
+offers_same : (old cur : List Entry) → HaveSameHeads old cur → (rs : List ℕ) → offers_in cur rs ≡ offers (sources_view old) (tables_view cur) rs
 offers_same old cur heads [] = refl
-offers_same old cur heads (r ∷ rs) = rw (slice_get-map source old r, offers_same old cur heads rs, here (slice_get old r) (slice_get cur r) (heads r)) refl
+offers_same old cur heads (r ∷ rs) = rw (slice_get-map source_view old r, offers_same old cur heads rs, here (slice_get old r) (slice_get cur r) (heads r)) refl
   where
-    here : (o c : Option Entry) → HasSameHead o c → offer_in r c ≡ offer_seen r (option_map source o) (value_in c)
+    here : (o c : Option Entry) → HasSameHead o c → offer_in r c ≡ offer_if r (option_map source_view o) (entry_table_view c)
     here None None k = refl
     here None (Some d) k = absurd k
     here (Some e) None k = absurd k
@@ -118,18 +118,18 @@ all_resolved old cur R order faults o same h = record {
   heads = h.heads;
   long = h.many;
   joined = h.joined;
-  ordered = λ i. where_there (slice_get cur i) (λ e is. h.ordered i (stands_in_order R order o i (let low = slice_get_within cur i e is in omega (arith, low, same, h.long))));
-  solved = λ i. subst (λ (x : Option Source). IfSome x (λ e. (q : List ℕ) → seen cur i q ≡ resolved e (offers (sources old) (seen cur) (references_of R i)) q)) (sym (slice_get-map source old i))
-      (there i (slice_get old i) (λ low. rw (sym (offers_same old cur h.heads (references_of R i))) (h.equation i (stands_in_order R order o i (omega (arith, low, same))))) (λ e is. slice_get_within old i e is));
-  faulted = λ i low. h.faulted i (stands_in_order R order o i (omega (arith, low, same))) ∙ rw (slice_get-map source old i, offers_same old cur h.heads (references_of R i)) refl;
+  ordered = λ i. where_there (slice_get cur i) (λ e is. h.ordered i (contained_in_order R order o i (let low = slice_get_within cur i e is in omega (arith, low, same, h.long))));
+  solved = λ i. subst (λ (x : Option Source). IfSome x (λ e. (q : List ℕ) → tables_view cur i q ≡ resolved e (offers (sources_view old) (tables_view cur) (references_of R i)) q)) (sym (slice_get-map source_view old i))
+      (there i (slice_get old i) (λ low. rw (sym (offers_same old cur h.heads (references_of R i))) (h.equation i (contained_in_order R order o i (omega (arith, low, same))))) (λ e is. slice_get_within old i e is));
+  faulted = λ i low. h.faulted i (contained_in_order R order o i (omega (arith, low, same))) ∙ rw (slice_get-map source_view old i, offers_same old cur h.heads (references_of R i)) refl;
 }
   where
     where_there : (o : Option Entry) → ((e : Entry) → o ≡ Some e → IfSome o (λ x. AreInOrder x.fields)) → IfSome o (λ x. AreInOrder x.fields)
     where_there None f = tt
     where_there (Some e) f = f e refl
 
-    there : (i : ℕ) (o : Option Entry) → (i < length old → IfSome o (λ e. (q : List ℕ) → seen cur i q ≡ resolved (source e) (offers (sources old) (seen cur) (references_of R i)) q)) → ((e : Entry) → o ≡ Some e → i < length old)
-        → IfSome (option_map source o) (λ e. (q : List ℕ) → seen cur i q ≡ resolved e (offers (sources old) (seen cur) (references_of R i)) q)
+    there : (i : ℕ) (o : Option Entry) → (i < length old → IfSome o (λ e. (q : List ℕ) → tables_view cur i q ≡ resolved (source_view e) (offers (sources_view old) (tables_view cur) (references_of R i)) q)) → ((e : Entry) → o ≡ Some e → i < length old)
+        → IfSome (option_map source_view o) (λ e. (q : List ℕ) → tables_view cur i q ≡ resolved e (offers (sources_view old) (tables_view cur) (references_of R i)) q)
     there i None f low = tt
     there i (Some e) f low = f (low e refl)
 
@@ -139,9 +139,9 @@ agree_offers es see other [] same = refl
 agree_offers es see other (r ∷ rs) same =
     rw (agree_offers es see other rs (λ x c. same x (suc c.0, omega (arith, c.1), c.2)), here (slice_get es r) (λ e is. same r (0, omega arith, refl) (slice_get_within es r e is))) refl
   where
-    here : (o : Option Source) → ((e : Source) → o ≡ Some e → see r ≡ other r) → offer_seen r o (see r) ≡ offer_seen r o (other r)
+    here : (o : Option Source) → ((e : Source) → o ≡ Some e → see r ≡ other r) → offer_if r o (see r) ≡ offer_if r o (other r)
     here None f = refl
-    here (Some e) f = ap (offer_seen r (Some e)) (f e refl)
+    here (Some e) f = ap (offer_if r (Some e)) (f e refl)
 
 solved_at : (o : Option Source) (P : Source → Type 0) (e : Source) → o ≡ Some e → IfSome o P → P e
 solved_at o P e is h = subst (λ (x : Option Source). IfSome x P) is h
@@ -166,7 +166,7 @@ agree_before es R order see other o none same a b (suc k) low i c = elim (up_to 
 
 pub agree : (es : List Source) (R : List (List ℕ)) (order : List ℕ) (see other : ℕ → Table) → IsOrder R order → NoneIsCircular R → length R ≡ length es → Solves es R see → Solves es R other → (i : ℕ) → i < length es → (q : List ℕ) → see i q ≡ other i q
 agree es R order see other o none same a b i low q =
-    let all = agree_before es R order see other o none same a b (length order) (le_refl _) i (subst (λ (xs : List ℕ). Contains xs i) (sym (take_all (length order) order (le_refl _))) (stands_in_order R order o i (omega arith))) in
+    let all = agree_before es R order see other o none same a b (length order) (le_refl _) i (subst (λ (xs : List ℕ). Contains xs i) (sym (take_all (length order) order (le_refl _))) (contained_in_order R order o i (omega arith))) in
     ap (λ (t : Table). t q) all
 
 -- the references of a number, as they lie in memory
@@ -211,7 +211,7 @@ fault_there_is es see (r ∷ rs) f is = by_entry (slice_get es r) refl is (fault
     by_date (Ok d) low is more = more is
     by_date (Err e) low is more = subst (λ (g : DateFault). g.reference < length es) (ap (inner f) is) low
 
-    by_entry : (o : Option Source) → slice_get es r ≡ o → first_fault (offer_seen r o (see r) ++ offers es see rs) ≡ Some f → (first_fault (offers es see rs) ≡ Some f → f.reference < length es) → f.reference < length es
+    by_entry : (o : Option Source) → slice_get es r ≡ o → first_fault (offer_if r o (see r) ++ offers es see rs) ≡ Some f → (first_fault (offers es see rs) ≡ Some f → f.reference < length es) → f.reference < length es
     by_entry None at is more = more is
     by_entry (Some e) at is more = by_date (date_in (see r)) (slice_get_within es r e at) is more
 
@@ -227,12 +227,12 @@ fault_within es R see i f is = by_entry (slice_get es i) is
     by_entry (Some e) is = by_need (needs_date (role_of e.entry_type)) is
 
 -- the first fault is that of an entry, and there is none before it
-pub fault_there : (old new : List Entry) (R : List (List ℕ)) (faults seen_faults : List (Option DateFault)) (f : DateFault) → seen_faults ≡ faults → AreResolved old new R faults → IsOnly (sources old) R (seen new) → IsFirstFault seen_faults f
-    → (see : ℕ → Table) × Solves (sources old) R see × IsOnly (sources old) R see × IsFirst (fault_at (sources old) R see) f
-fault_there old new R faults seen_faults f same h only (n, is, before) =
+pub fault_there : (old new : List Entry) (R : List (List ℕ)) (faults view_faults : List (Option DateFault)) (f : DateFault) → view_faults ≡ faults → AreResolved old new R faults → IsOnly (sources_view old) R (tables_view new) → IsFirstFault view_faults f
+    → (see : ℕ → Table) × Solves (sources_view old) R see × IsOnly (sources_view old) R see × IsFirst (fault_at (sources_view old) R see) f
+fault_there old new R faults view_faults f same h only (n, is, before) =
     let at : slice_get faults n ≡ Some (Some f) = ap (λ (fs : List (Option DateFault)). slice_get fs n) (sym same) ∙ is in
     let low = slice_get_within faults n (Some f) at in (
-      seen new,
+      tables_view new,
       h.solved,
       only,
       (

@@ -28,7 +28,7 @@ counted (x ∷ xs) v (suc k, low, is) =
     let more = counted xs v (k, omega arith, is) in
     omega arith
 
--- a number does not stand before its own place
+-- a number does not stand before its own index
 pub not_before : (R : List (List ℕ)) (order : List ℕ) (k : ℕ) → IsOrder R order → k < length order → Contains (take k order) (get_or order k 0) → ⊥
 not_before R order k o low has =
     let n = get_or order k 0 in
@@ -45,7 +45,7 @@ below_order R order k o low = All-get_or (λ i. i < length R) order k 0 low o.be
 pub not_itself : (R : List (List ℕ)) (n : ℕ) → NoneIsCircular R → Contains (references_of R n) n → ⊥
 not_itself R n none has = none n (0, (n, has, refl))
 
--- none of those before a place refers to the number at it
+-- none of those before an index refers to the number at it
 pub not_from_before : (R : List (List ℕ)) (order : List ℕ) (k i : ℕ) → IsOrder R order → NoneIsCircular R → k < length order → Contains (take k order) i → Contains (references_of R i) (get_or order k 0) → ⊥
 not_from_before R order k i o none low before refers =
     let at = take_has k order i (omega arith) before in
@@ -53,7 +53,7 @@ not_from_before R order k i o none low before refers =
     let there = take_has at.0 order (get_or order k 0) (omega (arith, at.1)) following in
     not_before R order k o low (in_take k order there.0 (get_or order k 0) (omega arith) (omega (arith, at.1, there.1)) there.2)
 
--- those up to a place
+-- those up to an index
 pub up_to : (order : List ℕ) (k i : ℕ) → k < length order → Contains (take (k + 1) order) i → Contains (take k order) i ⊎ (get_or order k 0 ≡ i)
 up_to order k i low has =
     let e : k + 1 ≡ suc k = omega arith in

@@ -1,4 +1,4 @@
--- One entry is resolved in its place.
+-- One entry is resolved where it stands.
 use Rattle.std.proofs.Common.{◌≡◌, ℕ, zero, suc, ◌<◌, List, [], ◌∷◌, length, get_or, slice_get, set, Contains, Option, Some, None, true, string_bytes, refl, sym, ap, subst, ◌∙◌, arith}
 use Rattle.std.specs.Prelude.{if◌then◌else◌, MatchOption, is_some}
 use Rattle.std.proofs.lemmas.List.{get_or-set_same, get_or_default}
@@ -9,7 +9,7 @@ use Rattle.biblatex_entries.specs.declared.entry.Entry.{Entry}
 use Rattle.biblatex_entries.specs.declared.role.Role.{Role}
 use Rattle.biblatex_inheritance.specs.declared.error.DateFault.{DateFault}
 use Rattle.biblatex_inheritance.specs.Resolved.{Offer, first, first_offer, dated, date_for, needs_date, first_fault, without_xdata}
-use Rattle.biblatex_inheritance.specs.Views.{table, IsTable, offers_in}
+use Rattle.biblatex_inheritance.specs.Views.{table_view, IsTable, offers_in}
 use Rattle.biblatex_inheritance.specs.Solution.{IsFirstFault, IsResolvedAt}
 
 pub slice_get-set_other : {X : Type 0} (xs : List X) (n i : ℕ) (x : X) → (i ≡ n → ⊥) → slice_get (set xs n x) i ≡ slice_get xs i
@@ -54,7 +54,7 @@ pub put_back : (old mid : List Entry) (n : ℕ) (e m m2 : Entry) (role : Role) (
     → m2 ≡ get_or (set old n (record { key = m.key; entry_type = m.entry_type; fields = emptied })) n m2
     → mid ≡ set old n (record { key = m.key; entry_type = m.entry_type; fields = emptied })
     → taken ≡ m.fields → role ≡ role_of (type_name e.entry_type)
-    → IsTable fs (dated (date_for role (offers_in mid rs)) (λ name. first (without_xdata (table taken) name) (first_offer role (offers_in mid rs) name)))
+    → IsTable fs (dated (date_for role (offers_in mid rs)) (λ name. first (without_xdata (table_view taken) name) (first_offer role (offers_in mid rs) name)))
     → fault ≡ (if needs_date role then first_fault (offers_in mid rs) else None) → AreInOrder fs
     → IsResolvedAt old (set (set old n (record { key = m.key; entry_type = m.entry_type; fields = emptied })) n (record { key = m2.key; entry_type = m2.entry_type; fields = fs })) n (offers_in old rs) fault
 put_back old mid n e m m2 role emptied taken fs rs fault low apart e_is m_is m2_is mid_is taken_is role_is resolved_is fault_is ordered =
@@ -65,10 +65,10 @@ put_back old mid n e m m2 role emptied taken fs rs fault low apart e_is m_is m2_
     let e_m : e ≡ m = e_is ∙ (get_or_default old n e m low ∙ sym m_is) in
     let role_m : role ≡ role_of (type_name m.entry_type) = role_is ∙ ap (λ (x : Entry). role_of (type_name x.entry_type)) e_m in
     let os : offers_in mid rs ≡ offers_in old rs = ap (λ (es : List Entry). offers_in es rs) mid_is ∙ offers_apart old n w rs apart in
-    let fields_m : IsTable fs (dated (date_for (role_of (type_name m.entry_type)) (offers_in old rs)) (λ name. first (without_xdata (table m.fields) name) (first_offer (role_of (type_name m.entry_type)) (offers_in old rs) name))) =
-    subst (λ (os : List Offer). IsTable fs (dated (date_for (role_of (type_name m.entry_type)) os) (λ name. first (without_xdata (table m.fields) name) (first_offer (role_of (type_name m.entry_type)) os name)))) os
-    (subst (λ (r : Role). IsTable fs (dated (date_for r (offers_in mid rs)) (λ name. first (without_xdata (table m.fields) name) (first_offer r (offers_in mid rs) name)))) role_m
-    (subst (λ (fields : List Named). IsTable fs (dated (date_for role (offers_in mid rs)) (λ name. first (without_xdata (table fields) name) (first_offer role (offers_in mid rs) name)))) taken_is resolved_is)) in
+    let fields_m : IsTable fs (dated (date_for (role_of (type_name m.entry_type)) (offers_in old rs)) (λ name. first (without_xdata (table_view m.fields) name) (first_offer (role_of (type_name m.entry_type)) (offers_in old rs) name))) =
+    subst (λ (os : List Offer). IsTable fs (dated (date_for (role_of (type_name m.entry_type)) os) (λ name. first (without_xdata (table_view m.fields) name) (first_offer (role_of (type_name m.entry_type)) os name)))) os
+    (subst (λ (r : Role). IsTable fs (dated (date_for r (offers_in mid rs)) (λ name. first (without_xdata (table_view m.fields) name) (first_offer r (offers_in mid rs) name)))) role_m
+    (subst (λ (fields : List Named). IsTable fs (dated (date_for role (offers_in mid rs)) (λ name. first (without_xdata (table_view fields) name) (first_offer role (offers_in mid rs) name)))) taken_is resolved_is)) in
     let fault_m : fault ≡ (if needs_date (role_of (type_name m.entry_type)) then first_fault (offers_in old rs) else None) =
     subst (λ (os : List Offer). fault ≡ (if needs_date (role_of (type_name m.entry_type)) then first_fault os else None)) os
     (subst (λ (r : Role). fault ≡ (if needs_date r then first_fault (offers_in mid rs) else None)) role_m fault_is) in

@@ -7,13 +7,13 @@ use Rattle.std.proofs.lemmas.Slice.Eq.{bytes_eq-Decides}
 use Rattle.std.proofs.lemmas.List.{append_assoc}
 use Rattle.biblatex_text.specs.declared.spanned.Spanned.{Spanned}
 use Rattle.biblatex_content.specs.declared.chunk.Chunk.{Chunk}
-use Rattle.biblatex_fields.specs.Fields.{Named, named_of, value_named}
-use Rattle.biblatex_fields.specs.Value.{Value, value_seen}
+use Rattle.biblatex_fields.specs.Fields.{Named, named_fields_view, value_named}
+use Rattle.biblatex_fields.specs.Value.{Value, field_value_view}
 use Rattle.biblatex_entries.specs.declared.role.Role.{Role}
 use Rattle.biblatex_entries.specs.declared.role.Role.TheVariants.{Article, Periodical, PartOfBook, PartOfOther, Book, MultiVolumeBook, Volume, MultiVolume, XData, Set, Other}
 use Rattle.biblatex_inheritance.specs.Table.{is_among, never, of_all, source_name}
 use Rattle.biblatex_inheritance.specs.Resolved.{Table, first, offered}
-use Rattle.biblatex_inheritance.specs.Views.{PassesOn, texts, borrowed_fields}
+use Rattle.biblatex_inheritance.specs.Views.{PassesOn, texts_view, borrowed_fields_view}
 
 -- two offers of one table, one after the other
 joined : (a b : Bool) (x s t : Option Value) → (b ≡ true → t ≡ s) → first (first x (if a then s else None)) (if b then t else None) ≡ first x (if a || b then s else None)
@@ -36,19 +36,19 @@ name_more S old cur new ns n before one q =
     by_last true = refl
     by_last false = refl
 
--- the names before a place, and the one at it
+-- the names before an index, and the one at it
 pub names_more : (S : Table) (old cur new : List Named) (ns : List (Bor (List ℕ))) (i : ℕ) (d : Bor (List ℕ)) → i < length ns
-    → PassesOn old cur (λ q. if is_among (texts (take i ns)) q then S q else None) → PassesOn cur new (λ q. if bytes_eq q (get_or ns i d).now then S (get_or ns i d).now else None)
-    → PassesOn old new (λ q. if is_among (texts (take (i + 1) ns)) q then S q else None)
+    → PassesOn old cur (λ q. if is_among (texts_view (take i ns)) q then S q else None) → PassesOn cur new (λ q. if bytes_eq q (get_or ns i d).now then S (get_or ns i d).now else None)
+    → PassesOn old new (λ q. if is_among (texts_view (take (i + 1) ns)) q then S q else None)
 names_more S old cur new ns i d low before one =
-    subst (λ (ts : List (List ℕ)). PassesOn old new (λ q. if is_among ts q then S q else None)) (sym there) (name_more S old cur new (texts (take i ns)) (get_or ns i d).now before one)
+    subst (λ (ts : List (List ℕ)). PassesOn old new (λ q. if is_among ts q then S q else None)) (sym there) (name_more S old cur new (texts_view (take i ns)) (get_or ns i d).now before one)
   where
-    texts-append : (xs ys : List (Bor (List ℕ))) → texts (xs ++ ys) ≡ texts xs ++ texts ys
+    texts-append : (xs ys : List (Bor (List ℕ))) → texts_view (xs ++ ys) ≡ texts_view xs ++ texts_view ys
     texts-append [] ys = refl
     texts-append (x ∷ xs) ys = ap (λ (ts : List (List ℕ)). x.now ∷ ts) (texts-append xs ys)
 
-    there : texts (take (i + 1) ns) ≡ texts (take i ns) ++ ((get_or ns i d).now ∷ [])
-    there = let e : i + 1 ≡ suc i = omega arith in ap texts (rw e (take-suc ns i d low)) ∙ texts-append (take i ns) (get_or ns i d ∷ [])
+    there : texts_view (take (i + 1) ns) ≡ texts_view (take i ns) ++ ((get_or ns i d).now ∷ [])
+    there = let e : i + 1 ≡ suc i = omega arith in ap texts_view (rw e (take-suc ns i d low)) ∙ texts-append (take i ns) (get_or ns i d ∷ [])
 
 -- the names of two lists, one after the other
 pub names_of_both : (S : Table) (old cur new : List Named) (ns ms : List (List ℕ))
@@ -118,16 +118,16 @@ to_others Set from fields old new a b o x given = given
 to_others Other from fields old new a b o x given = given
 
 -- a field that is borrowed stands after those borrowed before it
-borrowed-append : (xs ys : List (Bor (String Global) × Bor (Vec (Spanned Chunk) Global))) → borrowed_fields (xs ++ ys) ≡ borrowed_fields xs ++ borrowed_fields ys
+borrowed-append : (xs ys : List (Bor (String Global) × Bor (Vec (Spanned Chunk) Global))) → borrowed_fields_view (xs ++ ys) ≡ borrowed_fields_view xs ++ borrowed_fields_view ys
 borrowed-append [] ys = refl
-borrowed-append (x ∷ xs) ys = ap (λ (fs : List Named). (string_bytes x.0.now, value_seen x.1.now.items) ∷ fs) (borrowed-append xs ys)
+borrowed-append (x ∷ xs) ys = ap (λ (fs : List Named). (string_bytes x.0.now, field_value_view x.1.now.items) ∷ fs) (borrowed-append xs ys)
 
 pub borrowed_last : (borrowed : List (Bor (String Global) × Bor (Vec (Spanned Chunk) Global))) (n : Bor (String Global)) (v : Bor (Vec (Spanned Chunk) Global))
-    → borrowed_fields (borrowed ++ (n, v) ∷ []) ≡ borrowed_fields borrowed ++ (string_bytes n.now, value_seen v.now.items) ∷ []
+    → borrowed_fields_view (borrowed ++ (n, v) ∷ []) ≡ borrowed_fields_view borrowed ++ (string_bytes n.now, field_value_view v.now.items) ∷ []
 borrowed_last borrowed n v = borrowed-append borrowed ((n, v) ∷ [])
 
 pub borrowed_more : (all : List Named) (borrowed : List (Bor (String Global) × Bor (Vec (Spanned Chunk) Global))) (n : Bor (String Global)) (v : Bor (Vec (Spanned Chunk) Global)) (before after : List (String Global × Vec (Spanned Chunk) Global))
-    → all ≡ borrowed_fields borrowed ++ named_of before → before ≡ (n.now, v.now) ∷ after → all ≡ borrowed_fields (borrowed ++ (n, v) ∷ []) ++ named_of after
+    → all ≡ borrowed_fields_view borrowed ++ named_fields_view before → before ≡ (n.now, v.now) ∷ after → all ≡ borrowed_fields_view (borrowed ++ (n, v) ∷ []) ++ named_fields_view after
 borrowed_more all borrowed n v before after parts step =
-    parts ∙ (ap (λ (es : List (String Global × Vec (Spanned Chunk) Global)). borrowed_fields borrowed ++ named_of es) step
-    ∙ (sym (append_assoc (borrowed_fields borrowed) ((string_bytes n.now, value_seen v.now.items) ∷ []) (named_of after)) ∙ ap (λ (fs : List Named). fs ++ named_of after) (sym (borrowed_last borrowed n v))))
+    parts ∙ (ap (λ (es : List (String Global × Vec (Spanned Chunk) Global)). borrowed_fields_view borrowed ++ named_fields_view es) step
+    ∙ (sym (append_assoc (borrowed_fields_view borrowed) ((string_bytes n.now, field_value_view v.now.items) ∷ []) (named_fields_view after)) ∙ ap (λ (fs : List Named). fs ++ named_fields_view after) (sym (borrowed_last borrowed n v))))

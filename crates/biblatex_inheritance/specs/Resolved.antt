@@ -1,5 +1,5 @@
--- What an entry is once its references are resolved. Fields are seen as what stands under each name. What is inherited stands where it
--- is written: the places of its chunks are those that they have in the reference.
+-- What an entry is once its references are resolved. Fields are viewed as what stands under each name. What is inherited stands where it
+-- is written: the spans of its chunks are those that they have in the reference.
 use Rattle.std.specs.Prelude.{ℕ, ◌^◌, ◌-◌, Bool, true, false, List, [], ◌∷◌, slice_get, if◌then◌else◌, ◌||◌, Option, Some, None, Result, Ok, Err, codes}
 use Rattle.std.specs.List.{flat_map}
 use Rattle.std.specs.Str.{bytes_eq}
@@ -107,7 +107,7 @@ needs_date _ = true
 
 -- a value of one text, which stands in no source
 abbrev pub text_value : List ℕ → Value
-text_value cs = record { text = letters Normal cs; places = (2 ^ 64 - 1, 2 ^ 64 - 1) ∷ []; is_joined = is_filled cs }
+text_value cs = record { text = letters Normal cs; spans = (2 ^ 64 - 1, 2 ^ 64 - 1) ∷ []; is_joined = is_filled cs }
 
 -- a date, without its time, as a value
 abbrev pub date_value : Date → Value
@@ -139,9 +139,9 @@ abbrev pub date_fault : Source → List Offer → Option DateFault
 date_fault e rs = if needs_date (role_of e.entry_type) then first_fault rs else None
 
 -- What references have to offer, as `see` sees the fields of each entry. A number that is no entry's offers nothing.
-abbrev pub offer_seen : ℕ → Option Source → Table → List Offer
-offer_seen n None fields = []
-offer_seen n (Some e) fields = record { number = n; role = role_of e.entry_type; fields = fields } ∷ []
+abbrev pub offer_if : ℕ → Option Source → Table → List Offer
+offer_if n None fields = []
+offer_if n (Some e) fields = record { number = n; role = role_of e.entry_type; fields = fields } ∷ []
 
 abbrev pub offers : List Source → (ℕ → Table) → List ℕ → List Offer
-offers es see rs = flat_map (λ r. offer_seen r (slice_get es r) (see r)) rs
+offers es see rs = flat_map (λ r. offer_if r (slice_get es r) (see r)) rs

@@ -6,7 +6,7 @@ use Rattle.std.specs.Borrow.{Bor}
 use Rattle.biblatex_text.specs.declared.spanned.Spanned.{Spanned}
 use Rattle.biblatex_content.specs.declared.chunk.Chunk.{Chunk}
 use Rattle.biblatex_fields.specs.Fields.{Named, value_named}
-use Rattle.biblatex_fields.specs.Value.{value_seen}
+use Rattle.biblatex_fields.specs.Value.{field_value_view}
 use Rattle.biblatex_entries.specs.TypeNames.{type_name}
 use Rattle.biblatex_entries.specs.Roles.{role_of}
 use Rattle.biblatex_entries.specs.declared.entry.Entry.{Entry}
@@ -15,24 +15,24 @@ use Rattle.biblatex_dates.specs.declared.date.Date.{Date}
 use Rattle.biblatex_inheritance.specs.declared.dated.Dated.{Dated}
 
 -- the value under each name
-abbrev pub table : List Named → Table
-table fs name = value_named name fs
+abbrev pub table_view : List Named → Table
+table_view fs name = value_named name fs
 
 -- what the entry of a number has to offer
 abbrev pub offer : ℕ → Entry → Offer
-offer n e = record { number = n; role = role_of (type_name e.entry_type); fields = table e.fields }
+offer n e = record { number = n; role = role_of (type_name e.entry_type); fields = table_view e.fields }
 
 -- borrowed texts
-abbrev pub texts : List (Bor (List ℕ)) → List (List ℕ)
-texts ts = map (λ t. t.now) ts
+abbrev pub texts_view : List (Bor (List ℕ)) → List (List ℕ)
+texts_view ts = map (λ t. t.now) ts
 
 -- what is lacking comes where it is offered
 abbrev pub PassesOn : List Named → List Named → Table → Type 0
 PassesOn old new offers = (name : List ℕ) → value_named name new ≡ first (value_named name old) (offers name)
 
 -- fields that are borrowed one by one
-abbrev pub borrowed_fields : List (Bor (String Global) × Bor (Vec (Spanned Chunk) Global)) → List Named
-borrowed_fields es = map (λ e. (string_bytes e.0.now, value_seen e.1.now.items)) es
+abbrev pub borrowed_fields_view : List (Bor (String Global) × Bor (Vec (Spanned Chunk) Global)) → List Named
+borrowed_fields_view es = map (λ e. (string_bytes e.0.now, field_value_view e.1.now.items)) es
 
 -- what references have to offer, as the entries stand
 abbrev pub offer_in : ℕ → Option Entry → List Offer

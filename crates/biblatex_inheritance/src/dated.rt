@@ -5,7 +5,7 @@ ghost use Rattle.std.specs.Str.{chars};
 ghost use Rattle.laws.specs.Text.{characters};
 ghost use Rattle.biblatex_dates.specs.Shape.{shape_of, date_of};
 ghost use Rattle.biblatex_inheritance.specs.Resolved.{characters_at, some_date, date_in, readable, fault, later, earlier, last_date, first_fault};
-ghost use Rattle.biblatex_inheritance.specs.Views.{table, offer_in, offer_borrowed, offers_in, IsDated};
+ghost use Rattle.biblatex_inheritance.specs.Views.{table_view, offer_in, offer_borrowed, offers_in, IsDated};
 
 use crate::error::DateFault;
 use biblatex_dates::{Date, TypeErrorKind};
@@ -53,7 +53,9 @@ fn and_date(
     reference: usize,
     entry: Option<&Entry>,
 ) -> Result<Dated, AllocError>
-    ensures { IfOk result (λ d. (d.date ≡ last_date read.date (offer_borrowed reference entry.entry)) × (d.fault ≡ earlier read.fault (first_fault (offer_borrowed reference entry.entry)))) }
+    ensures { IfOk result (λ d.
+        (d.date ≡ last_date read.date (offer_borrowed reference entry.entry))
+        × (d.fault ≡ earlier read.fault (first_fault (offer_borrowed reference entry.entry)))) }
 {
     match entry {
         Some(entry) => Ok(read.and(reference, date_in(alloc, &entry.fields)?)),
@@ -66,7 +68,7 @@ fn date_in(
     alloc: Global,
     fields: &Fields,
 ) -> Result<Result<Option<Date>, TypeErrorKind>, AllocError>
-    ensures { IfOk result (λ r. r ≡ date_in (table fields.now)) }
+    ensures { IfOk result (λ r. r ≡ date_in (table_view fields.now)) }
 {
     let date = text_at(alloc, fields, "date")?;
     if split_first(date.as_str()).is_some() {
@@ -87,7 +89,7 @@ fn read_date(text: &str) -> Result<Option<Date>, TypeErrorKind>
 
 /// The text of the field of that name; empty where there is none.
 fn text_at(alloc: Global, fields: &Fields, name: &str) -> Result<String, AllocError>
-    ensures { IfOk result (λ s. characters s ≡ characters_at (table fields.now) name.now) }
+    ensures { IfOk result (λ s. characters s ≡ characters_at (table_view fields.now) name.now) }
 {
     field_text(alloc, fields, name)
 }

@@ -5,9 +5,9 @@ ghost use Rattle.std.specs.Str.{bytes_eq};
 ghost use Rattle.laws.specs.Text.{characters};
 ghost use Rattle.biblatex_dates.specs.Written.{date_text};
 ghost use Rattle.biblatex_fields.specs.Fields.{value_named};
-ghost use Rattle.biblatex_fields.specs.Value.{value_seen};
+ghost use Rattle.biblatex_fields.specs.Value.{field_value_view};
 ghost use Rattle.biblatex_inheritance.specs.Resolved.{first, first_offer, text_value, date_value, with_date, dated, date_for, needs_date, first_fault, without_xdata};
-ghost use Rattle.biblatex_inheritance.specs.Views.{table, PassesOn, IsTable, offer_in, offers_in};
+ghost use Rattle.biblatex_inheritance.specs.Views.{table_view, PassesOn, IsTable, offer_in, offers_in};
 
 use crate::dated::{Dated, dates_of, entry_at};
 use crate::error::DateFault;
@@ -27,8 +27,12 @@ pub(crate) fn inherit(
     references: &[usize],
     entries: &[Entry],
 ) -> Result<Option<DateFault>, AllocError>
-    ensures fields { OnOk result (IsTable fields.new (dated (date_for role (offers_in entries.now references.now)) (λ name. first (without_xdata (table fields.old) name) (first_offer role (offers_in entries.now references.now) name)))) }
-    ensures fault { IfOk result (λ f. f ≡ (if needs_date role then first_fault (offers_in entries.now references.now) else None)) }
+    ensures fields { OnOk result
+        (IsTable fields.new (dated (date_for role (offers_in entries.now references.now)) (λ name.
+        first (without_xdata (table_view fields.old) name)
+        (first_offer role (offers_in entries.now references.now) name)))) }
+    ensures fault { IfOk result (λ f. f
+        ≡ (if needs_date role then first_fault (offers_in entries.now references.now) else None)) }
 {
     fields.remove("xdata");
     pass_on_all_of(alloc, role, fields, references, entries)?;
@@ -57,7 +61,8 @@ fn pass_on_all_of(
     references: &[usize],
     entries: &[Entry],
 ) -> Result<(), AllocError>
-    ensures { OnOk result (PassesOn fields.old fields.new (first_offer role (offers_in entries.now references.now))) }
+    ensures { OnOk result
+        (PassesOn fields.old fields.new (first_offer role (offers_in entries.now references.now))) }
 {
     for &reference in references {
         pass_on_where(alloc, role, fields, reference, entries)?;
@@ -73,7 +78,8 @@ fn pass_on_where(
     reference: usize,
     entries: &[Entry],
 ) -> Result<(), AllocError>
-    ensures { OnOk result (PassesOn fields.old fields.new (first_offer role (offer_in reference (slice_get entries.now reference)))) }
+    ensures { OnOk result (PassesOn fields.old fields.new
+        (first_offer role (offer_in reference (slice_get entries.now reference)))) }
 {
     match entry_at(entries, reference) {
         Some(from) => pass_on(alloc, role, fields, from),
@@ -81,9 +87,9 @@ fn pass_on_where(
     }
 }
 
-/// Gives the fields a date, without its time, in place of their date, year, month and day.
+/// Gives the fields a date, without its time, instead of their date, year, month and day.
 fn set_date(alloc: Global, fields: &mut Fields, date: Date) -> Result<(), AllocError>
-    ensures { OnOk result (IsTable fields.new (with_date date (table fields.old))) }
+    ensures { OnOk result (IsTable fields.new (with_date date (table_view fields.old))) }
 {
     fields.remove("year");
     fields.remove("month");
@@ -93,7 +99,7 @@ fn set_date(alloc: Global, fields: &mut Fields, date: Date) -> Result<(), AllocE
 
 /// The date, without its time, as a value.
 fn date_value(alloc: Global, date: Date) -> Result<Chunks, AllocError>
-    ensures { IfOk result (λ v. value_seen v.items ≡ date_value date) }
+    ensures { IfOk result (λ v. field_value_view v.items ≡ date_value date) }
 {
     let date = date.without_time();
     let text = text_of_date(alloc, &date)?;
@@ -109,7 +115,7 @@ fn text_of_date(alloc: Global, date: &Date) -> Result<String, AllocError>
 
 /// A value of one normal text.
 fn text_value(alloc: Global, text: String) -> Result<Chunks, AllocError>
-    ensures { IfOk result (λ v. value_seen v.items ≡ text_value (characters text)) }
+    ensures { IfOk result (λ v. field_value_view v.items ≡ text_value (characters text)) }
 {
     let mut value = Vec::new(alloc);
     value.reserve_exact(1)?;

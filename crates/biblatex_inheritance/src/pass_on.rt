@@ -3,12 +3,12 @@
 ghost use Rattle.std.specs.Prelude.{◌≡◌, if◌then◌else◌, None, Some, IfOk, OnOk, ◌||◌};
 ghost use Rattle.std.specs.Str.{bytes_eq};
 ghost use Rattle.biblatex_fields.specs.Fields.{value_named};
-ghost use Rattle.biblatex_fields.specs.Value.{value_seen};
+ghost use Rattle.biblatex_fields.specs.Value.{field_value_view};
 ghost use Rattle.biblatex_entries.specs.Roles.{role_of};
 ghost use Rattle.biblatex_entries.specs.TypeNames.{type_name};
 ghost use Rattle.biblatex_inheritance.specs.Table.{is_among, never, of_all, source_name};
 ghost use Rattle.biblatex_inheritance.specs.Resolved.{offered};
-ghost use Rattle.biblatex_inheritance.specs.Views.{PassesOn, texts, table};
+ghost use Rattle.biblatex_inheritance.specs.Views.{PassesOn, texts_view, table_view};
 
 use crate::table::{OF_ALL, OF_ARTICLES, OF_PARTS, is_never, source_name};
 use biblatex_content::{Chunks, copied};
@@ -23,7 +23,8 @@ pub(crate) fn pass_on(
     fields: &mut Fields,
     from: &Entry,
 ) -> Result<(), AllocError>
-    ensures { OnOk result (PassesOn fields.old fields.new (offered to (role_of (type_name from.now.entry_type)) (table from.now.fields))) }
+    ensures { OnOk result (PassesOn fields.old fields.new
+        (offered to (role_of (type_name from.now.entry_type)) (table_view from.now.fields))) }
 {
     match to {
         Role::XData => pass_on_all(alloc, fields, &from.fields),
@@ -41,7 +42,10 @@ fn pass_on_both(
     from: &Entry,
     names: &[&str],
 ) -> Result<(), AllocError>
-    ensures { OnOk result (PassesOn fields.old fields.new (λ name. if is_among of_all name || is_among (texts names.now) name then value_named (source_name to (role_of (type_name from.now.entry_type)) name) from.now.fields else None)) }
+    ensures { OnOk result (PassesOn fields.old fields.new (λ name. if is_among of_all name
+        || is_among (texts_view names.now) name then value_named
+        (source_name to (role_of (type_name from.now.entry_type)) name) from.now.fields
+        else None)) }
 {
     pass_on_named(alloc, to, fields, from, &OF_ALL)?;
     pass_on_named(alloc, to, fields, from, names)
@@ -55,7 +59,10 @@ fn pass_on_named(
     from: &Entry,
     names: &[&str],
 ) -> Result<(), AllocError>
-    ensures { OnOk result (PassesOn fields.old fields.new (λ name. if is_among (texts names.now) name then value_named (source_name to (role_of (type_name from.now.entry_type)) name) from.now.fields else None)) }
+    ensures { OnOk result (PassesOn fields.old fields.new (λ name.
+        if is_among (texts_view names.now) name then value_named
+        (source_name to (role_of (type_name from.now.entry_type)) name) from.now.fields
+        else None)) }
 {
     for name in names {
         pass_on_one(alloc, to, fields, from, name)?;
@@ -71,7 +78,9 @@ fn pass_on_one(
     from: &Entry,
     wanted: &str,
 ) -> Result<(), AllocError>
-    ensures { OnOk result (PassesOn fields.old fields.new (λ name. if bytes_eq name wanted.now then value_named (source_name to (role_of (type_name from.now.entry_type)) wanted.now) from.now.fields else None)) }
+    ensures { OnOk result (PassesOn fields.old fields.new (λ name. if bytes_eq name wanted.now
+        then value_named (source_name to (role_of (type_name from.now.entry_type)) wanted.now)
+        from.now.fields else None)) }
 {
     match from.get(source_name(to, from.entry_type.role(), wanted)) {
         Some(value) => put_lacking(alloc, fields, wanted, value),
@@ -81,7 +90,8 @@ fn pass_on_one(
 
 /// Passes on all fields but those that never come.
 fn pass_on_all(alloc: Global, fields: &mut Fields, from: &Fields) -> Result<(), AllocError>
-    ensures { OnOk result (PassesOn fields.old fields.new (λ name. if is_among never name then None else value_named name from.now)) }
+    ensures { OnOk result (PassesOn fields.old fields.new (λ name. if is_among never name
+        then None else value_named name from.now)) }
 {
     for (name, value) in from.iter() {
         if !is_never(name.as_str()) {
@@ -98,7 +108,8 @@ fn put_lacking(
     wanted: &str,
     value: &Chunks,
 ) -> Result<(), AllocError>
-    ensures { OnOk result (PassesOn fields.old fields.new (λ name. if bytes_eq name wanted.now then Some (value_seen value.now.items) else None)) }
+    ensures { OnOk result (PassesOn fields.old fields.new (λ name. if bytes_eq name wanted.now
+        then Some (field_value_view value.now.items) else None)) }
 {
     if fields.get(wanted).is_some() {
         return Ok(());
@@ -109,9 +120,9 @@ fn put_lacking(
     )
 }
 
-/// The same value, at the same places.
+/// The same value, with the same spans.
 fn copied_value(alloc: Global, value: &Chunks) -> Result<Chunks, AllocError>
-    ensures { IfOk result (λ v. value_seen v.items ≡ value_seen value.now.items) }
+    ensures { IfOk result (λ v. field_value_view v.items ≡ field_value_view value.now.items) }
 {
     let copies = copied(alloc, value.as_slice())?;
     Ok(copies)

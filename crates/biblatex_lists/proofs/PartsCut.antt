@@ -43,7 +43,7 @@ and_is_long (s ∷ a ∷ n ∷ []) e = absurd cc
 and_is_long (s ∷ a ∷ n ∷ d ∷ []) e = absurd cc
 and_is_long (s ∷ a ∷ n ∷ d ∷ t ∷ ss) e = omega arith
 
--- one more place without a cut
+-- one more index without a cut
 pub one_more_uncut : (ss : List StyledChar) (i : ℕ) → i < length ss → begins_and (drop i ss) ≡ false → before_first (take i ss) (cut (drop i ss)) ≡ before_first (take (suc i) ss) (cut (drop (suc i) ss))
 one_more_uncut [] i below e = absurd (omega arith)
 one_more_uncut (s ∷ ss) zero below e = before_none 0 (s ∷ ss) ∙ cut_goes_on s ss e
@@ -55,6 +55,6 @@ one_more_uncut (s ∷ ss) (suc i) below e =
 pub cut_first : (ss : List StyledChar) (i : ℕ) → cut ss ≡ before_first (take i ss) (cut (drop i ss)) → begins_and (drop i ss) ≡ true → cut ss ≡ take i ss ∷ cut (drop 4 (drop i ss))
 cut_first ss i so_far e = so_far ∙ (ap (before_first (take i ss)) (cut_here (drop i ss) e) ∙ ap (λ (p : List StyledChar). p ∷ cut (drop 4 (drop i ss))) (append-nil (take i ss)))
 
--- what follows a place, as a slice to the end
+-- what follows an index, as a slice to the end
 pub slice_to_end : {A : Type 0} (xs : List A) (k : ℕ) → take (length xs - k) (drop k xs) ≡ drop k xs
 slice_to_end xs k = rw (sym (length-drop k xs)) (take-length (drop k xs))

@@ -35,7 +35,7 @@ last_gap ss i d below e = rw (take-suc ss i d below) (gap_at_end (take i ss) (ge
 pub last_no_gap : (ss : List StyledChar) (i : ℕ) (d : StyledChar) → i < length ss → is_gap (get_or ss i d) ≡ false → without_last_gaps (take (suc i) ss) ≡ take (suc i) ss
 last_no_gap ss i d below e = rw (take-suc ss i d below) (no_gap_at_end (take i ss) (get_or ss i d) e)
 
--- the same where the place is one below another
+-- the same where the index is one below another
 pub last_gap_below : (ss : List StyledChar) (i : ℕ) (d : StyledChar) → 0 < i → i ≤ length ss → is_gap (get_or ss (i - 1) d) ≡ true → without_last_gaps (take i ss) ≡ without_last_gaps (take (i - 1) ss)
 last_gap_below ss i d some below e =
     let same : i ≡ suc (i - 1) = omega arith in

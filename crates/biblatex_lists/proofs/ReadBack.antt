@@ -44,8 +44,8 @@ trimmed_already [] e = refl
 trimmed_already (s ∷ ss) e =
     let no_gap : is_gap s ≡ false = or_first (is_gap s) (holds begins_two_gaps (s ∷ ss ++ space ∷ [])) e in
     let more = or_second (is_gap s) (holds begins_two_gaps (s ∷ ss ++ space ∷ [])) e in
-    let front : without_first_gaps (s ∷ ss) ≡ s ∷ ss = rw no_gap refl in
-    ap without_last_gaps front ∙ no_end_gaps (s ∷ ss) more
+    let prefix : without_first_gaps (s ∷ ss) ≡ s ∷ ss = rw no_gap refl in
+    ap without_last_gaps prefix ∙ no_end_gaps (s ∷ ss) more
 
 -- verbatim text holds nothing that parts
 pub no_gap_no_and : (s : StyledChar) (ss : List StyledChar) → is_gap s ≡ false → begins_and (s ∷ ss) ≡ false

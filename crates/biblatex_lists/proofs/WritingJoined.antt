@@ -54,14 +54,14 @@ window_at_end s (a ∷ n ∷ []) e = refl
 window_at_end s (a ∷ n ∷ d ∷ []) e = refl
 window_at_end s (a ∷ n ∷ d ∷ t ∷ x) e = e
 
--- a part in front is not cut
-pub part_in_front : (x rest : List StyledChar) → holds begins_and (x ++ space ∷ []) ≡ false → cut (x ++ space ∷ rest) ≡ before_first x (cut (space ∷ rest))
-part_in_front [] rest e = sym (before_none 0 (space ∷ rest))
-part_in_front (s ∷ x) rest e =
+-- a part before is not cut
+pub part_at_start : (x rest : List StyledChar) → holds begins_and (x ++ space ∷ []) ≡ false → cut (x ++ space ∷ rest) ≡ before_first x (cut (space ∷ rest))
+part_at_start [] rest e = sym (before_none 0 (space ∷ rest))
+part_at_start (s ∷ x) rest e =
     let here = or_first (begins_and (s ∷ x ++ space ∷ [])) (holds begins_and (x ++ space ∷ [])) e in
     let more = or_second (begins_and (s ∷ x ++ space ∷ [])) (holds begins_and (x ++ space ∷ [])) e in
     cut_goes_on s (x ++ space ∷ rest) (same_window s x rest here)
-    ∙ (ap (before_first (s ∷ [])) (part_in_front x rest more) ∙ before_more (s ∷ []) x (cut (space ∷ rest)))
+    ∙ (ap (before_first (s ∷ [])) (part_at_start x rest more) ∙ before_more (s ∷ []) x (cut (space ∷ rest)))
 
 -- a part alone is not cut
 pub part_alone : (x : List StyledChar) → holds begins_and (x ++ space ∷ []) ≡ false → cut x ≡ x ∷ []
@@ -75,7 +75,7 @@ part_alone (s ∷ x) e =
 cut_joined : (x : List StyledChar) (ps : List (List StyledChar)) → holds begins_and (x ++ space ∷ []) ≡ false → AreParts ps → cut (x ++ past_first ps) ≡ x ∷ map (λ (p : List StyledChar). space ∷ p) ps
 cut_joined x [] e all = ap cut (append-nil x) ∙ part_alone x e
 cut_joined x (p ∷ ps) e all =
-    part_in_front x (of_style true (97 ∷ 110 ∷ 100 ∷ 32 ∷ []) ++ (p ++ past_first ps)) e
+    part_at_start x (of_style true (97 ∷ 110 ∷ 100 ∷ 32 ∷ []) ++ (p ++ past_first ps)) e
     ∙ (ap (λ (q : List StyledChar). q ∷ cut ((space ∷ p) ++ past_first ps)) (append-nil x)
     ∙ ap (λ (qs : List (List StyledChar)). x ∷ qs) (cut_joined (space ∷ p) ps all.0.alone all.1))
 

@@ -4,7 +4,7 @@ use Rattle.std.specs.Borrow.{Bor}
 use Rattle.biblatex_lists.specs.declared.styled_char.StyledChar.{StyledChar}
 use Rattle.biblatex_lists.specs.StyledChars.{is_gap, spells}
 
--- white space, the word `and` in any case, and white space again stand at the front
+-- white space, the word `and` in any case, and white space again stand at the start
 abbrev pub begins_and : List StyledChar → Bool
 begins_and [] = false
 begins_and (s ∷ []) = false
@@ -29,7 +29,7 @@ cut_after zero (s ∷ ss) = if begins_and (s ∷ ss) then [] ∷ cut_after 3 ss 
 abbrev pub cut : List StyledChar → List (List StyledChar)
 cut ss = cut_after 0 ss
 
--- without the white space at the front
+-- without the white space at the start
 abbrev pub without_first_gaps : List StyledChar → List StyledChar
 without_first_gaps [] = []
 without_first_gaps (s ∷ ss) = if is_gap s then without_first_gaps ss else s ∷ ss

@@ -36,7 +36,7 @@ space = in_style true 32
 abbrev pub padded : List ℕ → List StyledChar
 padded cs = space ∷ of_style true cs ++ space ∷ []
 
--- whether what stands at the front would part the text, or be no space between two words: the word `and` between white
+-- whether what stands at the start would part the text, or be no space between two words: the word `and` between white
 -- space, or white space twice
 abbrev pub begins_two_gaps : List StyledChar → Bool
 begins_two_gaps [] = false

@@ -6,7 +6,7 @@ ghost use Rattle.biblatex_lists.specs.Parts.{begins_and, cut, borrowed, parts, t
 use crate::styled_char::StyledChar;
 use std::alloc::{AllocError, Global};
 
-/// Whether white space, the word `and` in any case, and white space stand at the front.
+/// Whether white space, the word `and` in any case, and white space stand at the start.
 pub(crate) fn begins_and(text: &[StyledChar]) -> bool
     ensures { result ≡ begins_and text.now }
 {
@@ -20,7 +20,8 @@ pub(crate) fn begins_and(text: &[StyledChar]) -> bool
 
 /// What stands before the first word `and` between white space, and what follows it with that white space.
 fn split_at_and(text: &[StyledChar]) -> Option<(&[StyledChar], &[StyledChar])>
-    ensures cut { MatchOption result (cut text.now ≡ text.now ∷ []) (λ p. cut text.now ≡ p.0.now ∷ cut p.1.now) }
+    ensures cut { MatchOption result (cut text.now ≡ text.now ∷ []) (λ p. cut text.now
+        ≡ p.0.now ∷ cut p.1.now) }
     ensures shorter { MatchOption result Unit (λ p. length p.1.now + 4 ≤ length text.now) }
 {
     for i in 0..text.len() {
@@ -31,7 +32,7 @@ fn split_at_and(text: &[StyledChar]) -> Option<(&[StyledChar], &[StyledChar])>
     None
 }
 
-/// Without the white space at the front.
+/// Without the white space at the start.
 fn without_first_gaps(text: &[StyledChar]) -> &[StyledChar]
     ensures { result.now ≡ without_first_gaps text.now }
 {

@@ -19,7 +19,8 @@ fn push_filled(
     texts: &mut Vec<String>,
     part: &[StyledChar],
 ) -> Result<(), AllocError>
-    ensures { OnOk result (map characters texts.new.items ≡ map characters texts.old.items ++ texts_of (part.now ∷ [])) }
+    ensures { OnOk result (map characters texts.new.items
+        ≡ map characters texts.old.items ++ texts_of (part.now ∷ [])) }
 {
     if !part.is_empty() {
         texts.push(plain_text(alloc, part)?)?;
@@ -49,7 +50,8 @@ pub fn read_texts(alloc: Global, value: &[Spanned<Chunk>]) -> Result<Vec<String>
 
 /// Appends each text, after ` and `.
 fn push_others(writing: &mut Writing, texts: &[String]) -> Result<(), AllocError>
-    ensures { OnOk result (so_far writing.new ≡ so_far writing.old ++ flat_map after_and (map written_text (map characters texts.now))) }
+    ensures { OnOk result (so_far writing.new
+        ≡ so_far writing.old ++ flat_map after_and (map written_text (map characters texts.now))) }
 {
     for text in texts {
         writing.push_and()?;
@@ -60,7 +62,8 @@ fn push_others(writing: &mut Writing, texts: &[String]) -> Result<(), AllocError
 
 /// Appends the texts, with ` and ` between them.
 fn push_texts(writing: &mut Writing, texts: &[String]) -> Result<(), AllocError>
-    ensures { OnOk result (so_far writing.new ≡ so_far writing.old ++ written_texts (map characters texts.now)) }
+    ensures { OnOk result (so_far writing.new
+        ≡ so_far writing.old ++ written_texts (map characters texts.now)) }
 {
     match texts.split_first() {
         Some((first, others)) => {

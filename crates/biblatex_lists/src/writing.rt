@@ -40,7 +40,7 @@ const SPACE: StyledChar = StyledChar {
     is_normal: true,
 };
 
-/// Whether what stands at the front is the word `and` between white space, or white space twice.
+/// Whether what stands at the start is the word `and` between white space, or white space twice.
 pub fn is_loose(text: &[StyledChar]) -> bool
     ensures { result ≡ is_loose text.now }
 {
@@ -117,7 +117,8 @@ impl Writing {
 
     /// Appends a text, Normal or verbatim. After an error some of it may have been written.
     pub fn push_str(&mut self, is_normal: bool, text: &str) -> Result<(), AllocError>
-        ensures { OnOk result (so_far self.new ≡ so_far self.old ++ letters (kind is_normal) (chars text.now)) }
+        ensures { OnOk result (so_far self.new
+            ≡ so_far self.old ++ letters (kind is_normal) (chars text.now)) }
     {
         self.turn(is_normal)?;
         push_text(&mut self.run, text)

@@ -2,5 +2,5 @@ pub mod WordsCut
 pub mod ViewsLists
 pub mod WordsWindows
 pub mod WritingFields
-pub mod WritingFronts
+pub mod WritingLeading
 pub mod ReadBack

@@ -20,7 +20,7 @@ use Rattle.biblatex_people.specs.Writing.{is_steady, is_name, written_part, writ
 use Rattle.biblatex_people.specs.Laws.{is_prefix, is_read_back, AreReadBack, PeopleReadBack, is_capitalised, is_plain_person, PlainPeopleAreReadBack}
 use Rattle.biblatex_people.proofs.WordsWindows.{comma, comma_before}
 use Rattle.biblatex_people.proofs.WritingFields.{IsField, nowhere_loose, field_before_comma, field_has_no_comma, cut_before, cut_nowhere, no_pair, joined_field, part_field}
-use Rattle.biblatex_people.proofs.WritingFronts.{IsFront, name_chars, part_chars, front_without, front_with}
+use Rattle.biblatex_people.proofs.WritingLeading.{IsLeading, name_chars, part_chars, leading_without, leading_with}
 
 -- what stands after the last comma, and after the first one
 abbrev given_rest : List StyledChar → List StyledChar
@@ -46,7 +46,7 @@ tail_fine (c ∷ s) g fs fg =
     ap (λ (ss : List StyledChar). holds is_loose (space ∷ ss)) (append_assoc (c ∷ s) (comma ∷ given_rest g) (space ∷ []))
     ∙ field_before_comma (c ∷ s) (given_rest g ++ space ∷ []) fs (comma_before (given_rest g ++ space ∷ []) (given_fine g fg))
 
-person_fine : (x s g : List StyledChar) (prefix name : List ℕ) → IsFront x prefix name → IsField s → IsField g → holds is_loose (space ∷ person_chars x s g ++ space ∷ []) ≡ false
+person_fine : (x s g : List StyledChar) (prefix name : List ℕ) → IsLeading x prefix name → IsField s → IsField g → holds is_loose (space ∷ person_chars x s g ++ space ∷ []) ≡ false
 person_fine x s g prefix name fx fs fg =
     ap (λ (ss : List StyledChar). holds is_loose (space ∷ ss)) (append_assoc x (comma ∷ tail_rest s g) (space ∷ []))
     ∙ fx.fine (tail_rest s g ++ space ∷ []) (comma_before (tail_rest s g ++ space ∷ []) (tail_fine s g fs fg))
@@ -71,13 +71,13 @@ by_commas x ps e =
 abbrev name_of : List ℕ → List ℕ → List ℕ → List ℕ → Named
 name_of prefix name suffix given = record { name = name; given_name = given; prefix = prefix; suffix = suffix }
 
-of_words : (x : List StyledChar) (prefix name suffix given : List ℕ) (ws gs : List (List StyledChar)) → IsFront x prefix name → joined_words ws ≡ suffix → joined_words gs ≡ given → with_commas (words x) ws gs ≡ name_of prefix name suffix given
+of_words : (x : List StyledChar) (prefix name suffix given : List ℕ) (ws gs : List (List StyledChar)) → IsLeading x prefix name → joined_words ws ≡ suffix → joined_words gs ≡ given → with_commas (words x) ws gs ≡ name_of prefix name suffix given
 of_words x prefix name suffix given ws gs fx es eg = four fx.before fx.following es eg
   where
     four : {a b c d : List ℕ} → a ≡ prefix → b ≡ name → c ≡ suffix → d ≡ given → name_of a b c d ≡ name_of prefix name suffix given
     four pa pb pc pd = rw (pa, pb, pc, pd) refl
 
-read_person : (x s g : List StyledChar) (prefix name : List ℕ) → IsFront x prefix name → IsField s → IsField g → person_in (person_chars x s g) ≡ name_of prefix name (plain s) (plain g)
+read_person : (x s g : List StyledChar) (prefix name : List ℕ) → IsLeading x prefix name → IsField s → IsField g → person_in (person_chars x s g) ≡ name_of prefix name (plain s) (plain g)
 read_person x [] g prefix name fx fs fg =
     ap person_of (cut_before x (given_rest g) fx.commas ∙ ap (λ (ps : List (List StyledChar)). x ∷ ps) (given_parts g fg))
     ∙ (by_commas x (given_rest g ∷ []) fx.equals ∙ of_words x prefix name [] (plain g) [] (words (given_rest g)) fx refl (ap joined_words (given_words g) ∙ joined_field g fg))
@@ -132,12 +132,12 @@ comma_not_others (o ∷ t ∷ h ∷ f ∷ r ∷ s ∷ []) e = by_test (is_others
 comma_not_others (o ∷ t ∷ h ∷ f ∷ r ∷ s ∷ u ∷ ss) e = refl
 
 -- a person as characters
-abbrev front_chars : List ℕ → List ℕ → List StyledChar
-front_chars [] name = name_chars name
-front_chars (c ∷ p) name = part_chars (c ∷ p) ++ space ∷ name_chars name
+abbrev leading_chars : List ℕ → List ℕ → List StyledChar
+leading_chars [] name = name_chars name
+leading_chars (c ∷ p) name = part_chars (c ∷ p) ++ space ∷ name_chars name
 
 abbrev chars_of : Named → List StyledChar
-chars_of n = person_chars (front_chars n.prefix n.name) (part_chars n.suffix) (part_chars n.given_name)
+chars_of n = person_chars (leading_chars n.prefix n.name) (part_chars n.suffix) (part_chars n.given_name)
 
 -- what is written of the given name and the suffix
 given_chars : (g : List ℕ) → styled_chars (given_after g) ≡ comma ∷ given_rest (part_chars g)
@@ -154,9 +154,9 @@ tail_chars (c ∷ s) g =
 name_written : (name : List ℕ) (ms : List Member) → styled_chars (written_name name ++ ms) ≡ name_chars name ++ styled_chars ms
 name_written name ms = chars_of_both (written_name name) ms ∙ ap (λ (ss : List StyledChar). ss ++ styled_chars ms) (chars_of_letters (is_name name) name)
 
-front_written : (p name : List ℕ) (ms : List Member) → styled_chars (before_name p ++ (written_name name ++ ms)) ≡ front_chars p name ++ styled_chars ms
-front_written [] name ms = name_written name ms
-front_written (c ∷ p) name ms =
+leading_written : (p name : List ℕ) (ms : List Member) → styled_chars (before_name p ++ (written_name name ++ ms)) ≡ leading_chars p name ++ styled_chars ms
+leading_written [] name ms = name_written name ms
+leading_written (c ∷ p) name ms =
     chars_of_both (before_name (c ∷ p)) (written_name name ++ ms)
     ∙ (ap (λ (ss : List StyledChar). ss ++ styled_chars (written_name name ++ ms)) (chars_of_both (written_part (c ∷ p)) (letters (kind true) (32 ∷ [])) ∙ ap (λ (ss : List StyledChar). ss ++ space ∷ []) (chars_of_letters (is_steady (c ∷ p)) (c ∷ p)))
     ∙ (ap (λ (ss : List StyledChar). (part_chars (c ∷ p) ++ space ∷ []) ++ ss) (name_written name ms)
@@ -165,16 +165,16 @@ front_written (c ∷ p) name ms =
 
 person_written : (n : Named) → styled_chars (written_person n) ≡ chars_of n
 person_written n =
-    front_written n.prefix n.name (after_name n.suffix ++ given_after n.given_name)
-    ∙ ap (λ (ss : List StyledChar). front_chars n.prefix n.name ++ ss) (tail_chars n.suffix n.given_name)
+    leading_written n.prefix n.name (after_name n.suffix ++ given_after n.given_name)
+    ∙ ap (λ (ss : List StyledChar). leading_chars n.prefix n.name ++ ss) (tail_chars n.suffix n.given_name)
 
 -- what is known of one that is read back
-front_is : (p name : List ℕ) → not (is_filled p) || (is_prefix p && is_filled name) ≡ true → IsFront (front_chars p name) p name
-front_is [] name e = front_without name
-front_is (c ∷ p) name e = front_with c p name (and_first (is_prefix (c ∷ p)) (is_filled name) e) (and_second (is_prefix (c ∷ p)) (is_filled name) e)
+leading_is : (p name : List ℕ) → not (is_filled p) || (is_prefix p && is_filled name) ≡ true → IsLeading (leading_chars p name) p name
+leading_is [] name e = leading_without name
+leading_is (c ∷ p) name e = leading_with c p name (and_first (is_prefix (c ∷ p)) (is_filled name) e) (and_second (is_prefix (c ∷ p)) (is_filled name) e)
 
-front_of : (n : Named) → is_read_back n ≡ true → IsFront (front_chars n.prefix n.name) n.prefix n.name
-front_of n e = front_is n.prefix n.name (and_second (is_named n) (not (is_filled n.prefix) || (is_prefix n.prefix && is_filled n.name)) e)
+leading_of : (n : Named) → is_read_back n ≡ true → IsLeading (leading_chars n.prefix n.name) n.prefix n.name
+leading_of n e = leading_is n.prefix n.name (and_second (is_named n) (not (is_filled n.prefix) || (is_prefix n.prefix && is_filled n.name)) e)
 
 first_of : (n : Named) (ns : List Named) → AreReadBack (n ∷ ns) → is_read_back n ≡ true
 first_of n ns e = and_first (is_read_back n) (list_all is_read_back ns) e
@@ -185,18 +185,18 @@ others_of n ns e = and_second (is_read_back n) (list_all is_read_back ns) e
 -- a person that is read back
 person_back : (n : Named) → is_read_back n ≡ true → person_in (chars_of n) ≡ n
 person_back n e =
-    read_person (front_chars n.prefix n.name) (part_chars n.suffix) (part_chars n.given_name) n.prefix n.name (front_of n e) (part_field n.suffix (is_steady n.suffix) refl) (part_field n.given_name (is_steady n.given_name) refl)
+    read_person (leading_chars n.prefix n.name) (part_chars n.suffix) (part_chars n.given_name) n.prefix n.name (leading_of n e) (part_field n.suffix (is_steady n.suffix) refl) (part_field n.given_name (is_steady n.given_name) refl)
     ∙ fields (plain_of_style (is_steady n.suffix) n.suffix) (plain_of_style (is_steady n.given_name) n.given_name)
   where
     fields : plain (part_chars n.suffix) ≡ n.suffix → plain (part_chars n.given_name) ≡ n.given_name → name_of n.prefix n.name (plain (part_chars n.suffix)) (plain (part_chars n.given_name)) ≡ n
     fields s g = rw (s, g) refl
 
 person_loose : (n : Named) → is_read_back n ≡ true → holds is_loose (space ∷ chars_of n ++ space ∷ []) ≡ false
-person_loose n e = person_fine (front_chars n.prefix n.name) (part_chars n.suffix) (part_chars n.given_name) n.prefix n.name (front_of n e)
+person_loose n e = person_fine (leading_chars n.prefix n.name) (part_chars n.suffix) (part_chars n.given_name) n.prefix n.name (leading_of n e)
     (part_field n.suffix (is_steady n.suffix) refl) (part_field n.given_name (is_steady n.given_name) refl)
 
 person_not_others : (n : Named) → is_others (chars_of n) ≡ false
-person_not_others n = comma_not_others (chars_of n) (has_comma (front_chars n.prefix n.name) (tail_rest (part_chars n.suffix) (part_chars n.given_name)))
+person_not_others n = comma_not_others (chars_of n) (has_comma (leading_chars n.prefix n.name) (tail_rest (part_chars n.suffix) (part_chars n.given_name)))
 
 -- a list of people
 are_parts : (ns : List Named) → AreReadBack ns → AreParts (map chars_of ns)
@@ -258,18 +258,18 @@ capitalised_filled : (cs : List ℕ) → is_capitalised cs ≡ true → is_fille
 capitalised_filled [] e = absurd cc
 capitalised_filled (c ∷ cs) e = refl
 
-filled_front : (cs ds : List ℕ) → is_filled cs ≡ true → is_filled (cs ++ ds) ≡ true
-filled_front [] ds e = absurd cc
-filled_front (c ∷ cs) ds e = refl
+filled_leading : (cs ds : List ℕ) → is_filled cs ≡ true → is_filled (cs ++ ds) ≡ true
+filled_leading [] ds e = absurd cc
+filled_leading (c ∷ cs) ds e = refl
 
 plain_back : (n : Named) → is_plain_person n ≡ true → is_read_back n ≡ true
 plain_back n e =
-    let front = and_first (is_capitalised n.name && is_capitalised n.given_name && not (is_filled n.prefix)) (not (is_filled n.suffix)) e in
-    let names = and_first (is_capitalised n.name && is_capitalised n.given_name) (not (is_filled n.prefix)) front in
-    let prefix = and_second (is_capitalised n.name && is_capitalised n.given_name) (not (is_filled n.prefix)) front in
+    let leading = and_first (is_capitalised n.name && is_capitalised n.given_name && not (is_filled n.prefix)) (not (is_filled n.suffix)) e in
+    let names = and_first (is_capitalised n.name && is_capitalised n.given_name) (not (is_filled n.prefix)) leading in
+    let prefix = and_second (is_capitalised n.name && is_capitalised n.given_name) (not (is_filled n.prefix)) leading in
     let filled : is_filled (n.name ++ n.given_name ++ n.prefix ++ n.suffix) ≡ true =
-    filled_front (n.name ++ n.given_name ++ n.prefix) n.suffix (filled_front (n.name ++ n.given_name) n.prefix
-    (filled_front n.name n.given_name (capitalised_filled n.name (and_first (is_capitalised n.name) (is_capitalised n.given_name) names)))) in
+    filled_leading (n.name ++ n.given_name ++ n.prefix) n.suffix (filled_leading (n.name ++ n.given_name) n.prefix
+    (filled_leading n.name n.given_name (capitalised_filled n.name (and_first (is_capitalised n.name) (is_capitalised n.given_name) names)))) in
     rw (filled, prefix) refl
 
 pub plain_people_are_back : PlainPeopleAreReadBack

@@ -8,7 +8,7 @@ use Rattle.biblatex_lists.specs.Parts.{borrowed}
 use Rattle.biblatex_people.specs.Words.{is_small, lead_count, words}
 use Rattle.biblatex_people.specs.declared.person.Person.{Person}
 use Rattle.biblatex_people.specs.Reading.{person_in, is_others, ends_in_others, without_others, by_parts, with_commas}
-use Rattle.biblatex_people.specs.Views.{named}
+use Rattle.biblatex_people.specs.Views.{named_view}
 
 abbrev its_now : Bor (List StyledChar) → List StyledChar
 its_now p = p.now
@@ -48,30 +48,30 @@ two_more (w ∷ v ∷ ws) (suc i) below = ap (λ (x : List (List StyledChar)). w
 one_more : (ws : List (List StyledChar)) (i : ℕ) → i < length ws → take (suc i) ws ≡ take i ws ++ get_or ws i [] ∷ []
 one_more ws i below = take-suc ws i [] below
 
-length_front : (ws : List (List StyledChar)) (i : ℕ) → i < length ws → length (take i ws) ≡ i
-length_front [] i below = absurd (omega arith)
-length_front (w ∷ ws) zero below = refl
-length_front (w ∷ ws) (suc i) below = let more = length_front ws i (omega arith) in omega arith
+length_leading : (ws : List (List StyledChar)) (i : ℕ) → i < length ws → length (take i ws) ≡ i
+length_leading [] i below = absurd (omega arith)
+length_leading (w ∷ ws) zero below = refl
+length_leading (w ∷ ws) (suc i) below = let more = length_leading ws i (omega arith) in omega arith
 
--- a small word before the last one of a front
-pub front_small : (ws : List (List StyledChar)) (i : ℕ) → suc i < length ws → is_small (get_or ws i []) ≡ true → lead_count (take (suc (suc i)) ws) ≡ suc i
-front_small ws i below e =
-    let long : length (take i ws) ≡ i = length_front ws i (omega arith) in
+-- a small word before the last one of the first part
+pub leading_small : (ws : List (List StyledChar)) (i : ℕ) → suc i < length ws → is_small (get_or ws i []) ≡ true → lead_count (take (suc (suc i)) ws) ≡ suc i
+leading_small ws i below e =
+    let long : length (take i ws) ≡ i = length_leading ws i (omega arith) in
     ap lead_count (two_more ws i below) ∙ (lead_small (take i ws) (get_or ws i []) (get_or ws (suc i) []) e ∙ ap suc long)
 
 -- a word there that is not small
-pub front_large : (ws : List (List StyledChar)) (i : ℕ) → suc i < length ws → is_small (get_or ws i []) ≡ false → lead_count (take (suc (suc i)) ws) ≡ lead_count (take (suc i) ws)
-front_large ws i below e =
+pub leading_large : (ws : List (List StyledChar)) (i : ℕ) → suc i < length ws → is_small (get_or ws i []) ≡ false → lead_count (take (suc (suc i)) ws) ≡ lead_count (take (suc i) ws)
+leading_large ws i below e =
     ap lead_count (two_more ws i below) ∙ (lead_large (take i ws) (get_or ws i []) (get_or ws (suc i) []) e ∙ ap lead_count (sym (one_more ws i (omega arith))))
 
--- the same for what is borrowed, where the place is one below another
+-- the same for what is borrowed, where the index is one below another
 pub found_small : (ws : List (Bor (List StyledChar))) (i : ℕ) (d : Bor (List StyledChar)) → 1 < i → i ≤ length ws → is_small ((get_or ws (i - 1 - 1) d).now) ≡ true → lead_count (borrowed (take i ws)) ≡ i - 1
 found_small ws i d some below e =
     let long = borrowed_length ws in
     let here : get_or (borrowed ws) (i - 1 - 1) [] ≡ (get_or ws (i - 1 - 1) d).now = get_or-map its_now ws (i - 1 - 1) d [] (omega arith) in
     let same : i ≡ suc (suc (i - 1 - 1)) = omega arith in
     let last : suc (i - 1 - 1) ≡ i - 1 = omega arith in
-    ap lead_count (borrowed_take i ws) ∙ (ap (λ (k : ℕ). lead_count (take k (borrowed ws))) same ∙ (front_small (borrowed ws) (i - 1 - 1) (omega arith) (ap is_small here ∙ e) ∙ last))
+    ap lead_count (borrowed_take i ws) ∙ (ap (λ (k : ℕ). lead_count (take k (borrowed ws))) same ∙ (leading_small (borrowed ws) (i - 1 - 1) (omega arith) (ap is_small here ∙ e) ∙ last))
 
 pub found_large : (ws : List (Bor (List StyledChar))) (i : ℕ) (d : Bor (List StyledChar)) → 1 < i → i ≤ length ws → is_small ((get_or ws (i - 1 - 1) d).now) ≡ false → lead_count (borrowed (take i ws)) ≡ lead_count (borrowed (take (i - 1) ws))
 found_large ws i d some below e =
@@ -79,7 +79,7 @@ found_large ws i d some below e =
     let here : get_or (borrowed ws) (i - 1 - 1) [] ≡ (get_or ws (i - 1 - 1) d).now = get_or-map its_now ws (i - 1 - 1) d [] (omega arith) in
     let same : i ≡ suc (suc (i - 1 - 1)) = omega arith in
     let last : suc (i - 1 - 1) ≡ i - 1 = omega arith in
-    ap lead_count (borrowed_take i ws) ∙ (ap (λ (k : ℕ). lead_count (take k (borrowed ws))) same ∙ (front_large (borrowed ws) (i - 1 - 1) (omega arith) (ap is_small here ∙ e)
+    ap lead_count (borrowed_take i ws) ∙ (ap (λ (k : ℕ). lead_count (take k (borrowed ws))) same ∙ (leading_large (borrowed ws) (i - 1 - 1) (omega arith) (ap is_small here ∙ e)
     ∙ (ap (λ (k : ℕ). lead_count (take k (borrowed ws))) last ∙ sym (ap lead_count (borrowed_take (i - 1) ws)))))
 
 -- three parts or more
@@ -90,11 +90,11 @@ by_three_parts (p ∷ q ∷ []) d long = absurd (omega arith)
 by_three_parts (p ∷ q ∷ r ∷ ps) d long = refl
 
 -- one more person
-pub people_more : (xs : List Person) (x : Person) (ps : List (List StyledChar)) (p : List StyledChar) → map named xs ≡ map person_in ps → named x ≡ person_in p → map named (xs ++ x ∷ []) ≡ map person_in (ps ++ p ∷ [])
-people_more xs x ps p e f = rw (map-append named xs (x ∷ []), map-append person_in ps (p ∷ []), e, f) refl
+pub people_more : (xs : List Person) (x : Person) (ps : List (List StyledChar)) (p : List StyledChar) → map named_view xs ≡ map person_in ps → named_view x ≡ person_in p → map named_view (xs ++ x ∷ []) ≡ map person_in (ps ++ p ∷ [])
+people_more xs x ps p e f = rw (map-append named_view xs (x ∷ []), map-append person_in ps (p ∷ []), e, f) refl
 
 -- without a last `others`
-pub without_last : (xs : List Person) (ps : List (List StyledChar)) → map named xs ≡ map person_in ps → ends_in_others ps ≡ true → map named (take (length xs - 1) xs) ≡ map person_in (without_others ps)
+pub without_last : (xs : List Person) (ps : List (List StyledChar)) → map named_view xs ≡ map person_in ps → ends_in_others ps ≡ true → map named_view (take (length xs - 1) xs) ≡ map person_in (without_others ps)
 without_last xs ps e ends =
-    let long : length xs ≡ length ps = sym (length-map xs named) ∙ (ap length e ∙ length-map ps person_in) in
-    rw ends (sym (take-map named (length xs - 1) xs) ∙ (ap (take (length xs - 1)) e ∙ (take-map person_in (length xs - 1) ps ∙ ap (λ (k : ℕ). map person_in (take (k - 1) ps)) long)))
+    let long : length xs ≡ length ps = sym (length-map xs named_view) ∙ (ap length e ∙ length-map ps person_in) in
+    rw ends (sym (take-map named_view (length xs - 1) xs) ∙ (ap (take (length xs - 1)) e ∙ (take-map person_in (length xs - 1) ps ∙ ap (λ (k : ℕ). map person_in (take (k - 1) ps)) long)))

@@ -4,45 +4,45 @@ use Rattle.biblatex_lists.specs.declared.styled_char.StyledChar.{StyledChar}
 use Rattle.biblatex_lists.specs.Parts.{before_first}
 use Rattle.biblatex_lists.proofs.PartsCut.{before_more}
 use Rattle.biblatex_people.specs.declared.words.Mark.{Mark}
-use Rattle.biblatex_people.specs.Words.{is_mark, with_front, split_once, cut_at}
+use Rattle.biblatex_people.specs.Words.{is_mark, prepended, split_once, cut_at}
 
 -- characters put before what stands before a mark
-abbrev pub with_fronts : List StyledChar → Option (List StyledChar × List StyledChar) → Option (List StyledChar × List StyledChar)
-with_fronts ss None = None
-with_fronts ss (Some p) = Some (ss ++ p.0, p.1)
+abbrev pub all_prepended : List StyledChar → Option (List StyledChar × List StyledChar) → Option (List StyledChar × List StyledChar)
+all_prepended ss None = None
+all_prepended ss (Some p) = Some (ss ++ p.0, p.1)
 
-pub fronts_none : (p : Option (List StyledChar × List StyledChar)) → with_fronts [] p ≡ p
-fronts_none None = refl
-fronts_none (Some p) = refl
+pub prepended_none : (p : Option (List StyledChar × List StyledChar)) → all_prepended [] p ≡ p
+prepended_none None = refl
+prepended_none (Some p) = refl
 
-fronts_more : (xs : List StyledChar) (s : StyledChar) (p : Option (List StyledChar × List StyledChar)) → with_front s (with_fronts xs p) ≡ with_fronts (s ∷ xs) p
-fronts_more xs s None = refl
-fronts_more xs s (Some p) = refl
+prepended_more : (xs : List StyledChar) (s : StyledChar) (p : Option (List StyledChar × List StyledChar)) → prepended s (all_prepended xs p) ≡ all_prepended (s ∷ xs) p
+prepended_more xs s None = refl
+prepended_more xs s (Some p) = refl
 
-front_one : (s : StyledChar) (p : Option (List StyledChar × List StyledChar)) → with_front s p ≡ with_fronts (s ∷ []) p
-front_one s None = refl
-front_one s (Some p) = refl
+prepended_one : (s : StyledChar) (p : Option (List StyledChar × List StyledChar)) → prepended s p ≡ all_prepended (s ∷ []) p
+prepended_one s None = refl
+prepended_one s (Some p) = refl
 
 first_none : (s : StyledChar) (ps : List (List StyledChar)) → before_first [] (before_first (s ∷ []) ps) ≡ before_first (s ∷ []) ps
 first_none s [] = refl
 first_none s (p ∷ ps) = refl
 
-pub cut_front_none : (mark : Mark) (ss : List StyledChar) → before_first [] (cut_at mark ss) ≡ cut_at mark ss
-cut_front_none mark [] = refl
-cut_front_none mark (s ∷ ss) = by_test (is_mark mark s) refl
+pub cut_prepended_none : (mark : Mark) (ss : List StyledChar) → before_first [] (cut_at mark ss) ≡ cut_at mark ss
+cut_prepended_none mark [] = refl
+cut_prepended_none mark (s ∷ ss) = by_test (is_mark mark s) refl
   where
     by_test : (b : Bool) → is_mark mark s ≡ b → before_first [] (cut_at mark (s ∷ ss)) ≡ cut_at mark (s ∷ ss)
     by_test true e = rw e refl
     by_test false e = rw e (first_none s (cut_at mark ss))
 
--- one more place without the mark
+-- one more index without the mark
 pub one_more_pair : (mark : Mark) (ss : List StyledChar) (i : ℕ) (d : StyledChar) → i < length ss → is_mark mark (get_or ss i d) ≡ false
-    → with_fronts (take i ss) (split_once mark (drop i ss)) ≡ with_fronts (take (suc i) ss) (split_once mark (drop (suc i) ss))
+    → all_prepended (take i ss) (split_once mark (drop i ss)) ≡ all_prepended (take (suc i) ss) (split_once mark (drop (suc i) ss))
 one_more_pair mark [] i d below e = absurd (omega arith)
-one_more_pair mark (s ∷ ss) zero d below e = rw e (fronts_none (with_front s (split_once mark ss)) ∙ front_one s (split_once mark ss))
+one_more_pair mark (s ∷ ss) zero d below e = rw e (prepended_none (prepended s (split_once mark ss)) ∙ prepended_one s (split_once mark ss))
 one_more_pair mark (s ∷ ss) (suc i) d below e =
-    sym (fronts_more (take i ss) s (split_once mark (drop i ss)))
-    ∙ (ap (with_front s) (one_more_pair mark ss i d (omega arith) e) ∙ fronts_more (take (suc i) ss) s (split_once mark (drop (suc i) ss)))
+    sym (prepended_more (take i ss) s (split_once mark (drop i ss)))
+    ∙ (ap (prepended s) (one_more_pair mark ss i d (omega arith) e) ∙ prepended_more (take (suc i) ss) s (split_once mark (drop (suc i) ss)))
 
 pub one_more_cut : (mark : Mark) (ss : List StyledChar) (i : ℕ) (d : StyledChar) → i < length ss → is_mark mark (get_or ss i d) ≡ false
     → before_first (take i ss) (cut_at mark (drop i ss)) ≡ before_first (take (suc i) ss) (cut_at mark (drop (suc i) ss))
@@ -54,11 +54,11 @@ one_more_cut mark (s ∷ ss) (suc i) d below e =
 
 -- the mark stands here
 pub pair_here : (mark : Mark) (ss : List StyledChar) (i : ℕ) (d : StyledChar) → i < length ss → is_mark mark (get_or ss i d) ≡ true
-    → with_fronts (take i ss) (split_once mark (drop i ss)) ≡ Some (take i ss, drop (suc i) ss)
+    → all_prepended (take i ss) (split_once mark (drop i ss)) ≡ Some (take i ss, drop (suc i) ss)
 pair_here mark [] i d below e = absurd (omega arith)
 pair_here mark (s ∷ ss) zero d below e = rw e refl
 pair_here mark (s ∷ ss) (suc i) d below e =
-    sym (fronts_more (take i ss) s (split_once mark (drop i ss))) ∙ ap (with_front s) (pair_here mark ss i d (omega arith) e)
+    sym (prepended_more (take i ss) s (split_once mark (drop i ss))) ∙ ap (prepended s) (pair_here mark ss i d (omega arith) e)
 
 pub cut_here : (mark : Mark) (ss : List StyledChar) (i : ℕ) (d : StyledChar) → i < length ss → is_mark mark (get_or ss i d) ≡ true
     → before_first (take i ss) (cut_at mark (drop i ss)) ≡ take i ss ∷ cut_at mark (drop (suc i) ss)

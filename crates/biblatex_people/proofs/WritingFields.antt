@@ -85,13 +85,13 @@ no_pair (s ∷ x) e =
 abbrev joined_parts : List (List StyledChar) → List ℕ
 joined_parts ps = joined_words (filter is_filled ps)
 
-front_char : (s t : StyledChar) (qs : List (List StyledChar)) → joined_parts (before_first (s ∷ []) (before_first (t ∷ []) qs)) ≡ s.c ∷ joined_parts (before_first (t ∷ []) qs)
-front_char s t [] = refl
-front_char s t (q ∷ qs) = refl
+leading_char : (s t : StyledChar) (qs : List (List StyledChar)) → joined_parts (before_first (s ∷ []) (before_first (t ∷ []) qs)) ≡ s.c ∷ joined_parts (before_first (t ∷ []) qs)
+leading_char s t [] = refl
+leading_char s t (q ∷ qs) = refl
 
-front_word : (s u : StyledChar) (qs : List (List StyledChar)) → joined_parts (before_first (s ∷ []) ([] ∷ before_first (u ∷ []) qs)) ≡ s.c ∷ 32 ∷ joined_parts (before_first (u ∷ []) qs)
-front_word s u [] = refl
-front_word s u (q ∷ qs) = refl
+leading_word : (s u : StyledChar) (qs : List (List StyledChar)) → joined_parts (before_first (s ∷ []) ([] ∷ before_first (u ∷ []) qs)) ≡ s.c ∷ 32 ∷ joined_parts (before_first (u ∷ []) qs)
+leading_word s u [] = refl
+leading_word s u (q ∷ qs) = refl
 
 goes_on : (s : StyledChar) (x : List StyledChar) → is_gap s ≡ false → cut_at Gap (s ∷ x) ≡ before_first (s ∷ []) (cut_at Gap x)
 goes_on s x e = rw e refl
@@ -133,12 +133,12 @@ joined_steady s (t ∷ u ∷ x) no_gap e = by_gap (is_gap t) refl (λ g. joined_
         → joined_words (words (s ∷ t ∷ u ∷ x)) ≡ plain (s ∷ t ∷ u ∷ x)
     by_gap false g one other =
         ap joined_parts (goes_on s (t ∷ u ∷ x) no_gap ∙ ap (before_first (s ∷ [])) (goes_on t (u ∷ x) g))
-        ∙ (front_char s t (cut_at Gap (u ∷ x)) ∙ ap (λ (cs : List ℕ). s.c ∷ cs) (ap joined_parts (sym (goes_on t (u ∷ x) g)) ∙ one g))
+        ∙ (leading_char s t (cut_at Gap (u ∷ x)) ∙ ap (λ (cs : List ℕ). s.c ∷ cs) (ap joined_parts (sym (goes_on t (u ∷ x) g)) ∙ one g))
     by_gap true g one other =
         let not_two : is_gap u ≡ false = (let k : (true && is_gap u) ≡ false = rw g at two in k) in
         let space_here : t.c ≡ 32 = is_space t g (or_first (is_odd t) (is_loose (t ∷ u ∷ x ++ space ∷ [])) here) in
         ap joined_parts (goes_on s (t ∷ u ∷ x) no_gap ∙ ap (before_first (s ∷ [])) (ends_here t (u ∷ x) g ∙ ap (λ (ps : List (List StyledChar)). [] ∷ ps) (goes_on u x not_two)))
-        ∙ (front_word s u (cut_at Gap x) ∙ (ap (λ (cs : List ℕ). s.c ∷ 32 ∷ cs) (ap joined_parts (sym (goes_on u x not_two)) ∙ other not_two)
+        ∙ (leading_word s u (cut_at Gap x) ∙ (ap (λ (cs : List ℕ). s.c ∷ 32 ∷ cs) (ap joined_parts (sym (goes_on u x not_two)) ∙ other not_two)
         ∙ ap (λ (c : ℕ). s.c ∷ c ∷ plain (u ∷ x)) (sym space_here)))
 
 -- the words of a field, joined again, are the field

@@ -29,12 +29,12 @@ is_named n = is_filled (n.name ++ n.given_name ++ n.prefix ++ n.suffix)
 abbrev pub by_last_word : List (List StyledChar) → Named
 by_last_word ws = record nobody { name = joined_words (drop (length ws - 1) ws); given_name = joined_words (take (length ws - 1) ws) }
 
--- with small words, the last of which ends the front: the prefix goes from the first of them on, and the name follows it
+-- with small words, the last of which ends the first part: the prefix goes from the first of them on, and the name follows it
 abbrev pub by_small_words : List (List StyledChar) → List (List StyledChar) → Named
-by_small_words front name = record nobody {
+by_small_words leading name = record nobody {
   name = joined_words name;
-  given_name = joined_words (take (small_at front) front);
-  prefix = joined_words (drop (small_at front) front);
+  given_name = joined_words (take (small_at leading) leading);
+  prefix = joined_words (drop (small_at leading) leading);
 }
 
 -- a name without commas, so many of whose words end in the last small word other than the last word

@@ -17,14 +17,14 @@ is_mark Comma s = s.is_normal && s.c == 44
 is_mark Equals s = s.is_normal && s.c == 61
 
 -- a character put before what stands before a mark
-abbrev pub with_front : StyledChar → Option (List StyledChar × List StyledChar) → Option (List StyledChar × List StyledChar)
-with_front s None = None
-with_front s (Some p) = Some (s ∷ p.0, p.1)
+abbrev pub prepended : StyledChar → Option (List StyledChar × List StyledChar) → Option (List StyledChar × List StyledChar)
+prepended s None = None
+prepended s (Some p) = Some (s ∷ p.0, p.1)
 
 -- what stands before and after the first such mark
 abbrev pub split_once : Mark → List StyledChar → Option (List StyledChar × List StyledChar)
 split_once mark [] = None
-split_once mark (s ∷ ss) = if is_mark mark s then Some ([], ss) else with_front s (split_once mark ss)
+split_once mark (s ∷ ss) = if is_mark mark s then Some ([], ss) else prepended s (split_once mark ss)
 
 -- the text cut at each such mark
 abbrev pub cut_at : Mark → List StyledChar → List (List StyledChar)
@@ -54,7 +54,7 @@ abbrev pub small_at : List (List StyledChar) → ℕ
 small_at [] = 0
 small_at (w ∷ ws) = if is_small w then 0 else small_at ws + 1
 
--- one word more in front: where none counts, it counts if it is small
+-- one word more before: where none counts, it counts if it is small
 abbrev pub counted : Bool → ℕ → ℕ
 counted is_small zero = if is_small then 1 else 0
 counted is_small (suc n) = n + 2

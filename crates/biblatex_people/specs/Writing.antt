@@ -15,7 +15,7 @@ use Rattle.biblatex_people.specs.Reading.{Named}
 abbrev pub is_odd : StyledChar → Bool
 is_odd s = is_mark Comma s || is_mark Equals s || (is_gap s && not (s.c == 32))
 
--- whether what stands at the front would part a name, or be no space between two words
+-- whether what stands at the start would part a name, or be no space between two words
 abbrev pub is_unsteady : List StyledChar → Bool
 is_unsteady [] = false
 is_unsteady (s ∷ ss) = is_odd s || is_loose (s ∷ ss)

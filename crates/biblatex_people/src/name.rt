@@ -3,7 +3,7 @@
 ghost use Rattle.std.specs.Prelude.{◌≡◌, [], IfOk, flat_map};
 ghost use Rattle.biblatex_lists.specs.Parts.{borrowed};
 ghost use Rattle.biblatex_people.specs.Reading.{by_parts, by_last_word, by_small_words, person_in, with_commas, without_commas};
-ghost use Rattle.biblatex_people.specs.Views.{named};
+ghost use Rattle.biblatex_people.specs.Views.{named_view};
 ghost use Rattle.biblatex_people.specs.Words.{words};
 
 use crate::pairs::{are_pairs, person_of_pairs};
@@ -16,7 +16,7 @@ use texts::empty_text;
 /// A name without commas and without small words before its last word.
 #[tactic(auto, using(crate::proofs::ViewsLists::borrowed_take, crate::proofs::ViewsLists::borrowed_drop, crate::proofs::ViewsLists::borrowed_length))]
 fn by_last_word(alloc: Global, words: &[&[StyledChar]]) -> Result<Person, AllocError>
-    ensures { IfOk result (λ p. named p ≡ by_last_word (borrowed words.now)) }
+    ensures { IfOk result (λ p. named_view p ≡ by_last_word (borrowed words.now)) }
 {
     let (given, name) = words.split_at(words.len().saturating_sub(1));
     Ok(Person {
@@ -27,16 +27,17 @@ fn by_last_word(alloc: Global, words: &[&[StyledChar]]) -> Result<Person, AllocE
     })
 }
 
-/// A name without commas, whose small words end the front.
+/// A name without commas, whose small words end the first part.
 #[tactic(auto, using(crate::proofs::ViewsLists::borrowed_take, crate::proofs::ViewsLists::borrowed_drop, crate::proofs::ViewsLists::borrowed_length))]
 fn by_small_words(
     alloc: Global,
-    front: &[&[StyledChar]],
+    leading: &[&[StyledChar]],
     name: &[&[StyledChar]],
 ) -> Result<Person, AllocError>
-    ensures { IfOk result (λ p. named p ≡ by_small_words (borrowed front.now) (borrowed name.now)) }
+    ensures { IfOk result (λ p. named_view p
+        ≡ by_small_words (borrowed leading.now) (borrowed name.now)) }
 {
-    let (given, prefix) = front.split_at(small_at(front));
+    let (given, prefix) = leading.split_at(small_at(leading));
     Ok(Person {
         name: joined(alloc, name)?,
         given_name: joined(alloc, given)?,
@@ -48,14 +49,14 @@ fn by_small_words(
 /// A name without commas.
 #[tactic(auto, using(crate::proofs::ViewsLists::borrowed_take, crate::proofs::ViewsLists::borrowed_drop, crate::proofs::ViewsLists::borrowed_length))]
 fn without_commas(alloc: Global, words: &[&[StyledChar]]) -> Result<Person, AllocError>
-    ensures { IfOk result (λ p. named p ≡ without_commas (borrowed words.now)) }
+    ensures { IfOk result (λ p. named_view p ≡ without_commas (borrowed words.now)) }
 {
     let end = lead_count(words);
     if end == 0 {
         return by_last_word(alloc, words);
     }
-    let (front, name) = words.split_at(end);
-    by_small_words(alloc, front, name)
+    let (leading, name) = words.split_at(end);
+    by_small_words(alloc, leading, name)
 }
 
 /// A name with commas: the words of its first part, of the suffix, and of what is given.
@@ -66,7 +67,8 @@ fn with_commas(
     suffix: &[&[StyledChar]],
     given: &[&[StyledChar]],
 ) -> Result<Person, AllocError>
-    ensures { IfOk result (λ p. named p ≡ with_commas (borrowed words.now) (borrowed suffix.now) (borrowed given.now)) }
+    ensures { IfOk result (λ p. named_view p
+        ≡ with_commas (borrowed words.now) (borrowed suffix.now) (borrowed given.now)) }
 {
     let (prefix, name) = words.split_at(lead_count(words));
     Ok(Person {
@@ -83,7 +85,7 @@ fn with_given(
     name: &[StyledChar],
     given: &[StyledChar],
 ) -> Result<Person, AllocError>
-    ensures { IfOk result (λ p. named p ≡ with_commas (words name.now) [] (words given.now)) }
+    ensures { IfOk result (λ p. named_view p ≡ with_commas (words name.now) [] (words given.now)) }
 {
     let words = words_in(alloc, name)?;
     with_commas(alloc, &words, &[], &words_in(alloc, given)?)
@@ -96,7 +98,8 @@ fn with_suffix(
     suffix: &[StyledChar],
     given: &[&[StyledChar]],
 ) -> Result<Person, AllocError>
-    ensures { IfOk result (λ p. named p ≡ with_commas (words name.now) (words suffix.now) (flat_map words (borrowed given.now))) }
+    ensures { IfOk result (λ p. named_view p
+        ≡ with_commas (words name.now) (words suffix.now) (flat_map words (borrowed given.now))) }
 {
     let words = words_in(alloc, name)?;
     let suffix = words_in(alloc, suffix)?;
@@ -106,7 +109,7 @@ fn with_suffix(
 /// A person, from the parts between commas.
 #[tactic(auto, using(crate::proofs::ViewsLists::by_three_parts))]
 fn by_parts(alloc: Global, parts: &[&[StyledChar]]) -> Result<Person, AllocError>
-    ensures { IfOk result (λ p. named p ≡ by_parts (borrowed parts.now)) }
+    ensures { IfOk result (λ p. named_view p ≡ by_parts (borrowed parts.now)) }
 {
     match parts {
         [] => Ok(Person::nobody(alloc)),
@@ -118,7 +121,7 @@ fn by_parts(alloc: Global, parts: &[&[StyledChar]]) -> Result<Person, AllocError
 
 /// A person.
 pub(crate) fn read_person(alloc: Global, text: &[StyledChar]) -> Result<Person, AllocError>
-    ensures { IfOk result (λ p. named p ≡ person_in text.now) }
+    ensures { IfOk result (λ p. named_view p ≡ person_in text.now) }
 {
     let parts = cut_at(alloc, text, Mark::Comma)?;
     if are_pairs(&parts) {

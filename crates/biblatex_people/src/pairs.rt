@@ -6,7 +6,7 @@ ghost use Rattle.laws.specs.Text.{text, characters};
 ghost use Rattle.biblatex_lists.specs.Parts.{borrowed};
 ghost use Rattle.biblatex_lists.specs.StyledChars.{plain};
 ghost use Rattle.biblatex_people.specs.Reading.{is_some, pair, with_pair, with_pairs, with_value, nobody};
-ghost use Rattle.biblatex_people.specs.Views.{named};
+ghost use Rattle.biblatex_people.specs.Views.{named_view};
 ghost use Rattle.biblatex_people.specs.Words.{joined_words, words};
 
 use crate::person::Person;
@@ -16,7 +16,8 @@ use std::alloc::{AllocError, Global};
 
 /// The key, and the text of the value, where there is an equals sign and a key before it.
 fn split_pair(part: &[StyledChar]) -> Option<(&[StyledChar], &[StyledChar])>
-    ensures { MatchOption result (pair part.now ≡ None) (λ p. pair part.now ≡ Some (text (plain p.0.now), joined_words (words p.1.now))) }
+    ensures { MatchOption result (pair part.now ≡ None) (λ p. pair part.now
+        ≡ Some (text (plain p.0.now), joined_words (words p.1.now))) }
 {
     let (key, value) = split_once(part, Mark::Equals)?;
     let key = trimmed(key);
@@ -48,7 +49,8 @@ pub(crate) fn are_pairs(parts: &[&[StyledChar]]) -> bool
 impl Person {
     /// Takes the value of a key; other keys are dropped.
     fn take_value(&mut self, key: &str, value: String)
-        ensures { named self.new ≡ with_value key.now (characters value) (named self.old) }
+        ensures { named_view self.new
+            ≡ with_value key.now (characters value) (named_view self.old) }
     {
         match key {
             "family" => self.name = value,
@@ -61,7 +63,8 @@ impl Person {
 
     /// Takes the value of a part that is a key, an equals sign and a value.
     fn take_pair(&mut self, alloc: Global, part: &[StyledChar]) -> Result<(), AllocError>
-        ensures { OnOk result (named self.new ≡ with_pair (pair part.now) (named self.old)) }
+        ensures { OnOk result (named_view self.new
+            ≡ with_pair (pair part.now) (named_view self.old)) }
     {
         let Some((key, value)) = split_pair(part) else {
             return Ok(());
@@ -75,7 +78,7 @@ impl Person {
 
 /// The person that keys and values give; of equal keys the last one counts.
 pub(crate) fn person_of_pairs(alloc: Global, parts: &[&[StyledChar]]) -> Result<Person, AllocError>
-    ensures { IfOk result (λ p. named p ≡ with_pairs (borrowed parts.now) nobody) }
+    ensures { IfOk result (λ p. named_view p ≡ with_pairs (borrowed parts.now) nobody) }
 {
     let mut person = Person::nobody(alloc);
     for part in parts {

@@ -2,7 +2,7 @@
 
 ghost use Rattle.std.specs.Prelude.{◌≡◌};
 ghost use Rattle.biblatex_people.specs.Reading.{is_named, nobody};
-ghost use Rattle.biblatex_people.specs.Views.{named};
+ghost use Rattle.biblatex_people.specs.Views.{named_view};
 
 use std::alloc::Global;
 use texts::{empty_text, has_text};
@@ -23,7 +23,7 @@ pub struct Person {
 impl Person {
     /// No one.
     pub(crate) fn nobody(alloc: Global) -> Person
-        ensures { named result ≡ nobody }
+        ensures { named_view result ≡ nobody }
     {
         Person {
             name: empty_text(alloc),
@@ -35,7 +35,7 @@ impl Person {
 
     /// Whether some part of the name is there.
     pub(crate) fn is_named(&self) -> bool
-        ensures { result ≡ is_named (named self.now) }
+        ensures { result ≡ is_named (named_view self.now) }
     {
         has_text(self.name.as_str())
             || has_text(self.given_name.as_str())

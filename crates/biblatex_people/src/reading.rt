@@ -6,7 +6,7 @@ ghost use Rattle.biblatex_content.specs.Views.{styled};
 ghost use Rattle.biblatex_lists.specs.Parts.{borrowed};
 ghost use Rattle.biblatex_lists.specs.declared.styled_char.StyledChar.{StyledChar};
 ghost use Rattle.biblatex_people.specs.Reading.{is_letter, is_others, is_someone, people_in, people_of, person_in, without_others};
-ghost use Rattle.biblatex_people.specs.Views.{AreFoundIn, named};
+ghost use Rattle.biblatex_people.specs.Views.{AreFoundIn, named_view};
 
 use crate::name::read_person;
 use crate::person::Person;
@@ -58,7 +58,8 @@ impl Found {
 
     /// Takes a part of the list, if it names someone.
     fn take_part(&mut self, alloc: Global, part: &[StyledChar]) -> Result<(), AllocError>
-        ensures { (ps : List (List StyledChar)) → AreFoundIn self.old ps → OnOk result (AreFoundIn self.new (ps ++ filter is_someone (part.now ∷ []))) }
+        ensures { (ps : List (List StyledChar)) → AreFoundIn self.old ps
+            → OnOk result (AreFoundIn self.new (ps ++ filter is_someone (part.now ∷ []))) }
     {
         let person = read_person(alloc, part)?;
         if !person.is_named() {
@@ -71,7 +72,8 @@ impl Found {
 
     /// The people, without a last `others`.
     fn finish(mut self) -> Vec<Person>
-        ensures { (ps : List (List StyledChar)) → AreFoundIn self ps → map named result.items ≡ map person_in (without_others ps) }
+        ensures { (ps : List (List StyledChar)) → AreFoundIn self ps
+            → map named_view result.items ≡ map person_in (without_others ps) }
     {
         if self.ends_in_others {
             let count = self.people.len().saturating_sub(1);
@@ -83,7 +85,7 @@ impl Found {
 
 /// The people in parts between `and`.
 fn people_of(alloc: Global, parts: &[&[StyledChar]]) -> Result<Vec<Person>, AllocError>
-    ensures { IfOk result (λ ps. map named ps.items ≡ people_of (borrowed parts.now)) }
+    ensures { IfOk result (λ ps. map named_view ps.items ≡ people_of (borrowed parts.now)) }
 {
     let mut found = Found::new(alloc);
     for part in parts {
@@ -97,7 +99,7 @@ fn people_of(alloc: Global, parts: &[&[StyledChar]]) -> Result<Vec<Person>, Allo
 /// then the suffix, then the given names; or each part is a key, an equals sign and a value. Verbatim text and math never
 /// part anything.
 pub fn read_people(alloc: Global, value: &[Spanned<Chunk>]) -> Result<Vec<Person>, AllocError>
-    ensures { IfOk result (λ ps. map named ps.items ≡ people_in (styled value.now)) }
+    ensures { IfOk result (λ ps. map named_view ps.items ≡ people_in (styled value.now)) }
 {
     let text = styled_chars(alloc, value)?;
     people_of(alloc, &parts(alloc, &text)?)

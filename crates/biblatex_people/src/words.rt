@@ -49,7 +49,8 @@ fn push_plain(text: &mut String, word: &[StyledChar]) -> Result<(), AllocError>
 
 /// Appends words, each after a space.
 fn push_others(text: &mut String, words: &[&[StyledChar]]) -> Result<(), AllocError>
-    ensures { OnOk result (characters text.new ≡ characters text.old ++ flat_map past_space (borrowed words.now)) }
+    ensures { OnOk result (characters text.new
+        ≡ characters text.old ++ flat_map past_space (borrowed words.now)) }
 {
     for word in words {
         push_character(text, ' ')?;
@@ -60,7 +61,8 @@ fn push_others(text: &mut String, words: &[&[StyledChar]]) -> Result<(), AllocEr
 
 /// Appends words, one space between two of them.
 fn push_words(text: &mut String, words: &[&[StyledChar]]) -> Result<(), AllocError>
-    ensures { OnOk result (characters text.new ≡ characters text.old ++ joined_words (borrowed words.now)) }
+    ensures { OnOk result (characters text.new
+        ≡ characters text.old ++ joined_words (borrowed words.now)) }
 {
     match words.split_first() {
         Some((first, others)) => {
@@ -82,8 +84,10 @@ pub(crate) fn joined(alloc: Global, words: &[&[StyledChar]]) -> Result<String, A
 
 /// What stands before and after the first such mark.
 pub(crate) fn split_once(text: &[StyledChar], mark: Mark) -> Option<(&[StyledChar], &[StyledChar])>
-    ensures pair { MatchOption result (split_once mark text.now ≡ None) (λ p. split_once mark text.now ≡ Some (p.0.now, p.1.now)) }
-    ensures cut { MatchOption result (cut_at mark text.now ≡ text.now ∷ []) (λ p. cut_at mark text.now ≡ p.0.now ∷ cut_at mark p.1.now) }
+    ensures pair { MatchOption result (split_once mark text.now ≡ None) (λ p.
+        split_once mark text.now ≡ Some (p.0.now, p.1.now)) }
+    ensures cut { MatchOption result (cut_at mark text.now ≡ text.now ∷ []) (λ p.
+        cut_at mark text.now ≡ p.0.now ∷ cut_at mark p.1.now) }
     ensures shorter { MatchOption result Unit (λ p. length p.1.now + 1 ≤ length text.now) }
 {
     for i in 0..text.len() {
@@ -117,7 +121,8 @@ fn push_filled<'v>(
     list: &mut Vec<&'v [StyledChar]>,
     word: &'v [StyledChar],
 ) -> Result<(), AllocError>
-    ensures { OnOk result (borrowed list.new.items ≡ borrowed list.old.items ++ filter is_filled (word.now ∷ [])) }
+    ensures { OnOk result (borrowed list.new.items
+        ≡ borrowed list.old.items ++ filter is_filled (word.now ∷ [])) }
 {
     if !word.is_empty() {
         list.push(word)?;

@@ -9,7 +9,7 @@ ghost use Rattle.biblatex_content.specs.declared.chunk.Kind.TheVariants.{Normal}
 ghost use Rattle.biblatex_lists.specs.Parts.{borrowed};
 ghost use Rattle.biblatex_lists.specs.StyledChars.{of_style};
 ghost use Rattle.biblatex_lists.specs.Writing.{after_and, holds, so_far};
-ghost use Rattle.biblatex_people.specs.Views.{named};
+ghost use Rattle.biblatex_people.specs.Views.{named_view};
 ghost use Rattle.biblatex_people.specs.Words.{is_small, words};
 ghost use Rattle.biblatex_people.specs.Writing.{before_name, after_name, given_after, is_name, is_odd, is_steady, is_unsteady, written_name, written_part, written_people, written_person};
 
@@ -27,7 +27,7 @@ fn is_odd(styled: StyledChar) -> bool
     Mark::Comma.is(styled) || Mark::Equals.is(styled) || (styled.is_gap() && styled.c != ' ')
 }
 
-/// Whether what stands at the front would part a name, or be no space between two words.
+/// Whether what stands at the start would part a name, or be no space between two words.
 fn is_unsteady(text: &[StyledChar]) -> bool
     ensures { result ≡ is_unsteady text.now }
 {
@@ -86,7 +86,8 @@ fn is_name(alloc: Global, text: &str) -> Result<bool, AllocError>
 
 /// Appends a part of a name.
 fn push_part(alloc: Global, writing: &mut Writing, text: &str) -> Result<(), AllocError>
-    ensures { OnOk result (so_far writing.new ≡ so_far writing.old ++ written_part (chars text.now)) }
+    ensures { OnOk result (so_far writing.new
+        ≡ so_far writing.old ++ written_part (chars text.now)) }
 {
     let is_normal = is_steady(alloc, text)?;
     writing.push_str(is_normal, text)
@@ -94,7 +95,8 @@ fn push_part(alloc: Global, writing: &mut Writing, text: &str) -> Result<(), All
 
 /// Appends the name itself.
 fn push_name(alloc: Global, writing: &mut Writing, text: &str) -> Result<(), AllocError>
-    ensures { OnOk result (so_far writing.new ≡ so_far writing.old ++ written_name (chars text.now)) }
+    ensures { OnOk result (so_far writing.new
+        ≡ so_far writing.old ++ written_name (chars text.now)) }
 {
     let is_normal = is_name(alloc, text)?;
     writing.push_str(is_normal, text)
@@ -116,7 +118,8 @@ fn push_comma(writing: &mut Writing) -> Result<(), AllocError>
 
 /// Appends a part of a name, after a comma and a space.
 fn push_after_comma(alloc: Global, writing: &mut Writing, text: &str) -> Result<(), AllocError>
-    ensures { OnOk result (so_far writing.new ≡ so_far writing.old ++ (letters Normal (44 ∷ 32 ∷ []) ++ written_part (chars text.now))) }
+    ensures { OnOk result (so_far writing.new
+        ≡ so_far writing.old ++ (letters Normal (44 ∷ 32 ∷ []) ++ written_part (chars text.now))) }
 {
     push_comma(writing)?;
     push_space(writing)?;
@@ -125,7 +128,8 @@ fn push_after_comma(alloc: Global, writing: &mut Writing, text: &str) -> Result<
 
 /// Appends the prefix, and a space.
 fn push_prefix(alloc: Global, writing: &mut Writing, text: &str) -> Result<(), AllocError>
-    ensures { OnOk result (so_far writing.new ≡ so_far writing.old ++ before_name (chars text.now)) }
+    ensures { OnOk result (so_far writing.new
+        ≡ so_far writing.old ++ before_name (chars text.now)) }
 {
     if !has_text(text) {
         return Ok(());
@@ -146,7 +150,8 @@ fn push_suffix(alloc: Global, writing: &mut Writing, text: &str) -> Result<(), A
 
 /// Appends the given name, after a comma, which stands there in any case.
 fn push_given(alloc: Global, writing: &mut Writing, text: &str) -> Result<(), AllocError>
-    ensures { OnOk result (so_far writing.new ≡ so_far writing.old ++ given_after (chars text.now)) }
+    ensures { OnOk result (so_far writing.new
+        ≡ so_far writing.old ++ given_after (chars text.now)) }
 {
     if !has_text(text) {
         return push_comma(writing);
@@ -156,7 +161,8 @@ fn push_given(alloc: Global, writing: &mut Writing, text: &str) -> Result<(), Al
 
 /// Appends a person.
 fn push_person(alloc: Global, writing: &mut Writing, person: &Person) -> Result<(), AllocError>
-    ensures { OnOk result (so_far writing.new ≡ so_far writing.old ++ written_person (named person.now)) }
+    ensures { OnOk result (so_far writing.new
+        ≡ so_far writing.old ++ written_person (named_view person.now)) }
 {
     push_prefix(alloc, writing, person.prefix.as_str())?;
     push_name(alloc, writing, person.name.as_str())?;
@@ -166,7 +172,8 @@ fn push_person(alloc: Global, writing: &mut Writing, person: &Person) -> Result<
 
 /// Appends each person, after ` and `.
 fn push_others(alloc: Global, writing: &mut Writing, people: &[Person]) -> Result<(), AllocError>
-    ensures { OnOk result (so_far writing.new ≡ so_far writing.old ++ flat_map after_and (map written_person (map named people.now))) }
+    ensures { OnOk result (so_far writing.new ≡ so_far writing.old
+        ++ flat_map after_and (map written_person (map named_view people.now))) }
 {
     for person in people {
         writing.push_and()?;
@@ -177,7 +184,8 @@ fn push_others(alloc: Global, writing: &mut Writing, people: &[Person]) -> Resul
 
 /// Appends people, with ` and ` between them.
 fn push_people(alloc: Global, writing: &mut Writing, people: &[Person]) -> Result<(), AllocError>
-    ensures { OnOk result (so_far writing.new ≡ so_far writing.old ++ written_people (map named people.now)) }
+    ensures { OnOk result (so_far writing.new
+        ≡ so_far writing.old ++ written_people (map named_view people.now)) }
 {
     match people.split_first() {
         Some((first, others)) => {
@@ -191,7 +199,7 @@ fn push_people(alloc: Global, writing: &mut Writing, people: &[Person]) -> Resul
 /// The value that holds the people: ` and ` between them, each as `prefix name, suffix, given name`, without the suffix
 /// where it is empty. What would be read otherwise than it stands is verbatim.
 pub fn write_people(alloc: Global, people: &[Person]) -> Result<Chunks, AllocError>
-    ensures { IfOk result (λ cs. styled cs.items ≡ written_people (map named people.now)) }
+    ensures { IfOk result (λ cs. styled cs.items ≡ written_people (map named_view people.now)) }
 {
     let mut writing = Writing::new(alloc);
     push_people(alloc, &mut writing, people)?;

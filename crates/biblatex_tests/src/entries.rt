@@ -1,4 +1,4 @@
-//! An entry whose key means another one takes its place without asking for memory. The test holds whichever request is refused.
+//! An entry whose key means another one takes its index without asking for memory. The test holds whichever request is refused.
 
 use biblatex::{Bibliography, Entry, EntryType};
 use std::alloc::Global;

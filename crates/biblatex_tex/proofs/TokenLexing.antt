@@ -49,33 +49,33 @@ tokens_shorten cs rest t is = if_ok_at (LeavesFewer (length cs)) (token_at cs) (
 
 -- tokens after others
 abbrev pub gathered : List Token → Result (List Token) Malformed → Result (List Token) Malformed
-gathered front r = r >>= λ ts. Ok (front ++ ts)
+gathered prefix r = r >>= λ ts. Ok (prefix ++ ts)
 
 gathered_none : (r : Result (List Token) Malformed) → gathered [] r ≡ r
 gathered_none (Ok ts) = refl
 gathered_none (Err f) = refl
 
--- at the beginning there are none
+-- at the start there are none
 pub gathered-begin : (cs : List ℕ) → gathered [] (tokens_of cs) ≡ tokens_of cs
 gathered-begin cs = gathered_none (tokens_of cs)
 
-regrouped : (front : List Token) (t : Token) (r : Result (List Token × List ℕ) Malformed)
-    → gathered (front ++ t ∷ []) (r >>= λ p. Ok p.0) ≡ gathered front (◌>>=◌ {B = List Token × List ℕ} r (λ p. Ok (t ∷ p.0, p.1)) >>= λ p. Ok p.0)
-regrouped front t (Ok p) = ap (λ (ts : List Token). Ok ts) (append_assoc front (t ∷ []) p.0)
-regrouped front t (Err f) = refl
+regrouped : (prefix : List Token) (t : Token) (r : Result (List Token × List ℕ) Malformed)
+    → gathered (prefix ++ t ∷ []) (r >>= λ p. Ok p.0) ≡ gathered prefix (◌>>=◌ {B = List Token × List ℕ} r (λ p. Ok (t ∷ p.0, p.1)) >>= λ p. Ok p.0)
+regrouped prefix t (Ok p) = ap (λ (ts : List Token). Ok ts) (append_assoc prefix (t ∷ []) p.0)
+regrouped prefix t (Err f) = refl
 
 -- a token goes after them
-pub gathered-some : (front : List Token) (cs rest : List ℕ) (t : Token) → token_at cs ≡ Ok (Some t, rest) → gathered (front ++ t ∷ []) (tokens_of rest) ≡ gathered front (tokens_of cs)
+pub gathered-some : (prefix : List Token) (cs rest : List ℕ) (t : Token) → token_at cs ≡ Ok (Some t, rest) → gathered (prefix ++ t ∷ []) (tokens_of rest) ≡ gathered prefix (tokens_of cs)
 unfolding tokens_of
-gathered-some front cs rest t is =
-    regrouped front t (each token_at rest) ∙ ap (λ (r : Result (List Token × List ℕ) Malformed). gathered front (r >>= λ p. Ok p.0)) (sym (each-some token_at tokens_shorten cs rest t is))
+gathered-some prefix cs rest t is =
+    regrouped prefix t (each token_at rest) ∙ ap (λ (r : Result (List Token × List ℕ) Malformed). gathered prefix (r >>= λ p. Ok p.0)) (sym (each-some token_at tokens_shorten cs rest t is))
 
 -- the text ends
-pub gathered-end : (front : List Token) (cs rest : List ℕ) → token_at cs ≡ Ok (None, rest) → gathered front (tokens_of cs) ≡ Ok front
+pub gathered-end : (prefix : List Token) (cs rest : List ℕ) → token_at cs ≡ Ok (None, rest) → gathered prefix (tokens_of cs) ≡ Ok prefix
 unfolding tokens_of
-gathered-end front cs rest is = ap (λ (r : Result (List Token × List ℕ) Malformed). gathered front (r >>= λ p. Ok p.0)) (each-none token_at cs rest is) ∙ ap (λ (ts : List Token). Ok ts) (append-nil front)
+gathered-end prefix cs rest is = ap (λ (r : Result (List Token × List ℕ) Malformed). gathered prefix (r >>= λ p. Ok p.0)) (each-none token_at cs rest is) ∙ ap (λ (ts : List Token). Ok ts) (append-nil prefix)
 
 -- a fault stays
-pub gathered-err : (front : List Token) (cs : List ℕ) (f : Malformed) → token_at cs ≡ Err f → gathered front (tokens_of cs) ≡ Err f
+pub gathered-err : (prefix : List Token) (cs : List ℕ) (f : Malformed) → token_at cs ≡ Err f → gathered prefix (tokens_of cs) ≡ Err f
 unfolding tokens_of
-gathered-err front cs f is = ap (λ (r : Result (List Token × List ℕ) Malformed). gathered front (r >>= λ p. Ok p.0)) (each-err token_at cs f is)
+gathered-err prefix cs f is = ap (λ (r : Result (List Token × List ℕ) Malformed). gathered prefix (r >>= λ p. Ok p.0)) (each-err token_at cs f is)

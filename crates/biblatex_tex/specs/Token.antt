@@ -1,7 +1,7 @@
 -- What an ordinary field is made of: tokens from the left, and which dollar signs have a partner.
 use Rattle.std.specs.Prelude.{ℕ, Bool, true, false, ◌==◌, List, [], ◌∷◌, ◌++◌, if◌then◌else◌, Option, Some, None, Result, Ok, Err}
 use Rattle.laws.specs.Results.{◌>>=◌}
-use Rattle.laws.specs.Runs.{front_of, after}
+use Rattle.laws.specs.Runs.{prefix_of, after}
 use Rattle.laws.specs.Steps.{each}
 use Rattle.biblatex_tex.specs.Character.{passes}
 use Rattle.biblatex_tex.specs.declared.character.Class.TheVariants.{Blank, Letter, Hyphen, Plain}
@@ -36,14 +36,14 @@ begins_command (c ∷ cs) = c == 92
 
 -- a longest run of letters and the blanks after it
 abbrev pub named_at : List ℕ → Option Token × List ℕ
-named_at cs = (Some (Command (front_of (passes Letter) cs) (front_of (passes Blank) (after (passes Letter) cs))), after (passes Blank) (after (passes Letter) cs))
+named_at cs = (Some (Command (prefix_of (passes Letter) cs) (prefix_of (passes Blank) (after (passes Letter) cs))), after (passes Blank) (after (passes Letter) cs))
 
 -- after a backslash: a command's name, or one character
 abbrev pub command_at : List ℕ → Result (Option Token × List ℕ) Malformed
 command_at [] = Err MalformedText
 command_at (c ∷ cs) = if passes Letter c then Ok (named_at (c ∷ cs)) else Ok (Some (Sign c), cs)
 
--- the token that stands at the front, if the text has not ended; a dollar sign counts as one without a partner
+-- the token that stands at the start, if the text has not ended; a dollar sign counts as one without a partner
 unfoldable pub token_at : List ℕ → Result (Option Token × List ℕ) Malformed
 token_at [] = Ok (None, [])
 token_at (c ∷ cs) = if c == 92 then command_at cs
@@ -51,8 +51,8 @@ token_at (c ∷ cs) = if c == 92 then command_at cs
     else (if c == 125 then Ok (Some Close, cs)
     else (if c == 36 then Ok (Some (Dollar false), cs)
     else (if c == 126 then Ok (Some Tie, cs)
-    else (if c == 45 then Ok (Some (Hyphens (front_of (passes Hyphen) (c ∷ cs))), after (passes Hyphen) (c ∷ cs))
-    else Ok (Some (Text (front_of (passes Plain) (c ∷ cs))), after (passes Plain) (c ∷ cs)))))))
+    else (if c == 45 then Ok (Some (Hyphens (prefix_of (passes Hyphen) (c ∷ cs))), after (passes Hyphen) (c ∷ cs))
+    else Ok (Some (Text (prefix_of (passes Plain) (c ∷ cs))), after (passes Plain) (c ∷ cs)))))))
 
 -- all tokens of a text
 unfoldable pub tokens_of : List ℕ → Result (List Token) Malformed

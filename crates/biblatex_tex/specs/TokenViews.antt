@@ -10,15 +10,15 @@ use Rattle.biblatex_tex.specs.Token.{Token, Text, Hyphens, Tie, Open, Close, Dol
 abbrev pub left : Lexer → List ℕ
 left l = chars l.rest.now
 
-abbrev pub token : code.Token → Token
-token (codes.Text s) = Text (chars s.now)
-token (codes.Hyphens s) = Hyphens (chars s.now)
-token codes.Tie = Tie
-token (codes.Open is_command) = Open is_command
-token codes.Close = Close
-token (codes.Dollar has_partner) = Dollar has_partner
-token (codes.Sign c) = Sign c
-token (codes.Command name blanks) = Command (chars name.now) (chars blanks.now)
+abbrev pub token_view : code.Token → Token
+token_view (codes.Text s) = Text (chars s.now)
+token_view (codes.Hyphens s) = Hyphens (chars s.now)
+token_view codes.Tie = Tie
+token_view (codes.Open is_command) = Open is_command
+token_view codes.Close = Close
+token_view (codes.Dollar has_partner) = Dollar has_partner
+token_view (codes.Sign c) = Sign c
+token_view (codes.Command name blanks) = Command (chars name.now) (chars blanks.now)
 
-abbrev pub tokens : List code.Token → List Token
-tokens ts = map token ts
+abbrev pub tokens_view : List code.Token → List Token
+tokens_view ts = map token_view ts

@@ -62,7 +62,8 @@ pub fn put_marks(
     text: &mut Vec<char>,
     marks: &mut Vec<char>,
 ) -> Result<(), AllocError>
-    ensures text { OnOk result (reverse text.new.items ≡ marked marks.old.items (reverse text.old.items)) }
+    ensures text { OnOk result (reverse text.new.items
+        ≡ marked marks.old.items (reverse text.old.items)) }
     ensures marks { OnOk result (marks.new.items ≡ []) }
 {
     while let Some(mark) = marks.pop() {

@@ -2,7 +2,7 @@
 
 ghost use Rattle.std.specs.Prelude.{◌≡◌, ◌++◌, ◌∷◌, [], MatchOption};
 ghost use Rattle.std.specs.Str.{chars};
-ghost use Rattle.laws.specs.Runs.{front_of, after};
+ghost use Rattle.laws.specs.Runs.{prefix_of, after};
 ghost use Rattle.biblatex_tex.specs.Character.{is_blank, is_plain, passes};
 
 use texts::CharacterClass;

@@ -4,11 +4,11 @@ ghost use Rattle.std.specs.Prelude.{◌≡◌, IfOk, OnOk, reverse};
 ghost use Rattle.std.specs.Option.{option_map};
 ghost use Rattle.std.specs.Str.{chars};
 ghost use Rattle.laws.specs.Results.{Reads, Gives};
-ghost use Rattle.laws.specs.Runs.{front_of, after};
+ghost use Rattle.laws.specs.Runs.{prefix_of, after};
 ghost use Rattle.biblatex_tex.specs.Character.{passes};
 ghost use Rattle.biblatex_tex.specs.Results.{refusal_of};
 ghost use Rattle.biblatex_tex.specs.Token.{begins_command, command_at, token_at, tokens_of, paired_of, partnered, dollars_before, innermost};
-ghost use Rattle.biblatex_tex.specs.TokenViews.{left, token, tokens};
+ghost use Rattle.biblatex_tex.specs.TokenViews.{left, token_view, tokens_view};
 
 use crate::character::Class;
 use crate::error::{ContentError, Malformed};
@@ -58,17 +58,18 @@ fn begins_command(text: &str) -> bool
 impl<'s> Lexer<'s> {
     /// The longest run of the class that stands here.
     fn run(&mut self, class: Class) -> &'s str
-        ensures front { chars result.now ≡ front_of (passes class) (left self.old) }
+        ensures prefix { chars result.now ≡ prefix_of (passes class) (left self.old) }
         ensures rest { left self.new ≡ after (passes class) (left self.old) }
     {
-        let (front, rest) = split_run(self.rest, class);
+        let (prefix, rest) = split_run(self.rest, class);
         self.rest = rest;
-        front
+        prefix
     }
 
     /// What stands after a backslash.
     fn command(&mut self) -> Result<Option<Token<'s>>, Malformed>
-        ensures { Reads (option_map token) result (left self.new) (command_at (left self.old)) }
+        ensures { Reads (option_map token_view) result
+            (left self.new) (command_at (left self.old)) }
     {
         match split_first(self.rest) {
             None => Err(Malformed::MalformedText),
@@ -86,7 +87,7 @@ impl<'s> Lexer<'s> {
     /// The next token, or nothing at the end of the text.
     #[tactic(auto, unfolding(crate::specs::Token::token_at))]
     fn next_token(&mut self) -> Result<Option<Token<'s>>, Malformed>
-        ensures { Reads (option_map token) result (left self.new) (token_at (left self.old)) }
+        ensures { Reads (option_map token_view) result (left self.new) (token_at (left self.old)) }
     {
         let Some((c, rest)) = split_first(self.rest) else {
             return Ok(None);
@@ -114,7 +115,7 @@ impl<'s> Lexer<'s> {
 /// The tokens of a text, a dollar sign as one without a partner.
 #[tactic(auto, unfolding(crate::specs::Token::tokens_of))]
 fn written_tokens<'s>(alloc: Global, text: &'s str) -> Result<Vec<Token<'s>>, ContentError>
-    ensures { Gives refusal_of (λ v. tokens v.items) result (tokens_of (chars text.now)) }
+    ensures { Gives refusal_of (λ v. tokens_view v.items) result (tokens_of (chars text.now)) }
 {
     let mut lexer = Lexer { rest: text };
     let mut tokens = Vec::with_capacity(alloc, FEW_TOKENS)?;
@@ -143,8 +144,10 @@ impl Dollars {
 
     /// Goes back over a token, and says which it is now that its partner is known.
     fn pass<'s>(&mut self, written: Token<'s>) -> Result<Token<'s>, AllocError>
-        ensures token { IfOk result (λ t. token t ≡ partnered (token written.entry) (reverse self.old.groups.items)) }
-        ensures groups { OnOk result (reverse self.new.groups.items ≡ dollars_before (token written.entry) (reverse self.old.groups.items)) }
+        ensures token { IfOk result (λ t. token_view t
+            ≡ partnered (token_view written.entry) (reverse self.old.groups.items)) }
+        ensures groups { OnOk result (reverse self.new.groups.items
+            ≡ dollars_before (token_view written.entry) (reverse self.old.groups.items)) }
     {
         match written {
             Token::Open(_) => {
@@ -165,7 +168,8 @@ impl Dollars {
 
 /// The tokens of a text, each dollar sign with whether it has a partner; the first token is the last of the list.
 pub fn paired_tokens<'s>(alloc: Global, text: &'s str) -> Result<Vec<Token<'s>>, ContentError>
-    ensures { Gives refusal_of (λ v. tokens (reverse v.items)) result (paired_of (chars text.now)) }
+    ensures { Gives refusal_of (λ v. tokens_view (reverse v.items)) result
+        (paired_of (chars text.now)) }
 {
     let mut tokens = written_tokens(alloc, text)?;
     let mut dollars = Dollars {

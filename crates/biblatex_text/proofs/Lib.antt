@@ -1,9 +1,9 @@
 pub mod RunCut
-pub mod ReadingPlaces
+pub mod ReadingOffsets
 pub mod ReadingShorter
 pub mod FieldsRepeats
 pub mod SpanSlices
 pub mod ValuePieces
 pub mod RawGathered
-pub mod ItemsPlaced
+pub mod ItemsSpanned
 pub mod Names

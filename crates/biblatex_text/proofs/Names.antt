@@ -10,12 +10,12 @@ use Rattle.laws.specs.Text.{text as text_of}
 use Rattle.laws.proofs.Results.{bind_if_ok, test_if_ok}
 use Rattle.laws.proofs.Throughout.{all-flat_map, each-gives}
 use Rattle.biblatex_text.specs.Character.{is_id_continue, is_key}
-use Rattle.biblatex_text.specs.Run.{only_if, front_of, after}
+use Rattle.biblatex_text.specs.Run.{only_if, prefix_of, after}
 use Rattle.biblatex_text.specs.Raw.{At, at_map, Piece, normal, abbreviation, Field, Entry, Item, nothing, definitions, an_entry, entry_in, entries_of, fields_in, abbreviations_of, Raw}
 use Rattle.biblatex_text.specs.Reading.{Refusal, token_at, after_blanks, run_at, identifier_at, closed_at}
 use Rattle.biblatex_text.specs.Value.{unquoted_at, braced_at, quoted_at, is_number, bare, piece_at, piece_or_end_at, next_piece_at, value_at}
 use Rattle.biblatex_text.specs.Fields.{field_at, closing, field_or_end_at, comma_or_end_at, next_field_at, more_fields_at, fields_from, definitions_at}
-use Rattle.biblatex_text.specs.Items.{opening_at, remark_at, preamble_at, key_run, entry_at, is_named, body_at, item_of_kind_at, item_at, item_or_end_at, next_item_at, raw_at, placed, raw_of}
+use Rattle.biblatex_text.specs.Items.{opening_at, remark_at, preamble_at, key_run, entry_at, is_named, body_at, item_of_kind_at, item_at, item_or_end_at, next_item_at, raw_at, at_offset, raw_of}
 use Rattle.biblatex_text.specs.declared.run.Run.TheVariants.{Outside, Identifier, Key, RoundKey, Braced, Quoted}
 use Rattle.biblatex_text.specs.declared.bracket.Bracket.{Bracket}
 use Rattle.biblatex_text.specs.declared.bracket.Bracket.TheVariants.{Brace, Parenthesis}
@@ -48,32 +48,32 @@ pub record AreKeyed (r : Raw) : Type 0 where
 
 -- ---- runs
 
-all-identifier : (cs : List ℕ) → AllPassTest is_id_continue (front_of Identifier cs)
+all-identifier : (cs : List ℕ) → AllPassTest is_id_continue (prefix_of Identifier cs)
 all-identifier [] = tt
 all-identifier (c ∷ cs) = by_test (all-identifier cs) (is_id_continue c) refl
   where
-    by_test : AllPassTest is_id_continue (front_of Identifier cs) → (b : Bool) → is_id_continue c ≡ b → AllPassTest is_id_continue (option_map_or (λ more. c ∷ front_of more cs) (only_if b Identifier) [])
+    by_test : AllPassTest is_id_continue (prefix_of Identifier cs) → (b : Bool) → is_id_continue c ≡ b → AllPassTest is_id_continue (option_map_or (λ more. c ∷ prefix_of more cs) (only_if b Identifier) [])
     by_test more true e = (e, more)
     by_test more false e = tt
 
-all-brace_key : (cs : List ℕ) → AllPassTest is_key (front_of Key cs)
+all-brace_key : (cs : List ℕ) → AllPassTest is_key (prefix_of Key cs)
 all-brace_key [] = tt
 all-brace_key (c ∷ cs) = by_test (all-brace_key cs) (is_key c) refl
   where
-    by_test : AllPassTest is_key (front_of Key cs) → (b : Bool) → is_key c ≡ b → AllPassTest is_key (option_map_or (λ more. c ∷ front_of more cs) (only_if b Key) [])
+    by_test : AllPassTest is_key (prefix_of Key cs) → (b : Bool) → is_key c ≡ b → AllPassTest is_key (option_map_or (λ more. c ∷ prefix_of more cs) (only_if b Key) [])
     by_test more true e = (e, more)
     by_test more false e = tt
 
-all-round_key : (cs : List ℕ) → AllPassTest is_key (front_of RoundKey cs)
+all-round_key : (cs : List ℕ) → AllPassTest is_key (prefix_of RoundKey cs)
 all-round_key [] = tt
 all-round_key (c ∷ cs) = by_test (all-round_key cs) (is_key c) (not (eqb c 41)) refl
   where
-    by_test : AllPassTest is_key (front_of RoundKey cs) → (b other : Bool) → is_key c ≡ b → AllPassTest is_key (option_map_or (λ more. c ∷ front_of more cs) (only_if (b && other) RoundKey) [])
+    by_test : AllPassTest is_key (prefix_of RoundKey cs) → (b other : Bool) → is_key c ≡ b → AllPassTest is_key (option_map_or (λ more. c ∷ prefix_of more cs) (only_if (b && other) RoundKey) [])
     by_test more true true e = (e, more)
     by_test more true false e = tt
     by_test more false other e = tt
 
-all-key : (bracket : Bracket) (cs : List ℕ) → AllPassTest is_key (front_of (key_run bracket) cs)
+all-key : (bracket : Bracket) (cs : List ℕ) → AllPassTest is_key (prefix_of (key_run bracket) cs)
 all-key Brace cs = all-brace_key cs
 all-key Parenthesis cs = all-round_key cs
 
@@ -118,7 +118,7 @@ piece-named n [] = tt
 piece-named n (c ∷ cs) =
     either_if_ok (First IsNamed) (eqb c 123) (braced_at n cs) _ (braced-named n cs)
     (either_if_ok (First IsNamed) (eqb c 34) (quoted_at n cs) _ (quoted-named n cs)
-    (test_if_ok (First IsNamed) (is_id_continue c) (Ok (at_map bare (run_at n Identifier (c ∷ cs)), after Identifier (c ∷ cs))) (Expected tokens.Identifier, c ∷ cs) (bare-named (front_of Identifier (c ∷ cs)) (all-identifier (c ∷ cs)))))
+    (test_if_ok (First IsNamed) (is_id_continue c) (Ok (at_map bare (run_at n Identifier (c ∷ cs)), after Identifier (c ∷ cs))) (Expected tokens.Identifier, c ∷ cs) (bare-named (prefix_of Identifier (c ∷ cs)) (all-identifier (c ∷ cs)))))
 
 piece_or_end-named : (n : ℕ) (end cs : List ℕ) → IfOk (piece_or_end_at n end cs) (Given IsNamed)
 piece_or_end-named n end [] = tt
@@ -239,6 +239,6 @@ raw_at-keyed n cs =
 pub raw-keyed : (cs : List ℕ) → IfOk (raw_of cs) AreKeyed
 raw-keyed cs = by_raw (raw_at (length (text_of cs)) cs) (raw_at-keyed (length (text_of cs)) cs)
   where
-    by_raw : (r : Result Raw Refusal) → IfOk r AreKeyed → IfOk (placed (length (text_of cs)) r) AreKeyed
+    by_raw : (r : Result Raw Refusal) → IfOk r AreKeyed → IfOk (at_offset (length (text_of cs)) r) AreKeyed
     by_raw (Ok r) keyed = keyed
     by_raw (Err f) keyed = tt

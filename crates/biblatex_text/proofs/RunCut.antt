@@ -5,22 +5,22 @@ use Rattle.std.specs.Str.{chars, IsUtf8}
 use Rattle.std.proofs.lemmas.Str.{chars_past_char, chars-append, chars-nil, IsUtf8-past_char, IsUtf8-append, IsUtf8-nil}
 use Rattle.std.proofs.lemmas.List.{length-append, append-nil, nil_from_length, take_at, drop_at}
 use Rattle.laws.proofs.Cut.{IsUtf8-first}
-use Rattle.biblatex_text.specs.Run.{next, depth_of, front_of, after}
+use Rattle.biblatex_text.specs.Run.{next, depth_of, prefix_of, after}
 use Rattle.biblatex_text.specs.declared.run.Run.{Run}
 
--- The run that started has come so far: the front of a length that it took, and the rest of the text.
+-- The run that started has come so far: the prefix of a length that it took, and the rest of the text.
 pub record Runs (start run : Run) (whole rest : List ℕ) (end : ℕ) : Type 0 where
-  pub front_text : List ℕ
-  pub parts : whole ≡ front_text ++ rest
-  pub long : length front_text ≡ end
+  pub prefix_text : List ℕ
+  pub parts : whole ≡ prefix_text ++ rest
+  pub long : length prefix_text ≡ end
   pub depth : depth_of run ≤ end
   pub rest_utf8 : IsUtf8 rest
-  pub front_utf8 : IsUtf8 front_text
-  pub front : front_of start (chars whole) ≡ chars front_text ++ front_of run (chars rest)
+  pub prefix_utf8 : IsUtf8 prefix_text
+  pub prefix : prefix_of start (chars whole) ≡ chars prefix_text ++ prefix_of run (chars rest)
   pub rest_is : after start (chars whole) ≡ after run (chars rest)
 
 pub runs_none : (start : Run) (whole : List ℕ) → depth_of start ≡ 0 → IsUtf8 whole → Runs start start whole whole 0
-runs_none start whole d u = record { front_text = []; parts = refl; long = refl; depth = omega arith; rest_utf8 = u; front_utf8 = IsUtf8-nil; front = rw chars-nil refl; rest_is = refl }
+runs_none start whole d u = record { prefix_text = []; parts = refl; long = refl; depth = omega arith; rest_utf8 = u; prefix_utf8 = IsUtf8-nil; prefix = rw chars-nil refl; rest_is = refl }
 
 -- one more character goes on with the run
 pub runs_more : (start run then : Run) (whole rest more : List ℕ) (end c : ℕ) → Runs start run whole rest end → rest ≡ encode_utf8 c ++ more → next run c ≡ Some then
@@ -30,36 +30,36 @@ runs_more start run then whole rest more end c r e goes deep =
     let long = r.long in
     let now : chars rest ≡ c ∷ chars more = chars_past_char rest more c r.rest_utf8 e in
     let single : chars (encode_utf8 c) ≡ c ∷ [] = chars_past_char (encode_utf8 c) [] c one (sym (append-nil (encode_utf8 c))) ∙ rw chars-nil refl in
-    let longer : chars (r.front_text ++ encode_utf8 c) ≡ chars r.front_text ++ c ∷ [] = chars-append r.front_text (encode_utf8 c) r.front_utf8 ∙ rw single refl in
-    let begins : front_of run (chars rest) ≡ c ∷ front_of then (chars more) = ap (front_of run) now ∙ rw goes refl in
+    let longer : chars (r.prefix_text ++ encode_utf8 c) ≡ chars r.prefix_text ++ c ∷ [] = chars-append r.prefix_text (encode_utf8 c) r.prefix_utf8 ∙ rw single refl in
+    let begins : prefix_of run (chars rest) ≡ c ∷ prefix_of then (chars more) = ap (prefix_of run) now ∙ rw goes refl in
     let ends : after run (chars rest) ≡ after then (chars more) = ap (after run) now ∙ rw goes refl in
     record {
-      front_text = r.front_text ++ encode_utf8 c;
-      parts = r.parts ∙ rw e (sym (append_assoc r.front_text (encode_utf8 c) more));
-      long = omega (arith, length-append r.front_text (encode_utf8 c));
+      prefix_text = r.prefix_text ++ encode_utf8 c;
+      parts = r.parts ∙ rw e (sym (append_assoc r.prefix_text (encode_utf8 c) more));
+      long = omega (arith, length-append r.prefix_text (encode_utf8 c));
       depth = deep;
       rest_utf8 = IsUtf8-past_char rest more c r.rest_utf8 e;
-      front_utf8 = IsUtf8-append r.front_text (encode_utf8 c) r.front_utf8 one;
-      front = r.front ∙ rw (begins, longer) (sym (append_assoc (chars r.front_text) (c ∷ []) (front_of then (chars more))));
+      prefix_utf8 = IsUtf8-append r.prefix_text (encode_utf8 c) r.prefix_utf8 one;
+      prefix = r.prefix ∙ rw (begins, longer) (sym (append_assoc (chars r.prefix_text) (c ∷ []) (prefix_of then (chars more))));
       rest_is = r.rest_is ∙ ends;
     }
 
 -- where a text is cut at the end of its run
-pub record CutsRun (start : Run) (whole front back : List ℕ) : Type 0 where
-  pub parts : whole ≡ front ++ back
+pub record CutsRun (start : Run) (whole prefix back : List ℕ) : Type 0 where
+  pub parts : whole ≡ prefix ++ back
   pub utf8 : IsUtf8 back
-  pub front_is : chars front ≡ front_of start (chars whole)
+  pub prefix_is : chars prefix ≡ prefix_of start (chars whole)
   pub back_is : chars back ≡ after start (chars whole)
 
-cut_at : (start run : Run) (whole rest : List ℕ) (end : ℕ) → Runs start run whole rest end → front_of run (chars rest) ≡ [] → after run (chars rest) ≡ chars rest
+cut_at : (start run : Run) (whole rest : List ℕ) (end : ℕ) → Runs start run whole rest end → prefix_of run (chars rest) ≡ [] → after run (chars rest) ≡ chars rest
     → CutsRun start whole (take end whole) (drop end whole)
 cut_at start run whole rest end r none all =
-    let front : take end whole ≡ r.front_text = rw r.parts (take_at r.front_text rest end r.long) in
-    let back : drop end whole ≡ rest = rw r.parts (drop_at r.front_text rest end r.long) in
+    let prefix : take end whole ≡ r.prefix_text = rw r.parts (take_at r.prefix_text rest end r.long) in
+    let back : drop end whole ≡ rest = rw r.parts (drop_at r.prefix_text rest end r.long) in
     record {
-      parts = rw (front, back) r.parts;
+      parts = rw (prefix, back) r.parts;
       utf8 = subst IsUtf8 (sym back) r.rest_utf8;
-      front_is = rw front (sym (r.front ∙ rw none (append-nil (chars r.front_text))));
+      prefix_is = rw prefix (sym (r.prefix ∙ rw none (append-nil (chars r.prefix_text))));
       back_is = rw back (sym (r.rest_is ∙ all));
     }
 
@@ -68,12 +68,12 @@ pub stops_before : (start run : Run) (whole rest more : List ℕ) (end c : ℕ) 
     → CutsRun start whole (take end whole) (drop end whole)
 stops_before start run whole rest more end c r e ends =
     let now : chars rest ≡ c ∷ chars more = chars_past_char rest more c r.rest_utf8 e in
-    cut_at start run whole rest end r (ap (front_of run) now ∙ rw ends refl) (ap (after run) now ∙ (let same : after run (c ∷ chars more) ≡ c ∷ chars more = rw ends refl in same ∙ sym now))
+    cut_at start run whole rest end r (ap (prefix_of run) now ∙ rw ends refl) (ap (after run) now ∙ (let same : after run (c ∷ chars more) ≡ c ∷ chars more = rw ends refl in same ∙ sym now))
 
 -- the text is at its end
 pub stops_at_end : (start run : Run) (whole rest : List ℕ) (end : ℕ) → Runs start run whole rest end → length rest ≡ 0 → CutsRun start whole (take (length whole) whole) (drop (length whole) whole)
 stops_at_end start run whole rest end r none =
-    let all : end ≡ length whole = omega (arith, r.long, ap length r.parts, length-append r.front_text rest) in
+    let all : end ≡ length whole = omega (arith, r.long, ap length r.parts, length-append r.prefix_text rest) in
     let empty : rest ≡ [] = nil_from_length rest none in
     let nothing : chars rest ≡ [] = ap chars empty ∙ chars-nil in
-    subst (λ n. CutsRun start whole (take n whole) (drop n whole)) all (cut_at start run whole rest end r (ap (front_of run) nothing) (ap (after run) nothing ∙ sym nothing))
+    subst (λ n. CutsRun start whole (take n whole) (drop n whole)) all (cut_at start run whole rest end r (ap (prefix_of run) nothing) (ap (after run) nothing ∙ sym nothing))

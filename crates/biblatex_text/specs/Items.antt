@@ -13,7 +13,7 @@ use Rattle.biblatex_text.specs.declared.bracket.Bracket.TheVariants.{Brace, Pare
 use Rattle.biblatex_text.specs.declared.token.Token.TheVariants as tokens
 use Rattle.biblatex_text.specs.declared.token.Fault.{Fault}
 use Rattle.biblatex_text.specs.declared.token.Fault.TheVariants.{UnexpectedEof, Expected}
-use Rattle.biblatex_text.specs.Reading.{Refusal, place, token_at, after_blanks, run_at, identifier_at, closed_at}
+use Rattle.biblatex_text.specs.Reading.{Refusal, offset, token_at, after_blanks, run_at, identifier_at, closed_at}
 use Rattle.biblatex_text.specs.Value.{value_at}
 use Rattle.biblatex_text.specs.Fields.{closing, more_fields_at, definitions_at}
 
@@ -68,7 +68,7 @@ item_at n cs = do
 -- after the text between items: the end, or an at sign and an item
 abbrev pub item_or_end_at : ℕ → List ℕ → Result (Option (At Item) × List ℕ) Refusal
 item_or_end_at _ [] = Ok (None, [])
-item_or_end_at n (c ∷ cs) = item_at n cs >>= λ i. Ok (Some (record { v = i.0; start = place n (c ∷ cs); end = place n i.1 }), i.1)
+item_or_end_at n (c ∷ cs) = item_at n cs >>= λ i. Ok (Some (record { v = i.0; start = offset n (c ∷ cs); end = offset n i.1 }), i.1)
 
 unfoldable pub next_item_at : ℕ → List ℕ → Result (Option (At Item) × List ℕ) Refusal
 next_item_at n cs = item_or_end_at n (after Outside cs)
@@ -77,11 +77,11 @@ next_item_at n cs = item_or_end_at n (after Outside cs)
 unfoldable pub raw_at : ℕ → List ℕ → Result Raw Refusal
 raw_at n cs = each (next_item_at n) cs >>= λ p. Ok (gathered p.0)
 
--- a fault and its place
-abbrev pub placed : ℕ → Result Raw Refusal → Result Raw (Fault × ℕ)
-placed n (Ok r) = Ok r
-placed n (Err f) = Err (f.0, place n f.1)
+-- a fault and its offset
+abbrev pub at_offset : ℕ → Result Raw Refusal → Result Raw (Fault × ℕ)
+at_offset n (Ok r) = Ok r
+at_offset n (Err f) = Err (f.0, offset n f.1)
 
 -- all that a text holds, or its first fault from the left, and the byte where that stands
 abbrev pub raw_of : List ℕ → Result Raw (Fault × ℕ)
-raw_of cs = placed (length (text_of cs)) (raw_at (length (text_of cs)) cs)
+raw_of cs = at_offset (length (text_of cs)) (raw_at (length (text_of cs)) cs)

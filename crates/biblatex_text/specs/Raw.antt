@@ -13,7 +13,7 @@ pub record At (X : Type 0) : Type 0 where
   pub start : ℕ
   pub end : ℕ
 
--- what is made of it, in its place
+-- what is made of it, with its span
 abbrev pub at_map : {X Y : Type 0} → (X → Y) → At X → At Y
 at_map f a = record { v = f a.v; start = a.start; end = a.end }
 

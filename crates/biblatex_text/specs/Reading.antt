@@ -1,11 +1,11 @@
 -- Reading a text from the left: what stands there, and the text after it; or the first fault, and the text from where it
--- stands on. A fault is meant to stand after the longest beginning of the text that begins some text of the grammar;
--- a refused text that is such a beginning itself ends too soon. Each function is what one method of the reader gives.
--- Characters are numbers, and n is the number of bytes of the whole text, in which places are counted.
+-- stands on. A fault is meant to stand after the longest prefix of the text that begins some text of the grammar;
+-- a refused text that is such a prefix itself ends too soon. Each function is what one method of the reader gives.
+-- Characters are numbers, and n is the number of bytes of the whole text, in which offsets are counted.
 use Rattle.std.specs.Prelude.{ℕ, ◌-◌, ◌==◌, List, length, [], ◌∷◌, if◌then◌else◌, Result, Ok, Err}
 use Rattle.laws.specs.Text.{text as text_of}
 use Rattle.biblatex_text.specs.Character.{is_id_start}
-use Rattle.biblatex_text.specs.Run.{front_of, after}
+use Rattle.biblatex_text.specs.Run.{prefix_of, after}
 use Rattle.biblatex_text.specs.Raw.{At}
 use Rattle.biblatex_text.specs.declared.run.Run.{Run}
 use Rattle.biblatex_text.specs.declared.run.Run.TheVariants.{Blank, Identifier}
@@ -27,13 +27,13 @@ token_at wanted token (c ∷ cs) = if c == wanted then Ok cs else Err (Expected 
 abbrev pub after_blanks : List ℕ → List ℕ
 after_blanks cs = after Blank cs
 
--- The place of what is left of a text: how many of its bytes, n in all, stand before.
-abbrev pub place : ℕ → List ℕ → ℕ
-place n rest = n - length (text_of rest)
+-- The offset of what is left of a text: how many of its bytes, n in all, stand before.
+abbrev pub offset : ℕ → List ℕ → ℕ
+offset n rest = n - length (text_of rest)
 
--- the run that stands in front of what is left
+-- the run that stands before what is left
 abbrev pub run_at : ℕ → Run → List ℕ → At (List ℕ)
-run_at n run cs = record { v = front_of run cs; start = place n cs; end = place n (after run cs) }
+run_at n run cs = record { v = prefix_of run cs; start = offset n cs; end = offset n (after run cs) }
 
 -- an identifier and what follows it
 abbrev pub identifier_at : ℕ → List ℕ → Result (At (List ℕ) × List ℕ) Refusal

@@ -50,10 +50,10 @@ depth_of (Quoted depth) = depth
 depth_of (QuotedEscape depth) = depth
 depth_of run = 0
 
--- the longest front of a text that goes on with the run
-abbrev pub front_of : Run → List ℕ → List ℕ
-front_of run [] = []
-front_of run (c ∷ cs) = option_map_or (λ more. c ∷ front_of more cs) (next run c) []
+-- the longest prefix of a text that goes on with the run
+abbrev pub prefix_of : Run → List ℕ → List ℕ
+prefix_of run [] = []
+prefix_of run (c ∷ cs) = option_map_or (λ more. c ∷ prefix_of more cs) (next run c) []
 
 -- what follows it
 abbrev pub after : Run → List ℕ → List ℕ

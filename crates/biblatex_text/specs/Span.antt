@@ -51,12 +51,12 @@ IsItemOf source items.Nothing = Unit {0}
 IsItemOf source (items.Definitions pairs) = ArePairsOf source pairs
 IsItemOf source (items.Entry e) = IsEntryOf source e
 
-abbrev pub IsPlacedItemOf : List ℕ → Spanned RawItem → Type 0
-IsPlacedItemOf source s = IsRange source s.span.start s.span.end × IsItemOf source s.v
+abbrev pub IsSpannedItemOf : List ℕ → Spanned RawItem → Type 0
+IsSpannedItemOf source s = IsRange source s.span.start s.span.end × IsItemOf source s.v
 
-abbrev pub IsPlacedEntryOf : List ℕ → Spanned RawEntry → Type 0
-IsPlacedEntryOf source s = IsRange source s.span.start s.span.end × IsEntryOf source s.v
+abbrev pub IsSpannedEntryOf : List ℕ → Spanned RawEntry → Type 0
+IsSpannedEntryOf source s = IsRange source s.span.start s.span.end × IsEntryOf source s.v
 
 -- each kind, key, name and piece is the source's slice at its range, and values and entries have ranges of the source
 abbrev pub IsRawOf : List ℕ → RawBibliography → Type 0
-IsRawOf source b = All (IsPlacedEntryOf source) b.entries.items × ArePairsOf source b.abbreviations
+IsRawOf source b = All (IsSpannedEntryOf source) b.entries.items × ArePairsOf source b.abbreviations

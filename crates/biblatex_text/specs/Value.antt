@@ -10,9 +10,9 @@ use Rattle.biblatex_text.specs.Raw.{At, at_map, Piece, normal, abbreviation}
 use Rattle.biblatex_text.specs.declared.run.Run.TheVariants.{Identifier, Number, Braced, Quoted}
 use Rattle.biblatex_text.specs.declared.token.Token.TheVariants as tokens
 use Rattle.biblatex_text.specs.declared.token.Fault.TheVariants.{UnexpectedEof, Unexpected, Expected}
-use Rattle.biblatex_text.specs.Reading.{Refusal, place, after_blanks, run_at, closed_at}
+use Rattle.biblatex_text.specs.Reading.{Refusal, offset, after_blanks, run_at, closed_at}
 
--- past the quotation mark that ends a piece; a brace that closes none has no place there
+-- past the quotation mark that ends a piece; a brace that closes none may not stand there
 abbrev pub unquoted_at : List ℕ → Result (List ℕ) Refusal
 unquoted_at [] = Err (UnexpectedEof, [])
 unquoted_at (c ∷ cs) = if c == 34 then Ok cs else Err (Unexpected tokens.ClosingBrace, c ∷ cs)
@@ -48,7 +48,7 @@ piece_at n (c ∷ cs) = if c == 123 then braced_at n cs
     else (if is_id_continue c then Ok (at_map bare (run_at n Identifier (c ∷ cs)), after Identifier (c ∷ cs))
     else Err (Expected tokens.Identifier, c ∷ cs)))
 
--- a number sign and a further piece, or the end of the value at a place before
+-- a number sign and a further piece, or the end of the value at an offset before
 abbrev pub piece_or_end_at : ℕ → List ℕ → List ℕ → Result (Option (At Piece) × List ℕ) Refusal
 piece_or_end_at _ end [] = Ok (None, end)
 piece_or_end_at n end (c ∷ cs) = if c == 35 then (piece_at n (after_blanks cs) >>= λ p. Ok (Some p.0, p.1)) else Ok (None, end)
@@ -62,4 +62,4 @@ unfoldable pub value_at : ℕ → List ℕ → Result (At (List (At Piece)) × L
 value_at n cs = do
   first ← piece_at n cs
   others ← each (next_piece_at n) first.1
-  Ok (record { v = first.0 ∷ others.0; start = place n cs; end = place n others.1 }, others.1)
+  Ok (record { v = first.0 ∷ others.0; start = offset n cs; end = offset n others.1 }, others.1)

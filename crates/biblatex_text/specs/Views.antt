@@ -25,7 +25,7 @@ use Rattle.biblatex_text.specs.declared.error.RawError.TheVariants as errors
 abbrev pub left : Reader → List ℕ
 left r = chars r.rest.now
 
--- a reader of the same source, at the same place or after it
+-- a reader of the same source, at the same offset or after it
 abbrev pub GoesOn : Reader → Reader → Type 0
 GoesOn old new = (new.source.now ≡ old.source.now) × (length new.rest.now ≤ length old.rest.now)
 
@@ -33,54 +33,54 @@ GoesOn old new = (new.source.now ≡ old.source.now) × (length new.rest.now ≤
 abbrev pub size : Reader → ℕ
 size r = length r.source.now
 
--- what is seen of a value, in its place
-abbrev pub spot : {X Y : Type 0} → (X → Y) → Spanned X → At Y
-spot view s = record { v = view s.v; start = s.span.start; end = s.span.end }
+-- the view of a value, with its span
+abbrev pub spanned_view : {X Y : Type 0} → (X → Y) → Spanned X → At Y
+spanned_view view s = record { v = view s.v; start = s.span.start; end = s.span.end }
 
 -- the characters of a borrowed text
-abbrev pub letters : Bor (List ℕ) → List ℕ
-letters t = chars t.now
+abbrev pub text_view : Bor (List ℕ) → List ℕ
+text_view t = chars t.now
 
-abbrev pub part : Spanned (Bor (List ℕ)) → At (List ℕ)
-part s = spot letters s
+abbrev pub spanned_text_view : Spanned (Bor (List ℕ)) → At (List ℕ)
+spanned_text_view s = spanned_view text_view s
 
-abbrev pub chunk : RawChunk → Piece
-chunk (chunks.Normal t) = normal (chars t.now)
-chunk (chunks.Abbreviation t) = abbreviation (chars t.now)
+abbrev pub chunk_view : RawChunk → Piece
+chunk_view (chunks.Normal t) = normal (chars t.now)
+chunk_view (chunks.Abbreviation t) = abbreviation (chars t.now)
 
-abbrev pub piece : Spanned RawChunk → At Piece
-piece s = spot chunk s
+abbrev pub piece_view : Spanned RawChunk → At Piece
+piece_view s = spanned_view chunk_view s
 
-abbrev pub pieces : Vec (Spanned RawChunk) Global → List (At Piece)
-pieces v = map piece v.items
+abbrev pub pieces_view : Vec (Spanned RawChunk) Global → List (At Piece)
+pieces_view v = map piece_view v.items
 
-abbrev pub value : Spanned (Vec (Spanned RawChunk) Global) → At (List (At Piece))
-value s = spot pieces s
+abbrev pub value_view : Spanned (Vec (Spanned RawChunk) Global) → At (List (At Piece))
+value_view s = spanned_view pieces_view s
 
-abbrev pub field : Pair → Field
-field p = record { name = part p.key; value = value p.value }
+abbrev pub field_view : Pair → Field
+field_view p = record { name = spanned_text_view p.key; value = value_view p.value }
 
-abbrev pub fields : Vec Pair Global → List Field
-fields v = map field v.items
+abbrev pub fields_view : Vec Pair Global → List Field
+fields_view v = map field_view v.items
 
-abbrev pub raw_entry : RawEntry → Entry
-raw_entry e = record { kind = part e.kind; key = part e.key; fields = fields e.fields }
+abbrev pub raw_entry_view : RawEntry → Entry
+raw_entry_view e = record { kind = spanned_text_view e.kind; key = spanned_text_view e.key; fields = fields_view e.fields }
 
-abbrev pub entry : Spanned RawEntry → At Entry
-entry s = spot raw_entry s
+abbrev pub entry_view : Spanned RawEntry → At Entry
+entry_view s = spanned_view raw_entry_view s
 
-abbrev pub raw_item : RawItem → Item
-raw_item items.Nothing = nothing
-raw_item (items.Definitions pairs) = definitions (fields pairs)
-raw_item (items.Entry e) = an_entry (raw_entry e)
+abbrev pub raw_item_view : RawItem → Item
+raw_item_view items.Nothing = nothing
+raw_item_view (items.Definitions pairs) = definitions (fields_view pairs)
+raw_item_view (items.Entry e) = an_entry (raw_entry_view e)
 
-abbrev pub item : Spanned RawItem → At Item
-item s = spot raw_item s
+abbrev pub item_view : Spanned RawItem → At Item
+item_view s = spanned_view raw_item_view s
 
-abbrev pub raw : RawBibliography → Raw
-raw b = record { entries = map entry b.entries.items; abbreviations = fields b.abbreviations }
+abbrev pub raw_view : RawBibliography → Raw
+raw_view b = record { entries = map entry_view b.entries.items; abbreviations = fields_view b.abbreviations }
 
--- What a function returned, seen by view, and what it left to read, or its fault where the text from there on is left, are
+-- What a function returned, under the view, and what it left to read, or its fault where the text from there on is left, are
 -- what reading gives.
 abbrev pub Reads : {X Y : Type 0} → (X → Y) → Result X Fault → List ℕ → Result (Y × List ℕ) Refusal → Type 0
 Reads view (Ok x) rest read = read ≡ Ok (view x, rest)
@@ -91,7 +91,7 @@ abbrev pub Passes : {X : Type 0} → Result X Fault → List ℕ → Result (Lis
 Passes (Ok x) rest read = read ≡ Ok rest
 Passes (Err f) rest read = read ≡ Err (f, rest)
 
--- A fault stands where the text from there on is left; memory may run out at any place.
+-- A fault stands where the text from there on is left; memory may run out at any time.
 abbrev pub Stops : {Y : Type 0} → Stop → List ℕ → Result Y Refusal → Type 0
 Stops stops.Memory rest read = Unit {0}
 Stops (stops.Fault f) rest read = read ≡ Err (f, rest)
@@ -102,8 +102,8 @@ Gives view (Ok x) rest read = read ≡ Ok (view x, rest)
 Gives view (Err s) rest read = Stops s rest read
 
 -- what was there, before what was read
-abbrev pub with_front : {X : Type 0} → List X → Result (List X × List ℕ) Refusal → Result (List X × List ℕ) Refusal
-with_front before read = read >>= λ p. Ok (before ++ p.0, p.1)
+abbrev pub prepended : {X : Type 0} → List X → Result (List X × List ℕ) Refusal → Result (List X × List ℕ) Refusal
+prepended before read = read >>= λ p. Ok (before ++ p.0, p.1)
 
 abbrev pub GivesRest : {X : Type 0} → Result X Stop → List ℕ → Result (List ℕ) Refusal → Type 0
 GivesRest (Ok x) rest read = read ≡ Ok rest
@@ -113,7 +113,7 @@ abbrev pub GivesAll : {X Y : Type 0} → (X → Y) → Result X Stop → List �
 GivesAll view (Ok x) rest read = read ≡ Ok (view x)
 GivesAll view (Err s) rest read = Stops s rest read
 
--- the fault that an error is, and its place; out of memory is none
+-- the fault that an error is, and its offset; out of memory is none
 abbrev pub refusal_of : RawError → Option (Fault × ℕ)
 refusal_of errors.Memory = None
 refusal_of (errors.Refused fault at) = Some (fault, at)

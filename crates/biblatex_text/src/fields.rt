@@ -2,7 +2,7 @@
 
 ghost use Rattle.std.specs.Prelude.{IfSome, IfOk};
 ghost use Rattle.std.specs.Option.{option_map};
-ghost use Rattle.biblatex_text.specs.Views.{left, size, GoesOn, field, fields, with_front, Gives};
+ghost use Rattle.biblatex_text.specs.Views.{left, size, GoesOn, field_view, fields_view, prepended, Gives};
 ghost use Rattle.biblatex_text.specs.Span.{IsPairOf, ArePairsOf};
 ghost use Rattle.biblatex_text.specs.Fields.{field_at, field_or_end_at, next_field_at, more_fields_at, definitions_at};
 
@@ -19,7 +19,7 @@ impl<'s> Reader<'s> {
     fn field(&mut self, alloc: Global) -> Result<Pair<'s>, Stop>
         ensures on { GoesOn self.old self.new }
         ensures slice { IfOk result (IsPairOf self.old.source.now) }
-        ensures reads { Gives field result (left self.new)
+        ensures reads { Gives field_view result (left self.new)
             (field_at (size self.old) (left self.old)) }
     {
         let key = self.identifier()?;
@@ -38,7 +38,7 @@ impl<'s> Reader<'s> {
     ) -> Result<Option<Pair<'s>>, Stop>
         ensures on { GoesOn self.old self.new }
         ensures slice { IfOk result (λ o. IfSome o (IsPairOf self.old.source.now)) }
-        ensures reads { Gives (option_map field) result (left self.new)
+        ensures reads { Gives (option_map field_view) result (left self.new)
             (field_or_end_at (size self.old) bracket (left self.old)) }
     {
         match self.first() {
@@ -60,7 +60,7 @@ impl<'s> Reader<'s> {
     ) -> Result<Option<Pair<'s>>, Stop>
         ensures on { GoesOn self.old self.new }
         ensures slice { IfOk result (λ o. IfSome o (IsPairOf self.old.source.now)) }
-        ensures reads { Gives (option_map field) result (left self.new)
+        ensures reads { Gives (option_map field_view) result (left self.new)
             (next_field_at (size self.old) bracket (left self.old)) }
     {
         self.skip_blanks();
@@ -89,8 +89,8 @@ impl<'s> Reader<'s> {
         ensures on { GoesOn self.old self.new }
         ensures slice { ArePairsOf self.old.source.now pairs.entry
             → IfOk result (ArePairsOf self.old.source.now) }
-        ensures reads { Gives fields result (left self.new)
-            (with_front (fields pairs.entry) (more_fields_at (size self.old) bracket (left self.old))) }
+        ensures reads { Gives fields_view result (left self.new) (prepended
+            (fields_view pairs.entry) (more_fields_at (size self.old) bracket (left self.old))) }
     {
         while let Some(pair) = self.next_field(alloc, bracket)? {
             pairs.push(pair)?;
@@ -107,7 +107,7 @@ impl<'s> Reader<'s> {
     ) -> Result<Vec<Pair<'s>>, Stop>
         ensures on { GoesOn self.old self.new }
         ensures slice { IfOk result (ArePairsOf self.old.source.now) }
-        ensures reads { Gives fields result (left self.new)
+        ensures reads { Gives fields_view result (left self.new)
             (definitions_at (size self.old) bracket (left self.old)) }
     {
         self.skip_blanks();

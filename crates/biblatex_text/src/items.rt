@@ -3,8 +3,8 @@
 ghost use Rattle.std.specs.Prelude.{◌≡◌, ℕ, List, IfSome, IfOk, IfErr, OnOk};
 ghost use Rattle.std.specs.Str.{chars, bytes_eq, str_to_ascii_lowercase};
 ghost use Rattle.std.specs.Option.{option_map};
-ghost use Rattle.biblatex_text.specs.Views.{left, size, GoesOn, part, raw_entry, raw_item, item, raw, Reads, Passes, Gives, GivesRest, GivesAll};
-ghost use Rattle.biblatex_text.specs.Span.{IsTextOf, IsEntryOf, IsItemOf, IsPlacedItemOf, IsRawOf};
+ghost use Rattle.biblatex_text.specs.Views.{left, size, GoesOn, spanned_text_view, raw_entry_view, raw_item_view, item_view, raw_view, Reads, Passes, Gives, GivesRest, GivesAll};
+ghost use Rattle.biblatex_text.specs.Span.{IsTextOf, IsEntryOf, IsItemOf, IsSpannedItemOf, IsRawOf};
 ghost use Rattle.biblatex_text.specs.Items.{opening_at, remark_at, preamble_at, entry_at, is_named, body_at, item_of_kind_at, item_at, next_item_at, raw_at};
 ghost use Rattle.biblatex_text.specs.Raw.{with_item};
 ghost use Rattle.laws.specs.Text.{lowered};
@@ -31,8 +31,8 @@ impl<'s> Reader<'s> {
         ensures on { GoesOn self.old self.new }
         ensures slice { IsTextOf self.old.source.now kind.entry
             → IfOk result (IsEntryOf self.old.source.now) }
-        ensures reads { Gives raw_entry result (left self.new)
-            (entry_at (size self.old) (part kind.entry) bracket (left self.old)) }
+        ensures reads { Gives raw_entry_view result (left self.new)
+            (entry_at (size self.old) (spanned_text_view kind.entry) bracket (left self.old)) }
     {
         self.skip_blanks();
         let key = self.run(bracket.key_run());
@@ -44,7 +44,8 @@ impl<'s> Reader<'s> {
     #[tactic(auto, unfolding(crate::specs::Items::preamble_at))]
     fn preamble(&mut self, alloc: Global, bracket: Bracket) -> Result<(), Stop>
         ensures on { GoesOn self.old self.new }
-        ensures reads { GivesRest result (left self.new) (preamble_at (size self.old) bracket (left self.old)) }
+        ensures reads { GivesRest result (left self.new)
+            (preamble_at (size self.old) bracket (left self.old)) }
     {
         self.skip_blanks();
         self.value(alloc)?;
@@ -97,8 +98,8 @@ impl<'s> Reader<'s> {
         ensures on { GoesOn self.old self.new }
         ensures slice { IsTextOf self.old.source.now kind.entry
             → IfOk result (IsItemOf self.old.source.now) }
-        ensures reads { Gives raw_item result (left self.new)
-            (body_at (size self.old) (part kind.entry) bracket (left self.old)) }
+        ensures reads { Gives raw_item_view result (left self.new)
+            (body_at (size self.old) (spanned_text_view kind.entry) bracket (left self.old)) }
     {
         if is_named(kind.v, "preamble") {
             self.preamble(alloc, bracket)?;
@@ -115,8 +116,8 @@ impl<'s> Reader<'s> {
         ensures on { GoesOn self.old self.new }
         ensures slice { IsTextOf self.old.source.now kind.entry
             → IfOk result (IsItemOf self.old.source.now) }
-        ensures reads { Gives raw_item result (left self.new)
-            (item_of_kind_at (size self.old) (part kind.entry) (left self.old)) }
+        ensures reads { Gives raw_item_view result (left self.new)
+            (item_of_kind_at (size self.old) (spanned_text_view kind.entry) (left self.old)) }
     {
         if is_named(kind.v, "comment") {
             self.remark()?;
@@ -132,7 +133,7 @@ impl<'s> Reader<'s> {
     fn item(&mut self, alloc: Global) -> Result<RawItem<'s>, Stop>
         ensures on { GoesOn self.old self.new }
         ensures slice { IfOk result (IsItemOf self.old.source.now) }
-        ensures reads { Gives raw_item result (left self.new)
+        ensures reads { Gives raw_item_view result (left self.new)
             (item_at (size self.old) (left self.old)) }
     {
         self.skip_blanks();
@@ -145,18 +146,18 @@ impl<'s> Reader<'s> {
     #[tactic(auto, unfolding(crate::specs::Items::next_item_at))]
     fn next_item(&mut self, alloc: Global) -> Result<Option<Spanned<RawItem<'s>>>, Stop>
         ensures on { GoesOn self.old self.new }
-        ensures slice { IfOk result (λ o. IfSome o (IsPlacedItemOf self.old.source.now)) }
-        ensures reads { Gives (option_map item) result (left self.new)
+        ensures slice { IfOk result (λ o. IfSome o (IsSpannedItemOf self.old.source.now)) }
+        ensures reads { Gives (option_map item_view) result (left self.new)
             (next_item_at (size self.old) (left self.old)) }
     {
         self.run(Run::Outside);
-        let start = self.place();
+        let start = self.offset();
         match self.first() {
             None => Ok(None),
             Some((_, next)) => {
                 *self = next;
                 let item = self.item(alloc)?;
-                let end = self.place();
+                let end = self.offset();
                 Ok(Some(Spanned {
                     v: item,
                     span: start..end,
@@ -170,7 +171,7 @@ impl<'s> Reader<'s> {
     pub(crate) fn all(&mut self, alloc: Global) -> Result<RawBibliography<'s>, Stop>
         ensures on { GoesOn self.old self.new }
         ensures slice { IfOk result (IsRawOf self.old.source.now) }
-        ensures reads { GivesAll raw result (left self.new)
+        ensures reads { GivesAll raw_view result (left self.new)
             (raw_at (size self.old) (left self.old)) }
     {
         let mut found = RawBibliography {
@@ -187,10 +188,11 @@ impl<'s> Reader<'s> {
 impl<'s> RawBibliography<'s> {
     /// Appends what the item gives.
     fn add(&mut self, found: Spanned<RawItem<'s>>) -> Result<(), Stop>
-        ensures value { OnOk result (raw self.new ≡ with_item (raw self.old) (item found.entry)) }
+        ensures value { OnOk result (raw_view self.new
+            ≡ with_item (raw_view self.old) (item_view found.entry)) }
         ensures memory { IfErr result (λ s. s ≡ stops.Memory) }
-        ensures slice { (source : List ℕ) → IsRawOf source self.old → IsPlacedItemOf source found.entry
-            → OnOk result (IsRawOf source self.new) }
+        ensures slice { (source : List ℕ) → IsRawOf source self.old
+            → IsSpannedItemOf source found.entry → OnOk result (IsRawOf source self.new) }
     {
         let Spanned { v, span } = found;
         match v {

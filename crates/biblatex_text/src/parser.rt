@@ -4,7 +4,7 @@ ghost use Rattle.std.specs.Prelude.{◌≡◌, ℕ, List, IfOk};
 ghost use Rattle.std.specs.Str.{chars};
 ghost use Rattle.biblatex_text.specs.Items.{raw_of};
 ghost use Rattle.laws.specs.Results.{Gives};
-ghost use Rattle.biblatex_text.specs.Views.{raw as raw_seen, refusal_of};
+ghost use Rattle.biblatex_text.specs.Views.{raw_view, refusal_of};
 ghost use Rattle.biblatex_text.specs.Span.{IsRawOf};
 
 use crate::cursor::Reader;
@@ -38,7 +38,7 @@ impl<'s> BiblatexParser<'s> {
     /// # Errors
     /// As those of `RawBibliography::parse`.
     pub fn parse(self, alloc: Global) -> Result<RawBibliography<'s>, RawError>
-        ensures reads { Gives refusal_of raw_seen result (raw_of (chars self.entry)) }
+        ensures reads { Gives refusal_of raw_view result (raw_of (chars self.entry)) }
         ensures slices { IfOk result (IsRawOf self.entry) }
     {
         read(alloc, self.source)
@@ -49,10 +49,10 @@ impl<'s> RawBibliography<'s> {
     /// Reads the entries and the abbreviations of a text, in its order. What is found borrows the text.
     ///
     /// # Errors
-    /// `Refused` with the first fault from the left and its place; `Memory` where a request for memory was refused.
+    /// `Refused` with the first fault from the left and its offset; `Memory` where a request for memory was refused.
     pub fn parse(alloc: Global, source: &'s str) -> Result<RawBibliography<'s>, RawError>
         // What reading from the left gives, or its fault and the byte where it stands.
-        ensures reads { Gives refusal_of raw_seen result (raw_of (chars source.now)) }
+        ensures reads { Gives refusal_of raw_view result (raw_of (chars source.now)) }
         // Each kind, key, name and piece is the source's slice at its span.
         ensures slices { IfOk result (IsRawOf source.now) }
     {
@@ -62,7 +62,7 @@ impl<'s> RawBibliography<'s> {
 
 /// What the source holds.
 fn read<'s>(alloc: Global, source: &'s str) -> Result<RawBibliography<'s>, RawError>
-    ensures reads { Gives refusal_of raw_seen result (raw_of (chars source.now)) }
+    ensures reads { Gives refusal_of raw_view result (raw_of (chars source.now)) }
     ensures slices { IfOk result (IsRawOf source.now) }
 {
     let mut reader = Reader::new(source);
@@ -71,7 +71,7 @@ fn read<'s>(alloc: Global, source: &'s str) -> Result<RawBibliography<'s>, RawEr
         Err(Stop::Memory) => Err(RawError::Memory),
         Err(Stop::Fault(fault)) => Err(RawError::Refused {
             fault,
-            at: reader.place(),
+            at: reader.offset(),
         }),
     }
 }

@@ -3,9 +3,9 @@
 ghost use Rattle.std.specs.Prelude.{◌≡◌, ◌+◌, ◌-◌, ◌∷◌, [], length, ◌≤◌, MatchOption, IfSome, IfOk};
 ghost use Rattle.std.specs.Str.{chars};
 ghost use Rattle.biblatex_text.specs.Run.{depth_of, after};
-ghost use Rattle.biblatex_text.specs.Views.{left, size, GoesOn, part, Reads, Passes};
+ghost use Rattle.biblatex_text.specs.Views.{left, size, GoesOn, spanned_text_view, Reads, Passes};
 ghost use Rattle.biblatex_text.specs.Span.{IsTextOf};
-ghost use Rattle.biblatex_text.specs.Reading.{place, token_at, after_blanks, run_at, identifier_at, closed_at};
+ghost use Rattle.biblatex_text.specs.Reading.{offset, token_at, after_blanks, run_at, identifier_at, closed_at};
 
 use crate::character::is_id_start;
 use crate::cursor::Reader;
@@ -28,16 +28,17 @@ impl<'s> Reader<'s> {
     }
 
     /// How many bytes were read.
-    pub(crate) fn place(&self) -> usize
+    pub(crate) fn offset(&self) -> usize
         ensures bytes { result ≡ length self.now.source.now - length self.now.rest.now }
-        ensures place { result ≡ place (size self.now) (left self.now) }
+        ensures offset { result ≡ offset (size self.now) (left self.now) }
     {
         self.source.len() - byte_len(self.rest)
     }
 
     /// The first character that is left, and the reader after it.
     pub(crate) fn first(&self) -> Option<(char, Reader<'s>)>
-        ensures reads { MatchOption result (left self.now ≡ []) (λ x. left self.now ≡ x.0 ∷ left x.1) }
+        ensures reads { MatchOption result (left self.now ≡ []) (λ x. left self.now
+            ≡ x.0 ∷ left x.1) }
         ensures on { IfSome result (λ x. GoesOn self.now x.1) }
     {
         let (c, rest) = split_first(self.rest)?;
@@ -50,20 +51,20 @@ impl<'s> Reader<'s> {
         ))
     }
 
-    /// Takes the longest front that goes on with the run.
+    /// Takes the longest prefix that goes on with the run.
     pub(crate) fn run(&mut self, run: Run) -> Spanned<&'s str>
         requires { depth_of run ≡ 0 }
         ensures on { GoesOn self.old self.new }
         ensures slice { IsTextOf self.old.source.now result }
-        ensures part { part result ≡ run_at (size self.old) run (left self.old) }
+        ensures part { spanned_text_view result ≡ run_at (size self.old) run (left self.old) }
         ensures rest { left self.new ≡ after run (left self.old) }
     {
-        let start = self.place();
-        let (front, rest) = split_run(self.rest, run);
+        let start = self.offset();
+        let (prefix, rest) = split_run(self.rest, run);
         self.rest = rest;
         Spanned {
-            v: front,
-            span: start..self.place(),
+            v: prefix,
+            span: start..self.offset(),
         }
     }
 
@@ -94,7 +95,7 @@ impl<'s> Reader<'s> {
     pub(crate) fn identifier(&mut self) -> Result<Spanned<&'s str>, Fault>
         ensures on { GoesOn self.old self.new }
         ensures slice { IfOk result (IsTextOf self.old.source.now) }
-        ensures reads { Reads part result (left self.new)
+        ensures reads { Reads spanned_text_view result (left self.new)
             (identifier_at (size self.old) (left self.old)) }
     {
         match self.first() {

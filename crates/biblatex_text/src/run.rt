@@ -2,7 +2,7 @@
 
 ghost use Rattle.std.specs.Prelude.{◌≡◌, ◌+◌, ◌^◌, ◌<◌, ◌≤◌, ◌++◌, IfSome};
 ghost use Rattle.std.specs.Str.{chars, IsUtf8};
-ghost use Rattle.biblatex_text.specs.Run.{depth_of, only_if, next, front_of, after};
+ghost use Rattle.biblatex_text.specs.Run.{depth_of, only_if, next, prefix_of, after};
 
 use crate::blank::BlankRun;
 use crate::character::{is_id_continue, is_key};
@@ -86,12 +86,12 @@ impl RunState for Run {
     }
 }
 
-/// The longest front that goes on with the run, and what follows it.
+/// The longest prefix that goes on with the run, and what follows it.
 pub(crate) fn split_run(text: &str, start: Run) -> (&str, &str)
     requires { depth_of start ≡ 0 }
     ensures parts { text.now ≡ result.0.now ++ result.1.now }
     ensures utf8 { IsUtf8 result.1.now }
-    ensures front { chars result.0.now ≡ front_of start (chars text.now) }
+    ensures prefix { chars result.0.now ≡ prefix_of start (chars text.now) }
     ensures rest { chars result.1.now ≡ after start (chars text.now) }
 {
     match start {

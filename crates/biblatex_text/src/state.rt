@@ -4,7 +4,7 @@ ghost use Rattle.std.specs.Prelude.{◌≡◌, ◌+◌, ◌^◌, ◌<◌, ◌≤
 ghost use Rattle.std.specs.Option.{option_map};
 ghost use Rattle.std.specs.Str.{chars, IsUtf8};
 ghost use Rattle.laws.specs.Text.{text as text_of};
-ghost use Rattle.biblatex_text.specs.Run.{depth_of, next, front_of, after};
+ghost use Rattle.biblatex_text.specs.Run.{depth_of, next, prefix_of, after};
 ghost use Rattle.biblatex_text.specs.declared.run.Run.{Run};
 
 /// How far a run has come. A run that carries most of the text has a state of its own, whose next state takes few tests.
@@ -28,12 +28,12 @@ pub(crate) fn byte_len(text: &str) -> usize
     text.len()
 }
 
-/// The longest front that goes on with the run, and what follows it.
+/// The longest prefix that goes on with the run, and what follows it.
 pub(crate) fn split_states<S: RunState>(text: &str, start: S) -> (&str, &str)
     requires { depth_of (S.run start) ≡ 0 }
     ensures parts { text.now ≡ result.0.now ++ result.1.now }
     ensures utf8 { IsUtf8 result.1.now }
-    ensures front { chars result.0.now ≡ front_of (S.run start) (chars text.now) }
+    ensures prefix { chars result.0.now ≡ prefix_of (S.run start) (chars text.now) }
     ensures rest { chars result.1.now ≡ after (S.run start) (chars text.now) }
 {
     let end = byte_len(text);

@@ -6,11 +6,11 @@ use thiserror::Error;
 /// A mark of the grammar.
 #[derive(Clone, Copy, Debug, PartialEq, Eq)]
 pub enum Token {
-    /// A kind, the name of a field, or the beginning of a piece of a value.
+    /// A kind, the name of a field, or the start of a piece of a value.
     Identifier,
-    /// `{`, or `(` in its place.
+    /// `{`, or `(` instead.
     OpeningBrace,
-    /// `}`, or `)` in its place.
+    /// `}`, or `)` instead.
     ClosingBrace,
     /// `,`
     Comma,
@@ -47,7 +47,7 @@ pub enum Fault {
     /// The text ends where an item is open.
     #[error("unexpected end of file")]
     UnexpectedEof,
-    /// The mark has no place there.
+    /// The mark may not stand there.
     #[error("unexpected {0}")]
     Unexpected(Token),
     /// Another mark must stand there.

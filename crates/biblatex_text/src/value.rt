@@ -6,7 +6,7 @@ ghost use Rattle.std.specs.Char.{is_ascii_digit};
 ghost use Rattle.std.specs.List.{list_any};
 ghost use Rattle.std.specs.Option.{option_map};
 ghost use Rattle.biblatex_text.specs.Run.{after};
-ghost use Rattle.biblatex_text.specs.Views.{left, size, GoesOn, piece, value, Reads, Passes, Gives};
+ghost use Rattle.biblatex_text.specs.Views.{left, size, GoesOn, piece_view, value_view, Reads, Passes, Gives};
 ghost use Rattle.biblatex_text.specs.Span.{IsPieceOf, IsValueOf};
 ghost use Rattle.biblatex_text.specs.Reading.{run_at};
 ghost use Rattle.biblatex_text.specs.Value.{unquoted_at, braced_at, quoted_at, is_end, is_number, bare, piece_at, next_piece_at, value_at};
@@ -24,7 +24,7 @@ use std::alloc::Global;
 use texts::split_first;
 
 impl<'s> Reader<'s> {
-    /// Takes the quotation mark that ended a run. A brace that ended it has no place there.
+    /// Takes the quotation mark that ended a run. A brace that ended it may not stand there.
     fn unquote(&mut self) -> Result<(), Fault>
         ensures on { GoesOn self.old self.new }
         ensures reads { Passes result (left self.new) (unquoted_at (left self.old)) }
@@ -44,7 +44,7 @@ impl<'s> Reader<'s> {
     fn braced(&mut self) -> Result<Spanned<RawChunk<'s>>, Fault>
         ensures on { GoesOn self.old self.new }
         ensures slice { IfOk result (IsPieceOf self.old.source.now) }
-        ensures reads { Reads piece result (left self.new)
+        ensures reads { Reads piece_view result (left self.new)
             (braced_at (size self.old) (left self.old)) }
     {
         let text = self.run(Run::Braced(0));
@@ -57,7 +57,7 @@ impl<'s> Reader<'s> {
     fn quoted(&mut self) -> Result<Spanned<RawChunk<'s>>, Fault>
         ensures on { GoesOn self.old self.new }
         ensures slice { IfOk result (IsPieceOf self.old.source.now) }
-        ensures reads { Reads piece result (left self.new)
+        ensures reads { Reads piece_view result (left self.new)
             (quoted_at (size self.old) (left self.old)) }
     {
         let text = self.run(Run::Quoted(0));
@@ -69,7 +69,8 @@ impl<'s> Reader<'s> {
     fn bare(&mut self) -> Spanned<RawChunk<'s>>
         ensures on { GoesOn self.old self.new }
         ensures slice { IsPieceOf self.old.source.now result }
-        ensures piece { piece result ≡ at_map bare (run_at (size self.old) runs.Identifier (left self.old)) }
+        ensures piece { piece_view result
+            ≡ at_map bare (run_at (size self.old) runs.Identifier (left self.old)) }
         ensures rest { left self.new ≡ after runs.Identifier (left self.old) }
     {
         let text = self.run(Run::Identifier);
@@ -84,7 +85,7 @@ impl<'s> Reader<'s> {
     fn piece(&mut self) -> Result<Spanned<RawChunk<'s>>, Fault>
         ensures on { GoesOn self.old self.new }
         ensures slice { IfOk result (IsPieceOf self.old.source.now) }
-        ensures reads { Reads piece result (left self.new)
+        ensures reads { Reads piece_view result (left self.new)
             (piece_at (size self.old) (left self.old)) }
     {
         match self.first() {
@@ -107,7 +108,7 @@ impl<'s> Reader<'s> {
     fn next_piece(&mut self) -> Result<Option<Spanned<RawChunk<'s>>>, Fault>
         ensures on { GoesOn self.old self.new }
         ensures slice { IfOk result (λ o. IfSome o (IsPieceOf self.old.source.now)) }
-        ensures reads { Reads (option_map piece) result (left self.new)
+        ensures reads { Reads (option_map piece_view) result (left self.new)
             (next_piece_at (size self.old) (left self.old)) }
     {
         let end = *self;
@@ -130,10 +131,10 @@ impl<'s> Reader<'s> {
     pub(crate) fn value(&mut self, alloc: Global) -> Result<Spanned<Field<'s>>, Stop>
         ensures on { GoesOn self.old self.new }
         ensures slice { IfOk result (IsValueOf self.old.source.now) }
-        ensures reads { Gives value result (left self.new)
+        ensures reads { Gives value_view result (left self.new)
             (value_at (size self.old) (left self.old)) }
     {
-        let start = self.place();
+        let start = self.offset();
         let first = self.piece()?;
         let mut pieces = Vec::with_capacity(alloc, 1)?;
         pieces.push(first)?;
@@ -142,7 +143,7 @@ impl<'s> Reader<'s> {
         }
         Ok(Spanned {
             v: pieces,
-            span: start..self.place(),
+            span: start..self.offset(),
         })
     }
 }

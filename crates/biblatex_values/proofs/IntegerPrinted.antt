@@ -56,7 +56,7 @@ negative-err ds never = by_tests (all_ascii_digits ds) refl (ltb 0 (length ds)) 
     by_tests true e false f d g = refl
     by_tests false e b f d g = refl
 
--- what parsing returns, seen without its error
+-- what parsing returns, viewed without its error
 abbrev Parsed : {E : Type 0} → Result ℤ E → List ℕ → Type 0
 Parsed (Ok z) bs = integer_of bs ≡ Ok z
 Parsed (Err f) bs = integer_of bs ≡ Err Unreadable

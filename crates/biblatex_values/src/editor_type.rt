@@ -56,7 +56,8 @@ impl EditorType {
 
 /// The editor type of a known name in lower case.
 fn known(name: &str) -> Option<EditorType>
-    ensures { MatchOption result (editor_of name.now ≡ record { name = name.now; is_known = false }) (λ t. editor_name t ≡ editor_of name.now) }
+    ensures { MatchOption result (editor_of name.now ≡ record { name = name.now; is_known = false })
+        (λ t. editor_name t ≡ editor_of name.now) }
 {
     match name {
         "editor" => Some(EditorType::Editor),

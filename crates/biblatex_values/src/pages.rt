@@ -27,7 +27,8 @@ fn read_page(reader: &mut Reader) -> Result<u32, Unreadable>
 
 /// What stands after dashes with spaces round them, if there are any.
 fn split_dashes(text: &str) -> Option<&str>
-    ensures { MatchOption result (dashes_after (chars text.now) ≡ None) (λ rest. dashes_after (chars text.now) ≡ Some (chars rest.now)) }
+    ensures { MatchOption result (dashes_after (chars text.now) ≡ None) (λ rest.
+        dashes_after (chars text.now) ≡ Some (chars rest.now)) }
 {
     let (_, rest) = split_run(text, Class::Space);
     let (c, _) = split_first(rest)?;
@@ -40,7 +41,8 @@ fn split_dashes(text: &str) -> Option<&str>
 
 /// What stands after a comma or an ampersand with spaces round it, if there is one.
 fn split_comma(text: &str) -> Option<&str>
-    ensures { MatchOption result (comma_after (chars text.now) ≡ None) (λ rest. comma_after (chars text.now) ≡ Some (chars rest.now)) }
+    ensures { MatchOption result (comma_after (chars text.now) ≡ None) (λ rest.
+        comma_after (chars text.now) ≡ Some (chars rest.now)) }
 {
     let (_, rest) = split_run(text, Class::Space);
     match split_first(rest)? {
@@ -103,7 +105,8 @@ fn next_range(reader: &mut Reader) -> Result<Option<Range<u32>>, Unreadable>
 
 /// The ranges that stand here.
 fn read_all(alloc: Global, reader: &mut Reader) -> Result<Vec<Range<u32>>, ListError>
-    ensures { GivesRestOrRefuses refusal_of (λ v. v.items) result (left reader.new) (ranges_at (left reader.old)) }
+    ensures { GivesRestOrRefuses refusal_of (λ v. v.items) result
+        (left reader.new) (ranges_at (left reader.old)) }
 {
     let first = read_one(reader)?;
     let mut ranges = Vec::new(alloc);
@@ -179,7 +182,8 @@ fn push_more(alloc: Global, text: &mut String, range: &Range<u32>) -> Result<(),
 
 /// Appends ranges, each after a comma and a space.
 fn push_others(alloc: Global, text: &mut String, ranges: &[Range<u32>]) -> Result<(), AllocError>
-    ensures { OnOk result (characters text.new ≡ characters text.old ++ flat_map more_text ranges.now) }
+    ensures { OnOk result (characters text.new
+        ≡ characters text.old ++ flat_map more_text ranges.now) }
 {
     for range in ranges {
         push_more(alloc, text, range)?;

@@ -55,8 +55,8 @@ fn answer_object(alloc: Global, line: &str) -> Result<Vec<u8>, Refusal> {
     answer(alloc, &case)
 }
 
-/// What is said of a line that is no case.
-fn said(alloc: Global, refusal: &Refusal) -> Result<String, AllocError> {
+/// The message for a line that is no case.
+fn message(alloc: Global, refusal: &Refusal) -> Result<String, AllocError> {
     match refusal {
         Refusal::Memory => String::from_str(alloc, "out of memory"),
         Refusal::NoObject => String::from_str(alloc, "no JSON object"),
@@ -66,12 +66,12 @@ fn said(alloc: Global, refusal: &Refusal) -> Result<String, AllocError> {
     }
 }
 
-/// What is said of a line that is no case, as an object.
+/// The message for a line that is no case, as an object.
 fn no_case(alloc: Global, refusal: &Refusal) -> Result<Vec<u8>, Refusal> {
     let mut session = Session::new(alloc);
     session.begin_object();
-    if let Some(said) = session.allocated(said(alloc, refusal)) {
-        session.put_text("no_case", said.as_str());
+    if let Some(message) = session.allocated(message(alloc, refusal)) {
+        session.put_text("no_case", message.as_str());
     }
     session.end_object();
     session.finish()

@@ -9,6 +9,6 @@ pub enum Refusal {
     UnknownKind(String),
     /// The kind has no member of this name.
     UnknownMember(String),
-    /// What the member of the first name has to be is said by the second text.
+    /// What the member of the first name has to be is what the second text says.
     Wanted(&'static str, &'static str),
 }

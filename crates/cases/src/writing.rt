@@ -109,7 +109,7 @@ impl Session {
         self.integer(number);
     }
 
-    /// Writes how many there are of something, or a place, as the member of the name.
+    /// Writes how many there are of something, or an index, as the member of the name.
     pub fn put_count(&mut self, name: &str, count: usize) {
         self.key(name);
         self.unsigned(count as u64);

@@ -1,4 +1,4 @@
-//! Nodes of a style that are put down or asked.
+//! Nodes of a style that are appended or asked.
 
 use cases::{Session, Value, member};
 use literature::Entry;
@@ -6,7 +6,7 @@ use rendering::{Layout, NameOptions, Node, StyleParts, Survey};
 use rendering_writing::{Context, RenderCsl};
 use std::alloc::AllocError;
 
-/// Puts the layout down that a step names, or one of its nodes.
+/// Appends the layout that a step names, or one of its nodes.
 pub(crate) fn render<'c>(
     session: &mut Session,
     step: &Value<'_>,
@@ -112,7 +112,7 @@ fn want_part(session: &mut Session) {
     session.want("of", "the word of a part that the style has");
 }
 
-/// The node of a layout at the place of a step.
+/// The node of a layout at the index of a step.
 fn node_of<'s>(session: &mut Session, step: &Value<'_>, layout: &'s Layout) -> Option<&'s Node> {
     let node = layout.nodes.get(session.count(step, "node"));
     if node.is_none() {

@@ -34,7 +34,7 @@ const MEMBERS: [&str; 10] = [
     "identifier_usage",
 ];
 
-/// What is known of the cite of a case, with what tells it apart; of a case without properties nothing.
+/// What is known of the cite of a case, with what disambiguates it; of a case without properties nothing.
 pub(crate) fn properties_of<'a>(
     session: &mut Session,
     case: &Value<'a>,
@@ -50,7 +50,7 @@ pub(crate) fn properties_of<'a>(
     known
 }
 
-/// What is known of a cite that nothing tells apart.
+/// What is known of a cite that is not disambiguated.
 fn properties<'a>(session: &mut Session, given: &Value<'a>) -> CiteProperties<'a> {
     CiteProperties {
         note_number: session.maybe_count(given, "note_number"),

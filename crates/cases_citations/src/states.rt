@@ -1,4 +1,4 @@
-//! What tells a cite apart, as a value of a case.
+//! The state of disambiguation of a cite, as a value of a case.
 
 use cases::{Session, Value, member, value_of};
 use cases_rendering::NAME_FORMS;
@@ -9,7 +9,7 @@ use rendering::{
 };
 use std::alloc::AllocError;
 
-/// What tells a cite apart of which that is known otherwise: the member `disambiguation`, which may be left out.
+/// The state of disambiguation of a cite of which that is known otherwise: the member `disambiguation`, which may be left out.
 pub(crate) fn state(
     session: &mut Session,
     object: &Value<'_>,
@@ -31,7 +31,7 @@ pub(crate) fn state(
     }
 }
 
-/// What the members of an object say that tells a cite apart: letters after its year, or names.
+/// The state that the members of an object say: a year suffix, or names.
 fn state_in(
     session: &mut Session,
     given: &Value<'_>,
@@ -40,8 +40,8 @@ fn state_in(
     alike: &CiteProperties<'_>,
 ) -> DisambiguateState {
     session.only(given, &["year_suffix", "add_name", "forms"]);
-    if let Some(place) = session.maybe_byte(given, "year_suffix") {
-        return DisambiguateState::YearSuffix(place);
+    if let Some(index) = session.maybe_byte(given, "year_suffix") {
+        return DisambiguateState::YearSuffix(index);
     }
     let shown = session.count(given, "add_name");
     let forms = forms(session, given);
@@ -70,22 +70,22 @@ fn raised(
 ) -> DisambiguateState {
     let mut names = names;
     let _is_changed = names.add_name(shown);
-    for place in 0..forms.len() {
-        set_form(&mut names, place, forms[place]);
+    for index in 0..forms.len() {
+        set_form(&mut names, index, forms[index]);
     }
     DisambiguateState::NameDisambiguation(names)
 }
 
-/// Sets the form of the person at a place, where there are both.
+/// Sets the form of the person at an index, where there are both.
 fn set_form(
     names: &mut NameDisambiguationProperties,
-    place: usize,
+    index: usize,
     form: Option<DisambiguatedNameForm>,
 ) {
     let Some(wanted) = form else {
         return;
     };
-    if let Some(form) = names.get_form_mut(place) {
+    if let Some(form) = names.get_form_mut(index) {
         *form = wanted;
     }
 }

@@ -23,19 +23,19 @@ pub(crate) fn take_all<'c>(
     session.end_array();
 }
 
-/// Takes a step: nodes of the style, or else what is put down beside them.
+/// Takes a step: nodes of the style, or else what is appended beside them.
 fn take<'c>(session: &mut Session, step: &'c Value<'_>, context: &mut Context<'_, '_, 'c, Entry>) {
     match session.text(step, "step") {
         "render" => render(session, step, context),
         "ask" => ask(session, step, context),
         "options" => put_name_options(session, step, context),
         "options-back" => context.writing.pop_name_options(),
-        word => put_down(session, word, step, context),
+        word => append_beside(session, word, step, context),
     }
 }
 
-/// Puts something down beside nodes.
-fn put_down<'c>(
+/// Appends something beside nodes.
+fn append_beside<'c>(
     session: &mut Session,
     word: &str,
     step: &'c Value<'_>,
@@ -58,8 +58,8 @@ fn put_down<'c>(
             session.check(context.push_link(text, url));
         }
         "locator" => {
-            let place = session.count(step, "place");
-            session.check(context.push_transparent(place));
+            let index = session.count(step, "place");
+            session.check(context.push_transparent(index));
         }
         _ => session.want("step", "the word of a step"),
     }
@@ -73,7 +73,7 @@ fn write_text(text: &str, context: &mut Context<'_, '_, '_, Entry>) -> Result<()
     }
 }
 
-/// Puts the title of the entry down; nothing where it has none.
+/// Appends the title of the entry; nothing where it has none.
 fn push_title(context: &mut Context<'_, '_, '_, Entry>) -> Result<(), AllocError> {
     match context.entry.title() {
         Some(title) => context.push_chunked(&title.value),

@@ -4,10 +4,10 @@ use crate::steps::take_all;
 use cases::{Refusal, Session, Value};
 use cases_rendering::put_written_tree;
 use literature::Entry;
-use rendering::{CiteProperties, Letters, LocaleCode, StyleContext, Walk, Words};
+use rendering::{CiteProperties, LocaleCode, StyleContext, Walk, Words, YearSuffixText};
 use rendering_writing::{Context, WritingContext};
 
-/// `writing`: what nodes are asked on the way, and what the steps put down.
+/// `writing`: what nodes are asked on the way, and what the steps append.
 pub(crate) fn put_writing(
     session: &mut Session,
     case: &Value<'_>,
@@ -16,44 +16,60 @@ pub(crate) fn put_writing(
     properties: &CiteProperties<'_>,
     code: Option<&LocaleCode>,
 ) {
-    match Letters::new(session.alloc, &properties.disambiguation) {
-        Ok(letters) => put_lettered(session, case, context, &letters, entry, properties, code),
+    match YearSuffixText::new(session.alloc, &properties.disambiguation) {
+        Ok(year_suffix) => put_with_suffix(
+            session,
+            case,
+            context,
+            &year_suffix,
+            entry,
+            properties,
+            code,
+        ),
         Err(_) => session.refuse(Refusal::Memory),
     }
 }
 
-/// Writes what is asked and put down with these letters after a year.
-fn put_lettered<'c>(
+/// Writes what is asked and appended with this year suffix.
+fn put_with_suffix<'c>(
     session: &mut Session,
     case: &'c Value<'_>,
     context: &'c StyleContext<'_>,
-    letters: &'c Letters,
+    year_suffix: &'c YearSuffixText,
     entry: &'c Entry,
     properties: &'c CiteProperties<'c>,
     code: Option<&LocaleCode>,
 ) {
     match context.words(code) {
-        Ok(words) => put_in_words(session, case, context, &words, letters, entry, properties),
+        Ok(words) => put_in_words(
+            session,
+            case,
+            context,
+            &words,
+            year_suffix,
+            entry,
+            properties,
+        ),
         Err(_) => session.refuse(Refusal::Memory),
     }
 }
 
-/// Writes what is asked and put down in these words, with these letters after a year.
+/// Writes what is asked and appended in these words, with this year suffix.
 fn put_in_words<'s, 'c>(
     session: &mut Session,
     case: &'c Value<'_>,
     context: &'c StyleContext<'_>,
     words: &'s Words<'c>,
-    letters: &'c Letters,
+    year_suffix: &'c YearSuffixText,
     entry: &'c Entry,
     properties: &'s CiteProperties<'c>,
 ) {
     let is_item = session.is_set(case, "bibliography");
-    let walk = context.walk(words, letters, properties, is_item);
+    let walk = context.walk(words, year_suffix, properties, is_item);
     put_by_walk(session, case, walk, entry);
 }
 
-/// Writes what is asked and put down from a walk.
+/// Writes what is asked and appended from a walk.
 fn put_by_walk<'c>(
     session: &mut Session,
     case: &'c Value<'_>,

@@ -3,7 +3,7 @@
 use crate::bytes::{bytes, put_taken};
 use crate::limits::read_taker;
 use crate::refusals::put_cite_error;
-use crate::setting::{Setting, format, locale, style};
+use crate::setting::{CiteSetting, format, locale, style};
 use crate::taker::Taker;
 use cases::{Refusal, Session, Value};
 use cite::{CiteError, Tap, cite, cite_to_string};
@@ -27,7 +27,7 @@ pub(crate) fn answer_cite(session: &mut Session, case: &Value<'_>) {
     let bib = bytes(session, case, "bib");
     let document = bytes(session, case, "document");
     let sections = session.texts(case, "sections");
-    let setting = Setting {
+    let setting = CiteSetting {
         style: &*style,
         locale: &*locale,
         format: format(session, case),
@@ -43,7 +43,7 @@ pub(crate) fn answer_cite(session: &mut Session, case: &Value<'_>) {
 }
 
 /// Cites a document to a text, and writes it, or why the document was refused.
-fn answer_as_text(session: &mut Session, case: &Value<'_>, setting: &Setting<'_>) {
+fn answer_as_text(session: &mut Session, case: &Value<'_>, setting: &CiteSetting<'_>) {
     let cited = cite_to_string(
         session.alloc,
         setting.bib,
@@ -60,7 +60,7 @@ fn answer_as_text(session: &mut Session, case: &Value<'_>, setting: &Setting<'_>
 }
 
 /// Cites a document into the sink of a case, and writes what came of it.
-fn answer_into_sink(session: &mut Session, case: &Value<'_>, setting: &Setting<'_>) {
+fn answer_into_sink(session: &mut Session, case: &Value<'_>, setting: &CiteSetting<'_>) {
     let mut taker = read_taker(session, case, "sink");
     let outcome = into_sink(session.alloc, setting, &mut taker);
     if taker.lacks_memory {
@@ -73,7 +73,7 @@ fn answer_into_sink(session: &mut Session, case: &Value<'_>, setting: &Setting<'
 }
 
 /// Cites a document into a writer.
-fn into_sink(alloc: Global, setting: &Setting<'_>, taker: &mut Taker) -> Result<(), CiteError> {
+fn into_sink(alloc: Global, setting: &CiteSetting<'_>, taker: &mut Taker) -> Result<(), CiteError> {
     cite(
         alloc,
         setting.bib,

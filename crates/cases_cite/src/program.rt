@@ -70,6 +70,7 @@ fn run(
 }
 
 /// Whether the line of a program says that memory ran out.
-fn says_no_memory(said: &[u8]) -> bool {
-    said == b"cite: out of memory\n".as_slice() || said == b"bib_show: out of memory\n".as_slice()
+fn says_no_memory(message: &[u8]) -> bool {
+    message == b"cite: out of memory\n".as_slice()
+        || message == b"bib_show: out of memory\n".as_slice()
 }

@@ -21,7 +21,7 @@ pub(crate) fn put_cite_error(session: &mut Session, case: &Value<'_>, error: &Ci
     session.put_message(case, error);
 }
 
-/// Writes why the bib text of a document was refused. What is said of it is said of the document's refusal alone.
+/// Writes why the bib text of a document was refused. The message for it stands in that of the document's refusal alone.
 fn put_bib_error(session: &mut Session, error: &BibTextError) {
     match error {
         BibTextError::Utf8 => session.put_refused("Utf8"),
@@ -39,7 +39,7 @@ fn put_document_error(session: &mut Session, error: &DocumentTextError) {
     session.put_text("stage", "Document");
 }
 
-/// Writes which section was refused, by its place from zero, and what is said of it.
+/// Writes which section was refused, by its index from zero, and the message for it.
 fn put_section_error(session: &mut Session, index: usize, error: &SelectorError) {
     session.put_refused("Selector");
     session.put_count("index", index);

@@ -8,7 +8,7 @@ use cite::{BufWriteFormat, Locale, Style, author_date, english, note, numeric};
 
 /// A document, and how it is cited.
 #[derive(Clone, Copy)]
-pub(crate) struct Setting<'s> {
+pub(crate) struct CiteSetting<'s> {
     pub(crate) style: &'s Style,
     pub(crate) locale: &'s Locale,
     pub(crate) format: BufWriteFormat,

@@ -38,13 +38,13 @@ impl Taker {
         }
     }
 
-    /// Takes a front of the bytes.
+    /// Takes a prefix of the bytes.
     fn take(&mut self, bytes: &[u8]) -> io::Result<usize>
         ensures { WritesAtMost result bytes.now }
     {
-        let front = front_of(bytes, self.limits.bytes_a_call);
-        match self.taken.extend_from_slice(front) {
-            Ok(()) => Ok(front.len()),
+        let prefix = prefix_of(bytes, self.limits.bytes_a_call);
+        match self.taken.extend_from_slice(prefix) {
+            Ok(()) => Ok(prefix.len()),
             Err(_) => {
                 self.lacks_memory = true;
                 Err(io::Error::from(ErrorKind::OutOfMemory))
@@ -82,7 +82,7 @@ fn count_down(count: &mut Option<u64>) -> bool {
 }
 
 /// The first bytes, so many at most.
-fn front_of(bytes: &[u8], most: Option<usize>) -> &[u8]
+fn prefix_of(bytes: &[u8], most: Option<usize>) -> &[u8]
     ensures { length result.now ≤ length bytes.now }
 {
     match most {

@@ -117,14 +117,14 @@ fn alias(session: &mut Session, step: &Value<'_>, bibliography: &mut Bibliograph
     session.null();
 }
 
-/// Writes the place and the key of the entry that a name means, or null.
+/// Writes the index and the key of the entry that a name means, or null.
 fn get(session: &mut Session, step: &Value<'_>, bibliography: &Bibliography) {
     session.only(step, &["step", "entry"]);
     let name = session.text(step, "entry");
-    match (bibliography.place(name), bibliography.get(name)) {
-        (Some(place), Some(entry)) => {
+    match (bibliography.index(name), bibliography.get(name)) {
+        (Some(index), Some(entry)) => {
             session.begin_object();
-            session.put_count("place", place);
+            session.put_count("place", index);
             session.put_text("key", entry.key.as_str());
             session.end_object();
         }
@@ -139,7 +139,7 @@ fn set(session: &mut Session, step: &Value<'_>, bibliography: &mut Bibliography)
     set_in(session, step, entry);
 }
 
-/// Gives the entry at a place a field.
+/// Gives the entry at an index a field.
 fn set_at(session: &mut Session, step: &Value<'_>, bibliography: &mut Bibliography) {
     session.only(step, &["step", "place", "field", "value"]);
     let entry = bibliography.entry_mut(session.count(step, "place"));
@@ -168,8 +168,8 @@ fn set_each(session: &mut Session, step: &Value<'_>, bibliography: &mut Bibliogr
 fn show(session: &mut Session, case: &Value<'_>, bibliography: &Bibliography) {
     session.only_shown(case, &["entries", "keys", "references"]);
     if session.is_shown(case, "entries", true) {
-        let has_places = session.is_set(case, "places");
-        put_entries(session, bibliography, has_places);
+        let has_spans = session.is_set(case, "places");
+        put_entries(session, bibliography, has_spans);
     }
     if session.is_shown(case, "keys", false) {
         put_keys(session, bibliography);
@@ -180,10 +180,10 @@ fn show(session: &mut Session, case: &Value<'_>, bibliography: &Bibliography) {
 }
 
 /// Writes the member `entries`: each entry in its order.
-fn put_entries(session: &mut Session, bibliography: &Bibliography, has_places: bool) {
+fn put_entries(session: &mut Session, bibliography: &Bibliography, has_spans: bool) {
     session.begin_list("entries");
     for entry in bibliography.iter() {
-        put_entry(session, entry, has_places);
+        put_entry(session, entry, has_spans);
     }
     session.end_array();
 }
@@ -198,24 +198,24 @@ fn put_keys(session: &mut Session, bibliography: &Bibliography) {
     session.end_array();
 }
 
-/// Writes of each entry the places of those that it refers to.
+/// Writes of each entry the indices of those that it refers to.
 fn put_references(session: &mut Session, bibliography: &Bibliography) {
     let references = bibliography.references(session.alloc);
     let Some(references) = session.allocated(references) else {
         return;
     };
     session.begin_list("references");
-    for places in &references {
-        put_places(session, places.as_slice());
+    for indices in &references {
+        put_indices(session, indices.as_slice());
     }
     session.end_array();
 }
 
-/// Writes places.
-fn put_places(session: &mut Session, places: &[usize]) {
+/// Writes indices.
+fn put_indices(session: &mut Session, indices: &[usize]) {
     session.begin_array();
-    for place in places {
-        session.unsigned(*place as u64);
+    for index in indices {
+        session.unsigned(*index as u64);
     }
     session.end_array();
 }

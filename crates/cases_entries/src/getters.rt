@@ -56,17 +56,17 @@ fn put_asked(session: &mut Session, case: &Value<'_>, entry: &Entry, name: &str)
 
 /// Writes the entry.
 fn put_whole(session: &mut Session, case: &Value<'_>, entry: &Entry) {
-    let has_places = session.is_set(case, "places");
+    let has_spans = session.is_set(case, "places");
     session.key("entry");
-    put_entry(session, entry, has_places);
+    put_entry(session, entry, has_spans);
 }
 
 /// Writes the title.
 fn put_title(session: &mut Session, case: &Value<'_>, entry: &Entry) {
-    let has_places = session.is_set(case, "places");
+    let has_spans = session.is_set(case, "places");
     session.key("title");
     match entry.title() {
-        Ok(chunks) => put_chunks(session, chunks, has_places),
+        Ok(chunks) => put_chunks(session, chunks, has_spans),
         Err(error) => put_retrieval_error(session, &error),
     }
 }

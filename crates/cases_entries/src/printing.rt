@@ -4,8 +4,8 @@ use biblatex::{Chunks, Entry};
 use cases::Session;
 use cases_text::put_chunks;
 
-/// Writes an entry: its key, its type and its fields in the order of their names, of which chunks have their places if that is asked.
-pub(crate) fn put_entry(session: &mut Session, entry: &Entry, has_places: bool) {
+/// Writes an entry: its key, its type and its fields in the order of their names, of which chunks have their spans if that is asked.
+pub(crate) fn put_entry(session: &mut Session, entry: &Entry, has_spans: bool) {
     session.begin_object();
     session.put_text("key", entry.key.as_str());
     session.put_text("type", entry.entry_type.name());
@@ -13,7 +13,7 @@ pub(crate) fn put_entry(session: &mut Session, entry: &Entry, has_places: bool) 
     session.begin_object();
     for (name, value) in entry.fields.iter() {
         session.key(name.as_str());
-        put_chunks(session, value.as_slice(), has_places);
+        put_chunks(session, value.as_slice(), has_spans);
     }
     session.end_object();
     session.end_object();

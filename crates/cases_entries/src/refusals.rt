@@ -5,7 +5,7 @@ use cases::{Refusal, Session, Value};
 use cases_text::{put_fault, put_span, token_name};
 use cases_values::type_error_name;
 
-/// Writes the members that say why a text was not read, and what is said of it where the case asks for that.
+/// Writes the members that say why a text was not read, and the message for it where the case asks for that.
 pub fn put_parse_error(session: &mut Session, case: &Value<'_>, error: &ParseError) {
     let ParseError::Refused { kind, span } = error else {
         return session.refuse(Refusal::Memory);
@@ -15,7 +15,7 @@ pub fn put_parse_error(session: &mut Session, case: &Value<'_>, error: &ParseErr
     session.put_message(case, error);
 }
 
-/// The same without its place. The name of an abbreviation is a member `name`.
+/// The same without its span. The name of an abbreviation is a member `name`.
 pub fn put_parse_reason(session: &mut Session, case: &Value<'_>, error: &ParseError) {
     let ParseError::Refused { kind, span: _ } = error else {
         return session.refuse(Refusal::Memory);

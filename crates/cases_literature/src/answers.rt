@@ -56,7 +56,7 @@ fn put_text(session: &mut Session, answered: &Cow<'_, ChunkedString>) {
     }
 }
 
-/// Writes a number, or a text in its place.
+/// Writes a number, or a text instead of it.
 fn put_number(session: &mut Session, entry: &Entry, variable: NumberVariable) {
     let answered = entry.resolve_number_variable(session.alloc, variable);
     match session.allocated(answered) {

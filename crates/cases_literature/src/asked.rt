@@ -34,7 +34,7 @@ fn put_number_or_null(session: &mut Session, name: &str, number: Option<i32>) {
     }
 }
 
-/// Whether it is of several numbers, the one number, and the number at a place.
+/// Whether it is of several numbers, the one number, and the number at an index.
 impl Asked for Numeric {
     fn put_asked(&self, session: &mut Session, case: &Value<'_>) {
         put_shown(session, case, "is_plural", self.is_plural());

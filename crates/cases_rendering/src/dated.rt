@@ -17,10 +17,15 @@ fn put_years(session: &mut Session, locales: &AskedLocales<'_>, date: &Date) {
     session.put_text("years", years.as_str());
 }
 
-/// Writes what a page shows on which a date was put down, and its tree.
-fn put_dated<'a>(session: &mut Session, style: &DateStyle<'_, 'a>, letters: &'a str, date: &Date) {
+/// Writes what a page shows to which a date was appended, and its tree.
+fn put_dated<'a>(
+    session: &mut Session,
+    style: &DateStyle<'_, 'a>,
+    year_suffix: &'a str,
+    date: &Date,
+) {
     let mut page = Page::new(session.alloc);
-    session.check(style.push_date(&mut page, letters, date));
+    session.check(style.push_date(&mut page, year_suffix, date));
     put_characters(session, &page);
     put_page_tree(session, page);
 }
@@ -65,9 +70,9 @@ fn put_shaped<'s, 'a>(
         manner,
         shape,
     };
-    let letters = text_or_none(session, case, "letters");
+    let year_suffix = text_or_none(session, case, "letters");
     let date: Date = given(session, case, "date");
-    put_dated(session, &style, letters, &date);
+    put_dated(session, &style, year_suffix, &date);
     put_years(session, locales, &date);
 }
 
@@ -110,7 +115,7 @@ const MEMBERS: [&str; 13] = [
     "files",
 ];
 
-/// `date`: what a page shows on which a date was put down, its tree, and the years of the date.
+/// `date`: what a page shows to which a date was appended, its tree, and the years of the date.
 pub(crate) fn answer(session: &mut Session, case: &Value<'_>) {
     session.only(case, &MEMBERS);
     let own = locales(session, case, "own");

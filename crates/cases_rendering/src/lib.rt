@@ -20,7 +20,7 @@ pub fn answer(session: &mut Session, kind: &str, case: &Value<'_>) -> bool {
     match kind {
         "write_year" => numbers::answer_year(session, case),
         "write_number" => numbers::answer_number(session, case),
-        "suffix_letters" => numbers::answer_letters(session, case),
+        "suffix_letters" => numbers::answer_year_suffix(session, case),
         "write_text" => writing::answer(session, case),
         "name_form" => name_forms::answer(session, case),
         "date" => dated::answer(session, case),

@@ -96,11 +96,11 @@ fn put_members(session: &mut Session, meta: &ElemMeta) {
     match meta {
         ElemMeta::Names(names) => put_names(session, names.as_slice()),
         ElemMeta::NameVariable(variable) => put_variable(session, "name_variable", *variable),
-        ElemMeta::Name(variable, place) => {
+        ElemMeta::Name(variable, index) => {
             put_variable(session, "name", *variable);
-            session.put_count("place", *place);
+            session.put_count("place", *index);
         }
-        ElemMeta::Entry(place) => session.put_count("entry", *place),
+        ElemMeta::Entry(index) => session.put_count("entry", *index),
         _ => {}
     }
 }

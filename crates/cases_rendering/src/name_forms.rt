@@ -1,4 +1,4 @@
-//! Forms of names that tell cites apart.
+//! Forms of names that disambiguate cites.
 
 use cases::{Session, Value, word_of};
 use rendering_taxonomy::DisambiguatedNameForm;

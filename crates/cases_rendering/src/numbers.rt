@@ -5,7 +5,7 @@ use cases_styles::{NUMBER_FORMS, maybe_ordinals};
 use cases_values::given;
 use literature::{MaybeTyped, Numeric};
 use rendering_locale::Ordinals;
-use rendering_numbers::{push_number, push_numeral_or_text, push_suffix_letters, push_year};
+use rendering_numbers::{push_number, push_numeral_or_text, push_year, push_year_suffix};
 use rendering_taxonomy::NumberForm;
 
 /// `write_year`: a year, by the terms for the eras.
@@ -20,14 +20,14 @@ pub(crate) fn answer_year(session: &mut Session, case: &Value<'_>) {
     session.put_text("text", written.as_str());
 }
 
-/// `suffix_letters`: the letters of a place from zero.
-pub(crate) fn answer_letters(session: &mut Session, case: &Value<'_>) {
+/// `suffix_letters`: the year suffix of an index from zero.
+pub(crate) fn answer_year_suffix(session: &mut Session, case: &Value<'_>) {
     session.only(case, &["case", "name", "place"]);
-    let Ok(place) = u16::try_from(session.number(case, "place")) else {
+    let Ok(index) = u16::try_from(session.number(case, "place")) else {
         return session.want("place", "an integer from 0 of 16 bits");
     };
     let mut written = String::new(session.alloc);
-    session.check(push_suffix_letters(&mut written, place));
+    session.check(push_year_suffix(&mut written, index));
     session.put_text("text", written.as_str());
 }
 
@@ -39,7 +39,7 @@ fn put_number(session: &mut Session, case: &Value<'_>, form: NumberForm, ordinal
     session.put_text("text", written.as_str());
 }
 
-/// Writes what is written of the number with letters, or of the text in its place, of a case in the form.
+/// Writes what is written of the number with letters, or of the text instead of it, of a case in the form.
 fn put_numeral(session: &mut Session, case: &Value<'_>, form: NumberForm, ordinals: &Ordinals) {
     let numeral: MaybeTyped<Numeric> = given(session, case, "numeral");
     let mut written = String::new(session.alloc);
@@ -58,7 +58,7 @@ fn ordinals_of(session: &mut Session, case: &Value<'_>) -> Ordinals {
     }
 }
 
-/// `write_number`: a number, or one with letters, or the text in its place, in a form.
+/// `write_number`: a number, or one with letters, or the text instead of it, in a form.
 pub(crate) fn answer_number(session: &mut Session, case: &Value<'_>) {
     session.only(
         case,

@@ -1,4 +1,4 @@
-//! Pages on which texts are put down, and their trees.
+//! Pages to which texts are appended, and their trees.
 
 use crate::dated::text_or_none;
 use crate::metas::maybe_meta;
@@ -12,16 +12,16 @@ use rendering_page::{Frame, Manner, Page};
 /// How deep elements may nest.
 const DEPTH: u32 = 400;
 
-/// What things are put down with.
+/// What things are appended with.
 #[derive(Clone, Copy)]
-struct Setting<'s, 'a> {
+struct PageSetting<'s, 'a> {
     /// The close quotes inside which punctuation goes.
     quotes: &'s [&'s str],
     /// The text in pieces of the case.
     chunks: &'a [StringChunk],
 }
 
-/// How the texts of a thing are put down.
+/// How the texts of a thing are appended.
 pub(crate) fn manner(session: &mut Session, item: &Value<'_>) -> Manner {
     Manner {
         formatting: formatting(session, item),
@@ -29,10 +29,10 @@ pub(crate) fn manner(session: &mut Session, item: &Value<'_>) -> Manner {
     }
 }
 
-/// Puts an ordinary text down that looks plain.
+/// Appends an ordinary text that looks plain.
 fn put_plain<'a>(
     session: &mut Session,
-    setting: &Setting<'_, 'a>,
+    setting: &PageSetting<'_, 'a>,
     page: &mut Page<'a>,
     text: &'a str,
 ) {
@@ -40,10 +40,10 @@ fn put_plain<'a>(
     session.check(page.push_text(setting.quotes, manner, text));
 }
 
-/// Puts an ordinary text down, or a copy of it where that is asked for.
+/// Appends an ordinary text, or a copy of it where that is asked for.
 fn put_ordinary<'a>(
     session: &mut Session,
-    setting: &Setting<'_, 'a>,
+    setting: &PageSetting<'_, 'a>,
     page: &mut Page<'a>,
     item: &'a Value<'_>,
 ) {
@@ -58,10 +58,10 @@ fn put_ordinary<'a>(
     }
 }
 
-/// Puts a close quote down.
+/// Appends a close quote.
 fn put_quote<'a>(
     session: &mut Session,
-    setting: &Setting<'_, 'a>,
+    setting: &PageSetting<'_, 'a>,
     page: &mut Page<'a>,
     item: &'a Value<'_>,
 ) {
@@ -71,7 +71,7 @@ fn put_quote<'a>(
     session.check(page.push_close_quote(setting.quotes, manner, text));
 }
 
-/// Puts a text down as it is.
+/// Appends a text as it is.
 fn put_verbatim<'a>(session: &mut Session, page: &mut Page<'a>, item: &'a Value<'_>) {
     session.only(item, &["verbatim", "formatting"]);
     let formatting = formatting(session, item);
@@ -79,7 +79,7 @@ fn put_verbatim<'a>(session: &mut Session, page: &mut Page<'a>, item: &'a Value<
     session.check(page.push_verbatim(formatting, text));
 }
 
-/// Puts a link down.
+/// Appends a link.
 fn put_link<'a>(session: &mut Session, page: &mut Page<'a>, item: &'a Value<'_>) {
     session.only(item, &["link", "url", "formatting"]);
     let formatting = formatting(session, item);
@@ -88,18 +88,18 @@ fn put_link<'a>(session: &mut Session, page: &mut Page<'a>, item: &'a Value<'_>)
     session.check(page.push_link(formatting, text, url));
 }
 
-/// Puts a locator of the caller's own down.
+/// Appends a locator of the caller's own.
 fn put_transparent<'a>(session: &mut Session, page: &mut Page<'a>, item: &'a Value<'_>) {
     session.only(item, &["transparent", "formatting"]);
     let formatting = formatting(session, item);
-    let place = session.count(item, "transparent");
-    session.check(page.push_transparent(formatting, place));
+    let index = session.count(item, "transparent");
+    session.check(page.push_transparent(formatting, index));
 }
 
-/// Puts the text in pieces of the case down.
+/// Appends the text in pieces of the case.
 fn put_chunks<'a>(
     session: &mut Session,
-    setting: &Setting<'_, 'a>,
+    setting: &PageSetting<'_, 'a>,
     page: &mut Page<'a>,
     item: &'a Value<'_>,
 ) {
@@ -108,7 +108,7 @@ fn put_chunks<'a>(
     session.check(page.push_chunks(setting.quotes, manner, setting.chunks));
 }
 
-/// Puts a formula down, or what ends in a space.
+/// Appends a formula, or what ends in a space.
 fn put_formula_or_space<'a>(session: &mut Session, page: &mut Page<'a>, item: &'a Value<'_>) {
     session.only(item, &["markup", "space"]);
     if session.is_set(item, "space") {
@@ -119,10 +119,10 @@ fn put_formula_or_space<'a>(session: &mut Session, page: &mut Page<'a>, item: &'
     }
 }
 
-/// Puts down what is no element.
+/// Appends what is no element.
 fn put_leaf<'a>(
     session: &mut Session,
-    setting: &Setting<'_, 'a>,
+    setting: &PageSetting<'_, 'a>,
     page: &mut Page<'a>,
     item: &'a Value<'_>,
 ) {
@@ -191,11 +191,11 @@ const MEMBERS: [&str; 7] = [
     "suffix",
 ];
 
-/// Puts an element down.
+/// Appends an element.
 #[cycle(page)]
 fn put_elem<'a>(
     session: &mut Session,
-    setting: &Setting<'_, 'a>,
+    setting: &PageSetting<'_, 'a>,
     page: &mut Page<'a>,
     item: &'a Value<'_>,
     depth: u32,
@@ -207,11 +207,11 @@ fn put_elem<'a>(
     end(session, setting.quotes, page, item, &frame);
 }
 
-/// Puts a thing down: a text that looks plain, or what an object says.
+/// Appends a thing: a text that looks plain, or what an object says.
 #[cycle(page)]
 fn put<'a>(
     session: &mut Session,
-    setting: &Setting<'_, 'a>,
+    setting: &PageSetting<'_, 'a>,
     page: &mut Page<'a>,
     item: &'a Value<'_>,
     depth: u32,
@@ -225,11 +225,11 @@ fn put<'a>(
     }
 }
 
-/// Puts the things of a list down, in which elements nest at most so deep.
+/// Appends the things of a list, in which elements nest at most so deep.
 #[cycle(page)]
 fn put_all<'a>(
     session: &mut Session,
-    setting: &Setting<'_, 'a>,
+    setting: &PageSetting<'_, 'a>,
     page: &mut Page<'a>,
     object: &'a Value<'_>,
     name: &'static str,
@@ -256,7 +256,7 @@ pub(crate) fn put_characters(session: &mut Session, page: &Page<'_>) {
 /// Writes whether a page shows the same characters as that of the member `other`, where there is one.
 fn put_compared<'a>(
     session: &mut Session,
-    setting: &Setting<'_, 'a>,
+    setting: &PageSetting<'_, 'a>,
     case: &'a Value<'_>,
     page: &Page<'a>,
 ) {
@@ -276,7 +276,7 @@ pub(crate) fn put_page_tree(session: &mut Session, page: Page<'_>) {
 }
 
 /// Writes what the page of a case shows, and its tree.
-fn put_page<'a>(session: &mut Session, setting: &Setting<'_, 'a>, case: &'a Value<'_>) {
+fn put_page<'a>(session: &mut Session, setting: &PageSetting<'_, 'a>, case: &'a Value<'_>) {
     let mut page = Page::new(session.alloc);
     put_all(session, setting, &mut page, case, "put", DEPTH);
     put_characters(session, &page);
@@ -284,13 +284,13 @@ fn put_page<'a>(session: &mut Session, setting: &Setting<'_, 'a>, case: &'a Valu
     put_page_tree(session, page);
 }
 
-/// `page`: what a page shows on which things were put down, and its tree.
+/// `page`: what a page shows to which things were appended, and its tree.
 pub(crate) fn answer(session: &mut Session, case: &Value<'_>) {
     session.only(case, &["case", "name", "quotes", "chunks", "put", "other"]);
     let quotes = session.texts(case, "quotes");
     let chunks: Option<Vec<StringChunk>> = maybe_given(session, case, "chunks");
     let chunks = chunks.unwrap_or(Vec::new(session.alloc));
-    let setting = Setting {
+    let setting = PageSetting {
         quotes: quotes.as_slice(),
         chunks: chunks.as_slice(),
     };

@@ -1,4 +1,4 @@
-//! What is said of a cite: what it is for, its locator, and how much work it was.
+//! The message for a cite: what it is for, its locator, and how much work it was.
 
 use cases::{Session, Value, member};
 use cases_styles::LOCATORS;

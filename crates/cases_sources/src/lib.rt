@@ -1,4 +1,4 @@
-//! What cases of citations have in common: the entries and the locales that they are made from, what is said of a cite, and why a case
+//! What cases of citations have in common: the entries and the locales that they are made from, the message for a cite, and why a case
 //! has no entry.
 #![tactic(auto)]
 

@@ -21,17 +21,17 @@ pub const NUMBER_FORMS: &[(&str, NumberForm)] = &[
 const TARGETS: [&str; 4] = ["variable", "macro", "term", "value"];
 
 /// The one member that says what a text node prints; empty where there is not just one.
-fn said(node: &Value<'_>) -> &'static str {
-    let mut said = "";
+fn named(node: &Value<'_>) -> &'static str {
+    let mut named = "";
     for name in TARGETS {
         if member(node, name).is_some() {
-            if !said.is_empty() {
+            if !named.is_empty() {
                 return "";
             }
-            said = name;
+            named = name;
         }
     }
-    said
+    named
 }
 
 /// A term in its form.
@@ -43,7 +43,7 @@ fn term_target(session: &mut Session, node: &Value<'_>) -> TextTarget {
 
 /// What a text node prints: that of the one member that says it.
 fn target(session: &mut Session, node: &Value<'_>) -> TextTarget {
-    match said(node) {
+    match named(node) {
         "variable" => {
             let form = form_of(session, node);
             TextTarget::Variable(printed_of(session, node), form)

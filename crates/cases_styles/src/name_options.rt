@@ -1,4 +1,4 @@
-//! What is said of names.
+//! What is specified for names.
 
 use crate::members::maybe_count;
 use cases::{Session, Value, member};

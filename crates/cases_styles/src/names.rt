@@ -1,4 +1,4 @@
-//! Names nodes, without what stands in for names.
+//! Names nodes, without the substitute of names.
 
 use crate::looks::{changes, look};
 use crate::name_options::{NAME_MEMBERS, options};
@@ -42,7 +42,7 @@ fn label(session: &mut Session, node: &Value<'_>) -> Option<LabelLook> {
     Some(label_look(session, given))
 }
 
-/// What is said of single names, where the member is not left out.
+/// What is specified for single names, where the member is not left out.
 fn name(session: &mut Session, node: &Value<'_>) -> Option<Name> {
     let Some(given) = member(node, "name") else {
         return None;

@@ -44,7 +44,7 @@ fn node(session: &mut Session, given: &Value<'_>, depth: u32) -> Node {
     }
 }
 
-/// Names, and what stands in for them.
+/// Names, and their substitute.
 #[cycle(reading)]
 fn names_node(session: &mut Session, given: &Value<'_>, depth: u32) -> Node {
     let names = names_of(session, given);

@@ -1,6 +1,6 @@
 //! Chunks, as they are read from a case and written to an answer.
 
-use crate::places::{maybe_place, put_span};
+use crate::spans::{maybe_span, put_span};
 use biblatex::{Chunk, Chunks, Spanned};
 use cases::{Session, Value, member};
 use std::ops::Range;
@@ -14,21 +14,21 @@ fn kind_of(chunk: &Chunk) -> &'static str {
     }
 }
 
-/// Writes a chunk as an object, with its place where that is asked for and the chunk has one.
-fn put_chunk(session: &mut Session, chunk: &Spanned<Chunk>, has_places: bool) {
+/// Writes a chunk as an object, with its span where that is asked for and the chunk has one.
+fn put_chunk(session: &mut Session, chunk: &Spanned<Chunk>, has_spans: bool) {
     session.begin_object();
     session.put_text(kind_of(&chunk.v), chunk.v.get());
-    if has_places {
+    if has_spans {
         put_span(session, &chunk.span);
     }
     session.end_object();
 }
 
-/// Writes chunks as a list of objects, each with its place where that is asked for and the chunk has one.
-pub fn put_chunks(session: &mut Session, chunks: &[Spanned<Chunk>], has_places: bool) {
+/// Writes chunks as a list of objects, each with its span where that is asked for and the chunk has one.
+pub fn put_chunks(session: &mut Session, chunks: &[Spanned<Chunk>], has_spans: bool) {
     session.begin_array();
     for chunk in chunks.iter() {
-        put_chunk(session, chunk, has_places);
+        put_chunk(session, chunk, has_spans);
     }
     session.end_array();
 }
@@ -48,19 +48,19 @@ fn chunk_of(session: &mut Session, object: &Value<'_>) -> Chunk {
     }
 }
 
-/// A chunk, at its place; one without a place is of no source.
-fn placed(chunk: Chunk, place: Option<Range<usize>>) -> Spanned<Chunk> {
-    match place {
-        Some(place) => Spanned::new(chunk, place),
+/// A chunk, with its span; one without a span is of no source.
+fn at_span(chunk: Chunk, span: Option<Range<usize>>) -> Spanned<Chunk> {
+    match span {
+        Some(span) => Spanned::new(chunk, span),
         None => Spanned::detached(chunk),
     }
 }
 
-/// The chunk that an object says, at its place.
+/// The chunk that an object says, with its span.
 fn read_chunk(session: &mut Session, object: &Value<'_>) -> Spanned<Chunk> {
     session.only(object, &["normal", "verbatim", "math", "at"]);
-    let place = maybe_place(session, object);
-    placed(chunk_of(session, object), place)
+    let span = maybe_span(session, object);
+    at_span(chunk_of(session, object), span)
 }
 
 /// The chunks that objects say.
@@ -81,10 +81,10 @@ pub fn read_chunks(session: &mut Session, object: &Value<'_>, name: &'static str
     }
 }
 
-/// One chunk of normal text, at a place or of no source.
-pub fn normal_chunks(session: &mut Session, text: &str, place: Option<Range<usize>>) -> Chunks {
+/// One chunk of normal text, with a span or of no source.
+pub fn normal_chunks(session: &mut Session, text: &str, span: Option<Range<usize>>) -> Chunks {
     let mut chunks = Vec::new(session.alloc);
-    let chunk = placed(Chunk::Normal(session.owned(text)), place);
+    let chunk = at_span(Chunk::Normal(session.owned(text)), span);
     session.push(&mut chunks, chunk);
     chunks
 }

@@ -1,21 +1,21 @@
 //! Contents of fields: what their pieces give.
 
-use crate::places::maybe_place;
+use crate::spans::maybe_span;
 use crate::telling::Told;
 use biblatex::Spanned;
 use biblatex_content::{ContentError, Contents};
 use cases::{Refusal, Session, Value};
 use std::alloc::Global;
 
-/// The text of a piece, at its place; one without a place stands before the first byte.
+/// The text of a piece, with its span; one without a span stands before the first byte.
 fn read_piece<'a>(session: &mut Session, value: &Value<'a>) -> Spanned<&'a str> {
     if let Some(text) = value.as_str() {
         return Spanned::zero(text);
     }
     session.only(value, &["text", "at"]);
     let text = session.text(value, "text");
-    match maybe_place(session, value) {
-        Some(place) => Spanned::new(text, place),
+    match maybe_span(session, value) {
+        Some(span) => Spanned::new(text, span),
         None => Spanned::zero(text),
     }
 }
@@ -71,7 +71,7 @@ fn put_contents(session: &mut Session, case: &Value<'_>, contents: Contents) {
     let told = Told {
         chunks: chunks.as_slice(),
         is_verbatim: session.is_set(case, "verbatim"),
-        has_places: session.is_set(case, "places"),
+        has_spans: session.is_set(case, "places"),
         before: None,
     };
     told.put_shown(session, case, "chunks");

@@ -1,6 +1,6 @@
 //! Texts of files, as their raw grammar reads them.
 
-use crate::places::put_place;
+use crate::spans::put_offsets;
 use biblatex::{
     BiblatexParser, Fault, Field, Pair, RawBibliography, RawChunk, RawEntry, RawError, Spanned,
     Token,
@@ -20,79 +20,79 @@ pub fn token_name(token: Token) -> &'static str {
     }
 }
 
-/// Writes a text as the member of the name, and its place where that is asked for.
-fn put_placed(
+/// Writes a text as the member of the name, and its span where that is asked for.
+fn put_spanned_text(
     session: &mut Session,
     name: &str,
-    place_name: &str,
+    span_name: &str,
     text: &Spanned<&str>,
-    has_places: bool,
+    has_spans: bool,
 ) {
     session.put_text(name, text.v);
-    if has_places {
-        put_place(session, place_name, &text.span);
+    if has_spans {
+        put_offsets(session, span_name, &text.span);
     }
 }
 
 /// Writes a piece of a value as an object.
-fn put_piece(session: &mut Session, piece: &Spanned<RawChunk<'_>>, has_places: bool) {
+fn put_piece(session: &mut Session, piece: &Spanned<RawChunk<'_>>, has_spans: bool) {
     session.begin_object();
     match piece.v {
         RawChunk::Normal(text) => session.put_text("text", text),
         RawChunk::Abbreviation(name) => session.put_text("abbreviation", name),
     }
-    if has_places {
-        put_place(session, "at", &piece.span);
+    if has_spans {
+        put_offsets(session, "at", &piece.span);
     }
     session.end_object();
 }
 
 /// Writes the pieces of a value as a list.
-fn put_value(session: &mut Session, value: &Spanned<Field<'_>>, has_places: bool) {
+fn put_value(session: &mut Session, value: &Spanned<Field<'_>>, has_spans: bool) {
     session.begin_list("value");
     for piece in value.v.as_slice() {
-        put_piece(session, piece, has_places);
+        put_piece(session, piece, has_spans);
     }
     session.end_array();
-    if has_places {
-        put_place(session, "value_at", &value.span);
+    if has_spans {
+        put_offsets(session, "value_at", &value.span);
     }
 }
 
 /// Writes fields or abbreviations as a list.
-fn put_pairs(session: &mut Session, pairs: &[Pair<'_>], has_places: bool) {
+fn put_pairs(session: &mut Session, pairs: &[Pair<'_>], has_spans: bool) {
     session.begin_array();
     for pair in pairs.iter() {
         session.begin_object();
-        put_placed(session, "name", "name_at", &pair.key, has_places);
-        put_value(session, &pair.value, has_places);
+        put_spanned_text(session, "name", "name_at", &pair.key, has_spans);
+        put_value(session, &pair.value, has_spans);
         session.end_object();
     }
     session.end_array();
 }
 
 /// Writes an entry as an object.
-fn put_entry(session: &mut Session, entry: &Spanned<RawEntry<'_>>, has_places: bool) {
+fn put_entry(session: &mut Session, entry: &Spanned<RawEntry<'_>>, has_spans: bool) {
     session.begin_object();
-    put_placed(session, "kind", "kind_at", &entry.v.kind, has_places);
-    put_placed(session, "key", "key_at", &entry.v.key, has_places);
+    put_spanned_text(session, "kind", "kind_at", &entry.v.kind, has_spans);
+    put_spanned_text(session, "key", "key_at", &entry.v.key, has_spans);
     session.key("fields");
-    put_pairs(session, entry.v.fields.as_slice(), has_places);
-    if has_places {
-        put_place(session, "at", &entry.span);
+    put_pairs(session, entry.v.fields.as_slice(), has_spans);
+    if has_spans {
+        put_offsets(session, "at", &entry.span);
     }
     session.end_object();
 }
 
 /// Writes the entries and the abbreviations of a text.
-fn put_raw(session: &mut Session, raw: &RawBibliography<'_>, has_places: bool) {
+fn put_raw(session: &mut Session, raw: &RawBibliography<'_>, has_spans: bool) {
     session.begin_list("entries");
     for entry in raw.entries.as_slice() {
-        put_entry(session, entry, has_places);
+        put_entry(session, entry, has_spans);
     }
     session.end_array();
     session.key("abbreviations");
-    put_pairs(session, raw.abbreviations.as_slice(), has_places);
+    put_pairs(session, raw.abbreviations.as_slice(), has_spans);
 }
 
 /// Writes why a text is not of the grammar.
@@ -110,13 +110,13 @@ pub fn put_fault(session: &mut Session, fault: Fault) {
     }
 }
 
-/// Writes why a text is refused and where, and what is said of it where that is asked for.
+/// Writes why a text is refused and where, and the message for it where that is asked for.
 fn put_refusal(session: &mut Session, case: &Value<'_>, error: RawError) {
     let RawError::Refused { fault, at } = error else {
         return session.refuse(Refusal::Memory);
     };
     put_fault(session, fault);
-    put_place(session, "at", &(at..at));
+    put_offsets(session, "at", &(at..at));
     session.put_message(case, &error);
 }
 
@@ -132,9 +132,9 @@ pub(crate) fn answer_items(session: &mut Session, case: &Value<'_>) {
     } else {
         RawBibliography::parse(session.alloc, bib)
     };
-    let has_places = session.is_set(case, "places");
+    let has_spans = session.is_set(case, "places");
     match read {
-        Ok(raw) => put_raw(session, &raw, has_places),
+        Ok(raw) => put_raw(session, &raw, has_spans),
         Err(error) => put_refusal(session, case, error),
     }
 }

@@ -5,7 +5,7 @@ mod characters;
 mod chunks;
 mod content;
 mod items;
-mod places;
+mod spans;
 mod telling;
 
 use cases::{Session, Value};
@@ -14,7 +14,7 @@ pub use chunks::{normal_chunks, put_chunks, read_chunks, read_chunks_in};
 use content::answer_content;
 use items::answer_items;
 pub use items::{put_fault, token_name};
-pub use places::{maybe_place, put_place, put_span};
+pub use spans::{maybe_span, put_offsets, put_span};
 use telling::answer_chunks;
 
 /// Writes the members of the answer to a case of this kind; false where the kind is none of these.

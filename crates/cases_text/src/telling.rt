@@ -1,7 +1,7 @@
 //! What an answer tells of the chunks of a field.
 
 use crate::chunks::{put_chunks, read_chunks};
-use crate::places::put_place;
+use crate::spans::put_offsets;
 use biblatex::{Chunk, Chunks, ChunksExt, Spanned, push_biblatex};
 use cases::{Session, Value};
 use std::alloc::{AllocError, Global};
@@ -13,8 +13,8 @@ pub(crate) struct Told<'c> {
     pub(crate) chunks: &'c [Spanned<Chunk>],
     /// Whether the field is verbatim.
     pub(crate) is_verbatim: bool,
-    /// Whether the places of the chunks are told.
-    pub(crate) has_places: bool,
+    /// Whether the spans of the chunks are told.
+    pub(crate) has_spans: bool,
     /// The text that stands before what they are written as.
     pub(crate) before: Option<&'c str>,
 }
@@ -49,7 +49,7 @@ impl Told<'_> {
         match name {
             "chunks" => {
                 session.key("chunks");
-                put_chunks(session, self.chunks, self.has_places);
+                put_chunks(session, self.chunks, self.has_spans);
             }
             "written" => {
                 let written = self.written(session.alloc);
@@ -60,7 +60,7 @@ impl Told<'_> {
                 let text = self.chunks.format_verbatim(session.alloc);
                 put_made(session, "text", text);
             }
-            _ => put_place(session, "at", &self.chunks.span()),
+            _ => put_offsets(session, "at", &self.chunks.span()),
         }
     }
 
@@ -111,7 +111,7 @@ pub(crate) fn answer_chunks(session: &mut Session, case: &Value<'_>) {
     let told = Told {
         chunks: chunks.as_slice(),
         is_verbatim: session.is_set(case, "verbatim"),
-        has_places: session.is_set(case, "places"),
+        has_spans: session.is_set(case, "places"),
         before: session.maybe_text(case, "before"),
     };
     told.put_shown(session, case, "written");

@@ -7,11 +7,11 @@ use biblatex::{
     reread,
 };
 use cases::{Refusal, Session, Value};
-use cases_text::{maybe_place, normal_chunks, put_chunks, put_span, read_chunks};
+use cases_text::{maybe_span, normal_chunks, put_chunks, put_span, read_chunks};
 use std::alloc::Global;
 use std::ops::Range;
 
-/// The content that a case gives: chunks, or a text that is none, with its place.
+/// The content that a case gives: chunks, or a text that is none, with its span.
 #[derive(Drop)]
 enum Given {
     Chunks(Chunks),
@@ -19,9 +19,9 @@ enum Given {
 }
 
 /// The content of an ordinary field without abbreviations, as it is written there.
-fn written_content(alloc: Global, written: &str, place: Span) -> Result<Chunks, ParseError> {
+fn written_content(alloc: Global, written: &str, given_span: Span) -> Result<Chunks, ParseError> {
     let abbreviations = Abbreviations::new(alloc, &[])?;
-    let piece = Spanned::new(RawChunk::Normal(written), place);
+    let piece = Spanned::new(RawChunk::Normal(written), given_span);
     parse_field(alloc, "note", &[piece], &abbreviations)
 }
 
@@ -37,10 +37,10 @@ fn read_content(session: &mut Session, read: Result<Chunks, ParseError>) -> Give
     }
 }
 
-/// The place of a text of so many bytes; where a case gives none, the text is its source.
-fn place(session: &mut Session, case: &Value<'_>, length: usize) -> Span {
-    match maybe_place(session, case) {
-        Some(place) => place,
+/// The span of a text of so many bytes; where a case gives none, the text is its source.
+fn given_span(session: &mut Session, case: &Value<'_>, length: usize) -> Span {
+    match maybe_span(session, case) {
+        Some(given_span) => given_span,
         None => 0..length,
     }
 }
@@ -48,12 +48,12 @@ fn place(session: &mut Session, case: &Value<'_>, length: usize) -> Span {
 /// The content that a case gives.
 fn given_content(session: &mut Session, case: &Value<'_>) -> Given {
     if let Some(text) = session.maybe_text(case, "text") {
-        let place = place(session, case, text.len());
-        return Given::Chunks(normal_chunks(session, text, Some(place)));
+        let given_span = given_span(session, case, text.len());
+        return Given::Chunks(normal_chunks(session, text, Some(given_span)));
     }
     if let Some(written) = session.maybe_text(case, "content") {
-        let place = place(session, case, written.len());
-        let read = written_content(session.alloc, written, place);
+        let given_span = given_span(session, case, written.len());
+        let read = written_content(session.alloc, written, given_span);
         return read_content(session, read);
     }
     if case.get("chunks").is_none() {

@@ -1,4 +1,4 @@
--- Answers that are wanted in two places.
+-- Answers that are wanted twice.
 use Rattle.std.proofs.Common.{◌≡◌, ℕ, Option, Some, None, Result, Ok, Err}
 use Rattle.biblatex.specs.Errors.{refusal_of}
 use Rattle.biblatex.specs.Reading as reading

@@ -15,8 +15,8 @@ use Rattle.biblatex.specs.TypeNames.{written_type}
 use Rattle.literature.specs.Keys.{with_key}
 use Rattle.literature_entries.specs.Wholes.{Whole}
 use Rattle.interop.specs.Bridge.{unless_faulty}
-use Rattle.interop.specs.Shelf.{key_of, is_xdata, all_faults, library_of}
-use Rattle.interop.proofs.ShelfKeys.{found_under}
+use Rattle.interop.specs.Library.{key_of, is_xdata, all_faults, library_of}
+use Rattle.interop.proofs.LibraryKeys.{found_under}
 use Rattle.rendering_context.specs.Contexts.{StyleContext}
 use Rattle.cite_markers.specs.Document.{Piece, Text, Marker}
 use Rattle.cite_markers.specs.Marker.{Cite}

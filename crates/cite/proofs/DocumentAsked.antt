@@ -9,18 +9,18 @@ use Rattle.biblatex.specs.Bibliographies.{entry_named}
 use Rattle.biblatex.specs.Entries.{Source}
 use Rattle.biblatex.specs.TypeNames.{written_type}
 use Rattle.literature.specs.Keys.{with_key}
-use Rattle.literature_entries.specs.Wholes.{Whole, whole}
+use Rattle.literature_entries.specs.Wholes.{Whole, entry_view}
 use Rattle.literature_entries.specs.declared.entry.Entry.{Entry}
 use Rattle.literature_entries.specs.contracts.entry.EntryPartialEq.TheImpl as entry
 use Rattle.literature_selectors.specs.Trees.{Tree}
-use Rattle.interop.specs.Shelf.{key_of, is_xdata}
+use Rattle.interop.specs.Library.{key_of, is_xdata}
 use Rattle.rendering_entries.specs.Library.{answers_of}
 use Rattle.rendering_context.specs.Contexts.{StyleContext}
-use Rattle.driver_requests.specs.CitedEntries.{place_among, places_among}
-use Rattle.driver_requests.specs.Views.{entries_in, entries_of, request_by}
+use Rattle.driver_requests.specs.CitedEntries.{index_among, indices_among}
+use Rattle.driver_requests.specs.Views.{entries_in, entries_of, request_view}
 use Rattle.driver_requests.specs.declared.request.CitationRequest.{CitationRequest}
 use Rattle.cite_markers.specs.Marker.{Cite}
-use Rattle.cite.specs.Asked.{asked_request, request_seen}
+use Rattle.cite.specs.Asked.{asked_request, asked_request_view}
 use Rattle.cite.specs.Finished.{document_asked}
 use Rattle.literature_selectors.specs.Holding.{holds_at}
 use Rattle.cite.specs.Markers.{CitedWork, cited_work, with_work}
@@ -29,8 +29,8 @@ use Rattle.cite.specs.Sections.{chosen}
 use Rattle.cite.specs.Steps.{all_ok}
 use Rattle.cite.specs.Verdict.{driver_document}
 use Rattle.cite.specs.Works.{Works, is_same, meaning, work_of}
-use Rattle.cite.proofs.AskedPlaces.{AreAt, asked_works, entries_asked, items_by, placed_request, requests_placed, works_asked}
-use Rattle.cite.proofs.EntriesPlaces.{IsListed, AreListed, AreListedWorks, chosen_listed, found_listed, joined, listed_entries, place_is, places_are}
+use Rattle.cite.proofs.AskedIndices.{AreAt, asked_works, entries_asked, items_by, indexed_request, requests_indexed, works_asked}
+use Rattle.cite.proofs.EntriesIndices.{IsListed, AreListed, AreListedWorks, chosen_listed, found_listed, joined, listed_entries, index_is, indices_are}
 use Rattle.cite.proofs.StepsRefused.{all_give}
 
 module _ (works : Works) where
@@ -76,45 +76,45 @@ pub chosen_works_listed : (library : List Whole) (selectors : List Tree) (ws : L
 chosen_works_listed library [] ws h = tt
 chosen_works_listed library (x ∷ xs) ws h = joined library (filter (holds_at x) ws) (chosen xs ws) (chosen_listed library (holds_at x) ws h) (chosen_works_listed library xs ws h)
 
--- all cited entries have the places of their works
-places_at : (library : List Whole) (cited : List Entry) → AreListed library cited → (es : List Entry) → AreListed library es
-    → AreAt (place_among entry.ghosts.eq cited) (place_among is_same (map whole cited)) es
-places_at library cited hs [] h = tt
-places_at library cited hs (e ∷ es) h = (place_is library cited hs e h.0, places_at library cited hs es h.1)
+-- all cited entries have the indices of their works
+indices_at : (library : List Whole) (cited : List Entry) → AreListed library cited → (es : List Entry) → AreListed library es
+    → AreAt (index_among entry.ghosts.eq cited) (index_among is_same (map entry_view cited)) es
+indices_at library cited hs [] h = tt
+indices_at library cited hs (e ∷ es) h = (index_is library cited hs e h.0, indices_at library cited hs es h.1)
 
-first_part : (place : Entry → ℕ) (own : Whole → ℕ) (es fs : List Entry) → AreAt place own (es ++ fs) → AreAt place own es
-first_part place own [] fs h = tt
-first_part place own (e ∷ es) fs h = (h.0, first_part place own es fs h.1)
+first_part : (index : Entry → ℕ) (own : Whole → ℕ) (es fs : List Entry) → AreAt index own (es ++ fs) → AreAt index own es
+first_part index own [] fs h = tt
+first_part index own (e ∷ es) fs h = (h.0, first_part index own es fs h.1)
 
-second_part : (place : Entry → ℕ) (own : Whole → ℕ) (es fs : List Entry) → AreAt place own (es ++ fs) → AreAt place own fs
-second_part place own [] fs h = h
-second_part place own (e ∷ es) fs h = second_part place own es fs h.1
+second_part : (index : Entry → ℕ) (own : Whole → ℕ) (es fs : List Entry) → AreAt index own (es ++ fs) → AreAt index own fs
+second_part index own [] fs h = h
+second_part index own (e ∷ es) fs h = second_part index own es fs h.1
 
-requests_by : (place : Entry → ℕ) (own : Whole → ℕ) (rs : List (CitationRequest Entry OwnLocator)) → AreAt place own (entries_in rs)
-    → map (request_by place (λ e. answers_of (whole e))) rs ≡ map (placed_request own) (map request_seen rs)
-requests_by place own [] h = refl
-requests_by place own (r ∷ rs) h =
-    λ i. record (placed_request own (request_seen r)) { items = items_by place own r.items.items (first_part place own (entries_of r) (entries_in rs) h) i }
-    ∷ requests_by place own rs (second_part place own (entries_of r) (entries_in rs) h) i
+requests_by : (index : Entry → ℕ) (own : Whole → ℕ) (rs : List (CitationRequest Entry OwnLocator)) → AreAt index own (entries_in rs)
+    → map (request_view index (λ e. answers_of (entry_view e))) rs ≡ map (indexed_request own) (map asked_request_view rs)
+requests_by index own [] h = refl
+requests_by index own (r ∷ rs) h =
+    λ i. record (indexed_request own (asked_request_view r)) { items = items_by index own r.items.items (first_part index own (entries_of r) (entries_in rs) h) i }
+    ∷ requests_by index own rs (second_part index own (entries_of r) (entries_in rs) h) i
 
 -- The driver's document, where the requests are those of markers with listed works, and the chosen entries are listed.
 pub document_is : (library : List Whole) (x : StyleContext) (rs : List (CitationRequest Entry OwnLocator)) (ms : List (List CitedWork)) (es : List Entry) (wanted : List Whole)
-    → map request_seen rs ≡ map (asked_request x) (enumerate_from 1 ms) → AreListedWorks library (works_in ms) → map whole es ≡ wanted → AreListedWorks library wanted
+    → map asked_request_view rs ≡ map (asked_request x) (enumerate_from 1 ms) → AreListedWorks library (works_in ms) → map entry_view es ≡ wanted → AreListedWorks library wanted
     → document_asked entry.ghosts.eq x rs es ≡ driver_document x wanted ms
 document_is library x rs ms es wanted asked listed is chosen =
-    λ i. record { requests = requests i; bibliography_context = x; wanted = places i; offset = 0 }
+    λ i. record { requests = requests i; bibliography_context = x; wanted = indices i; offset = 0 }
   where
-    works : map whole (entries_in rs) ≡ works_in ms
+    works : map entry_view (entries_in rs) ≡ works_in ms
     works = entries_asked rs ∙ ap asked_works asked ∙ works_asked x 1 ms
 
     cited : AreListed library (entries_in rs)
     cited = listed_entries library (entries_in rs) (subst (AreListedWorks library) (sym works) listed)
 
-    requests : map (request_by (place_among entry.ghosts.eq (entries_in rs)) (λ e. answers_of (whole e))) rs ≡ requests_of x ms
+    requests : map (request_view (index_among entry.ghosts.eq (entries_in rs)) (λ e. answers_of (entry_view e))) rs ≡ requests_of x ms
     requests =
-        requests_by (place_among entry.ghosts.eq (entries_in rs)) (place_among is_same (map whole (entries_in rs))) rs (places_at library (entries_in rs) cited (entries_in rs) cited)
-        ∙ (λ i. map (placed_request (place_among is_same (works i))) (asked i)) ∙ requests_placed x (works_in ms) 1 ms
+        requests_by (index_among entry.ghosts.eq (entries_in rs)) (index_among is_same (map entry_view (entries_in rs))) rs (indices_at library (entries_in rs) cited (entries_in rs) cited)
+        ∙ (λ i. map (indexed_request (index_among is_same (works i))) (asked i)) ∙ requests_indexed x (works_in ms) 1 ms
 
-    places : places_among entry.ghosts.eq (entries_in rs) es ≡ places_among is_same (works_in ms) wanted
-    places =
-        places_are library (entries_in rs) cited es (listed_entries library es (subst (AreListedWorks library) (sym is) chosen)) ∙ (λ i. places_among is_same (works i) (is i))
+    indices : indices_among entry.ghosts.eq (entries_in rs) es ≡ indices_among is_same (works_in ms) wanted
+    indices =
+        indices_are library (entries_in rs) cited es (listed_entries library es (subst (AreListedWorks library) (sym is) chosen)) ∙ (λ i. indices_among is_same (works i) (is i))

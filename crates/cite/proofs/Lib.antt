@@ -1,11 +1,11 @@
 pub mod AnswersWeaker
-pub mod AskedPlaces
+pub mod AskedIndices
 pub mod Bridged
 pub mod CitationsCount
 pub mod CitedKeys
 pub mod CitedWorks
 pub mod DocumentAsked
-pub mod EntriesPlaces
+pub mod EntriesIndices
 pub mod Finishing
 pub mod MarkersPlain
 pub mod OneLine

@@ -4,11 +4,11 @@ use Rattle.std.specs.Prelude.{not, ◌==◌, ◌||◌, IfOk, IfSome}
 use Rattle.std.specs.Char.{is_whitespace}
 use Rattle.std.proofs.lemmas.List.Elements.{All-nil, All-cons, All-head, All-tail}
 use Rattle.laws.specs.Results.{◌>>=◌}
-use Rattle.laws.specs.Runs.{front_of, after}
+use Rattle.laws.specs.Runs.{prefix_of, after}
 use Rattle.laws.specs.Steps.{each}
 use Rattle.laws.specs.Text.{text, is_filled}
 use Rattle.laws.proofs.Results.{bind_if_ok, test_if_ok}
-use Rattle.laws.proofs.Runs.{all-front}
+use Rattle.laws.proofs.Runs.{all-prefix}
 use Rattle.laws.proofs.Throughout.{each-gives}
 use Rattle.texts.specs.Reading.{token_at, taken}
 use Rattle.texts.specs.declared.reader.Unreadable.{Unreadable}
@@ -16,7 +16,7 @@ use Rattle.texts.specs.declared.reader.Unreadable.TheVariants.{NotThere}
 use Rattle.biblatex.specs.Lines.{HasNoLineFeed}
 use Rattle.biblatex.proofs.Lines as lines
 use Rattle.cite_markers.specs.Character.{passes}
-use Rattle.cite_markers.specs.Document.{Piece, Text, Marker, is_opening, escaped, text_at, marker_or_fault, piece_if_escaped, piece_at, or_place, document_of}
+use Rattle.cite_markers.specs.Document.{Piece, Text, Marker, is_opening, escaped, text_at, marker_or_fault, piece_if_escaped, piece_at, or_offset, document_of}
 use Rattle.cite_markers.specs.Marker.{Beginning, Cite, passing, beginning_at, locator_if_space, cite_at, further_cite_at, cite_if_semicolon, next_cite_at, cites_at, marker_at}
 use Rattle.cite.specs.Markers.{markers_of}
 
@@ -44,11 +44,11 @@ SpelledPlain name = HasNoLineFeed (text name)
 
 -- a cite after its beginning, where names have characters of a class without the line feed
 named_plain : (test : ℕ → Bool) (b : Beginning × List ℕ) → test 10 ≡ false
-    → IfOk (passing (is_filled (front_of test b.1)) (front_of test b.1) >>= λ name. locator_if_space (taken 32 (after test b.1)) >>= λ l. Ok (record { name = name; hidden = b.0.hidden; purpose = b.0.purpose; locator = l.0 }, l.1)) CitePlain
+    → IfOk (passing (is_filled (prefix_of test b.1)) (prefix_of test b.1) >>= λ name. locator_if_space (taken 32 (after test b.1)) >>= λ l. Ok (record { name = name; hidden = b.0.hidden; purpose = b.0.purpose; locator = l.0 }, l.1)) CitePlain
 named_plain test b bars =
-    let name = front_of test b.1 in
+    let name = prefix_of test b.1 in
     bind_if_ok SpelledPlain CitePlain (passing (is_filled name) name) _
-    (test_if_ok SpelledPlain (is_filled name) (Ok name) NotThere (lines.spelled name (lines.passing test name bars (all-front test b.1)))) (λ n plain.
+    (test_if_ok SpelledPlain (is_filled name) (Ok name) NotThere (lines.spelled name (lines.passing test name bars (all-prefix test b.1)))) (λ n plain.
     after_any CitePlain (locator_if_space (taken 32 (after test b.1))) _ (λ l. plain))
 
 -- the characters of a name
@@ -121,7 +121,7 @@ pub document_plain : (cs : List ℕ) → IfOk (document_of cs) DocumentPlain
 unfolding document_of
 document_plain cs = by_read (each piece_at cs) (each-gives PiecePlain piece_at piece_plain cs)
   where
-    by_read : (r : Result (List Piece × List ℕ) (List ℕ)) → IfOk r (λ p. All PiecePlain p.0) → IfOk (or_place cs r) DocumentPlain
+    by_read : (r : Result (List Piece × List ℕ) (List ℕ)) → IfOk r (λ p. All PiecePlain p.0) → IfOk (or_offset cs r) DocumentPlain
     by_read (Ok read) all = all
     by_read (Err opening) all = tt
 

@@ -1,4 +1,4 @@
--- What is said of a refusal goes on one line.
+-- The message for a refusal goes on one line.
 use Rattle.std.proofs.Common.{ℕ, Bool, true, false, cond, All, List, ◌++◌, Option, Some, None, Result, Ok, Err, codes, decimal, refl, sym, subst}
 use Rattle.std.specs.List.{enumerate_from}
 use Rattle.std.specs.Prelude.{IfErr, IfOk, MatchResult}
@@ -12,12 +12,12 @@ use Rattle.biblatex.specs.Entries.{Source}
 use Rattle.biblatex.specs.Reading as reading
 use Rattle.biblatex.specs.Errors.{reason_text}
 use Rattle.biblatex.proofs.Lines.{append, of_number}
-use Rattle.biblatex.proofs.OneLine.{IsSaidInLine, HasPlainKey, FilePlain, text-plain}
+use Rattle.biblatex.proofs.OneLine.{HasLineMessage, HasPlainKey, FilePlain, text-plain}
 use Rattle.literature_entries.specs.Wholes.{Whole}
 use Rattle.literature_selectors.specs.Reading.{Fault as SelectorFault, selector_of}
 use Rattle.literature_selectors.specs.Trees.{Tree}
 use Rattle.interop.specs.Bridge.{Fault}
-use Rattle.interop.specs.Shelf.{library_of}
+use Rattle.interop.specs.Library.{library_of}
 use Rattle.interop.specs.DateFields.{field_name}
 use Rattle.interop.specs.declared.error.DateField.{DateField}
 use Rattle.interop.specs.declared.error.DateField.TheVariants as dates
@@ -27,12 +27,12 @@ use Rattle.cite_markers.specs.Document.{Piece, document_of}
 use Rattle.cite_markers.specs.Marker.{Cite}
 use Rattle.driver.specs.Finish.{finish}
 use Rattle.cite.specs.Markers.{CitedWork, cited_work, cited_works, markers_of, with_work}
-use Rattle.cite.specs.OneLine.{IsSaidInLines, RefusalsAreSaidInLines}
-use Rattle.cite.specs.Program.{fault_said}
+use Rattle.cite.specs.OneLine.{HasLineMessages, RefusalsHaveLineMessages}
+use Rattle.cite.specs.Program.{fault_message}
 use Rattle.cite.specs.Refusals.{marker_text, selector_text}
 use Rattle.cite.specs.Requests.{is_same_own}
 use Rattle.cite.specs.Sections.{SectionFault, chosen, selector_in, selector_or_fault, selectors_of}
-use Rattle.cite.specs.Stages.{Refusal, bib_refused, document_not_utf8, no_marker, overflow, section_refused, unknown_name, refused_as, IsReadIf, IsRead, works_from, library_stage, IsShelved, document_stage, name_stage, section_stage}
+use Rattle.cite.specs.Stages.{Refusal, bib_refused, document_not_utf8, no_marker, overflow, section_refused, unknown_name, refused_as, IsReadIf, IsRead, works_from, library_stage, AreWorksOf, document_stage, name_stage, section_stage}
 use Rattle.cite.specs.Steps.{all_ok}
 use Rattle.cite.specs.Verdict.{Task, driver_document, driver_stage, rendered_stage, verdict}
 use Rattle.cite.specs.Works.{Works, meaning}
@@ -40,29 +40,29 @@ use Rattle.cite.proofs.MarkersPlain.{DocumentPlain, HasPlainName, MarkerPlain, d
 use Rattle.cite.proofs.SelectorsPlain.{FaultPlain, selector_plain}
 use Rattle.cite.proofs.StepsRefused.{Whatever, all_refuse, each_refuses, whatever}
 
-abbrev IsSaidPlain : Fault → Type 0
-IsSaidPlain f = HasNoLineFeed (fault_said f)
+abbrev HasPlainMessage : Fault → Type 0
+HasPlainMessage f = HasNoLineFeed (fault_message f)
 
--- a step refuses what is said in lines alone
+-- a step refuses what is reported in lines alone
 abbrev RefusesInLines : {A : Type 0} → Result A Refusal → Type 0
-RefusesInLines r = IfErr r IsSaidInLines
+RefusesInLines r = IfErr r HasLineMessages
 
-refused_plain : {F X : Type 0} (P : X → Type 0) (Q : F → Type 0) (refusal : F → Refusal) → ((f : F) → Q f → IsSaidInLines (refusal f)) → (r : Result X F) → MatchResult r P Q → MatchResult (refused_as refusal r) P IsSaidInLines
-refused_plain P Q refusal said (Ok x) is = is
-refused_plain P Q refusal said (Err f) is = said f is
+refused_plain : {F X : Type 0} (P : X → Type 0) (Q : F → Type 0) (refusal : F → Refusal) → ((f : F) → Q f → HasLineMessages (refusal f)) → (r : Result X F) → MatchResult r P Q → MatchResult (refused_as refusal r) P HasLineMessages
+refused_plain P Q refusal message (Ok x) is = is
+refused_plain P Q refusal message (Err f) is = message f is
 
 -- ---- the bib text
 
-read-plain : (bib : List ℕ) (read : Result Listed Refusal) → IsRead bib read → MatchResult read FilePlain IsSaidInLines
+read-plain : (bib : List ℕ) (read : Result Listed Refusal) → IsRead bib read → MatchResult read FilePlain HasLineMessages
 read-plain bib read is = by_utf8 (is_utf8 bib) is
   where
-    said : (refusal : reading.Refusal) → IsSaidInLine refusal → IsSaidInLines (bib_refused refusal)
-    said refusal plain = record { text = append (codes "bib: ") (reason_text refusal.reason) refl plain; faults = All-nil IsSaidPlain }
+    message : (refusal : reading.Refusal) → HasLineMessage refusal → HasLineMessages (bib_refused refusal)
+    message refusal plain = record { text = append (codes "bib: ") (reason_text refusal.reason) refl plain; faults = All-nil HasPlainMessage }
 
-    by_utf8 : (b : Bool) → IsReadIf b bib read → MatchResult read FilePlain IsSaidInLines
+    by_utf8 : (b : Bool) → IsReadIf b bib read → MatchResult read FilePlain HasLineMessages
     by_utf8 true (meaning, means, same) =
-        subst (λ (r : Result Listed Refusal). MatchResult r FilePlain IsSaidInLines) (sym same) (refused_plain FilePlain IsSaidInLine bib_refused said meaning (text-plain (chars bib) meaning means))
-    by_utf8 false same = subst (λ (r : Result Listed Refusal). MatchResult r FilePlain IsSaidInLines) (sym same) (record { text = refl; faults = All-nil IsSaidPlain })
+        subst (λ (r : Result Listed Refusal). MatchResult r FilePlain HasLineMessages) (sym same) (refused_plain FilePlain HasLineMessage bib_refused message meaning (text-plain (chars bib) meaning means))
+    by_utf8 false same = subst (λ (r : Result Listed Refusal). MatchResult r FilePlain HasLineMessages) (sym same) (record { text = refl; faults = All-nil HasPlainMessage })
 
 field-plain : (field : DateField) → HasNoLineFeed (field_name field)
 field-plain dates.Date = refl
@@ -70,39 +70,39 @@ field-plain dates.EventDate = refl
 field-plain dates.OrigDate = refl
 field-plain dates.UrlDate = refl
 
-fault-plain : (key : List ℕ) → HasNoLineFeed key → HoldsOfFaults IsSaidPlain key
+fault-plain : (key : List ℕ) → HasNoLineFeed key → HoldsOfFaults HasPlainMessage key
 fault-plain key plain field kind =
     append (codes "fields: ") (key ++ (codes ": " ++ field_name field)) refl (append key (codes ": " ++ field_name field) plain (append (codes ": ") (field_name field) refl (field-plain field)))
 
-works-plain : (file : Listed) (r : Result (List Whole) (List Fault)) → IfErr r (All IsSaidPlain) → RefusesInLines (works_from file r)
+works-plain : (file : Listed) (r : Result (List Whole) (List Fault)) → IfErr r (All HasPlainMessage) → RefusesInLines (works_from file r)
 works-plain file (Ok library) all = tt
 works-plain file (Err faults) all = record { text = refl; faults = all }
 
 library-plain : (file : Listed) → FilePlain file → RefusesInLines (library_stage file)
 library-plain file plain =
     works-plain file (library_of file.entries)
-    (library_faults IsSaidPlain file.entries (All-weaker HasPlainKey (λ (e : Source). HoldsOfFaults IsSaidPlain e.key) (λ e is. fault-plain e.key is) file.entries plain))
+    (library_faults HasPlainMessage file.entries (All-weaker HasPlainKey (λ (e : Source). HoldsOfFaults HasPlainMessage e.key) (λ e is. fault-plain e.key is) file.entries plain))
 
-shelf-plain : (bib : List ℕ) (works : Result Works Refusal) → IsShelved bib works → RefusesInLines works
-shelf-plain bib works (read, is, comes) =
-    subst (λ (r : Result Works Refusal). RefusesInLines r) (sym comes) (bind_match FilePlain Whatever IsSaidInLines read library_stage (read-plain bib read is) library-plain)
+their_works-plain : (bib : List ℕ) (works : Result Works Refusal) → AreWorksOf bib works → RefusesInLines works
+their_works-plain bib works (read, is, comes) =
+    subst (λ (r : Result Works Refusal). RefusesInLines r) (sym comes) (bind_match FilePlain Whatever HasLineMessages read library_stage (read-plain bib read is) library-plain)
 
 -- ---- the document and its names
 
-place-plain : (place : ℕ) → IsSaidInLines (no_marker place)
-place-plain place =
-    record { text = append (codes "document: ") (marker_text place) refl (append (codes "marker at byte ") (decimal place) refl (of_number place)); faults = All-nil IsSaidPlain }
+index-plain : (index : ℕ) → HasLineMessages (no_marker index)
+index-plain index =
+    record { text = append (codes "document: ") (marker_text index) refl (append (codes "marker at byte ") (decimal index) refl (of_number index)); faults = All-nil HasPlainMessage }
 
-pieces-plain : (r : Result (List Piece) ℕ) → IfOk r DocumentPlain → MatchResult (refused_as no_marker r) DocumentPlain IsSaidInLines
+pieces-plain : (r : Result (List Piece) ℕ) → IfOk r DocumentPlain → MatchResult (refused_as no_marker r) DocumentPlain HasLineMessages
 pieces-plain (Ok pieces) plain = plain
-pieces-plain (Err place) plain = place-plain place
+pieces-plain (Err index) plain = index-plain index
 
-document-plain : (document : List ℕ) → MatchResult (document_stage document) DocumentPlain IsSaidInLines
+document-plain : (document : List ℕ) → MatchResult (document_stage document) DocumentPlain HasLineMessages
 document-plain document = by_utf8 (is_utf8 document)
   where
-    by_utf8 : (b : Bool) → MatchResult (cond b (refused_as no_marker (document_of (chars document))) (Err document_not_utf8)) DocumentPlain IsSaidInLines
+    by_utf8 : (b : Bool) → MatchResult (cond b (refused_as no_marker (document_of (chars document))) (Err document_not_utf8)) DocumentPlain HasLineMessages
     by_utf8 true = pieces-plain (document_of (chars document)) (document_plain (chars document))
-    by_utf8 false = record { text = refl; faults = All-nil IsSaidPlain }
+    by_utf8 false = record { text = refl; faults = All-nil HasPlainMessage }
 
 cite-plain : (works : Works) (c : Cite) → HasPlainName c → IfErr (cited_work works c) HasNoLineFeed
 cite-plain works c plain = by_work (meaning (text c.name) works)
@@ -113,7 +113,7 @@ cite-plain works c plain = by_work (meaning (text c.name) works)
 
 names-plain : (works : Works) (pieces : List Piece) → DocumentPlain pieces → RefusesInLines (name_stage works pieces)
 names-plain works pieces plain =
-    refused_plain Whatever HasNoLineFeed unknown_name (λ name is. record { text = append (codes "unknown name ") name refl is; faults = All-nil IsSaidPlain }) (cited_works works pieces)
+    refused_plain Whatever HasNoLineFeed unknown_name (λ name is. record { text = append (codes "unknown name ") name refl is; faults = All-nil HasPlainMessage }) (cited_works works pieces)
     (all_refuse MarkerPlain HasNoLineFeed (all_ok (cited_work works)) (λ cites all. all_refuse HasPlainName HasNoLineFeed (cited_work works) (cite-plain works) cites all) (markers_of pieces) (markers_plain pieces plain))
 
 -- ---- the sections
@@ -121,10 +121,10 @@ names-plain works pieces plain =
 abbrev SectionPlain : SectionFault → Type 0
 SectionPlain s = FaultPlain s.fault
 
-section-plain : (s : SectionFault) → SectionPlain s → IsSaidInLines (section_refused s)
+section-plain : (s : SectionFault) → SectionPlain s → HasLineMessages (section_refused s)
 section-plain s plain = record {
   text = append (codes "section ") (decimal s.index ++ (codes ": " ++ selector_text s.fault)) refl (append (decimal s.index) (codes ": " ++ selector_text s.fault) (of_number s.index) (append (codes ": ") (selector_text s.fault) refl plain));
-  faults = All-nil IsSaidPlain;
+  faults = All-nil HasPlainMessage;
 }
 
 selector-plain : (p : ℕ × List ℕ) → IfErr (selector_in p) SectionPlain
@@ -142,21 +142,21 @@ sections-plain sections =
 
 driver-plain : (x : StyleContext) (wanted : List Whole) (markers : List (List CitedWork)) → RefusesInLines (driver_stage x wanted markers)
 driver-plain x wanted markers =
-    refused_plain Whatever Whatever (λ _. overflow) (λ o _. record { text = refl; faults = All-nil IsSaidPlain }) (finish is_same_own (driver_document x wanted markers)) (whatever (finish is_same_own (driver_document x wanted markers)))
+    refused_plain Whatever Whatever (λ _. overflow) (λ o _. record { text = refl; faults = All-nil HasPlainMessage }) (finish is_same_own (driver_document x wanted markers)) (whatever (finish is_same_own (driver_document x wanted markers)))
 
 rendered-plain : (works : Works) (x : StyleContext) (sections : List (List ℕ)) (pieces : List Piece) → DocumentPlain pieces → RefusesInLines (rendered_stage works x sections pieces)
 unfolding rendered_stage
 rendered-plain works x sections pieces plain =
-    bind_match Whatever Whatever IsSaidInLines (name_stage works pieces) _ (names-plain works pieces plain) (λ markers _.
-    bind_match Whatever Whatever IsSaidInLines (section_stage sections) _ (sections-plain sections) (λ selectors _.
+    bind_match Whatever Whatever HasLineMessages (name_stage works pieces) _ (names-plain works pieces plain) (λ markers _.
+    bind_match Whatever Whatever HasLineMessages (section_stage sections) _ (sections-plain sections) (λ selectors _.
     driver-plain x (chosen selectors works.library) markers))
 
 verdict-plain : (works : Result Works Refusal) (task : Task) → RefusesInLines works → RefusesInLines (verdict works task)
 unfolding verdict
 verdict-plain works task plain =
-    bind_match Whatever Whatever IsSaidInLines works _ plain (λ shelf _.
-    bind_match DocumentPlain Whatever IsSaidInLines (document_stage task.document) _ (document-plain task.document) (λ pieces named.
-    bind_match Whatever Whatever IsSaidInLines (rendered_stage shelf task.context task.sections pieces) _ (rendered-plain shelf task.context task.sections pieces named) (λ rendered _. tt)))
+    bind_match Whatever Whatever HasLineMessages works _ plain (λ their_works _.
+    bind_match DocumentPlain Whatever HasLineMessages (document_stage task.document) _ (document-plain task.document) (λ pieces named.
+    bind_match Whatever Whatever HasLineMessages (rendered_stage their_works task.context task.sections pieces) _ (rendered-plain their_works task.context task.sections pieces named) (λ rendered _. tt)))
 
-pub said_in_lines : RefusalsAreSaidInLines
-said_in_lines bib task refusal (works, is, comes) = subst (λ (r : Result (List ℕ) Refusal). RefusesInLines r) (sym comes) (verdict-plain works task (shelf-plain bib works is))
+pub have_line_messages : RefusalsHaveLineMessages
+have_line_messages bib task refusal (works, is, comes) = subst (λ (r : Result (List ℕ) Refusal). RefusesInLines r) (sym comes) (verdict-plain works task (their_works-plain bib works is))

@@ -14,15 +14,15 @@ use Rattle.literature_entries.specs.Wholes.{Whole}
 use Rattle.rendering_output.specs.declared.writing.BufWriteFormat.{BufWriteFormat}
 use Rattle.rendering_context.specs.Contexts.{StyleContext}
 use Rattle.driver.specs.Finish.{Citation, Rendered, finish}
-use Rattle.cite_markers.specs.Document.{Piece, Text, Marker, StandInOrder, document_of}
+use Rattle.cite_markers.specs.Document.{Piece, Text, Marker, FollowInOrder, document_of}
 use Rattle.cite_markers.specs.Marker.{Cite}
-use Rattle.cite_markers.proofs.DocumentStanding.{pieces_stand}
+use Rattle.cite_markers.proofs.DocumentStands.{pieces_stand}
 use Rattle.cite.specs.Markers.{CitedWork, cited_work, cited_works, markers_of}
 use Rattle.cite.specs.Output.{bibliography_text, document_text, output_text, tree_text}
 use Rattle.cite.specs.Replaced.{AreReplaced, CitationsDependOnMarkersAlone, IsOutputOf, TextsComeOutUnchanged}
 use Rattle.cite.specs.Requests.{is_same_own, request_of, works_in}
 use Rattle.cite.specs.Sections.{chosen}
-use Rattle.cite.specs.Stages.{Refusal, IsShelved, document_not_utf8, document_stage, name_stage, no_marker, overflow, refused_as, section_stage, unknown_name}
+use Rattle.cite.specs.Stages.{Refusal, AreWorksOf, document_not_utf8, document_stage, name_stage, no_marker, overflow, refused_as, section_stage, unknown_name}
 use Rattle.cite.specs.Steps.{all_ok}
 use Rattle.cite.specs.Verdict.{Task, IsVerdict, driver_document, driver_stage, rendered_stage, verdict}
 use Rattle.cite.specs.Works.{Works}
@@ -63,7 +63,7 @@ replaced format (Marker cites ∷ ps) (c ∷ cs) rest count =
     (document_text format ps cs ++ rest, append_assoc (tree_text format c.tree) (document_text format ps cs) rest, replaced format ps cs rest (omega (arith, count)))
 
 record IsRead (document : List ℕ) (pieces : List Piece) : Type 0 where
-  pub stand : StandInOrder (chars document) pieces []
+  pub stand : FollowInOrder (chars document) pieces []
   pub spelled : text (chars document) ≡ document
 
 read_whole : (document : List ℕ) (pieces : List Piece) → document_stage document ≡ Ok pieces → IsRead document pieces
@@ -107,15 +107,15 @@ record IsWritten (works : Works) (task : Task) (output : List ℕ) : Type 0 wher
 written_by : (works : Result Works Refusal) (task : Task) (output : List ℕ) → verdict works task ≡ Ok output → (w : Works) × (works ≡ Ok w) × IsWritten w task output
 unfolding verdict
 written_by works task output is =
-    let shelf = bind_ok works _ output is in
-    let read = bind_ok (document_stage task.document) _ output shelf.2 in
-    let rendered = bind_ok (rendered_stage shelf.0 task.context task.sections read.0) _ output read.2 in
-    (shelf.0, shelf.1, record { pieces = read.0; rendered = rendered.0; read = read.1; is = rendered.1; writes = ok_is {F = Refusal} (text (output_text task.format read.0 rendered.0)) output rendered.2 })
+    let library = bind_ok works _ output is in
+    let read = bind_ok (document_stage task.document) _ output library.2 in
+    let rendered = bind_ok (rendered_stage library.0 task.context task.sections read.0) _ output read.2 in
+    (library.0, library.1, record { pieces = read.0; rendered = rendered.0; read = read.1; is = rendered.1; writes = ok_is {F = Refusal} (text (output_text task.format read.0 rendered.0)) output rendered.2 })
 
-written : (bib : List ℕ) (task : Task) (output : List ℕ) → IsVerdict bib task (Ok output) → (w : Works) × IsShelved bib (Ok w) × IsWritten w task output
-written bib task output (works, shelved, is) =
+written : (bib : List ℕ) (task : Task) (output : List ℕ) → IsVerdict bib task (Ok output) → (w : Works) × AreWorksOf bib (Ok w) × IsWritten w task output
+written bib task output (works, are_works, is) =
     let w = written_by works task output (sym is) in
-    (w.0, subst (IsShelved bib) w.1 shelved, w.2)
+    (w.0, subst (AreWorksOf bib) w.1 are_works, w.2)
 
 pub texts_unchanged : TextsComeOutUnchanged
 texts_unchanged bib task output is =
@@ -133,7 +133,7 @@ pieces_are document ps qs p q = ok_is {F = Refusal} ps qs (sym p ∙ q)
 pub markers_alone : CitationsDependOnMarkersAlone
 markers_alone bib task other markers output (ps, read, here) (qs, read_other, there) is =
     let works = (written bib task output is).0 in
-    let shelved = (written bib task output is).1 in
+    let are_works = (written bib task output is).1 in
     let w = (written bib task output is).2 in
     let citations = citations_in task.format w.rendered in
     let bibliography = bibliography_in task.format w.rendered in
@@ -143,6 +143,6 @@ markers_alone bib task other markers output (ps, read, here) (qs, read_other, th
       bibliography,
       text (output_text task.format qs w.rendered),
       subst (IsOutputOf task.document citations bibliography) w.writes (output_of task.format task.document w.pieces w.rendered w.read (rendered_count works task.context task.sections w.pieces w.rendered w.is)),
-      ends bib works (record task { document = other }) qs w.rendered shelved read_other given_other,
+      ends bib works (record task { document = other }) qs w.rendered are_works read_other given_other,
       output_of task.format other qs w.rendered read_other (rendered_count works task.context task.sections qs w.rendered given_other),
     )

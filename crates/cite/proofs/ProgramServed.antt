@@ -8,10 +8,10 @@ use Rattle.literature_selectors.specs.Views.{fault}
 use Rattle.literature_selectors.specs.declared.error.SelectorError.{SelectorError}
 use Rattle.literature_selectors.specs.declared.error.SelectorError.TheVariants as selectors
 use lib.Chars.{codes}
-use Rattle.sinks.specs.Sinks.{HasFailed, AppendsFront}
+use Rattle.sinks.specs.Sinks.{HasFailed, AppendsPrefix}
 use Rattle.sinks.specs.Programs.{Served, IsUntouched, Says, no_memory}
 use Rattle.cite.specs.Answers.{Wanted, Writes, IsRefusal, IsSectionRefusal, UnlessWrite, OnWrite}
-use Rattle.cite.specs.Program.{Reads, Job, IsReason, IsRefused, IsJobFault, ServesJob, fault_of, line, said_of, task_in, told}
+use Rattle.cite.specs.Program.{Reads, Job, IsReason, IsRefused, IsJobFault, ServesJob, fault_of, line, message_of, task_in, told}
 use Rattle.cite.specs.Refusals.{section_text}
 use Rattle.cite.specs.Stages.{Refusal}
 use Rattle.cite.specs.Verdict.{IsVerdict}
@@ -26,10 +26,10 @@ pub untouched_weaker : {O : Type 0} (S T : Served) (old new : O) (before after :
 untouched_weaker S T old new before after was now f (inl same) = inl same
 untouched_weaker S T old new before after was now f (inr failed) = inr (failed.0, f _ failed.1)
 
-pub reason_weaker : (F G : List ℕ → Type 0) (S T : Served) (was now : ℕ) (said : List ℕ) → (F said → G said) → ((P : List ℕ → Type 0) → S P → T P) → IsReason F S was now said → IsReason G T was now said
-reason_weaker F G S T was now said k f (inl fault) = inl (k fault)
-reason_weaker F G S T was now said k f (inr (inl memory)) = inr (inl memory)
-reason_weaker F G S T was now said k f (inr (inr failed)) = inr (inr (failed.0, failed.1, f _ failed.2))
+pub reason_weaker : (F G : List ℕ → Type 0) (S T : Served) (was now : ℕ) (message : List ℕ) → (F message → G message) → ((P : List ℕ → Type 0) → S P → T P) → IsReason F S was now message → IsReason G T was now message
+reason_weaker F G S T was now message k f (inl fault) = inl (k fault)
+reason_weaker F G S T was now message k f (inr (inl memory)) = inr (inl memory)
+reason_weaker F G S T was now message k f (inr (inr failed)) = inr (inr (failed.0, failed.1, f _ failed.2))
 
 pub err_weaker : {X E : Type 0} (r : Result X E) {P Q : Type 0} → (P → Q) → OnErr r P → OnErr r Q
 err_weaker (Ok x) f h = h
@@ -39,24 +39,24 @@ pub if_err_weaker : {X E : Type 0} (r : Result X E) {P Q : E → Type 0} → ((e
 if_err_weaker (Ok x) f h = h
 if_err_weaker (Err e) f h = f e h
 
--- the reasons for what is said of a fault
+-- the reasons for the message for a fault
 pub says_reason : (is : List ℕ) (Faults : List ℕ → Type 0) (Serves : Served) (before after : ℕ) (old new : Option (List ℕ)) (fo fn : ℕ)
-    → IsReason Faults Serves before after is → Says (λ said. (said ≡ is) ⊎ (said ≡ no_memory (codes "cite"))) old new fo fn → Says (IsReason Faults Serves before after) old new fo fn
-says_reason is Faults Serves before after old new fo fn why (inl (said, inl e, taken)) = inl (said, subst (IsReason Faults Serves before after) (sym e) why, taken)
-says_reason is Faults Serves before after old new fo fn why (inl (said, inr e, taken)) = inl (said, inr (inl e), taken)
+    → IsReason Faults Serves before after is → Says (λ message. (message ≡ is) ⊎ (message ≡ no_memory (codes "cite"))) old new fo fn → Says (IsReason Faults Serves before after) old new fo fn
+says_reason is Faults Serves before after old new fo fn why (inl (message, inl e, taken)) = inl (message, subst (IsReason Faults Serves before after) (sym e) why, taken)
+says_reason is Faults Serves before after old new fo fn why (inl (message, inr e, taken)) = inl (message, inr (inl e), taken)
 says_reason is Faults Serves before after old new fo fn why (inr failed) = inr failed
 
 -- what is left of the output where `cite` refuses
 pub left_untouched : {O : Type 0} (e : CiteError) (Serves : Served) (old new : O) (before after : Option (List ℕ)) (was now : ℕ)
-    → UnlessWrite e (new ≡ old) → OnWrite e (Serves (λ output. AppendsFront before after output)) → OnWrite e (HasFailed was now) → IsUntouched Serves old new before after was now
-left_untouched (errors.BibText error) Serves old new before after was now same front failed = inl same
-left_untouched (errors.Fields found) Serves old new before after was now same front failed = inl same
-left_untouched (errors.Document error) Serves old new before after was now same front failed = inl same
-left_untouched (errors.Name name) Serves old new before after was now same front failed = inl same
-left_untouched errors.Memory Serves old new before after was now same front failed = inl same
-left_untouched errors.Overflow Serves old new before after was now same front failed = inl same
-left_untouched (errors.Write fault) Serves old new before after was now same front failed = inr (failed, front)
-left_untouched (errors.Selector index error) Serves old new before after was now same front failed = inl same
+    → UnlessWrite e (new ≡ old) → OnWrite e (Serves (λ output. AppendsPrefix before after output)) → OnWrite e (HasFailed was now) → IsUntouched Serves old new before after was now
+left_untouched (errors.BibText error) Serves old new before after was now same prefix failed = inl same
+left_untouched (errors.Fields found) Serves old new before after was now same prefix failed = inl same
+left_untouched (errors.Document error) Serves old new before after was now same prefix failed = inl same
+left_untouched (errors.Name name) Serves old new before after was now same prefix failed = inl same
+left_untouched errors.Memory Serves old new before after was now same prefix failed = inl same
+left_untouched errors.Overflow Serves old new before after was now same prefix failed = inl same
+left_untouched (errors.Write fault) Serves old new before after was now same prefix failed = inr (failed, prefix)
+left_untouched (errors.Selector index error) Serves old new before after was now same prefix failed = inl same
 
 -- what a failed write leaves here it leaves there
 pub on_write_weaker : (e : CiteError) {P Q : Type 0} → (P → Q) → OnWrite e P → OnWrite e Q
@@ -69,8 +69,8 @@ on_write_weaker errors.Memory f h = h
 on_write_weaker errors.Overflow f h = h
 on_write_weaker (errors.Write fault) f h = f h
 
--- what is said of a section that is no selector
-says_section : (index : ℕ) (e : SelectorError) (wanted : Wanted (List ℕ)) → IsSectionRefusal index (fault e) wanted → (refusal : Refusal) × wanted (Err refusal) × (said_of (fault_of (errors.Selector index e)) ≡ told refusal)
+-- the message for a section that is no selector
+says_section : (index : ℕ) (e : SelectorError) (wanted : Wanted (List ℕ)) → IsSectionRefusal index (fault e) wanted → (refusal : Refusal) × wanted (Err refusal) × (message_of (fault_of (errors.Selector index e)) ≡ told refusal)
 says_section index selectors.MissingValue wanted is = (_, is, refl)
 says_section index selectors.MalformedAttribute wanted is = (_, is, refl)
 says_section index selectors.MissingComma wanted is = (_, is, refl)
@@ -80,25 +80,25 @@ says_section index (selectors.UnknownEntryType name) wanted is =
 says_section index selectors.TooDeep wanted is = (_, is, refl)
 says_section index selectors.Memory wanted is = absurd is
 
--- what is said where `cite` refuses is what is told of the refusal
+-- the message where `cite` refuses is what is told of the refusal
 pub says_why : (e : CiteError) (wanted : Wanted (List ℕ)) (before after : Option (List ℕ)) (was now : ℕ) → UnlessWrite e (IsRefusal e wanted)
-    → OnWrite e (Writes wanted (λ output. AppendsFront before after output)) → OnWrite e (HasFailed was now)
-    → IsReason (λ said. (refusal : Refusal) × wanted (Err refusal) × (said ≡ told refusal)) (Writes wanted) was now (said_of (fault_of e))
-says_why (errors.BibText bib.Utf8) wanted before after was now is front failed = inl (_, is, refl)
-says_why (errors.BibText (bib.Parse parsing.Memory)) wanted before after was now is front failed = absurd is
-says_why (errors.BibText (bib.Parse (parsing.Refused kind span))) wanted before after was now is front failed = inl (_, is, refl)
-says_why (errors.Fields found) wanted before after was now is front failed = inl (_, is, refl)
-says_why (errors.Document document.Utf8) wanted before after was now is front failed = inl (_, is, refl)
-says_why (errors.Document (document.Marker offset)) wanted before after was now is front failed = inl (_, is, refl)
-says_why (errors.Name name) wanted before after was now is front failed = inl (_, is, refl)
-says_why (errors.Selector index error) wanted before after was now is front failed = inl (says_section index error wanted is)
-says_why errors.Memory wanted before after was now is front failed = inr (inl refl)
-says_why errors.Overflow wanted before after was now is front failed = inl (_, is, refl)
-says_why (errors.Write fault) wanted before after was now is front failed = inr (inr (refl, failed, (front.0, front.1, tt)))
+    → OnWrite e (Writes wanted (λ output. AppendsPrefix before after output)) → OnWrite e (HasFailed was now)
+    → IsReason (λ message. (refusal : Refusal) × wanted (Err refusal) × (message ≡ told refusal)) (Writes wanted) was now (message_of (fault_of e))
+says_why (errors.BibText bib.Utf8) wanted before after was now is prefix failed = inl (_, is, refl)
+says_why (errors.BibText (bib.Parse parsing.Memory)) wanted before after was now is prefix failed = absurd is
+says_why (errors.BibText (bib.Parse (parsing.Refused kind span))) wanted before after was now is prefix failed = inl (_, is, refl)
+says_why (errors.Fields found) wanted before after was now is prefix failed = inl (_, is, refl)
+says_why (errors.Document document.Utf8) wanted before after was now is prefix failed = inl (_, is, refl)
+says_why (errors.Document (document.Marker offset)) wanted before after was now is prefix failed = inl (_, is, refl)
+says_why (errors.Name name) wanted before after was now is prefix failed = inl (_, is, refl)
+says_why (errors.Selector index error) wanted before after was now is prefix failed = inl (says_section index error wanted is)
+says_why errors.Memory wanted before after was now is prefix failed = inr (inl refl)
+says_why errors.Overflow wanted before after was now is prefix failed = inl (_, is, refl)
+says_why (errors.Write fault) wanted before after was now is prefix failed = inr (inr (refl, failed, (prefix.0, prefix.1, tt)))
 
--- what is said of both files of a job, from what is said of their bytes
+-- the message for both files of a job, from the message for their bytes
 pub of_job : (read : Reads) (job : Job) (b d : List ℕ) (P : List ℕ → Type 0) → read job.bib ≡ Ok b → read job.document ≡ Ok d → Writes (IsVerdict b (task_in job d)) P → ServesJob read (Ok job) P
 of_job read job b d P is_b is_d h = rw (is_b, is_d) h
 
-pub fault_of_job : (read : Reads) (job : Job) (b d said : List ℕ) → read job.bib ≡ Ok b → read job.document ≡ Ok d → IsRefused b (task_in job d) said → IsJobFault read (Ok job) said
-fault_of_job read job b d said is_b is_d h = rw (is_b, is_d) h
+pub fault_of_job : (read : Reads) (job : Job) (b d message : List ℕ) → read job.bib ≡ Ok b → read job.document ≡ Ok d → IsRefused b (task_in job d) message → IsJobFault read (Ok job) message
+fault_of_job read job b d message is_b is_d h = rw (is_b, is_d) h

@@ -3,7 +3,7 @@ use Rattle.std.proofs.Common.{◌≡◌, ℕ, List, map, Result, Ok, Err, refl, 
 use Rattle.std.specs.List.{enumerate_from}
 use Rattle.laws.specs.Results.{◌>>=◌}
 use Rattle.laws.proofs.Results.{bind_ok, ok_is}
-use Rattle.literature_entries.specs.Wholes.{whole}
+use Rattle.literature_entries.specs.Wholes.{entry_view}
 use Rattle.literature_entries.specs.declared.entry.Entry.{Entry}
 use Rattle.literature_entries.specs.contracts.entry.EntryPartialEq.TheImpl as entry
 use Rattle.literature_selectors.specs.Trees.{Tree}
@@ -11,7 +11,7 @@ use Rattle.rendering_context.specs.Contexts.{StyleContext}
 use Rattle.driver.specs.Finish.{finish}
 use Rattle.driver_requests.specs.declared.request.CitationRequest.{CitationRequest}
 use Rattle.cite_markers.specs.Document.{Piece}
-use Rattle.cite.specs.Asked.{AskedRequest, asked_request, request_seen, requests_asked}
+use Rattle.cite.specs.Asked.{AskedRequest, asked_request, asked_request_view, requests_asked}
 use Rattle.cite.specs.Finished.{finished}
 use Rattle.cite.specs.Markers.{CitedWork, cited_works, markers_of}
 use Rattle.cite.specs.Requests.{OwnLocator, is_same_own}
@@ -20,7 +20,7 @@ use Rattle.cite.specs.Stages.{Refusal, overflow, refused_as, name_stage, section
 use Rattle.cite.specs.Verdict.{driver_stage, rendered_stage}
 use Rattle.cite.specs.Works.{Works}
 use Rattle.cite.proofs.DocumentAsked.{chosen_works_listed, document_is, markers_listed}
-use Rattle.cite.proofs.EntriesPlaces.{AreListedWorks}
+use Rattle.cite.proofs.EntriesIndices.{AreListedWorks}
 use Rattle.cite.proofs.RequestsNamed.{requests_are}
 use Rattle.cite.proofs.StepsRefused.{given}
 
@@ -61,12 +61,12 @@ sections_stop works x sections ps rs r asked stopped =
 
 -- what the driver gives, where names and sections are known
 pub finishes : (works : Works) (x : StyleContext) (sections : List (List ℕ)) (ps : List Piece) (rs : List (CitationRequest Entry OwnLocator)) (xs : List Tree) (es : List Entry)
-    → requests_asked works x ps ≡ Ok (map request_seen rs) → section_stage sections ≡ Ok xs → map whole es ≡ chosen xs works.library → AreListedWorks works.library works.library
+    → requests_asked works x ps ≡ Ok (map asked_request_view rs) → section_stage sections ≡ Ok xs → map entry_view es ≡ chosen xs works.library → AreListedWorks works.library works.library
     → finished entry.ghosts.eq x rs es ≡ rendered_stage works x sections ps
 finishes works x sections ps rs xs es asked parsed is listed =
-    let named = bind_ok (name_stage works ps) (λ ms. Ok (map (asked_request x) (enumerate_from 1 ms))) (map request_seen rs) (sym (requests_are works x ps) ∙ asked) in
+    let named = bind_ok (name_stage works ps) (λ ms. Ok (map (asked_request x) (enumerate_from 1 ms))) (map asked_request_view rs) (sym (requests_are works x ps) ∙ asked) in
     let ms = named.0 in
-    let requests : map request_seen rs ≡ map (asked_request x) (enumerate_from 1 ms) = sym (ok_is {F = Refusal} (map (asked_request x) (enumerate_from 1 ms)) (map request_seen rs) named.2) in
+    let requests : map asked_request_view rs ≡ map (asked_request x) (enumerate_from 1 ms) = sym (ok_is {F = Refusal} (map (asked_request x) (enumerate_from 1 ms)) (map asked_request_view rs) named.2) in
     ap (λ d. refused_as (λ _. overflow) (finish is_same_own d))
     (document_is works.library x rs ms es (chosen xs works.library) requests (markers_listed works (markers_of ps) ms (given unknown_name (cited_works works ps) ms named.1)) is (chosen_works_listed works.library xs works.library listed))
     ∙ sym (after_sections works x sections ps ms xs named.1 parsed)

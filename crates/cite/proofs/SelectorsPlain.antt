@@ -4,9 +4,9 @@ use Rattle.std.specs.Prelude.{◌==◌, IfErr, IfSome, MatchResult}
 use Rattle.std.specs.Option.{option_map_or}
 use Rattle.std.proofs.lemmas.List.Elements.{All-nil, All-cons, All-head, All-tail}
 use Rattle.laws.specs.Results.{◌>>=◌}
-use Rattle.laws.specs.Runs.{front_of, after}
+use Rattle.laws.specs.Runs.{prefix_of, after}
 use Rattle.laws.specs.Text.{text}
-use Rattle.laws.proofs.Runs.{all-front}
+use Rattle.laws.proofs.Runs.{all-prefix}
 use Rattle.laws.proofs.Throughout.{bind_match}
 use Rattle.texts.specs.Character.{passes}
 use Rattle.texts.specs.declared.character.Class.TheVariants.{Blank}
@@ -32,8 +32,8 @@ FaultPlain f = HasNoLineFeed (selector_text f)
 
 -- ---- tokens
 
-name_plain : (cs : List ℕ) → HasNoLineFeed (text (front_of is_name_character cs))
-name_plain cs = spelled (front_of is_name_character cs) (passing is_name_character (front_of is_name_character cs) refl (all-front is_name_character cs))
+name_plain : (cs : List ℕ) → HasNoLineFeed (text (prefix_of is_name_character cs))
+name_plain cs = spelled (prefix_of is_name_character cs) (passing is_name_character (prefix_of is_name_character cs) refl (all-prefix is_name_character cs))
 
 abbrev FirstPlain : Token × List ℕ → Type 0
 FirstPlain p = TokenPlain p.0
@@ -43,7 +43,7 @@ here_plain [] = tt
 here_plain (c ∷ cs) = by_class (is_name_character c) (is_sign c)
   where
     by_class : (name sign : Bool)
-        → IfSome (cond name (Some (Name (front_of is_name_character (c ∷ cs)), after is_name_character (c ∷ cs))) (cond sign (Some (Sign c, cs)) None)) FirstPlain
+        → IfSome (cond name (Some (Name (prefix_of is_name_character (c ∷ cs)), after is_name_character (c ∷ cs))) (cond sign (Some (Sign c, cs)) None)) FirstPlain
     by_class true sign = name_plain (c ∷ cs)
     by_class false true = tt
     by_class false false = tt

@@ -5,20 +5,20 @@ use Rattle.std.specs.Io.KnownBytes.{Appends}
 use Rattle.std.specs.List.{concat, FoldsTo}
 use Rattle.std.proofs.KnownBytes.{Appends-nil, Appends-trans}
 use Rattle.laws.specs.Text.{text}
-use Rattle.sinks.specs.Sinks.{next_count, HasFailed, AppendsFront}
+use Rattle.sinks.specs.Sinks.{next_count, HasFailed, AppendsPrefix}
 use Rattle.sinks.specs.declared.sink.SinkFault.{SinkFault}
 use Rattle.rendering_output.specs.Writing.{WritesCharacters}
 use Rattle.cite.specs.Sinking.{IsWritten, IsWrittenAfter, TakesUntilFault}
 use Rattle.cite.specs.declared.sink_target.SinkTarget.{SinkTarget}
 
--- a beginning of what follows, after what was taken whole
-front_after : (old mid new : Option (List ℕ)) (bytes more : List ℕ) → Appends old mid bytes → AppendsFront mid new more → AppendsFront old new (bytes ++ more)
-front_after old mid new bytes more before (front, rest, parted, taken) =
-    (bytes ++ front, rest, ap (λ xs. bytes ++ xs) parted ∙ sym (append_assoc bytes front rest), Appends-trans old mid new bytes front before taken)
+-- a prefix of what follows, after what was taken whole
+prefix_after : (old mid new : Option (List ℕ)) (bytes more : List ℕ) → Appends old mid bytes → AppendsPrefix mid new more → AppendsPrefix old new (bytes ++ more)
+prefix_after old mid new bytes more before (prefix, rest, parted, taken) =
+    (bytes ++ prefix, rest, ap (λ xs. bytes ++ xs) parted ∙ sym (append_assoc bytes prefix rest), Appends-trans old mid new bytes prefix before taken)
 
 -- a beginning is one of what goes on, too
-front_before : (old new : Option (List ℕ)) (bytes more : List ℕ) → AppendsFront old new bytes → AppendsFront old new (bytes ++ more)
-front_before old new bytes more (front, rest, parted, taken) = (front, rest ++ more, ap (λ xs. xs ++ more) parted ∙ append_assoc front rest more, taken)
+prefix_before : (old new : Option (List ℕ)) (bytes more : List ℕ) → AppendsPrefix old new bytes → AppendsPrefix old new (bytes ++ more)
+prefix_before old new bytes more (prefix, rest, parted, taken) = (prefix, rest ++ more, ap (λ xs. xs ++ more) parted ∙ append_assoc prefix rest more, taken)
 
 module _ {W : Type 0} (contents : W → Option (List ℕ)) (failures : W → ℕ) (last : W → Option SinkFault) where
   nothing_written : (r : Result (Unit {0}) SinkFault) (w : W) → IsWrittenAfter contents failures last r w [] r w
@@ -29,14 +29,14 @@ module _ {W : Type 0} (contents : W → Option (List ℕ)) (failures : W → ℕ
       → IsWrittenAfter contents failures last a w xs b v → IsWrittenAfter contents failures last b v ys c u → IsWrittenAfter contents failures last a w (xs ++ ys) c u
   written_more (Ok x) w xs (Ok y) v ys (Ok z) u p q = (Appends-trans (contents w) (contents v) (contents u) xs ys p.0 q.0, q.1 ∙ p.1)
   written_more (Ok x) w xs (Ok y) v ys (Err e) u p q = (
-    front_after (contents w) (contents v) (contents u) xs ys p.0 q.0,
+    prefix_after (contents w) (contents v) (contents u) xs ys p.0 q.0,
     subst (λ (n : ℕ). HasFailed n (failures u)) p.1 q.1,
     q.2 ∙ ap next_count p.1,
     q.3,
   )
   written_more (Ok x) w xs (Err e) v ys c u p q =
       subst (λ (r : Result (Unit {0}) SinkFault). IsWritten contents failures last w (xs ++ ys) u r) (sym q.0)
-      (subst (λ (t : W). IsWritten contents failures last w (xs ++ ys) t (Err e)) (sym q.1) (front_before (contents w) (contents v) xs ys p.0, p.1, p.2, p.3))
+      (subst (λ (t : W). IsWritten contents failures last w (xs ++ ys) t (Err e)) (sym q.1) (prefix_before (contents w) (contents v) xs ys p.0, p.1, p.2, p.3))
   written_more (Err e) w xs b v ys c u p q =
       let then : (c ≡ Err e) × (u ≡ v) = subst (λ (r : Result (Unit {0}) SinkFault). IsWrittenAfter contents failures last r v ys c u) p.0 q in
       (then.0, then.1 ∙ p.1)
@@ -64,7 +64,7 @@ module _ {W : Type 0} (contents : W → Option (List ℕ)) (failures : W → ℕ
   -- what that says of each answer
   pub record Answered (old : W) (bytes : List ℕ) (new : W) (r : Result (Unit {0}) SinkFault) : Type 0 where
     pub ok : OnOk r (Appends (contents old) (contents new) bytes)
-    pub err : OnErr r (AppendsFront (contents old) (contents new) bytes)
+    pub err : OnErr r (AppendsPrefix (contents old) (contents new) bytes)
     pub cause : OnErr r (HasFailed (failures old) (failures new))
     pub quiet : OnOk r (failures new ≡ failures old)
     pub once : OnErr r (failures new ≡ next_count (failures old))

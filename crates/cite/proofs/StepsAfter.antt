@@ -4,13 +4,13 @@ use Rattle.std.proofs.lemmas.List.{append-nil, at_drop_more}
 use Rattle.laws.specs.Results.{◌>>=◌}
 use Rattle.cite.specs.Steps.{all_ok, all_ok_after}
 
--- the member at a place is the first of what is left
+-- the member at an index is the first of what is left
 pub at_item : {X Y : Type 0} (F : List X → Y) (xs : List X) (i : ℕ) (x : X) → i < length xs → x ≡ get_or xs i x → F (drop i xs) ≡ F (x ∷ drop (i + 1) xs)
 at_item F xs i x lt is = at_drop_more F xs i x lt ∙ ap (λ y. F (y ∷ drop (i + 1) xs)) (sym is)
 
--- the same of members seen by view, of a list that is another one
-pub at_seen : {X Y Z : Type 0} (view : X → Y) (F : List Y → Z) (own xs : List X) (i : ℕ) (x : X) → own ≡ xs → i < length own → x ≡ get_or own i x → F (map view (drop i xs)) ≡ F (view x ∷ map view (drop (i + 1) xs))
-at_seen view F own xs i x same lt is =
+-- the same of members under the view, of a list that is another one
+pub at_view : {X Y Z : Type 0} (view : X → Y) (F : List Y → Z) (own xs : List X) (i : ℕ) (x : X) → own ≡ xs → i < length own → x ≡ get_or own i x → F (map view (drop i xs)) ≡ F (view x ∷ map view (drop (i + 1) xs))
+at_view view F own xs i x same lt is =
     ap (λ ys. F (map view (drop i ys))) (sym same) ∙ at_item (λ ys. F (map view ys)) own i x lt is ∙ ap (λ ys. F (view x ∷ map view (drop (i + 1) ys))) same
 
 module _ {F X Y : Type 0} (step : X → Result Y F) where

@@ -4,7 +4,7 @@ use Rattle.laws.specs.Text.{text}
 use Rattle.driver.specs.Finish.{Rendered}
 use Rattle.cite_markers.specs.Document.{Piece}
 use Rattle.cite.specs.Output.{output_text}
-use Rattle.cite.specs.Stages.{Refusal, IsShelved, document_stage}
+use Rattle.cite.specs.Stages.{Refusal, AreWorksOf, document_stage}
 use Rattle.cite.specs.Verdict.{Task, rendered_stage, verdict, IsVerdict}
 use Rattle.cite.specs.Works.{Works}
 
@@ -13,7 +13,7 @@ stopped : (r : Refusal) (task : Task) → verdict (Err r) task ≡ Err r
 unfolding verdict
 stopped r task = refl
 
-pub works_stop : (bib : List ℕ) (task : Task) (r : Refusal) → IsShelved bib (Err r) → IsVerdict bib task (Err r)
+pub works_stop : (bib : List ℕ) (task : Task) (r : Refusal) → AreWorksOf bib (Err r) → IsVerdict bib task (Err r)
 works_stop bib task r h = (Err r, h, sym (stopped r task))
 
 -- the stage of the document stops
@@ -21,7 +21,7 @@ no_document : (works : Works) (task : Task) (r : Refusal) → document_stage tas
 unfolding verdict
 no_document works task r is = rw is refl
 
-pub document_stops : (bib : List ℕ) (works : Works) (task : Task) (r : Refusal) → IsShelved bib (Ok works) → document_stage task.document ≡ Err r → IsVerdict bib task (Err r)
+pub document_stops : (bib : List ℕ) (works : Works) (task : Task) (r : Refusal) → AreWorksOf bib (Ok works) → document_stage task.document ≡ Err r → IsVerdict bib task (Err r)
 document_stops bib works task r h is = (Ok works, h, sym (no_document works task r is))
 
 -- a later stage stops
@@ -30,7 +30,7 @@ not_rendered : (works : Works) (task : Task) (pieces : List Piece) (r : Refusal)
 unfolding verdict
 not_rendered works task pieces r read is = rw (read, is) refl
 
-pub rendering_stops : (bib : List ℕ) (works : Works) (task : Task) (pieces : List Piece) (r : Refusal) → IsShelved bib (Ok works) → document_stage task.document ≡ Ok pieces
+pub rendering_stops : (bib : List ℕ) (works : Works) (task : Task) (pieces : List Piece) (r : Refusal) → AreWorksOf bib (Ok works) → document_stage task.document ≡ Ok pieces
     → rendered_stage works task.context task.sections pieces ≡ Err r → IsVerdict bib task (Err r)
 rendering_stops bib works task pieces r h read is = (Ok works, h, sym (not_rendered works task pieces r read is))
 
@@ -40,6 +40,6 @@ all_pass : (works : Works) (task : Task) (pieces : List Piece) (rendered : Rende
 unfolding verdict
 all_pass works task pieces rendered read is = rw (read, is) refl
 
-pub ends : (bib : List ℕ) (works : Works) (task : Task) (pieces : List Piece) (rendered : Rendered) → IsShelved bib (Ok works) → document_stage task.document ≡ Ok pieces
+pub ends : (bib : List ℕ) (works : Works) (task : Task) (pieces : List Piece) (rendered : Rendered) → AreWorksOf bib (Ok works) → document_stage task.document ≡ Ok pieces
     → rendered_stage works task.context task.sections pieces ≡ Ok rendered → IsVerdict bib task (Ok (text (output_text task.format pieces rendered)))
 ends bib works task pieces rendered h read is = (Ok works, h, sym (all_pass works task pieces rendered read is))

@@ -2,7 +2,7 @@
 use Rattle.std.specs.Prelude.{◌≡◌, ℕ, map, Option, Some, None, Result, Ok, Err, string_bytes}
 use Rattle.biblatex.specs.Reading as reading
 use Rattle.biblatex.specs.Errors.{refusal_of}
-use Rattle.interop.specs.Views.{fault}
+use Rattle.interop.specs.Views.{fault_view}
 use Rattle.interop.specs.declared.error.BridgeError.{BridgeError}
 use Rattle.interop.specs.declared.error.BridgeError.TheVariants as bridge
 use Rattle.literature_selectors.specs.Reading.{Fault}
@@ -23,17 +23,17 @@ abbrev pub IsBibRefusal : {Y : Type 0} → Option reading.Refusal → Wanted Y �
 IsBibRefusal None wanted = ⊥
 IsBibRefusal (Some refusal) wanted = wanted (Err (bib_refused refusal))
 
--- the refusal of the section at a place; out of memory is none
+-- the refusal of the section at an index; out of memory is none
 abbrev pub IsSectionRefusal : {Y : Type 0} → ℕ → Option Fault → Wanted Y → Type 0
 IsSectionRefusal index None wanted = ⊥
 IsSectionRefusal index (Some fault) wanted = wanted (Err (section_refused (record { index = index; fault = fault })))
 
--- The error is a refusal that is wanted. Memory may stand in place of any answer; a failed write is no refusal.
+-- The error is a refusal that is wanted. Memory may stand instead of any answer; a failed write is no refusal.
 abbrev pub IsRefusal : {Y : Type 0} → CiteError → Wanted Y → Type 0
 IsRefusal errors.Memory wanted = Unit {0}
 IsRefusal (errors.BibText bib.Utf8) wanted = wanted (Err bib_not_utf8)
 IsRefusal (errors.BibText (bib.Parse error)) wanted = IsBibRefusal (refusal_of error) wanted
-IsRefusal (errors.Fields faults) wanted = wanted (Err (fields_refused (map fault faults.items)))
+IsRefusal (errors.Fields faults) wanted = wanted (Err (fields_refused (map fault_view faults.items)))
 IsRefusal (errors.Document document.Utf8) wanted = wanted (Err document_not_utf8)
 IsRefusal (errors.Document (document.Marker offset)) wanted = wanted (Err (no_marker offset))
 IsRefusal (errors.Name name) wanted = wanted (Err (unknown_name (string_bytes name)))
@@ -46,12 +46,12 @@ abbrev pub bridge_error : BridgeError → CiteError
 bridge_error bridge.Memory = errors.Memory
 bridge_error (bridge.Fields faults) = errors.Fields faults
 
--- What was returned, seen by view, is wanted, unless memory ran out.
+-- What was returned, under the view, is wanted, unless memory ran out.
 abbrev pub Answers : {X Y : Type 0} → (X → Y) → Result X CiteError → Wanted Y → Type 0
 Answers view (Ok x) wanted = wanted (Ok (view x))
 Answers view (Err e) wanted = IsRefusal e wanted
 
--- What was returned, seen by view, is this, unless memory ran out.
+-- What was returned, under the view, is this, unless memory ran out.
 abbrev pub Gives : {X Y : Type 0} → (X → Y) → Result X CiteError → Result Y Refusal → Type 0
 Gives view result answer = Answers view result (λ a. answer ≡ a)
 

@@ -1,7 +1,7 @@
--- Requests of markers before their entries have places: what each cite cites and how.
+-- Requests of markers before their entries have indices: what each cite cites and how.
 use Rattle.std.specs.Prelude.{ℕ, ◌+◌, Bool, List, [], ◌∷◌, ◌++◌, map, length, Option, Some, Result, Ok}
 use Rattle.std.specs.Option.{option_map}
-use Rattle.literature_entries.specs.Wholes.{Whole, whole}
+use Rattle.literature_entries.specs.Wholes.{Whole, entry_view}
 use Rattle.literature_entries.specs.declared.entry.Entry.{Entry}
 use Rattle.laws.specs.Results.{◌>>=◌}
 use Rattle.rendering_context.specs.Contexts.{StyleContext}
@@ -65,11 +65,11 @@ requests_asked works x pieces = requests_after works x [] pieces
 
 -- an item of the code
 abbrev pub item_from : driver.Parts Entry OwnLocator → AskedItem
-item_from p = record { work = whole p.entry; locator = p.locator; is_hidden = p.is_hidden; purpose = p.purpose }
+item_from p = record { work = entry_view p.entry; locator = p.locator; is_hidden = p.is_hidden; purpose = p.purpose }
 
-abbrev pub item_seen : CitationItem Entry OwnLocator → AskedItem
-item_seen i = item_from (driver.parts_of i)
+abbrev pub asked_item_view : CitationItem Entry OwnLocator → AskedItem
+asked_item_view i = item_from (driver.parts_of i)
 
 -- a request of the code
-abbrev pub request_seen : CitationRequest Entry OwnLocator → AskedRequest
-request_seen r = record { context = driver.context_of r; note_number = r.note_number; items = map item_seen r.items.items }
+abbrev pub asked_request_view : CitationRequest Entry OwnLocator → AskedRequest
+asked_request_view r = record { context = driver.context_of r; note_number = r.note_number; items = map asked_item_view r.items.items }

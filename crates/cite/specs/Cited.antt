@@ -7,7 +7,7 @@ use Rattle.laws.specs.Text.{text, is_filled}
 use Rattle.biblatex.specs.Bibliographies.{Listed, entry_named}
 use Rattle.biblatex.specs.Entries.{Source}
 use Rattle.literature_entries.specs.Wholes.{Whole}
-use Rattle.interop.specs.Shelf.{all_works, put_after}
+use Rattle.interop.specs.Library.{all_works, put_after}
 use Rattle.cite_markers.specs.Document.{Piece, Text, Marker}
 use Rattle.cite_markers.specs.Marker.{Cite}
 use Rattle.cite.specs.Works.{Works}

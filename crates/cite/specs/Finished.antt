@@ -1,11 +1,11 @@
 -- What a driver gives of requests of the code.
 use Rattle.std.specs.Prelude.{Bool, List, map, Result}
-use Rattle.literature_entries.specs.Wholes.{whole}
+use Rattle.literature_entries.specs.Wholes.{entry_view}
 use Rattle.literature_entries.specs.declared.entry.Entry.{Entry}
 use Rattle.rendering_entries.specs.Library.{answers_of}
 use Rattle.rendering_context.specs.Contexts.{StyleContext}
-use Rattle.driver_requests.specs.CitedEntries.{place_among, places_among}
-use Rattle.driver_requests.specs.Views.{entries_in, request_by}
+use Rattle.driver_requests.specs.CitedEntries.{index_among, indices_among}
+use Rattle.driver_requests.specs.Views.{entries_in, request_view}
 use Rattle.driver_requests.specs.declared.request.CitationRequest.{CitationRequest}
 use Rattle.driver.specs.Documents.{Document}
 use Rattle.driver.specs.Finish.{Rendered, finish}
@@ -15,9 +15,9 @@ use Rattle.cite.specs.Stages.{Refusal, overflow, refused_as}
 -- the document of requests and of entries that are wanted first, where entries are the same by this
 abbrev pub document_asked : (Entry → Entry → Bool) → StyleContext → List (CitationRequest Entry OwnLocator) → List Entry → Document OwnLocator
 document_asked same context requests chosen = record {
-  requests = map (request_by (place_among same (entries_in requests)) (λ e. answers_of (whole e))) requests;
+  requests = map (request_view (index_among same (entries_in requests)) (λ e. answers_of (entry_view e))) requests;
   bibliography_context = context;
-  wanted = places_among same (entries_in requests) chosen;
+  wanted = indices_among same (entries_in requests) chosen;
   offset = 0;
 }
 

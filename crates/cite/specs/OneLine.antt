@@ -1,22 +1,22 @@
--- What is said of refusals goes on one line each.
+-- The message for refusals goes on one line each.
 use Rattle.std.specs.Prelude.{ℕ, All, List, [], Err}
 use Rattle.biblatex.specs.Lines.{HasNoLineFeed}
 use Rattle.interop.specs.Bridge.{Fault}
 use Rattle.cite.specs.Stages.{Refusal, fields_refused}
 use Rattle.cite.specs.Verdict.{Task, IsVerdict}
 use Rattle.cite.specs.Refusals.{refusal_text}
-use Rattle.cite.specs.Program.{fault_said}
+use Rattle.cite.specs.Program.{fault_message}
 
 -- the fields that a refusal tells of
 abbrev pub faults_in : Refusal → List Fault
 faults_in (fields_refused faults) = faults
 faults_in other = []
 
--- there is no line feed in the text of a refusal, nor in what is said of each of its fields
-pub record IsSaidInLines (refusal : Refusal) : Type 0 where
+-- there is no line feed in the text of a refusal, nor in the message for each of its fields
+pub record HasLineMessages (refusal : Refusal) : Type 0 where
   pub text : HasNoLineFeed (refusal_text refusal)
-  pub faults : All (λ f. HasNoLineFeed (fault_said f)) (faults_in refusal)
+  pub faults : All (λ f. HasNoLineFeed (fault_message f)) (faults_in refusal)
 
 -- the same of every refusal that a call comes to
-abbrev pub RefusalsAreSaidInLines : Type 0
-RefusalsAreSaidInLines = (bib : List ℕ) (task : Task) (refusal : Refusal) → IsVerdict bib task (Err refusal) → IsSaidInLines refusal
+abbrev pub RefusalsHaveLineMessages : Type 0
+RefusalsHaveLineMessages = (bib : List ℕ) (task : Task) (refusal : Refusal) → IsVerdict bib task (Err refusal) → HasLineMessages refusal

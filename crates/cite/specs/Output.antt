@@ -1,4 +1,4 @@
--- The output, as characters: the document with a citation in place of each marker, and the bibliography.
+-- The output, as characters: the document with a citation instead of each marker, and the bibliography.
 use Rattle.std.specs.Prelude.{ℕ, List, [], ◌∷◌, ◌++◌, Option, Some, None, codes}
 use Rattle.std.specs.List.{flat_map}
 use Rattle.std.specs.Option.{option_map_or}
@@ -20,7 +20,7 @@ abbrev pub field_text : BufWriteFormat → Option Element → List ℕ
 field_text format None = []
 field_text format (Some e) = flat_map (tag_text format) (divided e.display (tags e.children))
 
--- the texts of a document as they are, and citations in place of markers, one for each
+-- the texts of a document as they are, and citations instead of markers, one for each
 abbrev pub document_text : BufWriteFormat → List Piece → List Citation → List ℕ
 document_text format [] citations = []
 document_text format (Text t ∷ pieces) citations = t ++ document_text format pieces citations

@@ -10,7 +10,7 @@ use Rattle.sinks.specs.Files.{Outcome}
 use Rattle.sinks.specs.Programs as programs
 use Rattle.sinks.specs.declared.files.ReadFault.TheVariants.{Memory, Unreadable}
 use Rattle.interop.specs.Bridge.{Fault}
-use Rattle.interop.specs.Views.{fault}
+use Rattle.interop.specs.Views.{fault_view}
 use Rattle.rendering_output.specs.declared.writing.BufWriteFormat.{BufWriteFormat}
 use Rattle.rendering_output.specs.declared.writing.BufWriteFormat.TheVariants.{Plain, Html}
 use Rattle.rendering_english.specs.English.{english}
@@ -49,7 +49,7 @@ pub record Job : Type 0 where
   pub document : List ℕ
   pub sections : List (List ℕ)
 
--- what is said of words that ask for nothing
+-- the message for words that ask for nothing
 abbrev pub usage_text : List ℕ
 usage_text = codes "usage: cite STYLE FORMAT BIB DOC [SECTION ..]"
 
@@ -59,14 +59,14 @@ style_text name = codes "unknown style " ++ name
 abbrev pub format_text : List ℕ → List ℕ
 format_text name = codes "unknown format " ++ name
 
--- what four words and further ones ask for; an unknown style is said before an unknown format
+-- what four words and further ones ask for; an unknown style is reported before an unknown format
 abbrev pub job_with : List ℕ → List ℕ → List ℕ → List ℕ → List (List ℕ) → Result Job (List ℕ)
 job_with style format bib document sections = do
   s ← ok_or (style_named style) (style_text style)
   f ← ok_or (format_named format) (format_text format)
   Ok (record { style = s; format = f; bib = bib; document = document; sections = sections })
 
--- what words ask for, or what is said where they ask for nothing
+-- what words ask for, or the message where they ask for nothing
 abbrev pub job_of : List (Bor (List ℕ)) → Result Job (List ℕ)
 job_of [] = Err usage_text
 job_of (style ∷ []) = Err usage_text
@@ -99,55 +99,55 @@ ServesBytes job (Err fault) document P = ⊥
 -- the same of a job, where words ask for one
 abbrev pub ServesJob : Reads → Result Job (List ℕ) → (List ℕ → Type 0) → Type 0
 ServesJob read (Ok job) P = ServesBytes job (read job.bib) (read job.document) P
-ServesJob read (Err said) P = ⊥
+ServesJob read (Err message) P = ⊥
 
 -- Words ask for a job, and there is an output of its files, of which this holds.
 abbrev pub Serves : Reads → List (Bor (List ℕ)) → (List ℕ → Type 0) → Type 0
 Serves read words P = ServesJob read (job_of words) P
 
--- a line: `cite: `, what is said, a line feed
+-- a line: `cite: `, the message, a line feed
 abbrev pub line : List ℕ → List ℕ
-line said = programs.line (codes "cite") said
+line message = programs.line (codes "cite") message
 
--- what is said of a field that cannot be read: its entry's key and its name; each has a line
-abbrev pub fault_said : Fault → List ℕ
-fault_said f = codes "fields: " ++ (f.key ++ (codes ": " ++ f.field))
+-- the message for a field that cannot be read: its entry's key and its name; each has a line
+abbrev pub fault_message : Fault → List ℕ
+fault_message f = codes "fields: " ++ (f.key ++ (codes ": " ++ f.field))
 
 abbrev pub fault_lines : List Fault → List ℕ
-fault_lines faults = flat_map (λ f. line (fault_said f)) faults
+fault_lines faults = flat_map (λ f. line (fault_message f)) faults
 
--- what is said of a refusal
+-- the message for a refusal
 abbrev pub told : Refusal → List ℕ
 told (fields_refused faults) = fault_lines faults
 told other = line (refusal_text other)
 
--- what is said of a file that cannot be read
+-- the message for a file that cannot be read
 abbrev pub path_text : List ℕ → List ℕ
 path_text path = codes "cannot read " ++ path
 
--- Why a file is not served, and what is said of it: it cannot be read. Where memory ran out, that is said.
+-- Why a file is not served, and the message for it: it cannot be read. Where memory ran out, that is the message.
 abbrev pub CannotRead : Outcome → List ℕ → List ℕ → Type 0
-CannotRead (Ok bytes) path said = ⊥
-CannotRead (Err Memory) path said = ⊥
-CannotRead (Err Unreadable) path said = said ≡ line (path_text path)
+CannotRead (Ok bytes) path message = ⊥
+CannotRead (Err Memory) path message = ⊥
+CannotRead (Err Unreadable) path message = message ≡ line (path_text path)
 
 -- Why bytes are not served: their verdict is a refusal.
 abbrev pub IsRefused : List ℕ → Task → List ℕ → Type 0
-IsRefused bib task said = (refusal : Refusal) × IsVerdict bib task (Err refusal) × (said ≡ told refusal)
+IsRefused bib task message = (refusal : Refusal) × IsVerdict bib task (Err refusal) × (message ≡ told refusal)
 
 -- Why a job is not served: the first file cannot be read; or it was read, and the second cannot be; or both were, and are refused.
 abbrev pub IsBytesFault : Job → Outcome → Outcome → List ℕ → Type 0
-IsBytesFault job (Err fault) d said = CannotRead (Err fault) job.bib said
-IsBytesFault job (Ok b) (Err fault) said = CannotRead (Err fault) job.document said
-IsBytesFault job (Ok b) (Ok d) said = IsRefused b (task_in job d) said
+IsBytesFault job (Err fault) d message = CannotRead (Err fault) job.bib message
+IsBytesFault job (Ok b) (Err fault) message = CannotRead (Err fault) job.document message
+IsBytesFault job (Ok b) (Ok d) message = IsRefused b (task_in job d) message
 
--- Why words are not served, and what is said of it: they ask for no job, or it is not served.
+-- Why words are not served, and the message for it: they ask for no job, or it is not served.
 abbrev pub IsJobFault : Reads → Result Job (List ℕ) → List ℕ → Type 0
-IsJobFault read (Ok job) said = IsBytesFault job (read job.bib) (read job.document) said
-IsJobFault read (Err text) said = said ≡ line text
+IsJobFault read (Ok job) message = IsBytesFault job (read job.bib) (read job.document) message
+IsJobFault read (Err text) message = message ≡ line text
 
 abbrev pub IsFault : Reads → List (Bor (List ℕ)) → List ℕ → Type 0
-IsFault read words said = IsJobFault read (job_of words) said
+IsFault read words message = IsJobFault read (job_of words) message
 
 -- the text of a fault in the program
 abbrev pub fault_text : RunFault → List ℕ
@@ -160,10 +160,10 @@ fault_text faults.Write = codes "write failed"
 fault_text (faults.Fields found) = codes "fields that cannot be read"
 fault_text (faults.Refused error) = error_text error
 
--- what is said of it: of fields that cannot be read each in a line, of another one its text
-abbrev pub said_of : RunFault → List ℕ
-said_of (faults.Fields found) = fault_lines (map fault found.items)
-said_of other = line (fault_text other)
+-- the message for it: of fields that cannot be read each in a line, of another one its text
+abbrev pub message_of : RunFault → List ℕ
+message_of (faults.Fields found) = fault_lines (map fault_view found.items)
+message_of other = line (fault_text other)
 
 -- the fault where `cite` refuses
 abbrev pub fault_of : CiteError → RunFault
@@ -174,4 +174,4 @@ fault_of other = faults.Refused other
 
 -- there was no memory, or the output was not taken whole, or it is one of these faults
 abbrev pub IsReason : (List ℕ → Type 0) → programs.Served → ℕ → ℕ → List ℕ → Type 0
-IsReason Faults Served failed_before failed_after said = programs.IsReason (codes "cite") Faults Served failed_before failed_after said
+IsReason Faults Served failed_before failed_after message = programs.IsReason (codes "cite") Faults Served failed_before failed_after message

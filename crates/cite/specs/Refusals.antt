@@ -1,4 +1,4 @@
--- What is said of refusals and errors.
+-- The message for refusals and errors.
 use Rattle.std.specs.Prelude.{ℕ, List, ◌++◌, string_bytes, codes}
 use Rattle.std.specs.Fmt.{decimal}
 use Rattle.laws.specs.Text.{text}
@@ -31,11 +31,11 @@ selector_text selectors.UnbalancedParens = codes "unbalanced parentheses"
 selector_text (selectors.UnknownEntryType name) = codes "unknown entry type " ++ text name
 selector_text selectors.TooDeep = codes "too deep"
 
--- of the section at a place, from zero
+-- of the section at an index, from zero
 abbrev pub section_text : ℕ → List ℕ → List ℕ
-section_text index said = codes "section " ++ (decimal index ++ (codes ": " ++ said))
+section_text index message = codes "section " ++ (decimal index ++ (codes ": " ++ message))
 
--- what is said of a refusal; of fields that cannot be read this is the heading
+-- the message for a refusal; of fields that cannot be read this is the heading
 abbrev pub refusal_text : Refusal → List ℕ
 refusal_text bib_not_utf8 = codes "bib: " ++ not_utf8
 refusal_text (bib_refused refusal) = codes "bib: " ++ bibliographies.reason_text refusal.reason
@@ -46,7 +46,7 @@ refusal_text (unknown_name name) = codes "unknown name " ++ name
 refusal_text (section_refused s) = section_text s.index (selector_text s.fault)
 refusal_text overflow = codes "number too large"
 
--- what is said of the errors that are these
+-- the message for the errors that are these
 abbrev pub bib_text : BibTextError → List ℕ
 bib_text bib.Utf8 = not_utf8
 bib_text (bib.Parse error) = bibliographies.error_text error

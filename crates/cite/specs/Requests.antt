@@ -7,7 +7,7 @@ use Rattle.rendering_entries.specs.Library.{answers_of}
 use Rattle.rendering_locale.specs.Locales.{Locale}
 use Rattle.rendering_style.specs.Styles.{Style}
 use Rattle.rendering_context.specs.Contexts.{StyleContext}
-use Rattle.driver_requests.specs.CitedEntries.{place_among}
+use Rattle.driver_requests.specs.CitedEntries.{index_among}
 use Rattle.driver_requests.specs.Requests.{Item, Request, SpecificLocator, written, note_number_in}
 use Rattle.cite_markers.specs.Marker.{CiteLocator}
 use Rattle.cite.specs.Markers.{CitedWork}
@@ -32,10 +32,10 @@ locator_of l = record { label = l.label; payload = written l.value }
 abbrev pub works_in : List (List CitedWork) → List Whole
 works_in markers = flat_map (map (λ c. c.work)) markers
 
--- A cite as an item. Its entry has its place among the works that are cited, by first cite.
+-- A cite as an item. Its entry has its index among the works that are cited, by first cite.
 abbrev pub item_of : List Whole → CitedWork → Item OwnLocator
 item_of cited c = record {
-  entry = record { place = place_among is_same cited c.work; answers = answers_of c.work };
+  entry = record { index = index_among is_same cited c.work; answers = answers_of c.work };
   locator = option_map locator_of c.cite.locator;
   is_hidden = c.cite.hidden;
   purpose = c.cite.purpose;

@@ -7,17 +7,17 @@ use Rattle.literature_selectors.specs.Reading.{Fault, selector_of}
 use Rattle.literature_selectors.specs.Trees.{Tree}
 use Rattle.cite.specs.Steps.{all_ok}
 
--- a section that is no selector: its place, from zero, and its fault
+-- a section that is no selector: its index, from zero, and its fault
 pub record SectionFault : Type 0 where
   pub index : ℕ
   pub fault : Fault
 
--- a selector, or the fault of the section at a place
+-- a selector, or the fault of the section at an index
 abbrev pub selector_or_fault : ℕ → Result Tree Fault → Result Tree SectionFault
 selector_or_fault index (Ok x) = Ok x
 selector_or_fault index (Err f) = Err (record { index = index; fault = f })
 
--- the selector of the section at a place
+-- the selector of the section at an index
 abbrev pub selector_in : ℕ × List ℕ → Result Tree SectionFault
 selector_in (index, section) = selector_or_fault index (selector_of section)
 

@@ -1,15 +1,15 @@
 -- What texts make of a sink that is offered nothing after its first fault.
 use Rattle.std.specs.Prelude.{◌≡◌, ℕ, List, Option, Some, Result, Err, MatchResult}
 use Rattle.std.specs.Io.KnownBytes.{Appends}
-use Rattle.sinks.specs.Sinks.{next_count, HasFailed, AppendsFront}
+use Rattle.sinks.specs.Sinks.{next_count, HasFailed, AppendsPrefix}
 use Rattle.sinks.specs.declared.sink.SinkFault.{SinkFault}
 use Rattle.cite.specs.declared.sink_target.SinkTarget.{SinkTarget}
 
--- A sink took the bytes and no call failed; or it took a beginning of them, the last call failed or took nothing, and that is the fault.
+-- A sink took the bytes and no call failed; or it took a prefix of them, the last call failed or took nothing, and that is the fault.
 abbrev pub IsWritten : {W : Type 0} → (W → Option (List ℕ)) → (W → ℕ) → (W → Option SinkFault) → W → List ℕ → W → Result (Unit {0}) SinkFault → Type 0
 IsWritten contents failures last old bytes new r =
     MatchResult r (λ _. Appends (contents old) (contents new) bytes × (failures new ≡ failures old))
-    (λ e. AppendsFront (contents old) (contents new) bytes × HasFailed (failures old) (failures new) × (failures new ≡ next_count (failures old)) × (last new ≡ Some e))
+    (λ e. AppendsPrefix (contents old) (contents new) bytes × HasFailed (failures old) (failures new) × (failures new ≡ next_count (failures old)) × (last new ≡ Some e))
 
 -- the same of a sink with what was answered so far: after a fault nothing is written, and the fault stays
 abbrev pub IsWrittenAfter : {W : Type 0} → (W → Option (List ℕ)) → (W → ℕ) → (W → Option SinkFault) → Result (Unit {0}) SinkFault → W → List ℕ → Result (Unit {0}) SinkFault → W → Type 0

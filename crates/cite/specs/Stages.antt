@@ -8,7 +8,7 @@ use Rattle.biblatex.specs.Resolved.{TextMeans}
 use Rattle.literature_entries.specs.Wholes.{Whole}
 use Rattle.literature_selectors.specs.Trees.{Tree}
 use Rattle.interop.specs.Bridge.{Fault}
-use Rattle.interop.specs.Shelf.{library_of}
+use Rattle.interop.specs.Library.{library_of}
 use Rattle.cite_markers.specs.Document.{Piece, document_of}
 use Rattle.cite.specs.Markers.{CitedWork, cited_works}
 use Rattle.cite.specs.Sections.{SectionFault, selectors_of}
@@ -47,8 +47,8 @@ abbrev pub library_stage : Listed → Result Works Refusal
 library_stage file = works_from file (library_of file.entries)
 
 -- what the bytes of a bib text come to after both
-abbrev pub IsShelved : List ℕ → Result Works Refusal → Type 0
-IsShelved bib works = (read : Result Listed Refusal) × IsRead bib read × (works ≡ read >>= library_stage)
+abbrev pub AreWorksOf : List ℕ → Result Works Refusal → Type 0
+AreWorksOf bib works = (read : Result Listed Refusal) × IsRead bib read × (works ≡ read >>= library_stage)
 
 -- the third stage, where bytes that are no text are refused, and then the first opening that no marker follows
 abbrev pub document_stage : List ℕ → Result (List Piece) Refusal

@@ -5,7 +5,7 @@ use Rattle.laws.specs.Text.{text}
 use Rattle.literature_entries.specs.Wholes.{Whole}
 use Rattle.rendering_output.specs.declared.writing.BufWriteFormat.{BufWriteFormat}
 use Rattle.rendering_context.specs.Contexts.{StyleContext}
-use Rattle.driver_requests.specs.CitedEntries.{places_among}
+use Rattle.driver_requests.specs.CitedEntries.{indices_among}
 use Rattle.cite_markers.specs.Document.{Piece}
 use Rattle.driver.specs.Documents.{Document}
 use Rattle.driver.specs.Finish.{Rendered, finish}
@@ -13,7 +13,7 @@ use Rattle.cite.specs.Markers.{CitedWork}
 use Rattle.cite.specs.Output.{output_text}
 use Rattle.cite.specs.Requests.{OwnLocator, is_same_own, requests_of, works_in}
 use Rattle.cite.specs.Sections.{chosen}
-use Rattle.cite.specs.Stages.{Refusal, overflow, refused_as, IsShelved, document_stage, name_stage, section_stage}
+use Rattle.cite.specs.Stages.{Refusal, overflow, refused_as, AreWorksOf, document_stage, name_stage, section_stage}
 use Rattle.cite.specs.Works.{Works, is_same}
 
 -- What a call is given beside the bib text: the bytes of the document, the style with its locale, the sections as characters,
@@ -29,11 +29,11 @@ abbrev pub driver_document : StyleContext → List Whole → List (List CitedWor
 driver_document context chosen markers = record {
   requests = requests_of context markers;
   bibliography_context = context;
-  wanted = places_among is_same (works_in markers) chosen;
+  wanted = indices_among is_same (works_in markers) chosen;
   offset = 0;
 }
 
--- where no stage refuses: citations and bibliography, or a number or letters have no place
+-- where no stage refuses: citations and bibliography, or a number or letters are beyond the last
 abbrev pub driver_stage : StyleContext → List Whole → List (List CitedWork) → Result Rendered Refusal
 driver_stage context wanted markers = refused_as (λ _. overflow) (finish is_same_own (driver_document context wanted markers))
 
@@ -46,12 +46,12 @@ rendered_stage works context sections pieces = do
 
 -- the output, or the refusal that comes first, once it is known what the bib text comes to
 unfoldable pub verdict : Result Works Refusal → Task → Result (List ℕ) Refusal
-verdict shelved task = do
-  works ← shelved
+verdict works_or_refusal task = do
+  works ← works_or_refusal
   pieces ← document_stage task.document
   rendered ← rendered_stage works task.context task.sections pieces
   Ok (text (output_text task.format pieces rendered))
 
 -- the output of a call, or the refusal that comes first
 abbrev pub IsVerdict : List ℕ → Task → Result (List ℕ) Refusal → Type 0
-IsVerdict bib task answer = (works : Result Works Refusal) × IsShelved bib works × (answer ≡ verdict works task)
+IsVerdict bib task answer = (works : Result Works Refusal) × AreWorksOf bib works × (answer ≡ verdict works task)

@@ -5,29 +5,29 @@ use Rattle.std.specs.HashSet.{HashSet}
 use Rattle.std.specs.List.{list_any}
 use Rattle.std.specs.Str.{bytes_eq}
 use Rattle.laws.specs.Text.{spelled}
-use Rattle.biblatex.specs.Bibliographies.{seen}
-use Rattle.interop.specs.Views.{shelf}
+use Rattle.biblatex.specs.Bibliographies.{listed_view}
+use Rattle.interop.specs.Views.{library_view}
 use Rattle.literature.specs.declared.library.Library.{Library}
-use Rattle.literature_entries.specs.Wholes.{Whole, whole}
+use Rattle.literature_entries.specs.Wholes.{Whole, entry_view}
 use Rattle.literature_entries.specs.declared.entry.Entry.{Entry}
-use Rattle.rendering_locale.specs.Views.{locale_seen}
+use Rattle.rendering_locale.specs.Views.{locale_view}
 use Rattle.rendering_locale.specs.declared.locale.Locale.{Locale}
 use Rattle.rendering_output.specs.declared.writing.BufWriteFormat.{BufWriteFormat}
-use Rattle.rendering_style.specs.StyleViews.{style_seen}
+use Rattle.rendering_style.specs.StyleViews.{style_view}
 use Rattle.rendering_style.specs.declared.style.Style.{Style}
 use Rattle.cite.specs.Cited.{works_of}
 use Rattle.cite.specs.Requests.{context_of}
 use Rattle.cite.specs.Verdict.{Task}
 use Rattle.cite.specs.Works as specs
-use Rattle.cite.specs.declared.works.Works.{Works}
+use Rattle.cite.specs.declared.bib_file.BibFile.{BibFile}
 
 -- the works of a bib text: its entries, and the library that they come to
-abbrev pub works_in : Works → specs.Works
-works_in w = works_of (seen w.file)
+abbrev pub file_works : BibFile → specs.Works
+file_works w = works_of (listed_view w.file)
 
 -- its entries with a library that was made of them, or of some of them
-abbrev pub works_among : Works → Library → specs.Works
-works_among w library = record { file = seen w.file; library = shelf library }
+abbrev pub file_works_with : BibFile → Library → specs.Works
+file_works_with w library = record { file = listed_view w.file; library = library_view library }
 
 -- whether a set of texts has one that is the same
 abbrev pub has : {S : Type 0} → HashSet (Bor (List ℕ)) S → Bor (List ℕ) → Bool
@@ -37,11 +37,11 @@ has texts t = list_any (λ (x : Bor (List ℕ)). bytes_eq t.now x.now) texts.key
 abbrev pub task_of : List ℕ → Style → Locale → List (Bor (List ℕ)) → BufWriteFormat → Task
 task_of document style locale sections format = record {
   document = document;
-  context = context_of (style_seen style) (locale_seen locale);
+  context = context_of (style_view style) (locale_view locale);
   sections = map spelled sections;
   format = format;
 }
 
 -- borrowed entries as works
-abbrev pub lent_works : List (Bor Entry) → List Whole
-lent_works es = map (λ (e : Bor Entry). whole e.now) es
+abbrev pub lent_works_view : List (Bor Entry) → List Whole
+lent_works_view es = map (λ (e : Bor Entry). entry_view e.now) es

@@ -6,7 +6,7 @@ use Rattle.biblatex.specs.Entries.{Source}
 use Rattle.biblatex.specs.TypeNames.{written_type}
 use Rattle.literature_entries.specs.Wholes.{Whole}
 use Rattle.literature.specs.Keys.{with_key}
-use Rattle.interop.specs.Shelf.{key_of, is_xdata}
+use Rattle.interop.specs.Library.{key_of, is_xdata}
 
 -- a file, and the library that it comes to
 pub record Works : Type 0 where
@@ -21,6 +21,6 @@ work_of library e = if is_xdata (written_type e.entry_type) then None else with_
 abbrev pub meaning : List ℕ → Works → Option Whole
 meaning name works = option_and_then (work_of works.library) (entry_named name works.file)
 
--- keys tell the works of a library apart
+-- keys distinguish the works of a library
 abbrev pub is_same : Whole → Whole → Bool
 is_same v w = bytes_eq (key_of v) (key_of w)

@@ -4,12 +4,12 @@ ghost use Rattle.std.specs.Prelude.{◌≡◌, ◌||◌, ◌++◌, ◌∷◌, []
 ghost use Rattle.std.specs.Str.{bytes_eq, chars};
 ghost use Rattle.laws.specs.Text.{text};
 ghost use Rattle.std.specs.Borrow.{Bor};
-ghost use Rattle.biblatex.specs.Bibliographies.{seen};
-ghost use Rattle.biblatex.specs.Entries.{source, sources};
-ghost use Rattle.cite_markers.specs.Views.{cite as cite_seen, piece as piece_seen, pieces_of};
+ghost use Rattle.biblatex.specs.Bibliographies.{listed_view};
+ghost use Rattle.biblatex.specs.Entries.{source_view, sources_view};
+ghost use Rattle.cite_markers.specs.Views.{cite_view, piece_view, document_view};
 ghost use Rattle.cite.specs.Cited.{entries_with, is_among, key_meant, keys_cited, keys_in, keys_named};
 ghost use Rattle.cite.specs.Views.{has};
-ghost use Rattle.interop.specs.Views.{lent_sources};
+ghost use Rattle.interop.specs.Views.{lent_sources_view};
 
 use biblatex::{Bibliography, Entry as SourceEntry};
 use cite_markers::{Cite, Document, Piece};
@@ -22,7 +22,8 @@ pub(crate) fn cited_keys<'f>(
     file: &'f Bibliography,
     document: &Document<'_>,
 ) -> Result<HashSet<&'f str>, AllocError>
-    ensures { IfOk result (λ keys. (k : Bor (List ℕ)) → has keys k ≡ is_among (keys_cited (seen file.now) (pieces_of document.now)) k.now) }
+    ensures { IfOk result (λ keys. (k : Bor (List ℕ)) → has keys k
+        ≡ is_among (keys_cited (listed_view file.now) (document_view document.now)) k.now) }
 {
     let mut keys = HashSet::new(alloc);
     for piece in &document.pieces {
@@ -38,7 +39,8 @@ fn insert_cited<'f>(
     piece: &Piece<'_>,
     keys: &mut HashSet<&'f str>,
 ) -> Result<(), AllocError>
-    ensures { OnOk result ((k : Bor (List ℕ)) → has keys.new k ≡ (has keys.old k || is_among (keys_in (seen file.now) (piece_seen piece.now)) k.now)) }
+    ensures { OnOk result ((k : Bor (List ℕ)) → has keys.new k ≡ (has keys.old k
+        || is_among (keys_in (listed_view file.now) (piece_view piece.now)) k.now)) }
 {
     match piece {
         Piece::Text(_) => Ok(()),
@@ -52,7 +54,8 @@ fn insert_named<'f>(
     cites: &[Cite<'_>],
     keys: &mut HashSet<&'f str>,
 ) -> Result<(), AllocError>
-    ensures { OnOk result ((k : Bor (List ℕ)) → has keys.new k ≡ (has keys.old k || is_among (keys_named (seen file.now) (map cite_seen cites.now)) k.now)) }
+    ensures { OnOk result ((k : Bor (List ℕ)) → has keys.new k ≡ (has keys.old k
+        || is_among (keys_named (listed_view file.now) (map cite_view cites.now)) k.now)) }
 {
     for cite in cites {
         insert_meant(file, cite.name, keys)?;
@@ -66,7 +69,8 @@ fn insert_meant<'f>(
     name: &str,
     keys: &mut HashSet<&'f str>,
 ) -> Result<(), AllocError>
-    ensures { OnOk result ((k : Bor (List ℕ)) → has keys.new k ≡ (has keys.old k || is_among (key_meant (seen file.now) (text (chars name.now))) k.now)) }
+    ensures { OnOk result ((k : Bor (List ℕ)) → has keys.new k ≡ (has keys.old k
+        || is_among (key_meant (listed_view file.now) (text (chars name.now))) k.now)) }
 {
     match file.get(name) {
         Some(entry) => insert_key(entry.key.as_str(), keys),
@@ -76,7 +80,8 @@ fn insert_meant<'f>(
 
 /// Adds a key.
 fn insert_key<'f>(key: &'f str, keys: &mut HashSet<&'f str>) -> Result<(), AllocError>
-    ensures { OnOk result ((k : Bor (List ℕ)) → has keys.new k ≡ (if bytes_eq key.now k.now then true else has keys.old k)) }
+    ensures { OnOk result ((k : Bor (List ℕ))
+        → has keys.new k ≡ (if bytes_eq key.now k.now then true else has keys.old k)) }
 {
     keys.insert(key)?;
     Ok(())
@@ -88,7 +93,9 @@ pub(crate) fn entries_with<'f>(
     entries: &'f [SourceEntry],
     keys: &HashSet<&str>,
 ) -> Result<Vec<&'f SourceEntry>, AllocError>
-    ensures { (known : List (List ℕ)) → ((k : Bor (List ℕ)) → has keys.now k ≡ is_among known k.now) → IfOk result (λ v. lent_sources v.items ≡ entries_with known (sources entries.now)) }
+    ensures { (known : List (List ℕ)) → ((k : Bor (List ℕ)) → has keys.now k ≡ is_among known k.now)
+        → IfOk result (λ v. lent_sources_view v.items
+        ≡ entries_with known (sources_view entries.now)) }
 {
     let mut found = Vec::new(alloc);
     for entry in entries {
@@ -103,7 +110,9 @@ fn push_known<'f>(
     entry: &'f SourceEntry,
     found: &mut Vec<&'f SourceEntry>,
 ) -> Result<(), AllocError>
-    ensures { (known : List (List ℕ)) → ((k : Bor (List ℕ)) → has keys.now k ≡ is_among known k.now) → OnOk result (lent_sources found.new.items ≡ lent_sources found.old.items ++ entries_with known (source entry.now ∷ [])) }
+    ensures { (known : List (List ℕ)) → ((k : Bor (List ℕ)) → has keys.now k ≡ is_among known k.now)
+        → OnOk result (lent_sources_view found.new.items
+        ≡ lent_sources_view found.old.items ++ entries_with known (source_view entry.now ∷ [])) }
 {
     if !keys.contains(entry.key.as_str()) {
         return Ok(());

@@ -2,27 +2,27 @@
 
 ghost use Rattle.std.specs.Prelude.{◌≡◌, map, IfErr, IfOk, OnOk, string_bytes};
 ghost use Rattle.laws.specs.Text.{spelled};
-ghost use Rattle.rendering_locale.specs.Views.{locale_seen};
-ghost use Rattle.rendering_style.specs.StyleViews.{style_seen};
+ghost use Rattle.rendering_locale.specs.Views.{locale_view};
+ghost use Rattle.rendering_style.specs.StyleViews.{style_view};
 ghost use Rattle.driver_requests.specs.Views.{lent};
 ghost use Rattle.cite.specs.Finished.{finished};
 ghost use Rattle.cite.specs.Requests.{context_of};
 ghost use Rattle.std.specs.Io.KnownBytes.{Appends};
-ghost use Rattle.sinks.specs.Sinks.{next_count, HasFailed, AppendsFront};
-ghost use Rattle.cite_markers.specs.Views.{pieces_of};
-ghost use Rattle.driver.specs.RenderedViews.{rendered_by};
+ghost use Rattle.sinks.specs.Sinks.{next_count, HasFailed, AppendsPrefix};
+ghost use Rattle.cite_markers.specs.Views.{document_view};
+ghost use Rattle.driver.specs.RenderedViews.{rendered_view};
 ghost use Rattle.cite.specs.Stages.{document_stage};
 ghost use Rattle.cite.specs.Verdict.{IsVerdict, rendered_stage};
 ghost use Rattle.cite.specs.Pieces.{output_of};
-ghost use Rattle.cite.specs.Views.{task_of, works_in};
+ghost use Rattle.cite.specs.Views.{task_of, file_works};
 ghost use Rattle.cite.specs.Answers.{Answers, Gives, Writes, IsRefusalUnlessWrite, UnlessWrite, OnWrite, IsLastFault};
 
+use crate::bib_file::BibFile;
 use crate::bytes::utf8_text;
 use crate::error::{CiteError, DocumentTextError};
 use crate::output::Output;
-use crate::requests::{MarkerRequest, Setting, language, requests};
+use crate::requests::{CitingSetting, MarkerRequest, language, requests};
 use crate::sections::{chosen, selectors};
-use crate::works::Works;
 use cite_markers::{Document, DocumentError};
 use driver::{BibliographyDriver, Rendered};
 use driver_requests::{BibliographyRequest, DriverError};
@@ -36,7 +36,7 @@ use std::slice;
 
 /// The pieces of a document.
 fn read_document<'s>(alloc: Global, document: &'s [u8]) -> Result<Document<'s>, CiteError>
-    ensures { Gives pieces_of result (document_stage document.now) }
+    ensures { Gives document_view result (document_stage document.now) }
 {
     let Some(text) = utf8_text(document) else {
         return Err(CiteError::Document(DocumentTextError::Utf8));
@@ -53,22 +53,24 @@ fn read_document<'s>(alloc: Global, document: &'s [u8]) -> Result<Document<'s>, 
 /// Citations and bibliography of a document. The file is dropped before the driver begins, which prints entries of the library alone.
 fn render(
     alloc: Global,
-    works: Works,
+    bib_file: BibFile,
     style: &Style,
     locale: &Locale,
     document: &Document<'_>,
     sections: &[&str],
 ) -> Result<Rendered, CiteError>
-    ensures { Gives rendered_by result (rendered_stage (works_in works) (context_of (style_seen style.now) (locale_seen locale.now)) (map spelled sections.now) (pieces_of document.now)) }
+    ensures { Gives rendered_view result (rendered_stage (file_works bib_file)
+        (context_of (style_view style.now) (locale_view locale.now))
+        (map spelled sections.now) (document_view document.now)) }
 {
-    let library = works.library(alloc, document, sections)?;
-    let setting = Setting {
+    let library = bib_file.library(alloc, document, sections)?;
+    let setting = CitingSetting {
         library: &library,
         style,
         locale,
     };
-    let requests = requests(alloc, &works, setting, document)?;
-    drop(works);
+    let requests = requests(alloc, &bib_file, setting, document)?;
+    drop(bib_file);
     let selectors = selectors(alloc, sections)?;
     let chosen = chosen(alloc, &selectors, &library)?;
     finish(alloc, requests, style, locale, &chosen)
@@ -82,7 +84,9 @@ fn finish<'x>(
     locale: &'x Locale,
     chosen: &'x [&'x Entry],
 ) -> Result<Rendered, CiteError>
-    ensures { Gives rendered_by result (finished ⟦<Entry as PartialEq>⟧.eq (context_of (style_seen style.now) (locale_seen locale.now)) requests.entry.items (lent chosen.now)) }
+    ensures { Gives rendered_view result (finished ⟦<Entry as PartialEq>⟧.eq
+        (context_of (style_view style.now) (locale_view locale.now)) requests.entry.items
+        (lent chosen.now)) }
 {
     let driver = BibliographyDriver::from_citations(alloc, requests);
     let request = BibliographyRequest::new(style, language(locale)?, slice::from_ref(locale));
@@ -103,11 +107,12 @@ fn compose<'d>(
     sections: &[&str],
     format: BufWriteFormat,
 ) -> Result<Output<'d>, CiteError>
-    ensures { Answers output_of result (IsVerdict bib.now (task_of document.now style.now locale.now sections.now format)) }
+    ensures { Answers output_of result
+        (IsVerdict bib.now (task_of document.now style.now locale.now sections.now format)) }
 {
-    let works = Works::read(alloc, bib)?;
+    let bib_file = BibFile::read(alloc, bib)?;
     let document = read_document(alloc, document)?;
-    let rendered = render(alloc, works, style, locale, &document, sections)?;
+    let rendered = render(alloc, bib_file, style, locale, &document, sections)?;
     Ok(Output {
         document,
         rendered,
@@ -122,7 +127,7 @@ fn compose<'d>(
 /// far as they are cited, section by section and in the order of the file.
 ///
 /// # Errors
-/// The first refusal in this order: `BibText`; `Fields`; `Document`; `Name`; `Selector`; `Overflow`. `Memory` may stand in place of any
+/// The first refusal in this order: `BibText`; `Fields`; `Document`; `Name`; `Selector`; `Overflow`. `Memory` may stand instead of any
 /// answer.
 pub fn cite_to_string(
     alloc: Global,
@@ -134,7 +139,8 @@ pub fn cite_to_string(
     format: BufWriteFormat,
 ) -> Result<String, CiteError>
     // The text is exactly the output; an error is the first refusal, with its fault.
-    ensures { Answers (λ s. string_bytes s) result (IsVerdict bib.now (task_of document.now style.now locale.now sections.now format)) }
+    ensures { Answers (λ s. string_bytes s) result
+        (IsVerdict bib.now (task_of document.now style.now locale.now sections.now format)) }
 {
     let output = compose(alloc, bib, document, style, locale, sections, format)?;
     Ok(output.to_text(alloc)?)
@@ -145,7 +151,7 @@ pub fn cite_to_string(
 ///
 /// # Errors
 /// Those of `cite_to_string`, after which nothing was written. `Write` where a call of the sink's `write` failed or took nothing: the sink then
-/// holds a beginning of the output.
+/// holds a prefix of the output.
 pub fn cite<W: Sink>(
     alloc: Global,
     bib: &[u8],
@@ -157,17 +163,24 @@ pub fn cite<W: Sink>(
     sink: &mut W,
 ) -> Result<(), CiteError>
     // The sink has taken exactly the output.
-    ensures written { OnOk result (Writes (IsVerdict bib.now (task_of document.now style.now locale.now sections.now format)) (λ output. Appends (W.contents sink.old) (W.contents sink.new) output)) }
+    ensures written { OnOk result
+        (Writes (IsVerdict bib.now (task_of document.now style.now locale.now sections.now format))
+        (λ output. Appends (W.contents sink.old) (W.contents sink.new) output)) }
     // A refusal is the first one, with its fault.
-    ensures refused { IfErr result (λ e. IsRefusalUnlessWrite e (IsVerdict bib.now (task_of document.now style.now locale.now sections.now format))) }
+    ensures refused { IfErr result (λ e. IsRefusalUnlessWrite e
+        (IsVerdict bib.now (task_of document.now style.now locale.now sections.now format))) }
     // Nothing is written after any refusal but a failed write.
     ensures untouched { IfErr result (λ e. UnlessWrite e (sink.new ≡ sink.old)) }
-    // After a failed write a beginning of the output stands, and some call of `write` failed or took nothing.
-    ensures cut_short { IfErr result (λ e. OnWrite e (Writes (IsVerdict bib.now (task_of document.now style.now locale.now sections.now format)) (λ output. AppendsFront (W.contents sink.old) (W.contents sink.new) output))) }
-    ensures cause { IfErr result (λ e. OnWrite e (HasFailed (W.failures sink.old) (W.failures sink.new))) }
+    // After a failed write a prefix of the output stands, and some call of `write` failed or took nothing.
+    ensures cut_short { IfErr result (λ e. OnWrite e
+        (Writes (IsVerdict bib.now (task_of document.now style.now locale.now sections.now format))
+        (λ output. AppendsPrefix (W.contents sink.old) (W.contents sink.new) output))) }
+    ensures cause { IfErr result (λ e.
+        OnWrite e (HasFailed (W.failures sink.old) (W.failures sink.new))) }
     // No call of `write` failed before Ok, and none was tried after one that did.
     ensures quiet { OnOk result (W.failures sink.new ≡ W.failures sink.old) }
-    ensures once { IfErr result (λ e. OnWrite e (W.failures sink.new ≡ next_count (W.failures sink.old))) }
+    ensures once { IfErr result (λ e. OnWrite e (W.failures sink.new
+        ≡ next_count (W.failures sink.old))) }
     // The fault of a failed write is what that call did.
     ensures fault { IfErr result (λ e. IsLastFault e (W.last_fault sink.new)) }
 {

@@ -70,17 +70,17 @@ pub enum CiteError {
     Document(DocumentTextError),
     /// The first name in the document that means no entry, or one of type `xdata`, which only lends its fields.
     Name(String),
-    /// The first section that is no selector, by its place from zero, and why.
+    /// The first section that is no selector, by its index from zero, and why.
     Selector { index: usize, error: SelectorError },
     /// A request for memory was refused.
     Memory,
-    /// More than 2147483647 entries are cited, or more than 256 that only letters tell apart.
+    /// More than 2147483647 entries are cited, or more than 256 that only a year suffix disambiguates.
     Overflow,
-    /// The sink did not take all of the output; it holds a beginning of it.
+    /// The sink did not take all of the output; it holds a prefix of it.
     Write(SinkFault),
 }
 
-/// What is said of a text that is no selector.
+/// The message for a text that is no selector.
 #[derive(Clone, Copy)]
 struct SelectorText<'e>(&'e SelectorError);
 

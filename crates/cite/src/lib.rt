@@ -2,6 +2,7 @@
 //! after it. `cite` writes to a sink, `cite_to_string` returns the text, and `run` is the program over files that were read.
 #![tactic(auto)]
 
+mod bib_file;
 mod bytes;
 mod cited;
 mod engine;
@@ -13,7 +14,6 @@ mod program;
 mod requests;
 mod sections;
 mod sink_target;
-mod works;
 
 pub use cite_markers::{Cite, CiteLocator, Document, DocumentError, Piece};
 pub use cite_styles::{author_date, english, note, numeric};
@@ -21,7 +21,7 @@ pub use engine::{cite, cite_to_string};
 pub use error::{BibTextError, CiteError, DocumentTextError};
 pub use interop::{DateField, FieldFault};
 pub use literature_selectors::SelectorError;
-pub use one_line::refusals_are_said_in_lines;
+pub use one_line::refusals_have_line_messages;
 pub use output_laws::{citations_depend_on_markers_alone, texts_come_out_unchanged};
 pub use program::{paths, run};
 pub use rendering_locale::Locale;

@@ -1,8 +1,8 @@
-//! What is said of refusals goes on one line.
+//! The message for refusals goes on one line.
 
-ghost use Rattle.cite.specs.OneLine.{RefusalsAreSaidInLines};
+ghost use Rattle.cite.specs.OneLine.{RefusalsHaveLineMessages};
 
-/// Every refusal of a call, and every field that cannot be read, is said without a line feed.
-pub fn refusals_are_said_in_lines()
-    ensures { RefusalsAreSaidInLines }
+/// Every refusal of a call, and every field that cannot be read, is reported without a line feed.
+pub fn refusals_have_line_messages()
+    ensures { RefusalsHaveLineMessages }
 {}

@@ -1,4 +1,4 @@
-//! The output of a document: its texts with citations in place of markers, and the bibliography.
+//! The output of a document: its texts with citations instead of markers, and the bibliography.
 
 ghost use Rattle.std.specs.Prelude.{◌≡◌, ◌∷◌, [], map, IfErr, IfOk, OnErr, OnOk, Some, string_bytes};
 ghost use Rattle.std.specs.Io.KnownBytes.{Appends};
@@ -6,11 +6,11 @@ ghost use Rattle.std.specs.List.{flat_map};
 ghost use Rattle.std.specs.Option.{option_and_then, option_map, option_map_or};
 ghost use Rattle.std.specs.Str.{chars};
 ghost use Rattle.laws.specs.Text.{text as text_of};
-ghost use Rattle.sinks.specs.Sinks.{next_count, HasFailed, AppendsFront};
+ghost use Rattle.sinks.specs.Sinks.{next_count, HasFailed, AppendsPrefix};
 ghost use Rattle.rendering_output.specs.Writing.{WritesCharacters};
-ghost use Rattle.rendering_tree.specs.Views.{child};
-ghost use Rattle.cite_markers.specs.Views.{piece as piece_seen, pieces_of};
-ghost use Rattle.driver.specs.RenderedViews.{bibliography_by, citation_by, element_if, fields_by, rendered_by};
+ghost use Rattle.rendering_tree.specs.Views.{child_view};
+ghost use Rattle.cite_markers.specs.Views.{piece_view, document_view};
+ghost use Rattle.driver.specs.RenderedViews.{rendered_bibliography_view, rendered_citation_view, element_if, item_fields_view, rendered_view};
 ghost use Rattle.cite.specs.Output.{bibliography_text, document_text, field_text, item_text, item_opening, item_end, output_text};
 ghost use Rattle.cite.specs.Pieces.{citations_after, output_of, piece_text};
 
@@ -45,10 +45,12 @@ impl Output<'_> {
     }
 
     /// Writes the pieces in order. A call of `write` that fails or takes nothing ends it and is not tried again: the sink has then taken a
-    /// beginning of the output.
+    /// prefix of the output.
     pub(crate) fn write_to<W: Sink>(&self, sink: &mut W) -> Result<(), SinkFault>
-        ensures ok { OnOk result (Appends (W.contents sink.old) (W.contents sink.new) (output_of self.now)) }
-        ensures err { OnErr result (AppendsFront (W.contents sink.old) (W.contents sink.new) (output_of self.now)) }
+        ensures ok { OnOk result
+            (Appends (W.contents sink.old) (W.contents sink.new) (output_of self.now)) }
+        ensures err { OnErr result
+            (AppendsPrefix (W.contents sink.old) (W.contents sink.new) (output_of self.now)) }
         ensures cause { OnErr result (HasFailed (W.failures sink.old) (W.failures sink.new)) }
         ensures quiet { OnOk result (W.failures sink.new ≡ W.failures sink.old) }
         ensures once { OnErr result (W.failures sink.new ≡ next_count (W.failures sink.old)) }
@@ -61,7 +63,8 @@ impl Output<'_> {
 
     /// Writes the pieces in order to any writer.
     fn write_text<W: fmt::Write>(&self, w: &mut W) -> fmt::Result
-        ensures { OnOk result (WritesCharacters W.write_str_gives w.old (output_text self.now.format (pieces_of self.now.document) (rendered_by self.now.rendered)) w.new) }
+        ensures { OnOk result (WritesCharacters W.write_str_gives w.old (output_text self.now.format
+            (document_view self.now.document) (rendered_view self.now.rendered)) w.new) }
     {
         let mut target = WriterTarget::new(w);
         self.push_to(&mut target);
@@ -70,7 +73,8 @@ impl Output<'_> {
 
     /// Hands the pieces to the target, in order.
     fn push_to<T: TextTarget>(&self, target: &mut T)
-        ensures { WritesCharacters T.takes target.old (output_text self.now.format (pieces_of self.now.document) (rendered_by self.now.rendered)) target.new }
+        ensures { WritesCharacters T.takes target.old (output_text self.now.format
+            (document_view self.now.document) (rendered_view self.now.rendered)) target.new }
     {
         push_document(
             target,
@@ -82,14 +86,15 @@ impl Output<'_> {
     }
 }
 
-/// Hands over the texts of a document, and a citation in place of each marker.
+/// Hands over the texts of a document, and a citation instead of each marker.
 fn push_document<T: TextTarget>(
     target: &mut T,
     pieces: &[Piece<'_>],
     citations: &[RenderedCitation],
     format: BufWriteFormat,
 )
-    ensures { WritesCharacters T.takes target.old (document_text format (map piece_seen pieces.now) (map citation_by citations.now)) target.new }
+    ensures { WritesCharacters T.takes target.old (document_text format
+        (map piece_view pieces.now) (map rendered_citation_view citations.now)) target.new }
 {
     let mut left = citations;
     for piece in pieces {
@@ -100,7 +105,8 @@ fn push_document<T: TextTarget>(
 
 /// The citations that are left after a piece, of those that were left before it.
 fn citations_after<'c>(piece: &Piece<'_>, left: &'c [RenderedCitation]) -> &'c [RenderedCitation]
-    ensures { map citation_by result.now ≡ citations_after (piece_seen piece.now) (map citation_by left.now) }
+    ensures { map rendered_citation_view result.now
+        ≡ citations_after (piece_view piece.now) (map rendered_citation_view left.now) }
 {
     match (piece, left) {
         (Piece::Marker(_), [_citation, others @ ..]) => others,
@@ -115,7 +121,9 @@ fn push_piece<T: TextTarget>(
     left: &[RenderedCitation],
     format: BufWriteFormat,
 )
-    ensures { WritesCharacters T.takes target.old (piece_text format (piece_seen piece.now) (map citation_by left.now)) target.new }
+    ensures { WritesCharacters T.takes target.old
+        (piece_text format (piece_view piece.now) (map rendered_citation_view left.now))
+        target.new }
 {
     match (piece, left) {
         (Piece::Text(text), _) => push_text(target, text),
@@ -137,7 +145,8 @@ fn push_bibliography<T: TextTarget>(
     bibliography: &Option<RenderedBibliography>,
     format: BufWriteFormat,
 )
-    ensures { WritesCharacters T.takes target.old (option_map_or (bibliography_text format) (option_map bibliography_by bibliography.now) []) target.new }
+    ensures { WritesCharacters T.takes target.old (option_map_or (bibliography_text format)
+        (option_map rendered_bibliography_view bibliography.now) []) target.new }
 {
     match bibliography {
         Some(bibliography) => push_items(target, &bibliography.items, format),
@@ -147,7 +156,8 @@ fn push_bibliography<T: TextTarget>(
 
 /// Hands over a line feed and items.
 fn push_items<T: TextTarget>(target: &mut T, items: &[BibliographyItem], format: BufWriteFormat)
-    ensures { WritesCharacters T.takes target.old (10 ∷ flat_map (item_text format) (map fields_by items.now)) target.new }
+    ensures { WritesCharacters T.takes target.old
+        (10 ∷ flat_map (item_text format) (map item_fields_view items.now)) target.new }
 {
     target.push_str("\n");
     for item in items {
@@ -157,7 +167,8 @@ fn push_items<T: TextTarget>(target: &mut T, items: &[BibliographyItem], format:
 
 /// Hands over an item, in a line.
 fn push_item<T: TextTarget>(target: &mut T, item: &BibliographyItem, format: BufWriteFormat)
-    ensures { WritesCharacters T.takes target.old (item_text format (fields_by item.now)) target.new }
+    ensures { WritesCharacters T.takes target.old
+        (item_text format (item_fields_view item.now)) target.new }
 {
     target.push_str(item_opening(format));
     push_field(target, &item.first_field, format);
@@ -167,7 +178,9 @@ fn push_item<T: TextTarget>(target: &mut T, item: &BibliographyItem, format: Buf
 
 /// Hands over a first field, where there is one, as the format writes it. It is an element.
 fn push_field<T: TextTarget>(target: &mut T, field: &Option<ElemChild>, format: BufWriteFormat)
-    ensures { WritesCharacters T.takes target.old (field_text format (option_and_then (λ x. element_if (child x)) field.now)) target.new }
+    ensures { WritesCharacters T.takes target.old
+        (field_text format (option_and_then (λ x. element_if (child_view x)) field.now))
+        target.new }
 {
     match field {
         Some(ElemChild::Elem(element)) => element.push_to(target, format),

@@ -2,7 +2,7 @@
 
 ghost use Rattle.cite.specs.Replaced.{CitationsDependOnMarkersAlone, TextsComeOutUnchanged};
 
-/// An output is the document with a citation in place of each marker, and a bibliography after it: each text of the document comes out
+/// An output is the document with a citation instead of each marker, and a bibliography after it: each text of the document comes out
 /// as it stands there, in order, but for one backslash directly before an opening.
 pub fn texts_come_out_unchanged()
     ensures { TextsComeOutUnchanged }

@@ -3,14 +3,14 @@
 ghost use Rattle.std.specs.Prelude.{◌≡◌, ◌≤◌, ◌++◌, Some, Ok, IfOk, IfErr, OnOk, OnErr, is_some, map, string_bytes, ◌⊎◌};
 ghost use Rattle.std.specs.Io.KnownBytes.{Appends};
 ghost use lib.Chars.{codes};
-ghost use Rattle.cite.specs.Jobs.{IsJob, job_seen};
+ghost use Rattle.cite.specs.Jobs.{IsJob, job_view};
 ghost use Rattle.cite.specs.declared.program.RunFault.TheVariants as faults;
 ghost use Rattle.sinks.specs.Files.{read_at};
 ghost use Rattle.sinks.specs.Programs.{IsUntouched, Says, no_memory};
-ghost use Rattle.interop.specs.Views.{fault};
+ghost use Rattle.interop.specs.Views.{fault_view};
 ghost use Rattle.std.specs.Option.{option_map};
-ghost use Rattle.rendering_style.specs.StyleViews.{style_seen};
-ghost use Rattle.cite.specs.Program.{asked, job_of, ServesJob, IsJobFault, Serves, CannotRead, IsFault, IsReason, line, fault_said, fault_lines, fault_text, said_of, fault_of, format_named, style_named};
+ghost use Rattle.rendering_style.specs.StyleViews.{style_view};
+ghost use Rattle.cite.specs.Program.{asked, job_of, ServesJob, IsJobFault, Serves, CannotRead, IsFault, IsReason, line, fault_message, fault_lines, fault_text, message_of, fault_of, format_named, style_named};
 
 use crate::engine::cite;
 use crate::error::CiteError;
@@ -88,11 +88,16 @@ pub fn run<O: Sink, E: Sink>(
 ) -> u8
     ensures status { result ≤ 1 }
     // After the status 0 `out` has taken exactly the output of the files.
-    ensures served { result ≡ 0 → Serves (read_at files.now) words.now (λ output. Appends (O.contents out.old) (O.contents out.new) output) }
-    // After the status 1 `out` is as it was; or a write of the output failed, and a beginning of it stands.
-    ensures untouched { result ≡ 1 → IsUntouched (Serves (read_at files.now) words.now) out.old out.new (O.contents out.old) (O.contents out.new) (O.failures out.old) (O.failures out.new) }
+    ensures served { result ≡ 0 → Serves (read_at files.now) words.now (λ output.
+        Appends (O.contents out.old) (O.contents out.new) output) }
+    // After the status 1 `out` is as it was; or a write of the output failed, and a prefix of it stands.
+    ensures untouched { result ≡ 1
+        → IsUntouched (Serves (read_at files.now) words.now) out.old out.new
+        (O.contents out.old) (O.contents out.new) (O.failures out.old) (O.failures out.new) }
     // Then `err` has taken the lines that say the first fault, or that memory ran out or the write failed; or it failed itself.
-    ensures said { result ≡ 1 → Says (IsReason (IsFault (read_at files.now) words.now) (Serves (read_at files.now) words.now) (O.failures out.old) (O.failures out.new)) (E.contents err.old) (E.contents err.new) (E.failures err.old) (E.failures err.new) }
+    ensures message { result ≡ 1 → Says (IsReason (IsFault (read_at files.now) words.now)
+        (Serves (read_at files.now) words.now) (O.failures out.old) (O.failures out.new))
+        (E.contents err.old) (E.contents err.new) (E.failures err.old) (E.failures err.new) }
     // After the status 0 `err` is as it was.
     ensures silent { result ≡ 0 → err.new ≡ err.old }
 {
@@ -107,7 +112,9 @@ pub fn run<O: Sink, E: Sink>(
 
 /// Writes the lines that say why not. A fault of `err` is passed over.
 fn say<E: Sink>(alloc: Global, fault: &RunFault<'_>, err: &mut E)
-    ensures { Says (λ said. (said ≡ said_of fault.now) ⊎ (said ≡ no_memory (codes "cite"))) (E.contents err.old) (E.contents err.new) (E.failures err.old) (E.failures err.new) }
+    ensures { Says
+        (λ message. (message ≡ message_of fault.now) ⊎ (message ≡ no_memory (codes "cite")))
+        (E.contents err.old) (E.contents err.new) (E.failures err.old) (E.failures err.new) }
 {
     match lines_of(alloc, fault) {
         Ok(text) => sinks::say(text.as_bytes(), err),
@@ -117,7 +124,7 @@ fn say<E: Sink>(alloc: Global, fault: &RunFault<'_>, err: &mut E)
 
 /// The lines that say why not: one for each field that cannot be read, of other faults one.
 fn lines_of(alloc: Global, fault: &RunFault<'_>) -> Result<String, AllocError>
-    ensures { IfOk result (λ s. string_bytes s ≡ said_of fault.now) }
+    ensures { IfOk result (λ s. string_bytes s ≡ message_of fault.now) }
 {
     match fault {
         RunFault::Fields(found) => field_lines(alloc, found),
@@ -127,7 +134,7 @@ fn lines_of(alloc: Global, fault: &RunFault<'_>) -> Result<String, AllocError>
 
 /// A line for each field that cannot be read.
 fn field_lines(alloc: Global, found: &[FieldFault]) -> Result<String, AllocError>
-    ensures { IfOk result (λ s. string_bytes s ≡ fault_lines (map fault found.now)) }
+    ensures { IfOk result (λ s. string_bytes s ≡ fault_lines (map fault_view found.now)) }
 {
     let mut written = String::new(alloc);
     for field in found {
@@ -138,16 +145,18 @@ fn field_lines(alloc: Global, found: &[FieldFault]) -> Result<String, AllocError
 
 /// Appends the line of a field that cannot be read.
 fn push_fault(written: &mut String, found: &FieldFault) -> Result<(), AllocError>
-    ensures { OnOk result (string_bytes written.new ≡ string_bytes written.old ++ line (fault_said (fault found.now))) }
+    ensures { OnOk result (string_bytes written.new
+        ≡ string_bytes written.old ++ line (fault_message (fault_view found.now))) }
 {
     written.push_str("cite: ")?;
-    push_said(written, found)?;
+    push_message(written, found)?;
     written.push('\n')
 }
 
-/// Appends what is said of a field that cannot be read.
-fn push_said(written: &mut String, found: &FieldFault) -> Result<(), AllocError>
-    ensures { OnOk result (string_bytes written.new ≡ string_bytes written.old ++ fault_said (fault found.now)) }
+/// Appends the message for a field that cannot be read.
+fn push_message(written: &mut String, found: &FieldFault) -> Result<(), AllocError>
+    ensures { OnOk result (string_bytes written.new
+        ≡ string_bytes written.old ++ fault_message (fault_view found.now)) }
 {
     written.push_str("fields: ")?;
     written.push_str(found.key.as_str())?;
@@ -202,9 +211,14 @@ fn serve<'w, O: Sink>(
     files: &[FileRead<'_>],
     out: &mut O,
 ) -> Result<(), RunFault<'w>>
-    ensures served { OnOk result (Serves (read_at files.now) words.now (λ output. Appends (O.contents out.old) (O.contents out.new) output)) }
-    ensures untouched { OnErr result (IsUntouched (Serves (read_at files.now) words.now) out.old out.new (O.contents out.old) (O.contents out.new) (O.failures out.old) (O.failures out.new)) }
-    ensures fault { IfErr result (λ f. IsReason (IsFault (read_at files.now) words.now) (Serves (read_at files.now) words.now) (O.failures out.old) (O.failures out.new) (said_of f)) }
+    ensures served { OnOk result (Serves (read_at files.now) words.now (λ output.
+        Appends (O.contents out.old) (O.contents out.new) output)) }
+    ensures untouched { OnErr result
+        (IsUntouched (Serves (read_at files.now) words.now) out.old out.new
+        (O.contents out.old) (O.contents out.new) (O.failures out.old) (O.failures out.new)) }
+    ensures fault { IfErr result (λ f.
+        IsReason (IsFault (read_at files.now) words.now) (Serves (read_at files.now) words.now)
+        (O.failures out.old) (O.failures out.new) (message_of f)) }
 {
     let job = read_words(alloc, words)?;
     cite_files(alloc, &job, files, out)
@@ -217,9 +231,15 @@ fn cite_files<'w, O: Sink>(
     files: &[FileRead<'_>],
     out: &mut O,
 ) -> Result<(), RunFault<'w>>
-    ensures served { OnOk result (ServesJob (read_at files.now) (Ok (job_seen job.now)) (λ output. Appends (O.contents out.old) (O.contents out.new) output)) }
-    ensures untouched { OnErr result (IsUntouched (ServesJob (read_at files.now) (Ok (job_seen job.now))) out.old out.new (O.contents out.old) (O.contents out.new) (O.failures out.old) (O.failures out.new)) }
-    ensures fault { IfErr result (λ f. IsReason (IsJobFault (read_at files.now) (Ok (job_seen job.now))) (ServesJob (read_at files.now) (Ok (job_seen job.now))) (O.failures out.old) (O.failures out.new) (said_of f)) }
+    ensures served { OnOk result (ServesJob (read_at files.now) (Ok (job_view job.now)) (λ output.
+        Appends (O.contents out.old) (O.contents out.new) output)) }
+    ensures untouched { OnErr result
+        (IsUntouched (ServesJob (read_at files.now) (Ok (job_view job.now))) out.old out.new
+        (O.contents out.old) (O.contents out.new) (O.failures out.old) (O.failures out.new)) }
+    ensures fault { IfErr result (λ f.
+        IsReason (IsJobFault (read_at files.now) (Ok (job_view job.now)))
+        (ServesJob (read_at files.now) (Ok (job_view job.now)))
+        (O.failures out.old) (O.failures out.new) (message_of f)) }
 {
     let bib = read(files, job.bib)?;
     let document = read(files, job.document)?;
@@ -260,7 +280,7 @@ fn is_style(name: &str) -> bool
 
 /// The style of that name.
 fn style_named(alloc: Global, name: &str) -> Result<Option<Style>, AllocError>
-    ensures { IfOk result (λ s. option_map style_seen s ≡ style_named name.now) }
+    ensures { IfOk result (λ s. option_map style_view s ≡ style_named name.now) }
 {
     match name {
         "numeric" => Ok(Some(numeric(alloc)?)),
@@ -284,7 +304,8 @@ fn format_named(name: &str) -> Option<BufWriteFormat>
 /// The bytes that were read at the path.
 fn read<'f, 'w>(files: &'f [FileRead<'_>], path: &'w str) -> Result<&'f [u8], RunFault<'w>>
     ensures bytes { IfOk result (λ bytes. read_at files.now path.now ≡ Ok bytes.now) }
-    ensures fault { IfErr result (λ f. CannotRead (read_at files.now path.now) path.now (said_of f) ⊎ (said_of f ≡ no_memory (codes "cite"))) }
+    ensures fault { IfErr result (λ f. CannotRead (read_at files.now path.now) path.now
+        (message_of f) ⊎ (message_of f ≡ no_memory (codes "cite"))) }
 {
     match bytes_at(files, path) {
         Ok(bytes) => Ok(bytes),

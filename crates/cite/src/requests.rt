@@ -3,21 +3,21 @@
 ghost use Rattle.std.specs.Prelude.{◌≡◌, map, IfOk, MatchOption, None, Some};
 ghost use Rattle.std.specs.Str.{chars};
 ghost use Rattle.laws.specs.Text.{text as text_of};
-ghost use Rattle.literature_entries.specs.Wholes.{whole};
+ghost use Rattle.literature_entries.specs.Wholes.{entry_view};
 ghost use Rattle.cite.specs.Works.{meaning};
-ghost use Rattle.rendering_locale.specs.Views.{locale_seen};
-ghost use Rattle.rendering_style.specs.StyleViews.{style_seen};
-ghost use Rattle.driver_requests.specs.Views.{locator_by};
+ghost use Rattle.rendering_locale.specs.Views.{locale_view};
+ghost use Rattle.rendering_style.specs.StyleViews.{style_view};
+ghost use Rattle.driver_requests.specs.Views.{request_locator_view};
 ghost use Rattle.std.specs.Option.{option_map};
-ghost use Rattle.rendering_locale.specs.CodeViews.{code_seen};
-ghost use Rattle.cite_markers.specs.Views.{cite as cite_seen, locator as locator_seen, piece as piece_seen, pieces_of};
+ghost use Rattle.rendering_locale.specs.CodeViews.{code_view};
+ghost use Rattle.cite_markers.specs.Views.{cite_view, locator_view, piece_view, document_view};
 ghost use Rattle.cite.specs.Answers.{Gives};
-ghost use Rattle.cite.specs.Asked.{item_asked, item_seen, items_asked, request_asked, request_pushed, request_seen, requests_asked};
+ghost use Rattle.cite.specs.Asked.{item_asked, asked_item_view, items_asked, request_asked, request_pushed, asked_request_view, requests_asked};
 ghost use Rattle.cite.specs.Requests.{context_of, locator_of};
-ghost use Rattle.cite.specs.Views.{works_among};
+ghost use Rattle.cite.specs.Views.{file_works_with};
 
+use crate::bib_file::BibFile;
 use crate::error::CiteError;
-use crate::works::Works;
 use cite_markers::{Cite, CiteLocator, Document, Piece};
 use driver_requests::{CitationItem, CitationRequest};
 use literature::Library;
@@ -34,7 +34,7 @@ pub(crate) type MarkerRequest<'a> = CitationRequest<'a, Entry, ()>;
 
 /// What all requests of a document have in common: the library of the works that it cites, the style, and the locale.
 #[derive(Clone, Copy)]
-pub(crate) struct Setting<'a> {
+pub(crate) struct CitingSetting<'a> {
     pub(crate) library: &'a Library,
     pub(crate) style: &'a Style,
     pub(crate) locale: &'a Locale,
@@ -43,15 +43,18 @@ pub(crate) struct Setting<'a> {
 /// A request for each marker, or the first name that means no work.
 pub(crate) fn requests<'a>(
     alloc: Global,
-    works: &Works,
-    setting: Setting<'a>,
+    bib_file: &BibFile,
+    setting: CitingSetting<'a>,
     document: &Document<'a>,
 ) -> Result<Vec<MarkerRequest<'a>>, CiteError>
-    ensures { Gives (λ v. map request_seen v.items) result (requests_asked (works_among works.now setting.entry.library.now) (context_of (style_seen setting.entry.style.now) (locale_seen setting.entry.locale.now)) (pieces_of document.now)) }
+    ensures { Gives (λ v. map asked_request_view v.items) result
+        (requests_asked (file_works_with bib_file.now setting.entry.library.now)
+        (context_of (style_view setting.entry.style.now) (locale_view setting.entry.locale.now))
+        (document_view document.now)) }
 {
     let mut requests = Vec::new(alloc);
     for piece in &document.pieces {
-        push_request(alloc, works, setting, piece, &mut requests)?;
+        push_request(alloc, bib_file, setting, piece, &mut requests)?;
     }
     Ok(requests)
 }
@@ -59,16 +62,19 @@ pub(crate) fn requests<'a>(
 /// Adds the request of a piece, if it is a marker.
 fn push_request<'a>(
     alloc: Global,
-    works: &Works,
-    setting: Setting<'a>,
+    bib_file: &BibFile,
+    setting: CitingSetting<'a>,
     piece: &Piece<'a>,
     requests: &mut Vec<MarkerRequest<'a>>,
 ) -> Result<(), CiteError>
-    ensures { Gives (λ _. map request_seen requests.new.items) result (request_pushed (works_among works.now setting.entry.library.now) (context_of (style_seen setting.entry.style.now) (locale_seen setting.entry.locale.now)) (map request_seen requests.old.items) (piece_seen piece.now)) }
+    ensures { Gives (λ _. map asked_request_view requests.new.items) result
+        (request_pushed (file_works_with bib_file.now setting.entry.library.now)
+        (context_of (style_view setting.entry.style.now) (locale_view setting.entry.locale.now))
+        (map asked_request_view requests.old.items) (piece_view piece.now)) }
 {
     if let Piece::Marker(cites) = piece {
         let number = requests.len() + 1;
-        requests.push(request(alloc, works, setting, cites, number)?)?;
+        requests.push(request(alloc, bib_file, setting, cites, number)?)?;
     }
     Ok(())
 }
@@ -76,14 +82,17 @@ fn push_request<'a>(
 /// The request of a marker. Markers are numbered from one.
 fn request<'a>(
     alloc: Global,
-    works: &Works,
-    setting: Setting<'a>,
+    bib_file: &BibFile,
+    setting: CitingSetting<'a>,
     cites: &[Cite<'a>],
     number: usize,
 ) -> Result<MarkerRequest<'a>, CiteError>
-    ensures { Gives request_seen result (request_asked (works_among works.now setting.entry.library.now) (context_of (style_seen setting.entry.style.now) (locale_seen setting.entry.locale.now)) (number, map cite_seen cites.now)) }
+    ensures { Gives asked_request_view result
+        (request_asked (file_works_with bib_file.now setting.entry.library.now)
+        (context_of (style_view setting.entry.style.now) (locale_view setting.entry.locale.now))
+        (number, map cite_view cites.now)) }
 {
-    let items = items(alloc, works, setting.library, cites)?;
+    let items = items(alloc, bib_file, setting.library, cites)?;
     let language = language(setting.locale)?;
     Ok(CitationRequest::new(
         items,
@@ -96,7 +105,7 @@ fn request<'a>(
 
 /// The language of a locale.
 pub(crate) fn language(locale: &Locale) -> Result<Option<LocaleCode>, AllocError>
-    ensures { IfOk result (λ code. option_map code_seen code ≡ (locale_seen locale.now).lang) }
+    ensures { IfOk result (λ code. option_map code_view code ≡ (locale_view locale.now).lang) }
 {
     match &locale.lang {
         Some(code) => Ok(Some(LocaleCode(code.0.clone()?))),
@@ -107,15 +116,16 @@ pub(crate) fn language(locale: &Locale) -> Result<Option<LocaleCode>, AllocError
 /// The items of cites, or the first name that means no work.
 fn items<'a>(
     alloc: Global,
-    works: &Works,
+    bib_file: &BibFile,
     library: &'a Library,
     cites: &[Cite<'a>],
 ) -> Result<Vec<CitationItem<'a, Entry, ()>>, CiteError>
-    ensures { Gives (λ v. map item_seen v.items) result (items_asked (works_among works.now library.now) (map cite_seen cites.now)) }
+    ensures { Gives (λ v. map asked_item_view v.items) result
+        (items_asked (file_works_with bib_file.now library.now) (map cite_view cites.now)) }
 {
     let mut items = Vec::with_capacity(alloc, cites.len())?;
     for cite in cites {
-        items.push(item(alloc, works, library, cite)?)?;
+        items.push(item(alloc, bib_file, library, cite)?)?;
     }
     Ok(items)
 }
@@ -123,13 +133,14 @@ fn items<'a>(
 /// The item of a cite, or its name where that means no work.
 fn item<'a>(
     alloc: Global,
-    works: &Works,
+    bib_file: &BibFile,
     library: &'a Library,
     cite: &Cite<'a>,
 ) -> Result<CitationItem<'a, Entry, ()>, CiteError>
-    ensures { Gives item_seen result (item_asked (works_among works.now library.now) (cite_seen cite.now)) }
+    ensures { Gives asked_item_view result
+        (item_asked (file_works_with bib_file.now library.now) (cite_view cite.now)) }
 {
-    let Some(entry) = meant(works, library, cite.name) else {
+    let Some(entry) = meant(bib_file, library, cite.name) else {
         return Err(CiteError::Name(owned(alloc, cite.name)?));
     };
     let locator = locator(&cite.locator);
@@ -137,15 +148,19 @@ fn item<'a>(
 }
 
 /// The work that a name of the document means.
-fn meant<'a>(works: &Works, library: &'a Library, name: &str) -> Option<&'a Entry>
-    ensures { MatchOption result (meaning (text_of (chars name.now)) (works_among works.now library.now) ≡ None) (λ e. meaning (text_of (chars name.now)) (works_among works.now library.now) ≡ Some (whole e.now)) }
+fn meant<'a>(bib_file: &BibFile, library: &'a Library, name: &str) -> Option<&'a Entry>
+    ensures { MatchOption result
+        (meaning (text_of (chars name.now)) (file_works_with bib_file.now library.now) ≡ None) (λ e.
+        meaning (text_of (chars name.now)) (file_works_with bib_file.now library.now)
+        ≡ Some (entry_view e.now)) }
 {
-    works.get(library, name)
+    bib_file.get(library, name)
 }
 
 /// The part of a work that a cite points to.
 fn locator<'a>(locator: &Option<CiteLocator<'a>>) -> Option<SpecificLocator<'a, ()>>
-    ensures { option_map locator_by result ≡ option_map (λ l. locator_of (locator_seen l)) locator.now }
+    ensures { option_map request_locator_view result
+        ≡ option_map (λ l. locator_of (locator_view l)) locator.now }
 {
     match locator {
         Some(locator) => Some(SpecificLocator {

@@ -3,15 +3,15 @@
 ghost use Rattle.std.specs.Prelude.{◌≡◌, ◌++◌, filter, map, IfOk, OnOk};
 ghost use Rattle.std.specs.Str.{chars};
 ghost use Rattle.laws.specs.Text.{spelled};
-ghost use Rattle.literature_entries.specs.Wholes.{whole};
+ghost use Rattle.literature_entries.specs.Wholes.{entry_view};
 ghost use Rattle.literature.specs.Entries.{entries};
 ghost use Rattle.literature_selectors.specs.Holding.{holds_at};
-ghost use Rattle.literature_selectors.specs.Views.{meant};
-ghost use Rattle.interop.specs.Views.{shelf};
+ghost use Rattle.literature_selectors.specs.Views.{selector_view};
+ghost use Rattle.interop.specs.Views.{library_view};
 ghost use Rattle.cite.specs.Answers.{Gives};
 ghost use Rattle.cite.specs.Sections.{chosen, selector_in};
 ghost use Rattle.cite.specs.Stages.{refused_as, section_refused, section_stage};
-ghost use Rattle.cite.specs.Views.{lent_works};
+ghost use Rattle.cite.specs.Views.{lent_works_view};
 
 use crate::error::CiteError;
 use literature::Library;
@@ -21,7 +21,8 @@ use std::alloc::{AllocError, Global};
 
 /// The selectors of sections, or the first section that is none.
 pub(crate) fn selectors(alloc: Global, sections: &[&str]) -> Result<Vec<Selector>, CiteError>
-    ensures { Gives (λ v. map meant v.items) result (section_stage (map spelled sections.now)) }
+    ensures { Gives (λ v. map selector_view v.items) result
+        (section_stage (map spelled sections.now)) }
 {
     let mut selectors = Vec::with_capacity(alloc, sections.len())?;
     for (index, section) in sections.iter().enumerate() {
@@ -30,9 +31,10 @@ pub(crate) fn selectors(alloc: Global, sections: &[&str]) -> Result<Vec<Selector
     Ok(selectors)
 }
 
-/// The selector of the section at a place.
+/// The selector of the section at an index.
 fn selector(alloc: Global, index: usize, section: &str) -> Result<Selector, CiteError>
-    ensures { Gives meant result (refused_as section_refused (selector_in (index, chars section.now))) }
+    ensures { Gives selector_view result
+        (refused_as section_refused (selector_in (index, chars section.now))) }
 {
     match Selector::parse(alloc, section) {
         Ok(selector) => Ok(selector),
@@ -47,7 +49,8 @@ pub(crate) fn chosen<'l>(
     selectors: &[Selector],
     library: &'l Library,
 ) -> Result<Vec<&'l Entry>, AllocError>
-    ensures { IfOk result (λ v. lent_works v.items ≡ chosen (map meant selectors.now) (shelf library.now)) }
+    ensures { IfOk result (λ v. lent_works_view v.items
+        ≡ chosen (map selector_view selectors.now) (library_view library.now)) }
 {
     let mut found = Vec::new(alloc);
     for selector in selectors {
@@ -62,7 +65,8 @@ fn push_chosen<'l>(
     library: &'l Library,
     found: &mut Vec<&'l Entry>,
 ) -> Result<(), AllocError>
-    ensures { OnOk result (lent_works found.new.items ≡ lent_works found.old.items ++ filter (holds_at (meant selector.now)) (shelf library.now)) }
+    ensures { OnOk result (lent_works_view found.new.items ≡ lent_works_view found.old.items
+        ++ filter (holds_at (selector_view selector.now)) (library_view library.now)) }
 {
     for entry in library.iter() {
         if selector.matches(entry) {

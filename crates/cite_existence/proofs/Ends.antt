@@ -5,7 +5,7 @@ use Rattle.sinks.specs.declared.files.ReadFault.TheVariants.{Memory, Unreadable}
 use Rattle.cite.specs.Program.{Reads, Job, job_of, line, told, path_text, task_in, ServesBytes, IsBytesFault, ServesJob, IsJobFault}
 use Rattle.cite.specs.Stages.{Refusal}
 use Rattle.cite.specs.Verdict.{IsVerdict}
-use Rattle.cite_existence.specs.Ends.{End, output, said, IsEndOf, HasMemory, HasOneEnd, EachRunHasOneEnd}
+use Rattle.cite_existence.specs.Ends.{End, output, message, IsEndOf, HasMemory, HasOneEnd, EachRunHasOneEnd}
 use Rattle.cite_existence.proofs.Verdicts.{one_verdict, one_verdict_there}
 
 -- a value is no fault, and values or faults that make equal results are equal
@@ -29,7 +29,7 @@ same_fault {F} {X} f g e = ap (fault_or f) e
 -- whether bytes that were read end so
 abbrev IsBytesEnd : Job → Outcome → Outcome → End → Type 0
 IsBytesEnd job b d (output bytes) = ServesBytes job b d (λ served. served ≡ bytes)
-IsBytesEnd job b d (said bytes) = IsBytesFault job b d bytes
+IsBytesEnd job b d (message bytes) = IsBytesFault job b d bytes
 
 record HasOneBytesEnd (job : Job) (b d : Outcome) : Type 0 where
   end : End
@@ -42,37 +42,37 @@ of_bytes job b d = let one = one_verdict_there b (task_in job d) in by one.answe
   where
     only_output : (o : List ℕ) → IsVerdict b (task_in job d) (Ok o) → (other : End) → IsBytesEnd job (Ok b) (Ok d) other → other ≡ output o
     only_output o is (output bytes) (served, too, same) = ap output (sym same ∙ same_value served o (one_verdict b (task_in job d) (Ok served) (Ok o) too is))
-    only_output o is (said bytes) (refusal, too, same) = apart o refusal (said bytes ≡ output o) (one_verdict b (task_in job d) (Ok o) (Err refusal) is too)
+    only_output o is (message bytes) (refusal, too, same) = apart o refusal (message bytes ≡ output o) (one_verdict b (task_in job d) (Ok o) (Err refusal) is too)
 
-    only_said : (r : Refusal) → IsVerdict b (task_in job d) (Err r) → (other : End) → IsBytesEnd job (Ok b) (Ok d) other → other ≡ said (told r)
-    only_said r is (output bytes) (served, too, same) = apart served r (output bytes ≡ said (told r)) (one_verdict b (task_in job d) (Ok served) (Err r) too is)
-    only_said r is (said bytes) (refusal, too, same) = ap said (same ∙ ap told (same_fault refusal r (one_verdict b (task_in job d) (Err refusal) (Err r) too is)))
+    only_message : (r : Refusal) → IsVerdict b (task_in job d) (Err r) → (other : End) → IsBytesEnd job (Ok b) (Ok d) other → other ≡ message (told r)
+    only_message r is (output bytes) (served, too, same) = apart served r (output bytes ≡ message (told r)) (one_verdict b (task_in job d) (Ok served) (Err r) too is)
+    only_message r is (message bytes) (refusal, too, same) = ap message (same ∙ ap told (same_fault refusal r (one_verdict b (task_in job d) (Err refusal) (Err r) too is)))
 
     by : (answer : Result (List ℕ) Refusal) → IsVerdict b (task_in job d) answer → HasOneBytesEnd job (Ok b) (Ok d)
     by (Ok o) is = record { end = output o; is = (o, is, refl); only = only_output o is }
-    by (Err r) is = record { end = said (told r); is = (r, is, refl); only = only_said r is }
+    by (Err r) is = record { end = message (told r); is = (r, is, refl); only = only_message r is }
 
 of_outcomes : (job : Job) (b d : Outcome) → (b ≡ Err Memory → ⊥) → (d ≡ Err Memory → ⊥) → HasOneBytesEnd job b d
 of_outcomes job (Err Memory) d b_memory d_memory = absurd (b_memory refl)
-of_outcomes job (Err Unreadable) d b_memory d_memory = record { end = said (line (path_text job.bib)); is = refl; only = only }
+of_outcomes job (Err Unreadable) d b_memory d_memory = record { end = message (line (path_text job.bib)); is = refl; only = only }
   where
-    only : (other : End) → IsBytesEnd job (Err Unreadable) d other → other ≡ said (line (path_text job.bib))
+    only : (other : End) → IsBytesEnd job (Err Unreadable) d other → other ≡ message (line (path_text job.bib))
     only (output bytes) served = absurd served
-    only (said bytes) same = ap said same
+    only (message bytes) same = ap message same
 of_outcomes job (Ok b) (Err Memory) b_memory d_memory = absurd (d_memory refl)
-of_outcomes job (Ok b) (Err Unreadable) b_memory d_memory = record { end = said (line (path_text job.document)); is = refl; only = only }
+of_outcomes job (Ok b) (Err Unreadable) b_memory d_memory = record { end = message (line (path_text job.document)); is = refl; only = only }
   where
-    only : (other : End) → IsBytesEnd job (Ok b) (Err Unreadable) other → other ≡ said (line (path_text job.document))
+    only : (other : End) → IsBytesEnd job (Ok b) (Err Unreadable) other → other ≡ message (line (path_text job.document))
     only (output bytes) served = absurd served
-    only (said bytes) same = ap said same
+    only (message bytes) same = ap message same
 of_outcomes job (Ok b) (Ok d) b_memory d_memory = of_bytes job b d
 
 of_job : (read : Reads) → HasMemory read → (job : Result Job (List ℕ)) → HasOneEnd read job
-of_job read memory (Err text) = record { end = said (line text); is = refl; only = only }
+of_job read memory (Err text) = record { end = message (line text); is = refl; only = only }
   where
-    only : (other : End) → IsEndOf read (Err text) other → other ≡ said (line text)
+    only : (other : End) → IsEndOf read (Err text) other → other ≡ message (line text)
     only (output bytes) served = absurd served
-    only (said bytes) same = ap said same
+    only (message bytes) same = ap message same
 of_job read memory (Ok job) = record { end = one.end; is = is one.end one.is; only = λ other too. one.only other (bytes_end other too) }
   where
     one : HasOneBytesEnd job (read job.bib) (read job.document)
@@ -80,11 +80,11 @@ of_job read memory (Ok job) = record { end = one.end; is = is one.end one.is; on
 
     is : (end : End) → IsBytesEnd job (read job.bib) (read job.document) end → IsEndOf read (Ok job) end
     is (output bytes) served = served
-    is (said bytes) fault = fault
+    is (message bytes) fault = fault
 
     bytes_end : (end : End) → IsEndOf read (Ok job) end → IsBytesEnd job (read job.bib) (read job.document) end
     bytes_end (output bytes) served = served
-    bytes_end (said bytes) fault = fault
+    bytes_end (message bytes) fault = fault
 
 pub one_end_there : EachRunHasOneEnd
 one_end_there read words memory = of_job read memory (job_of words)

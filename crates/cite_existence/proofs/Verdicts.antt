@@ -6,7 +6,7 @@ use Rattle.biblatex.specs.Bibliographies.{Listed}
 use Rattle.biblatex.proofs.ResolvedUnique.{one_meaning}
 use Rattle.biblatex_existence.proofs.Meaning.{text_meaning}
 use Rattle.cite.specs.Works.{Works}
-use Rattle.cite.specs.Stages.{Refusal, bib_not_utf8, bib_refused, refused_as, IsReadIf, IsRead, library_stage, IsShelved}
+use Rattle.cite.specs.Stages.{Refusal, bib_not_utf8, bib_refused, refused_as, IsReadIf, IsRead, library_stage, AreWorksOf}
 use Rattle.cite.specs.Verdict.{Task, verdict, IsVerdict}
 use Rattle.cite_existence.specs.Verdicts.{HasOneVerdict}
 
@@ -17,11 +17,11 @@ read_there bib = by (is_utf8 bib)
     by true = let there = text_meaning (chars bib) in (refused_as bib_refused there.0, (there.0, there.1, refl))
     by false = (Err bib_not_utf8, refl)
 
-shelved_there : (bib : List ℕ) → (works : Result Works Refusal) × IsShelved bib works
-shelved_there bib = let read = read_there bib in (read.0 >>= library_stage, (read.0, read.1, refl))
+works_there : (bib : List ℕ) → (works : Result Works Refusal) × AreWorksOf bib works
+works_there bib = let read = read_there bib in (read.0 >>= library_stage, (read.0, read.1, refl))
 
 verdict_there : (bib : List ℕ) (task : Task) → (answer : Result (List ℕ) Refusal) × IsVerdict bib task answer
-verdict_there bib task = let works = shelved_there bib in (verdict works.0 task, (works.0, works.1, refl))
+verdict_there bib task = let works = works_there bib in (verdict works.0 task, (works.0, works.1, refl))
 
 one_read : (bib : List ℕ) (r s : Result Listed Refusal) → IsRead bib r → IsRead bib s → r ≡ s
 one_read bib r s = at (is_utf8 bib)
@@ -30,12 +30,12 @@ one_read bib r s = at (is_utf8 bib)
     at true (meaning, means, is) (other, too, also) = is ∙ (ap (refused_as bib_refused) (one_meaning (chars bib) meaning other means too) ∙ sym also)
     at false h g = h ∙ sym g
 
-one_shelf : (bib : List ℕ) (v w : Result Works Refusal) → IsShelved bib v → IsShelved bib w → v ≡ w
-one_shelf bib v w (read, is, comes) (other, too, also) = comes ∙ (ap (λ (r : Result Listed Refusal). r >>= library_stage) (one_read bib read other is too) ∙ sym also)
+one_library : (bib : List ℕ) (v w : Result Works Refusal) → AreWorksOf bib v → AreWorksOf bib w → v ≡ w
+one_library bib v w (read, is, comes) (other, too, also) = comes ∙ (ap (λ (r : Result Listed Refusal). r >>= library_stage) (one_read bib read other is too) ∙ sym also)
 
 -- the output, or the refusal that comes first, is one
 pub one_verdict : (bib : List ℕ) (task : Task) (a b : Result (List ℕ) Refusal) → IsVerdict bib task a → IsVerdict bib task b → a ≡ b
-one_verdict bib task a b (works, is, comes) (other, too, also) = comes ∙ (ap (λ (w : Result Works Refusal). verdict w task) (one_shelf bib works other is too) ∙ sym also)
+one_verdict bib task a b (works, is, comes) (other, too, also) = comes ∙ (ap (λ (w : Result Works Refusal). verdict w task) (one_library bib works other is too) ∙ sym also)
 
 pub one_verdict_there : (bib : List ℕ) (task : Task) → HasOneVerdict bib task
 one_verdict_there bib task =

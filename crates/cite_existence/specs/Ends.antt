@@ -4,15 +4,15 @@ use Rattle.std.specs.Borrow.{Bor}
 use Rattle.sinks.specs.declared.files.ReadFault.TheVariants.{Memory}
 use Rattle.cite.specs.Program.{Reads, Job, job_of, ServesJob, IsJobFault}
 
--- how a run ends: with an output, or with what is said of a fault
+-- how a run ends: with an output, or with the message for a fault
 pub data End : Type 0 where
   output : List ℕ → End
-  said : List ℕ → End
+  message : List ℕ → End
 
--- whether what words ask for ends so: this output is served, or this is said
+-- whether what words ask for ends so: this output is served, or this is the message
 abbrev pub IsEndOf : Reads → Result Job (List ℕ) → End → Type 0
 IsEndOf read job (output bytes) = ServesJob read job (λ served. served ≡ bytes)
-IsEndOf read job (said bytes) = IsJobFault read job bytes
+IsEndOf read job (message bytes) = IsJobFault read job bytes
 
 -- memory did not run out for any file
 abbrev pub HasMemory : Reads → Type 0

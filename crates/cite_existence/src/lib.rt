@@ -10,7 +10,7 @@ pub fn each_call_has_one_verdict()
     ensures { EachCallHasOneVerdict }
 {}
 
-/// Words have an end over files for which memory did not run out, and only one: an output is served, or a fault is said.
+/// Words have an end over files for which memory did not run out, and only one: an output is served, or a fault is reported.
 pub fn each_run_has_one_end()
     ensures { EachRunHasOneEnd }
 {}

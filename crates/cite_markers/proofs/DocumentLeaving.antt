@@ -93,4 +93,4 @@ piece_faults cs = by_escape (escaped cs)
 pub fault_leaves : (cs fault : List ℕ) → piece_at cs ≡ Err fault → Leaves cs fault
 fault_leaves cs fault is =
     let h : FaultsAt cs (Err fault) = rw is at (piece_faults cs) in
-    record { front = []; parts = h }
+    record { prefix = []; parts = h }

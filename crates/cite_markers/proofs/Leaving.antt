@@ -2,38 +2,38 @@
 use Rattle.std.proofs.Common.{◌≡◌, ℕ, zero, suc, ◌≤◌, Bool, true, false, cond, eqb, List, [], ◌∷◌, ◌++◌, length, Option, Some, None, Ok, Err, refl, sym, ap, ◌∙◌, append_assoc, arith}
 use Rattle.std.specs.Prelude.{IfOk}
 use Rattle.std.proofs.lemmas.List.{length-append}
-use Rattle.laws.specs.Runs.{front_of, after}
+use Rattle.laws.specs.Runs.{prefix_of, after}
 use Rattle.laws.specs.Steps.{Step, go_on, each_below, each}
 use Rattle.laws.specs.Text.{text}
 use Rattle.laws.proofs.Results.{bind_if_ok}
-use Rattle.laws.proofs.Runs.{front-after}
+use Rattle.laws.proofs.Runs.{prefix-after}
 use Rattle.laws.proofs.Text.{text-append}
 use Rattle.texts.specs.Reading.{token_at, taken}
 use Rattle.texts.specs.declared.reader.Unreadable.TheVariants.{NotThere}
 
 -- the rest is an end of the text
 pub record Leaves (whole rest : List ℕ) : Type 0 where
-  pub front : List ℕ
-  pub parts : whole ≡ front ++ rest
+  pub prefix : List ℕ
+  pub parts : whole ≡ prefix ++ rest
 
 -- the same of what was read and the rest
 abbrev pub LeavesRest : {X : Type 0} → List ℕ → X × List ℕ → Type 0
 LeavesRest whole read = Leaves whole read.1
 
 pub leaves_all : (whole : List ℕ) → Leaves whole whole
-leaves_all whole = record { front = []; parts = refl }
+leaves_all whole = record { prefix = []; parts = refl }
 
 pub leaves_more : (whole rest more : List ℕ) → Leaves whole rest → Leaves rest more → Leaves whole more
 leaves_more whole rest more a b =
-    record { front = a.front ++ b.front; parts = a.parts ∙ (ap (λ x. a.front ++ x) b.parts ∙ sym (append_assoc a.front b.front more)) }
+    record { prefix = a.prefix ++ b.prefix; parts = a.parts ∙ (ap (λ x. a.prefix ++ x) b.parts ∙ sym (append_assoc a.prefix b.prefix more)) }
 
 -- past a character
 pub leaves_past : (whole : List ℕ) (c : ℕ) (rest : List ℕ) → Leaves whole (c ∷ rest) → Leaves whole rest
-leaves_past whole c rest a = leaves_more whole (c ∷ rest) rest a (record { front = c ∷ []; parts = refl })
+leaves_past whole c rest a = leaves_more whole (c ∷ rest) rest a (record { prefix = c ∷ []; parts = refl })
 
 -- past a run
 pub leaves_run : (whole : List ℕ) (test : ℕ → Bool) (rest : List ℕ) → Leaves whole rest → Leaves whole (after test rest)
-leaves_run whole test rest a = leaves_more whole rest (after test rest) a (record { front = front_of test rest; parts = front-after test rest })
+leaves_run whole test rest a = leaves_more whole rest (after test rest) a (record { prefix = prefix_of test rest; parts = prefix-after test rest })
 
 -- past a character that is wanted
 pub leaves_token : (whole : List ℕ) (c : ℕ) (rest : List ℕ) → Leaves whole rest → IfOk (token_at c rest) (Leaves whole)
@@ -74,7 +74,7 @@ leaves_each step leaves whole rest a = below_leaves step leaves (suc (length res
 
 -- an end has no more characters than the text, and no more bytes
 pub end_length : (whole rest : List ℕ) → Leaves whole rest → length rest ≤ length whole
-end_length whole rest a = omega (arith, ap length a.parts, length-append a.front rest)
+end_length whole rest a = omega (arith, ap length a.parts, length-append a.prefix rest)
 
 pub end_bytes : (whole rest : List ℕ) → Leaves whole rest → length (text rest) ≤ length (text whole)
-end_bytes whole rest a = omega (arith, ap length (ap text a.parts ∙ text-append a.front rest), length-append (text a.front) (text rest))
+end_bytes whole rest a = omega (arith, ap length (ap text a.parts ∙ text-append a.prefix rest), length-append (text a.prefix) (text rest))

@@ -2,6 +2,6 @@ pub mod Gathering
 pub mod Leaving
 pub mod MarkerLeaving
 pub mod DocumentLeaving
-pub mod Fronts
-pub mod DocumentRows
-pub mod DocumentStanding
+pub mod Prefixes
+pub mod DocumentCases
+pub mod DocumentStands

@@ -3,7 +3,7 @@ use Rattle.std.proofs.Common.{◌≡◌, ℕ, ◌<◌, Bool, true, false, cond, 
 use Rattle.std.specs.Prelude.{IfOk}
 use Rattle.std.specs.Option.{ok_or}
 use Rattle.laws.specs.Results.{◌>>=◌}
-use Rattle.laws.specs.Runs.{front_of, after}
+use Rattle.laws.specs.Runs.{prefix_of, after}
 use Rattle.laws.specs.Steps.{each, Shortens}
 use Rattle.laws.specs.Text.{text, is_filled}
 use Rattle.laws.proofs.Results.{bind_if_ok, if_ok_at, ok_is}
@@ -33,7 +33,7 @@ of_tested false a = tt
 word_leaves : (whole cs : List ℕ) → Leaves whole cs → IfOk (word_at cs) (LeavesRest whole)
 unfolding word_at
 word_leaves whole cs a =
-    bind_if_ok (Leaves whole) (λ (p : List ℕ × List ℕ). LeavesRest whole p) (token_at 32 (after (passes Word) cs)) (λ rest. Ok (text (front_of (passes Word) cs), rest))
+    bind_if_ok (Leaves whole) (λ (p : List ℕ × List ℕ). LeavesRest whole p) (token_at 32 (after (passes Word) cs)) (λ rest. Ok (text (prefix_of (passes Word) cs), rest))
     (leaves_token whole 32 (after (passes Word) cs) (leaves_run whole (passes Word) cs a)) (λ rest b. b)
 
 purpose_leaves : (whole cs : List ℕ) → Leaves whole cs → IfOk (purpose_at cs) (LeavesRest whole)
@@ -65,7 +65,7 @@ locator_leaves whole cs a =
     Rests p = LeavesRest whole p
 
     run : List ℕ × List ℕ → List ℕ
-    run word = front_of (passes Value) word.1
+    run word = prefix_of (passes Value) word.1
 
     valued : List ℕ × List ℕ → Locator → Result (Option CiteLocator × List ℕ) Unreadable
     valued word label = passing (is_value (text (run word))) (run word) >>= λ value. Ok (Some (record { label = label; value = value }), after (passes Value) word.1)
@@ -86,7 +86,7 @@ cite_leaves whole cs a =
     Rests p = LeavesRest whole p
 
     run : Beginning × List ℕ → List ℕ
-    run b = front_of (passes Name) b.1
+    run b = prefix_of (passes Name) b.1
 
     located : Beginning × List ℕ → List ℕ → Result (Cite × List ℕ) Unreadable
     located b name = locator_if_space (taken 32 (after (passes Name) b.1)) >>= λ locator. Ok (record { name = name; hidden = b.0.hidden; purpose = b.0.purpose; locator = locator.0 }, locator.1)

@@ -39,9 +39,9 @@ from_mark [] = []
 from_mark (c ∷ cs) = if is_mark (c ∷ cs) then c ∷ cs else from_mark cs
 
 -- the first character, whatever it is, and the plain ones after it; and what follows them
-abbrev pub front_text : List ℕ → List ℕ
-front_text [] = []
-front_text (c ∷ cs) = c ∷ plain cs
+abbrev pub prefix_text : List ℕ → List ℕ
+prefix_text [] = []
+prefix_text (c ∷ cs) = c ∷ plain cs
 
 abbrev pub after_text : List ℕ → List ℕ
 after_text [] = []
@@ -54,7 +54,7 @@ Step = Result (Option Piece × List ℕ) (List ℕ)
 -- a text
 abbrev pub text_at : List ℕ → Step
 text_at [] = Ok (None, [])
-text_at (c ∷ cs) = Ok (Some (Text (front_text (c ∷ cs))), after_text (c ∷ cs))
+text_at (c ∷ cs) = Ok (Some (Text (prefix_text (c ∷ cs))), after_text (c ∷ cs))
 
 -- a marker, which must follow an opening
 abbrev pub marker_or_fault : List ℕ → Result (List Cite × List ℕ) Unreadable → Step
@@ -70,12 +70,12 @@ unfoldable pub piece_at : List ℕ → Step
 piece_at cs = piece_if_escaped cs (escaped cs)
 
 -- all pieces, or how many bytes stand before the first opening that no marker follows
-abbrev pub or_place : List ℕ → Result (List Piece × List ℕ) (List ℕ) → Result (List Piece) ℕ
-or_place whole (Ok read) = Ok read.0
-or_place whole (Err opening) = Err (length (text whole) - length (text opening))
+abbrev pub or_offset : List ℕ → Result (List Piece × List ℕ) (List ℕ) → Result (List Piece) ℕ
+or_offset whole (Ok read) = Ok read.0
+or_offset whole (Err opening) = Err (length (text whole) - length (text opening))
 
 unfoldable pub document_of : List ℕ → Result (List Piece) ℕ
-document_of cs = or_place cs (each piece_at cs)
+document_of cs = or_offset cs (each piece_at cs)
 
 -- How a piece stands in a document, before what follows it: a text as it is, or after a backslash that stands directly before an
 -- opening; a marker as its cites are read.
@@ -84,9 +84,9 @@ Stands cs (Text t) rest = (cs ≡ t ++ rest) ⊎ ((cs ≡ 92 ∷ (t ++ rest)) ×
 Stands cs (Marker cites) rest = marker_at cs ≡ Ok (cites, rest)
 
 -- pieces that stand one after the other, up to what follows the last
-abbrev pub StandInOrder : List ℕ → List Piece → List ℕ → Type 0
-StandInOrder cs [] rest = cs ≡ rest
-StandInOrder cs (p ∷ ps) rest = (more : List ℕ) × Stands cs p more × StandInOrder more ps rest
+abbrev pub FollowInOrder : List ℕ → List Piece → List ℕ → Type 0
+FollowInOrder cs [] rest = cs ≡ rest
+FollowInOrder cs (p ∷ ps) rest = (more : List ℕ) × Stands cs p more × FollowInOrder more ps rest
 
 -- an opening that no marker follows
 abbrev pub LacksMarker : List ℕ → Type 0

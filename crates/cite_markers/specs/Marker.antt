@@ -1,10 +1,10 @@
 -- Markers: a bracket, cites parted by a semicolon and a space, and the closing bracket. Each definition gives what stands at the
--- beginning of a text and what follows it, or that it does not stand there. Characters are numbers.
+-- prefix of a text and what follows it, or that it does not stand there. Characters are numbers.
 use Rattle.std.specs.Prelude.{ℕ, Bool, true, false, ◌&&◌, List, ◌∷◌, if◌then◌else◌, Option, Some, None, Result, Ok, Err}
 use Rattle.std.specs.Option.{ok_or}
 use Rattle.std.specs.Str.{bytes_eq, trim}
 use Rattle.laws.specs.Results.{◌>>=◌}
-use Rattle.laws.specs.Runs.{front_of, after}
+use Rattle.laws.specs.Runs.{prefix_of, after}
 use Rattle.laws.specs.Steps.{each}
 use Rattle.laws.specs.Text.{text, is_filled}
 use Rattle.texts.specs.Reading.{token_at, taken}
@@ -28,7 +28,7 @@ pub record Cite : Type 0 where
   pub purpose : Option CitePurpose
   pub locator : Option CiteLocator
 
--- what stands in front of a name: whether the cite is hidden, and its purpose
+-- what stands before a name: whether the cite is hidden, and its purpose
 pub record Beginning : Type 0 where
   pub hidden : Bool
   pub purpose : Option CitePurpose
@@ -41,7 +41,7 @@ passing test a = if test then Ok a else Err NotThere
 unfoldable pub word_at : List ℕ → Result (List ℕ × List ℕ) Unreadable
 word_at cs = do
   rest ← token_at 32 (after (passes Word) cs)
-  Ok (text (front_of (passes Word) cs), rest)
+  Ok (text (prefix_of (passes Word) cs), rest)
 
 -- the word of a purpose, a space and an at sign
 unfoldable pub purpose_at : List ℕ → Result (Option CitePurpose × List ℕ) Unreadable
@@ -51,7 +51,7 @@ purpose_at cs = do
   rest ← token_at 64 word.1
   Ok (Some purpose, rest)
 
--- an at sign, or a purpose in front of it
+-- an at sign, or a purpose before it
 abbrev pub purpose_if_no_sign : Bool × List ℕ → Result (Option CitePurpose × List ℕ) Unreadable
 purpose_if_no_sign (true, rest) = Ok (None, rest)
 purpose_if_no_sign (false, rest) = purpose_at rest
@@ -71,7 +71,7 @@ unfoldable pub locator_at : List ℕ → Result (Option CiteLocator × List ℕ)
 locator_at cs = do
   word ← word_at cs
   label ← ok_or (label_of word.0) NotThere
-  value ← passing (is_value (text (front_of (passes Value) word.1))) (front_of (passes Value) word.1)
+  value ← passing (is_value (text (prefix_of (passes Value) word.1))) (prefix_of (passes Value) word.1)
   Ok (Some (record { label = label; value = value }), after (passes Value) word.1)
 
 -- a locator after a space, or none
@@ -83,7 +83,7 @@ locator_if_space (false, rest) = Ok (None, rest)
 unfoldable pub cite_at : List ℕ → Result (Cite × List ℕ) Unreadable
 cite_at cs = do
   beginning ← beginning_at cs
-  name ← passing (is_filled (front_of (passes Name) beginning.1)) (front_of (passes Name) beginning.1)
+  name ← passing (is_filled (prefix_of (passes Name) beginning.1)) (prefix_of (passes Name) beginning.1)
   locator ← locator_if_space (taken 32 (after (passes Name) beginning.1))
   Ok (record { name = name; hidden = beginning.0.hidden; purpose = beginning.0.purpose; locator = locator.0 }, locator.1)
 

@@ -18,25 +18,25 @@ use Rattle.cite_markers.specs.declared.error.Stop.TheVariants as stops
 use Rattle.cite_markers.specs.declared.error.DocumentError.{DocumentError}
 use Rattle.cite_markers.specs.declared.error.DocumentError.TheVariants as errors
 
-abbrev pub beginning : Beginning → marker.Beginning
-beginning b = record { hidden = b.hidden; purpose = b.purpose }
+abbrev pub beginning_view : Beginning → marker.Beginning
+beginning_view b = record { hidden = b.hidden; purpose = b.purpose }
 
-abbrev pub locator : CiteLocator → marker.CiteLocator
-locator l = record { label = l.label; value = spelled l.value }
+abbrev pub locator_view : CiteLocator → marker.CiteLocator
+locator_view l = record { label = l.label; value = spelled l.value }
 
-abbrev pub cite : Cite → marker.Cite
-cite c = record { name = spelled c.name; hidden = c.hidden; purpose = c.purpose; locator = option_map locator c.locator }
+abbrev pub cite_view : Cite → marker.Cite
+cite_view c = record { name = spelled c.name; hidden = c.hidden; purpose = c.purpose; locator = option_map locator_view c.locator }
 
-abbrev pub cites : Vec Cite Global → List marker.Cite
-cites v = map cite v.items
+abbrev pub cites_view : Vec Cite Global → List marker.Cite
+cites_view v = map cite_view v.items
 
-abbrev pub piece : Piece → document.Piece
-piece (pieces.Text t) = document.Text (spelled t)
-piece (pieces.Marker v) = document.Marker (cites v)
+abbrev pub piece_view : Piece → document.Piece
+piece_view (pieces.Text t) = document.Text (spelled t)
+piece_view (pieces.Marker v) = document.Marker (cites_view v)
 
 -- the pieces of a document
-abbrev pub pieces_of : Document → List document.Piece
-pieces_of d = map piece d.pieces.items
+abbrev pub document_view : Document → List document.Piece
+document_view d = map piece_view d.pieces.items
 
 -- why reading stopped, but for want of memory
 abbrev pub not_there : Stop → Option Unreadable
@@ -45,11 +45,11 @@ not_there stops.NotThere = Some NotThere
 
 -- The next piece, or none at the end, and what is left are what a step gives; what is left at a fault is the fault.
 abbrev pub Finds : Result (Option Piece) Stop → List ℕ → document.Step → Type 0
-Finds (Ok next) rest step = step ≡ Ok (option_map piece next, rest)
+Finds (Ok next) rest step = step ≡ Ok (option_map piece_view next, rest)
 Finds (Err stops.Memory) rest step = Unit {0}
 Finds (Err stops.NotThere) rest step = step ≡ Err rest
 
--- the place of an opening that no marker follows, or none where memory ran out
-abbrev pub place : DocumentError → Option ℕ
-place errors.Memory = None
-place (errors.Marker offset) = Some offset
+-- the offset of an opening that no marker follows, or none where memory ran out
+abbrev pub fault_offset : DocumentError → Option ℕ
+fault_offset errors.Memory = None
+fault_offset (errors.Marker offset) = Some offset

@@ -1,7 +1,7 @@
 //! Classes of characters in a marker.
 
 ghost use Rattle.std.specs.Prelude.{◌≡◌};
-ghost use Rattle.laws.specs.Runs.{front_of, after};
+ghost use Rattle.laws.specs.Runs.{prefix_of, after};
 ghost use Rattle.laws.specs.Text.{spelled};
 ghost use Rattle.texts.specs.Views.{left};
 ghost use Rattle.cite_markers.specs.Character.{passes};
@@ -34,10 +34,10 @@ impl CharacterClass for Class {
 
 /// The longest run of the class that stands here.
 pub(crate) fn run<'s>(reader: &mut Reader<'s>, class: Class) -> &'s str
-    ensures front { spelled result ≡ front_of (passes class) (left reader.old) }
+    ensures prefix { spelled result ≡ prefix_of (passes class) (left reader.old) }
     ensures rest { left reader.new ≡ after (passes class) (left reader.old) }
 {
-    let (front, rest) = split_run(reader.rest, class);
+    let (prefix, rest) = split_run(reader.rest, class);
     reader.rest = rest;
-    front
+    prefix
 }

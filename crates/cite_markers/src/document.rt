@@ -6,8 +6,8 @@ ghost use Rattle.std.specs.Str.{chars};
 ghost use Rattle.laws.specs.Results.{Gives};
 ghost use Rattle.laws.specs.Text.{spelled, text as text_of};
 ghost use Rattle.texts.specs.Views.{left};
-ghost use Rattle.cite_markers.specs.Document.{escaped, is_mark, may_begin_mark, front_text, after_text, text_at, piece_at, document_of};
-ghost use Rattle.cite_markers.specs.Views.{piece, pieces_of, Finds, place};
+ghost use Rattle.cite_markers.specs.Document.{escaped, is_mark, may_begin_mark, prefix_text, after_text, text_at, piece_at, document_of};
+ghost use Rattle.cite_markers.specs.Views.{piece_view, document_view, Finds, fault_offset};
 
 use crate::error::{DocumentError, Stop};
 use crate::marker::{Cite, is_opening, read_marker};
@@ -33,9 +33,9 @@ impl<'s> Document<'s> {
     /// Reads a document.
     ///
     /// # Errors
-    /// `Marker` with the place of the first opening that no marker follows; `Memory` where a request for memory was refused.
+    /// `Marker` with the offset of the first opening that no marker follows; `Memory` where a request for memory was refused.
     pub fn parse(alloc: Global, text: &'s str) -> Result<Document<'s>, DocumentError>
-        ensures { Gives place pieces_of result (document_of (chars text.now)) }
+        ensures { Gives fault_offset document_view result (document_of (chars text.now)) }
     {
         let mut reader = Reader::new(text);
         let mut pieces = Vec::new(alloc);
@@ -82,26 +82,26 @@ fn next_piece<'s>(alloc: Global, reader: &mut Reader<'s>) -> Result<Option<Piece
 
 /// The text piece that stands here, or none at the end of the text.
 fn read_text<'s>(reader: &mut Reader<'s>) -> Option<Piece<'s>>
-    ensures { text_at (left reader.old) ≡ Ok (option_map piece result, left reader.new) }
+    ensures { text_at (left reader.old) ≡ Ok (option_map piece_view result, left reader.new) }
 {
     if !has_text(reader.rest) {
         return None;
     }
-    let (front, rest) = split_front(reader.rest);
+    let (prefix, rest) = split_prefix(reader.rest);
     reader.rest = rest;
-    Some(Piece::Text(front))
+    Some(Piece::Text(prefix))
 }
 
 /// The first character and the plain ones after it, and what follows them.
-fn split_front(text: &str) -> (&str, &str)
-    ensures front { spelled result.0 ≡ front_text (chars text.now) }
+fn split_prefix(text: &str) -> (&str, &str)
+    ensures prefix { spelled result.0 ≡ prefix_text (chars text.now) }
     ensures rest { spelled result.1 ≡ after_text (chars text.now) }
 {
     for (i, c) in text.char_indices() {
         if may_begin_mark(c) {
-            let (front, rest) = text.split_at(i);
-            if ends_front(i, rest) {
-                return (front, rest);
+            let (prefix, rest) = text.split_at(i);
+            if ends_prefix(i, rest) {
+                return (prefix, rest);
             }
         }
     }
@@ -117,7 +117,7 @@ fn may_begin_mark(c: char) -> bool
 }
 
 /// Whether a text that has so many bytes ends before what follows it.
-fn ends_front(len: usize, rest: &str) -> bool
+fn ends_prefix(len: usize, rest: &str) -> bool
     ensures { result ≡ nat_lt 0 len && is_mark (chars rest.now) }
 {
     len > 0 && is_mark(rest)

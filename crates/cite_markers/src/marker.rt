@@ -9,7 +9,7 @@ ghost use Rattle.texts.specs.Reading.{taken};
 ghost use Rattle.texts.specs.Views.{left};
 ghost use Rattle.cite_markers.specs.Marker.{word_at, purpose_at, purpose_if_no_sign, beginning_at, is_value, locator_at, locator_if_space, cite_at, further_cite_at, next_cite_at, cites_at, marker_at, opening_at};
 ghost use Rattle.cite_markers.specs.Document.{is_opening};
-ghost use Rattle.cite_markers.specs.Views.{beginning, locator, cite, cites, not_there};
+ghost use Rattle.cite_markers.specs.Views.{beginning_view, locator_view, cite_view, cites_view, not_there};
 
 use crate::class::{Class, run};
 use crate::error::Stop;
@@ -40,7 +40,7 @@ pub struct Cite<'s> {
     pub locator: Option<CiteLocator<'s>>,
 }
 
-/// What stands in front of a name.
+/// What stands before a name.
 #[derive(Clone, Copy)]
 pub(crate) struct Beginning {
     hidden: bool,
@@ -60,7 +60,8 @@ fn read_word<'s>(reader: &mut Reader<'s>) -> Result<&'s str, Unreadable>
 /// An at sign, or the word of a purpose, a space and an at sign.
 #[tactic(auto, unfolding(crate::specs::Marker::purpose_at))]
 fn read_purpose(reader: &mut Reader<'_>) -> Result<Option<CitePurpose>, Unreadable>
-    ensures { Reads (λ p. p) result (left reader.new) (purpose_if_no_sign (taken 64 (left reader.old))) }
+    ensures { Reads (λ p. p) result (left reader.new)
+        (purpose_if_no_sign (taken 64 (left reader.old))) }
 {
     if reader.take('@') {
         return Ok(None);
@@ -73,7 +74,7 @@ fn read_purpose(reader: &mut Reader<'_>) -> Result<Option<CitePurpose>, Unreadab
 /// The beginning of a cite, through its at sign.
 #[tactic(auto, unfolding(crate::specs::Marker::beginning_at))]
 fn read_beginning(reader: &mut Reader<'_>) -> Result<Beginning, Unreadable>
-    ensures { Reads beginning result (left reader.new) (beginning_at (left reader.old)) }
+    ensures { Reads beginning_view result (left reader.new) (beginning_at (left reader.old)) }
 {
     let hidden = reader.take('-');
     let purpose = read_purpose(reader)?;
@@ -91,7 +92,8 @@ fn is_value(value: &str) -> bool
 /// A label, a space and a value.
 #[tactic(auto, unfolding(crate::specs::Marker::locator_at))]
 fn read_locator<'s>(reader: &mut Reader<'s>) -> Result<CiteLocator<'s>, Unreadable>
-    ensures { Reads (λ l. Some (locator l)) result (left reader.new) (locator_at (left reader.old)) }
+    ensures { Reads (λ l. Some (locator_view l)) result
+        (left reader.new) (locator_at (left reader.old)) }
 {
     let label = label_of(read_word(reader)?).ok_or(Unreadable::NotThere)?;
     let value = run(reader, Class::Value);
@@ -103,7 +105,8 @@ fn read_locator<'s>(reader: &mut Reader<'s>) -> Result<CiteLocator<'s>, Unreadab
 
 /// A locator after a space, or none.
 fn read_optional_locator<'s>(reader: &mut Reader<'s>) -> Result<Option<CiteLocator<'s>>, Unreadable>
-    ensures { Reads (option_map locator) result (left reader.new) (locator_if_space (taken 32 (left reader.old))) }
+    ensures { Reads (option_map locator_view) result (left reader.new)
+        (locator_if_space (taken 32 (left reader.old))) }
 {
     if !reader.take(' ') {
         return Ok(None);
@@ -114,7 +117,7 @@ fn read_optional_locator<'s>(reader: &mut Reader<'s>) -> Result<Option<CiteLocat
 /// A cite.
 #[tactic(auto, unfolding(crate::specs::Marker::cite_at))]
 fn read_cite<'s>(reader: &mut Reader<'s>) -> Result<Cite<'s>, Unreadable>
-    ensures { Reads cite result (left reader.new) (cite_at (left reader.old)) }
+    ensures { Reads cite_view result (left reader.new) (cite_at (left reader.old)) }
 {
     let Beginning { hidden, purpose } = read_beginning(reader)?;
     let name = run(reader, Class::Name);
@@ -133,7 +136,8 @@ fn read_cite<'s>(reader: &mut Reader<'s>) -> Result<Cite<'s>, Unreadable>
 /// A further cite after a semicolon and a space, or none where no semicolon stands.
 #[tactic(auto, unfolding(crate::specs::Marker::next_cite_at, crate::specs::Marker::further_cite_at))]
 fn read_next_cite<'s>(reader: &mut Reader<'s>) -> Result<Option<Cite<'s>>, Unreadable>
-    ensures { Reads (option_map cite) result (left reader.new) (next_cite_at (left reader.old)) }
+    ensures { Reads (option_map cite_view) result
+        (left reader.new) (next_cite_at (left reader.old)) }
 {
     if !reader.take(';') {
         return Ok(None);
@@ -145,7 +149,7 @@ fn read_next_cite<'s>(reader: &mut Reader<'s>) -> Result<Option<Cite<'s>>, Unrea
 /// One cite or more.
 #[tactic(auto, unfolding(crate::specs::Marker::cites_at))]
 fn read_cites<'s>(alloc: Global, reader: &mut Reader<'s>) -> Result<Vec<Cite<'s>>, Stop>
-    ensures { GivesRest not_there cites result (left reader.new) (cites_at (left reader.old)) }
+    ensures { GivesRest not_there cites_view result (left reader.new) (cites_at (left reader.old)) }
 {
     let mut cites = Vec::new(alloc);
     cites.push(read_cite(reader)?)?;
@@ -158,7 +162,8 @@ fn read_cites<'s>(alloc: Global, reader: &mut Reader<'s>) -> Result<Vec<Cite<'s>
 /// The cites of a marker, between its brackets.
 #[tactic(auto, unfolding(crate::specs::Marker::marker_at))]
 pub(crate) fn read_marker<'s>(alloc: Global, reader: &mut Reader<'s>) -> Result<Vec<Cite<'s>>, Stop>
-    ensures { GivesRest not_there cites result (left reader.new) (marker_at (left reader.old)) }
+    ensures { GivesRest not_there cites_view result
+        (left reader.new) (marker_at (left reader.old)) }
 {
     reader.expect('[')?;
     let cites = read_cites(alloc, reader)?;
@@ -169,13 +174,13 @@ pub(crate) fn read_marker<'s>(alloc: Global, reader: &mut Reader<'s>) -> Result<
 /// A bracket and the beginning of a cite.
 #[tactic(auto, unfolding(crate::specs::Marker::opening_at))]
 fn read_opening(reader: &mut Reader<'_>) -> Result<Beginning, Unreadable>
-    ensures { Reads beginning result (left reader.new) (opening_at (left reader.old)) }
+    ensures { Reads beginning_view result (left reader.new) (opening_at (left reader.old)) }
 {
     reader.expect('[')?;
     read_beginning(reader)
 }
 
-/// Whether an opening stands at the beginning of the text.
+/// Whether an opening stands at the start of the text.
 #[tactic(auto, unfolding(crate::specs::Document::is_opening))]
 pub(crate) fn is_opening(text: &str) -> bool
     ensures { result ≡ is_opening (chars text.now) }

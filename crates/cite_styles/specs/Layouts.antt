@@ -1,4 +1,4 @@
--- Layouts, citations and bibliographies of which little is said.
+-- Layouts, citations and bibliographies for which little is specified.
 use Rattle.std.specs.Prelude.{ℕ, false, List, [], ◌∷◌, Option, Some, None, codes, pos}
 use Rattle.rendering_style.specs.Nodes.{Node}
 use Rattle.rendering_style.specs.Options.{open_options}
@@ -21,7 +21,7 @@ sentence xs = record (plain_layout xs) { suffix = Some (codes ".") }
 abbrev pub bracketed : List ℕ → List ℕ → List ℕ → Node → Layout
 bracketed opening closing delimiter x = record (plain_layout (x ∷ [])) { prefix = Some opening; suffix = Some closing; delimiter = Some delimiter }
 
--- cites that nothing tells apart and nothing collapses
+-- cites that are not disambiguated and not collapsed
 abbrev pub plain_citation : Layout → Citation
 plain_citation l = record {
   layout = l;

@@ -23,11 +23,11 @@ use Rattle.rendering_taxonomy.specs.declared.variable.StandardVariable.TheVarian
 use Rattle.rendering_taxonomy.specs.declared.variable.Variable.{Variable}
 use Rattle.rendering_taxonomy.specs.declared.variable.Variable.TheVariants as variables
 
--- a look of which nothing is said
+-- a look for which nothing is specified
 abbrev pub plain_look : Look
 plain_look = record { formatting = unchanged; prefix = []; suffix = []; display = None }
 
--- a text of whose look nothing is said
+-- a text for whose look nothing is specified
 abbrev pub plain_text : TextLook
 plain_text = record { look = plain_look; quotes = false; strips_periods = false }
 
@@ -55,7 +55,7 @@ item_number = citation_number (record plain_look { prefix = codes "["; suffix = 
 abbrev pub title : Node
 title = answer (variables.Standard texts.Title) plain_text
 
--- the word for a cite of the same place
+-- the word for a cite with the same locator
 abbrev pub ibid : Node
 ibid = leaf (text (of_term (terms.Other words.Ibid) term_forms.Long false) plain_text)
 

@@ -25,7 +25,7 @@ numeric_entry = grouped (codes ". ") (authors ∷ title ∷ source ∷ year ∷ 
 unfoldable pub numeric_item : List Node
 numeric_item = item_number ∷ numeric_entry ∷ []
 
--- cites stand in square brackets, and numbers in a row are collapsed
+-- cites stand in square brackets, and numbers one after the other are collapsed
 unfoldable pub numeric_citation : Citation
 numeric_citation = record (plain_citation (bracketed (codes "[") (codes "]") (codes ", ") numeric_cite)) { collapse = Some collapses.CitationNumber }
 
@@ -49,7 +49,7 @@ author_date_cite = grouped (codes ", ") (author_year ∷ locator ∷ [])
 unfoldable pub author_date_item : Node
 author_date_item = grouped (codes ". ") (authors ∷ year ∷ title ∷ source ∷ [])
 
--- cites stand in round brackets; names, given names and letters after the year tell like ones apart
+-- cites stand in round brackets; names, given names and year suffixes disambiguate like ones
 unfoldable pub author_date_citation : Citation
 author_date_citation =
     record (plain_citation (bracketed (codes "(") (codes ")") (codes "; ") author_date_cite)) { add_names = true; add_givenname = true; add_year_suffix = true }

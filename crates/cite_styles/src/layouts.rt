@@ -1,11 +1,11 @@
-//! Layouts, citations and bibliographies of which little is said, and styles of them.
+//! Layouts, citations and bibliographies for which little is specified, and styles of them.
 
 ghost use Rattle.std.specs.Prelude.{◌≡◌, [], ◌∷◌, true, IfOk, map, None};
 ghost use Rattle.std.specs.Option.{option_map};
 ghost use Rattle.std.specs.Str.{chars};
 ghost use Rattle.rendering_style.specs.Opening.{IsAnswer};
-ghost use Rattle.rendering_style.specs.StyleViews.{style_seen};
-ghost use Rattle.rendering_style.specs.Views.{node_seen, layout_seen, citation_seen, bibliography_seen, parts_seen};
+ghost use Rattle.rendering_style.specs.StyleViews.{style_view};
+ghost use Rattle.rendering_style.specs.Views.{node_view, layout_view, citation_layout_view, bibliography_layout_view, style_parts_view};
 ghost use Rattle.cite_styles.specs.Layouts.{plain_layout, sentence, bracketed, plain_citation, plain_bibliography, style_of};
 
 use rendering_style::{
@@ -21,7 +21,7 @@ use texts::owned;
 
 /// Nodes with nothing round them.
 fn plain_layout(nodes: Vec<Node>) -> Layout
-    ensures { layout_seen result ≡ plain_layout (map node_seen nodes.items) }
+    ensures { layout_view result ≡ plain_layout (map node_view nodes.items) }
 {
     Layout {
         nodes,
@@ -35,7 +35,7 @@ fn plain_layout(nodes: Vec<Node>) -> Layout
 /// Nodes with a full stop after them.
 #[tactic(auto, using(crate::proofs::Literals::full_stop))]
 pub(crate) fn sentence(alloc: Global, nodes: Vec<Node>) -> Result<Layout, AllocError>
-    ensures { IfOk result (λ l. layout_seen l ≡ sentence (map node_seen nodes.items)) }
+    ensures { IfOk result (λ l. layout_view l ≡ sentence (map node_view nodes.items)) }
 {
     let suffix = owned(alloc, ".")?;
     Ok(Layout {
@@ -52,7 +52,8 @@ pub(crate) fn bracketed(
     delimiter: &str,
     node: Node,
 ) -> Result<Layout, AllocError>
-    ensures { IfOk result (λ l. layout_seen l ≡ bracketed (chars opening.now) (chars closing.now) (chars delimiter.now) (node_seen node)) }
+    ensures { IfOk result (λ l. layout_view l ≡ bracketed (chars opening.now)
+        (chars closing.now) (chars delimiter.now) (node_view node)) }
 {
     let nodes = vec![in alloc; node]?;
     let prefix = owned(alloc, opening)?;
@@ -66,9 +67,9 @@ pub(crate) fn bracketed(
     })
 }
 
-/// Cites that nothing tells apart and nothing collapses.
+/// Cites that are not disambiguated and not collapsed.
 pub(crate) fn plain_citation(layout: Layout) -> Citation
-    ensures { citation_seen result ≡ plain_citation (layout_seen layout) }
+    ensures { citation_layout_view result ≡ plain_citation (layout_view layout) }
 {
     Citation {
         layout,
@@ -87,7 +88,7 @@ pub(crate) fn plain_citation(layout: Layout) -> Citation
 
 /// Items without an indent, a line apart.
 pub(crate) fn plain_bibliography(layout: Layout) -> Bibliography
-    ensures { bibliography_seen result ≡ plain_bibliography (layout_seen layout) }
+    ensures { bibliography_layout_view result ≡ plain_bibliography (layout_view layout) }
 {
     let Some(line_spacing) = NonZeroI16::new(1) else {
         unreachable!()
@@ -112,7 +113,8 @@ pub(crate) fn style_of(
     citation: Citation,
     bibliography: Option<Bibliography>,
 ) -> Result<StyleParts, AllocError>
-    ensures { IfOk result (λ p. parts_seen p ≡ style_of class category (citation_seen citation) (option_map bibliography_seen bibliography)) }
+    ensures { IfOk result (λ p. style_parts_view p ≡ style_of class category
+        (citation_layout_view citation) (option_map bibliography_layout_view bibliography)) }
 {
     let categories = vec![in alloc; category]?;
     Ok(StyleParts {
@@ -129,8 +131,8 @@ pub(crate) fn style_of(
 
 /// The style of parts that are not refused.
 pub(crate) fn accepted(alloc: Global, parts: StyleParts) -> Result<Style, AllocError>
-    requires { IsAnswer (parts_seen parts) None }
-    ensures { IfOk result (λ s. style_seen s ≡ parts_seen parts) }
+    requires { IsAnswer (style_parts_view parts) None }
+    ensures { IfOk result (λ s. style_view s ≡ style_parts_view parts) }
 {
     match Style::new(alloc, parts) {
         Ok(style) => Ok(style),

@@ -2,8 +2,8 @@
 
 ghost use Rattle.std.specs.Prelude.{◌≡◌, IfOk, map};
 ghost use Rattle.std.specs.Str.{chars};
-ghost use Rattle.rendering_locale.specs.Views.{part_seen};
-ghost use Rattle.rendering_style.specs.Views.{look_seen, text_look_seen, node_seen};
+ghost use Rattle.rendering_locale.specs.Views.{part_view};
+ghost use Rattle.rendering_style.specs.Views.{look_view, text_look_view, node_view};
 ghost use Rattle.cite_styles.specs.Nodes.{plain_look, plain_text, italic_text, answer, grouped, citation_number, item_number, title, ibid, locator_label, locator, year_part, year, source};
 
 use rendering_locale::DatePart;
@@ -21,9 +21,9 @@ use texts::{empty_text, owned};
 /// The locator of a cite.
 const LOCATOR: Variable = Variable::Number(NumberVariable::Locator);
 
-/// A look of which nothing is said.
+/// A look for which nothing is specified.
 pub(crate) fn plain_look(alloc: Global) -> Look
-    ensures { look_seen result ≡ plain_look }
+    ensures { look_view result ≡ plain_look }
 {
     Look {
         formatting: FormattingChanges::default(),
@@ -33,9 +33,9 @@ pub(crate) fn plain_look(alloc: Global) -> Look
     }
 }
 
-/// A text of whose look nothing is said.
+/// A text for whose look nothing is specified.
 fn plain_text(alloc: Global) -> TextLook
-    ensures { text_look_seen result ≡ plain_text }
+    ensures { text_look_view result ≡ plain_text }
 {
     TextLook {
         look: plain_look(alloc),
@@ -46,7 +46,7 @@ fn plain_text(alloc: Global) -> TextLook
 
 /// A text in italics.
 fn italic_text(alloc: Global) -> TextLook
-    ensures { text_look_seen result ≡ italic_text }
+    ensures { text_look_view result ≡ italic_text }
 {
     let mut look = plain_text(alloc);
     look.look.formatting.font_style = Some(FontStyle::Italic);
@@ -55,7 +55,7 @@ fn italic_text(alloc: Global) -> TextLook
 
 /// The answer to a variable.
 fn answer(variable: Variable, look: TextLook) -> Node
-    ensures { node_seen result ≡ answer variable (text_look_seen look) }
+    ensures { node_view result ≡ answer variable (text_look_view look) }
 {
     Node::Text(Text {
         target: TextTarget::Variable(variable, LongShortForm::Long),
@@ -65,7 +65,7 @@ fn answer(variable: Variable, look: TextLook) -> Node
 
 /// The number of the entry among those cited.
 pub(crate) fn citation_number(look: Look) -> Node
-    ensures { node_seen result ≡ citation_number (look_seen look) }
+    ensures { node_view result ≡ citation_number (look_view look) }
 {
     Node::Number(Number {
         variable: Variable::Number(NumberVariable::CitationNumber),
@@ -77,7 +77,7 @@ pub(crate) fn citation_number(look: Look) -> Node
 /// The number of an item, in square brackets.
 #[tactic(auto, unfolding(crate::specs::Nodes::item_number), using(crate::proofs::Literals::open_square, crate::proofs::Literals::close_square_space))]
 pub(crate) fn item_number(alloc: Global) -> Result<Node, AllocError>
-    ensures { IfOk result (λ n. node_seen n ≡ item_number) }
+    ensures { IfOk result (λ n. node_view n ≡ item_number) }
 {
     let prefix = owned(alloc, "[")?;
     let suffix = owned(alloc, "] ")?;
@@ -90,7 +90,7 @@ pub(crate) fn item_number(alloc: Global) -> Result<Node, AllocError>
 
 /// The title.
 pub(crate) fn title(alloc: Global) -> Node
-    ensures { node_seen result ≡ title }
+    ensures { node_view result ≡ title }
 {
     answer(
         Variable::Standard(StandardVariable::Title),
@@ -98,9 +98,9 @@ pub(crate) fn title(alloc: Global) -> Node
     )
 }
 
-/// The word for a cite of the same place.
+/// The word for a cite with the same locator.
 pub(crate) fn ibid(alloc: Global) -> Node
-    ensures { node_seen result ≡ ibid }
+    ensures { node_view result ≡ ibid }
 {
     Node::Text(Text {
         target: TextTarget::Term(Term::Other(OtherTerm::Ibid), TermForm::Long, false),
@@ -110,7 +110,8 @@ pub(crate) fn ibid(alloc: Global) -> Node
 
 /// A group of nodes with a text between them.
 pub(crate) fn grouped(alloc: Global, delimiter: &str, nodes: Vec<Node>) -> Result<Node, AllocError>
-    ensures { IfOk result (λ n. node_seen n ≡ grouped (chars delimiter.now) (map node_seen nodes.items)) }
+    ensures { IfOk result (λ n. node_view n
+        ≡ grouped (chars delimiter.now) (map node_view nodes.items)) }
 {
     let delimiter = owned(alloc, delimiter)?;
     let group = Group {
@@ -122,7 +123,7 @@ pub(crate) fn grouped(alloc: Global, delimiter: &str, nodes: Vec<Node>) -> Resul
 
 /// The short term for the label of the locator.
 fn locator_label(alloc: Global) -> Node
-    ensures { node_seen result ≡ locator_label }
+    ensures { node_view result ≡ locator_label }
 {
     Node::Label(Label {
         variable: LOCATOR,
@@ -138,7 +139,7 @@ fn locator_label(alloc: Global) -> Node
 /// The locator after its label.
 #[tactic(auto, unfolding(crate::specs::Nodes::locator), using(crate::proofs::Literals::space))]
 pub(crate) fn locator(alloc: Global) -> Result<Node, AllocError>
-    ensures { IfOk result (λ n. node_seen n ≡ locator) }
+    ensures { IfOk result (λ n. node_view n ≡ locator) }
 {
     let nodes = vec![in alloc; locator_label(alloc), answer(LOCATOR, plain_text(alloc))]?;
     grouped(alloc, " ", nodes)
@@ -146,7 +147,7 @@ pub(crate) fn locator(alloc: Global) -> Result<Node, AllocError>
 
 /// The year of a date.
 fn year_part(alloc: Global) -> DatePart
-    ensures { part_seen result ≡ year_part }
+    ensures { part_view result ≡ year_part }
 {
     DatePart {
         form: DatePartForm::Year(LongShortForm::Long),
@@ -160,7 +161,7 @@ fn year_part(alloc: Global) -> DatePart
 /// The year in which the entry appeared.
 #[tactic(auto, unfolding(crate::specs::Nodes::year))]
 pub(crate) fn year(alloc: Global) -> Result<Node, AllocError>
-    ensures { IfOk result (λ n. node_seen n ≡ year) }
+    ensures { IfOk result (λ n. node_view n ≡ year) }
 {
     let own_parts = vec![in alloc; year_part(alloc)]?;
     Ok(Node::Date(Date {
@@ -176,7 +177,7 @@ pub(crate) fn year(alloc: Global) -> Result<Node, AllocError>
 /// Where the entry appeared: the work that it is in, the volume, the pages, and who published it.
 #[tactic(auto, unfolding(crate::specs::Nodes::source), using(crate::proofs::Literals::comma))]
 pub(crate) fn source(alloc: Global) -> Result<Node, AllocError>
-    ensures { IfOk result (λ n. node_seen n ≡ source) }
+    ensures { IfOk result (λ n. node_view n ≡ source) }
 {
     let nodes = vec![in alloc;
         answer(

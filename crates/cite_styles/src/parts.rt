@@ -2,7 +2,7 @@
 
 ghost use Rattle.std.specs.Prelude.{◌≡◌, IfOk, map};
 ghost use Rattle.std.specs.Str.{chars};
-ghost use Rattle.rendering_style.specs.Views.{node_seen};
+ghost use Rattle.rendering_style.specs.Views.{node_view};
 ghost use Rattle.cite_styles.specs.Nodes.{grouped};
 ghost use Rattle.cite_styles.specs.Parts.{part_node};
 
@@ -24,7 +24,7 @@ pub(crate) enum Part {
 
 /// The node of a part.
 fn part_node(alloc: Global, part: Part) -> Result<Node, AllocError>
-    ensures { IfOk result (λ n. node_seen n ≡ part_node part) }
+    ensures { IfOk result (λ n. node_view n ≡ part_node part) }
 {
     match part {
         Part::Authors => authors(alloc),
@@ -38,7 +38,7 @@ fn part_node(alloc: Global, part: Part) -> Result<Node, AllocError>
 
 /// The nodes of the parts.
 fn part_nodes(alloc: Global, parts: &[Part]) -> Result<Vec<Node>, AllocError>
-    ensures { IfOk result (λ v. map node_seen v.items ≡ map part_node parts.now) }
+    ensures { IfOk result (λ v. map node_view v.items ≡ map part_node parts.now) }
 {
     let mut nodes = Vec::new(alloc);
     for part in parts {
@@ -49,7 +49,8 @@ fn part_nodes(alloc: Global, parts: &[Part]) -> Result<Vec<Node>, AllocError>
 
 /// A group of the parts with a text between them.
 pub(crate) fn described(alloc: Global, delimiter: &str, parts: &[Part]) -> Result<Node, AllocError>
-    ensures { IfOk result (λ n. node_seen n ≡ grouped (chars delimiter.now) (map part_node parts.now)) }
+    ensures { IfOk result (λ n. node_view n
+        ≡ grouped (chars delimiter.now) (map part_node parts.now)) }
 {
     grouped(alloc, delimiter, part_nodes(alloc, parts)?)
 }

@@ -2,7 +2,7 @@
 
 ghost use Rattle.std.specs.Prelude.{◌≡◌, IfOk};
 ghost use Rattle.std.specs.Option.{option_map};
-ghost use Rattle.rendering_style.specs.Views.{options_seen, name_seen, names_seen, node_seen};
+ghost use Rattle.rendering_style.specs.Views.{options_view, name_look_view, names_node_view, node_view};
 ghost use Rattle.cite_styles.specs.Nodes.{name_with, people_of, editors, authors_by, authors, short_authors};
 
 use crate::nodes::plain_look;
@@ -13,7 +13,7 @@ use texts::empty_text;
 
 /// Single names with these options.
 fn name_with(alloc: Global, options: NameOptions) -> Name
-    ensures { name_seen result ≡ name_with (options_seen options) }
+    ensures { name_look_view result ≡ name_with (options_view options) }
 {
     Name {
         options,
@@ -25,7 +25,8 @@ fn name_with(alloc: Global, options: NameOptions) -> Name
 
 /// The people of a variable.
 fn people_of(alloc: Global, variable: NameVariable, name: Option<Name>) -> Result<Names, AllocError>
-    ensures { IfOk result (λ n. names_seen n ≡ people_of variable (option_map name_seen name)) }
+    ensures { IfOk result (λ n. names_node_view n
+        ≡ people_of variable (option_map name_look_view name)) }
 {
     let variables = vec![in alloc; variable]?;
     Ok(Names {
@@ -41,7 +42,7 @@ fn people_of(alloc: Global, variable: NameVariable, name: Option<Name>) -> Resul
 
 /// The editors.
 fn editors(alloc: Global) -> Result<Node, AllocError>
-    ensures { IfOk result (λ n. node_seen n ≡ editors) }
+    ensures { IfOk result (λ n. node_view n ≡ editors) }
 {
     let names = people_of(alloc, NameVariable::Editor, None)?;
     Ok(Node::Names(names, Vec::new(alloc)))
@@ -49,7 +50,7 @@ fn editors(alloc: Global) -> Result<Node, AllocError>
 
 /// The authors with options for their names, or else the editors with the same ones.
 fn authors_by(alloc: Global, options: NameOptions) -> Result<Node, AllocError>
-    ensures { IfOk result (λ n. node_seen n ≡ authors_by (options_seen options)) }
+    ensures { IfOk result (λ n. node_view n ≡ authors_by (options_view options)) }
 {
     let name = name_with(alloc, options);
     let names = people_of(alloc, NameVariable::Author, Some(name))?;
@@ -60,7 +61,7 @@ fn authors_by(alloc: Global, options: NameOptions) -> Result<Node, AllocError>
 /// The authors with their whole names.
 #[tactic(auto, unfolding(crate::specs::Nodes::authors))]
 pub(crate) fn authors(alloc: Global) -> Result<Node, AllocError>
-    ensures { IfOk result (λ n. node_seen n ≡ authors) }
+    ensures { IfOk result (λ n. node_view n ≡ authors) }
 {
     let options = NameOptions {
         and: Some(NameAnd::Text),
@@ -73,7 +74,7 @@ pub(crate) fn authors(alloc: Global) -> Result<Node, AllocError>
 /// The family names of the authors, or of four and more that of the first.
 #[tactic(auto, unfolding(crate::specs::Nodes::short_authors))]
 pub(crate) fn short_authors(alloc: Global) -> Result<Node, AllocError>
-    ensures { IfOk result (λ n. node_seen n ≡ short_authors) }
+    ensures { IfOk result (λ n. node_view n ≡ short_authors) }
 {
     let options = NameOptions {
         and: Some(NameAnd::Text),

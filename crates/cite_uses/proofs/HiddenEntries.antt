@@ -1,25 +1,25 @@
 -- What a driver is asked by the request of the code.
 use Rattle.std.proofs.Common.{◌≡◌, ℕ, Bool, List, [], ◌∷◌, map, None, refl, sym, ap, ◌∙◌, append-nil}
 use Rattle.std.specs.Borrow.{Bor}
-use Rattle.literature_entries.specs.Wholes.{whole}
+use Rattle.literature_entries.specs.Wholes.{entry_view}
 use Rattle.literature_entries.specs.declared.entry.Entry.{Entry}
 use Rattle.rendering_entries.specs.Answers.{Answers}
 use Rattle.rendering_entries.specs.Library.{answers_of}
 use Rattle.rendering_locale.specs.Locales.{Locale}
 use Rattle.rendering_style.specs.Styles.{Style}
-use Rattle.driver_requests.specs.CitedEntries.{place_among, places_among}
+use Rattle.driver_requests.specs.CitedEntries.{index_among, indices_among}
 use Rattle.driver_requests.specs.Requests.{Request}
-use Rattle.driver_requests.specs.Views.{Parts, context_of, entries_in, entry_of_item, item_from, lent, parts_of, request_by}
+use Rattle.driver_requests.specs.Views.{Parts, context_of, entries_in, entry_of_item, item_from, lent, parts_of, request_view}
 use Rattle.driver_requests.specs.declared.bibliography_request.BibliographyRequest.{BibliographyRequest}
 use Rattle.driver_requests.specs.declared.item.CitationItem.{CitationItem}
 use Rattle.driver_requests.specs.declared.request.CitationRequest.{CitationRequest}
 use Rattle.driver.proofs.Maps.{map_map}
-use Rattle.driver.specs.Views.{bibliography_context_of, document_by}
+use Rattle.driver.specs.Views.{bibliography_context_of, document_view}
 use Rattle.cite.specs.Requests.{OwnLocator}
 use Rattle.cite_uses.specs.Hidden.{context_in, hidden_document, hidden_parts, hidden_request}
 
 abbrev answers : Entry → Answers
-answers e = answers_of (whole e)
+answers e = answers_of (entry_view e)
 
 module _ (es : List (Bor Entry)) (is : List (CitationItem Entry OwnLocator)) (hidden : map parts_of is ≡ map (λ (e : Bor Entry). hidden_parts e.now) es) where
   -- what is made of the parts of items is made of the entries
@@ -40,21 +40,21 @@ module _ (same : Entry → Entry → Bool) (style : Style) (locale : Locale) (es
   cited : entries_in own ≡ lent es
   cited = ap entries_in one ∙ (append-nil (map entry_of_item request.items.items) ∙ entries_are es request.items.items hidden)
 
-  request_is : request_by (place_among same (lent es)) answers request ≡ hidden_request same (context_in style locale) (lent es)
+  request_is : request_view (index_among same (lent es)) answers request ≡ hidden_request same (context_in style locale) (lent es)
   request_is = λ i. record {
     context = context i;
     note_number = number i;
-    items = parts_are es request.items.items hidden (item_from (place_among same (lent es)) answers) i;
+    items = parts_are es request.items.items hidden (item_from (index_among same (lent es)) answers) i;
   }
 
-  requests_are : map (request_by (place_among same (entries_in own)) answers) own ≡ hidden_request same (context_in style locale) (lent es) ∷ []
-  requests_are = ap (λ (xs : List Entry). map (request_by (place_among same xs) answers) own) cited
-      ∙ (ap (map (request_by (place_among same (lent es)) answers)) one ∙ ap (λ (q : Request OwnLocator). q ∷ []) request_is)
+  requests_are : map (request_view (index_among same (entries_in own)) answers) own ≡ hidden_request same (context_in style locale) (lent es) ∷ []
+  requests_are = ap (λ (xs : List Entry). map (request_view (index_among same xs) answers) own) cited
+      ∙ (ap (map (request_view (index_among same (lent es)) answers)) one ∙ ap (λ (q : Request OwnLocator). q ∷ []) request_is)
 
-  pub asks : document_by same (λ e. answers_of (whole e)) own offset r ≡ hidden_document same style locale (lent es)
+  pub asks : document_view same (λ e. answers_of (entry_view e)) own offset r ≡ hidden_document same style locale (lent es)
   asks = λ i. record {
     requests = requests_are i;
     bibliography_context = listed i;
-    wanted = places_among same (entries_in own) (order i);
+    wanted = indices_among same (entries_in own) (order i);
     offset = none i;
   }

@@ -1,12 +1,12 @@
 -- A document in which entries are cited and nothing is printed of them but the bibliography.
 use Rattle.std.specs.Prelude.{Bool, true, List, [], ◌∷◌, map, None}
-use Rattle.literature_entries.specs.Wholes.{whole}
+use Rattle.literature_entries.specs.Wholes.{entry_view}
 use Rattle.literature_entries.specs.declared.entry.Entry.{Entry}
 use Rattle.rendering_context.specs.Contexts.{StyleContext}
 use Rattle.rendering_entries.specs.Library.{answers_of}
 use Rattle.rendering_locale.specs.Locales.{Locale}
 use Rattle.rendering_style.specs.Styles.{Style}
-use Rattle.driver_requests.specs.CitedEntries.{place_among}
+use Rattle.driver_requests.specs.CitedEntries.{index_among}
 use Rattle.driver_requests.specs.Requests.{Request}
 use Rattle.driver_requests.specs.Views.{Parts, item_from}
 use Rattle.driver.specs.Documents.{Document}
@@ -25,7 +25,7 @@ abbrev pub hidden_request : (Entry → Entry → Bool) → StyleContext → List
 hidden_request same context entries = record {
   context = context;
   note_number = None;
-  items = map (λ e. item_from (place_among same entries) (λ x. answers_of (whole x)) (hidden_parts e)) entries;
+  items = map (λ e. item_from (index_among same entries) (λ x. answers_of (entry_view x)) (hidden_parts e)) entries;
 }
 
 -- the document of that request

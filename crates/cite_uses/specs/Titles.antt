@@ -11,7 +11,7 @@ use Rattle.rendering_taxonomy.specs.declared.style.StyleClass.TheVariants.{InTex
 use Rattle.rendering_taxonomy.specs.declared.variable.StandardVariable.TheVariants.{Title}
 use Rattle.rendering_taxonomy.specs.declared.variable.Variable.TheVariants.{Standard}
 
--- a text of which nothing is said but the style of its font
+-- a text for which nothing is specified but the style of its font
 abbrev pub in_font : Option FontStyle → TextLook
 in_font style = record plain_text { look = record plain_look { formatting = record unchanged { font_style = style } } }
 
@@ -23,7 +23,7 @@ title_macro = record { name = codes "title"; nodes = answer (Standard Title) ita
 unfoldable pub title_layout : Layout
 title_layout = record (plain_layout (call (codes "title") plain_text ∷ [])) { delimiter = Some (codes ", ") }
 
--- the style: cites that nothing tells apart, and no bibliography
+-- the style: cites that are not disambiguated, and no bibliography
 unfoldable pub titles : Style
 titles = record {
   class = InText;

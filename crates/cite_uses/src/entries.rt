@@ -2,12 +2,12 @@
 
 ghost use Rattle.std.specs.Prelude.{◌≡◌, map, IfOk};
 ghost use Rattle.laws.specs.Results.{Gives};
-ghost use Rattle.rendering_locale.specs.Views.{locale_seen};
-ghost use Rattle.rendering_style.specs.StyleViews.{style_seen};
+ghost use Rattle.rendering_locale.specs.Views.{locale_view};
+ghost use Rattle.rendering_style.specs.StyleViews.{style_view};
 ghost use Rattle.driver_requests.specs.Errors.{overflow_of};
 ghost use Rattle.driver_requests.specs.Views.{lent, parts_of};
 ghost use Rattle.driver.specs.Finish.{finish};
-ghost use Rattle.driver.specs.RenderedViews.{rendered_by};
+ghost use Rattle.driver.specs.RenderedViews.{rendered_view};
 ghost use Rattle.cite.specs.Requests.{is_same_own};
 ghost use Rattle.cite_uses.specs.Hidden.{hidden_document, hidden_parts};
 
@@ -23,7 +23,7 @@ use std::slice;
 /// the citation of the request is empty.
 ///
 /// # Errors
-/// `Overflow` where a number or letters have no place; `Memory` where a request for memory was refused.
+/// `Overflow` where a number or letters are beyond the last; `Memory` where a request for memory was refused.
 pub fn bibliography_of<'x>(
     alloc: Global,
     entries: &[&'x Entry],
@@ -31,7 +31,9 @@ pub fn bibliography_of<'x>(
     locale: &'x Locale,
 ) -> Result<Rendered, DriverError>
     // It is what the driver's definition gives of the document in which these entries are hidden items.
-    ensures { Gives overflow_of rendered_by result (finish is_same_own (hidden_document ⟦<Entry as PartialEq>⟧.eq (style_seen style.now) (locale_seen locale.now) (lent entries.now))) }
+    ensures { Gives overflow_of rendered_view result
+        (finish is_same_own (hidden_document ⟦<Entry as PartialEq>⟧.eq
+        (style_view style.now) (locale_view locale.now) (lent entries.now))) }
 {
     let files = slice::from_ref(locale);
     let items = hidden_items(alloc, entries)?;

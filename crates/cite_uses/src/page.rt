@@ -52,9 +52,11 @@ pub fn cited_on_page(
     room: usize,
 ) -> Result<Vec<u8>, CiteError>
     // What stands on the page is exactly the output that is defined for this task.
-    ensures whole { IfOk result (λ bytes. IsVerdict bib.now (task_of document.now style.now locale.now [] Html) (Ok bytes.items)) }
+    ensures whole { IfOk result (λ bytes.
+        IsVerdict bib.now (task_of document.now style.now locale.now [] Html) (Ok bytes.items)) }
     // An error is the first refusal, with its fault, but for a failed write.
-    ensures refused { IfErr result (λ e. IsRefusalUnlessWrite e (IsVerdict bib.now (task_of document.now style.now locale.now [] Html))) }
+    ensures refused { IfErr result (λ e. IsRefusalUnlessWrite e
+        (IsVerdict bib.now (task_of document.now style.now locale.now [] Html))) }
 {
     let mut sink = Tap::new(Page {
         bytes: Vec::new(alloc),

@@ -2,8 +2,8 @@
 
 ghost use Rattle.std.specs.Prelude.{◌≡◌, IfOk};
 ghost use Rattle.cite_styles.specs.Layouts.{plain_citation};
-ghost use Rattle.rendering_style.specs.StyleViews.{style_seen};
-ghost use Rattle.rendering_style.specs.Views.{citation_seen, layout_seen, macro_seen, node_seen, parts_seen, text_seen};
+ghost use Rattle.rendering_style.specs.StyleViews.{style_view};
+ghost use Rattle.rendering_style.specs.Views.{citation_layout_view, layout_view, macro_view, node_view, style_parts_view, text_node_view};
 ghost use Rattle.cite_uses.specs.Titles.{in_font, title_layout, title_macro, titles};
 
 use rendering_style::{
@@ -22,7 +22,7 @@ use texts::{empty_text, owned};
 /// # Errors
 /// Out of memory. The style is never refused.
 pub fn titles(alloc: Global) -> Result<Style, AllocError>
-    ensures { IfOk result (λ s. style_seen s ≡ titles) }
+    ensures { IfOk result (λ s. style_view s ≡ titles) }
 {
     match Style::new(alloc, parts(alloc)?) {
         Ok(style) => Ok(style),
@@ -35,7 +35,7 @@ pub fn titles(alloc: Global) -> Result<Style, AllocError>
 /// What the style is made of.
 #[tactic(auto, unfolding(crate::specs::Titles::titles))]
 fn parts(alloc: Global) -> Result<StyleParts, AllocError>
-    ensures { IfOk result (λ p. parts_seen p ≡ titles) }
+    ensures { IfOk result (λ p. style_parts_view p ≡ titles) }
 {
     let macros = vec![in alloc; title_macro(alloc)?]?;
     let layout = title_layout(alloc)?;
@@ -54,7 +54,7 @@ fn parts(alloc: Global) -> Result<StyleParts, AllocError>
 /// The macro: the title, in italics.
 #[tactic(auto, unfolding(crate::specs::Titles::title_macro))]
 fn title_macro(alloc: Global) -> Result<Macro, AllocError>
-    ensures { IfOk result (λ m. macro_seen m ≡ title_macro) }
+    ensures { IfOk result (λ m. macro_view m ≡ title_macro) }
 {
     let title = Variable::Standard(StandardVariable::Title);
     let target = TextTarget::Variable(title, LongShortForm::Long);
@@ -66,7 +66,7 @@ fn title_macro(alloc: Global) -> Result<Macro, AllocError>
 /// A call of the macro for each cite, and commas between cites.
 #[tactic(auto, unfolding(crate::specs::Titles::title_layout), using(cite_styles::proofs::Literals::comma))]
 fn title_layout(alloc: Global) -> Result<Layout, AllocError>
-    ensures { IfOk result (λ l. layout_seen l ≡ title_layout) }
+    ensures { IfOk result (λ l. layout_view l ≡ title_layout) }
 {
     let target = TextTarget::Macro(owned(alloc, "title")?);
     let nodes = vec![in alloc; text(alloc, target, None)]?;
@@ -80,9 +80,9 @@ fn title_layout(alloc: Global) -> Result<Layout, AllocError>
     })
 }
 
-/// Cites that nothing tells apart and nothing collapses.
+/// Cites that are not disambiguated and not collapsed.
 fn citation(layout: Layout) -> Citation
-    ensures { citation_seen result ≡ plain_citation (layout_seen layout) }
+    ensures { citation_layout_view result ≡ plain_citation (layout_view layout) }
 {
     Citation {
         layout,
@@ -99,9 +99,9 @@ fn citation(layout: Layout) -> Citation
     }
 }
 
-/// A text of which nothing is said but the style of its font.
+/// A text for which nothing is specified but the style of its font.
 fn text(alloc: Global, target: TextTarget, font_style: Option<FontStyle>) -> Node
-    ensures { node_seen result ≡ text_seen target (in_font font_style) }
+    ensures { node_view result ≡ text_node_view target (in_font font_style) }
 {
     let formatting = FormattingChanges {
         font_style,

@@ -18,7 +18,7 @@ use Rattle.texts.specs.declared.character.Class.TheVariants.{Digit}
 use Rattle.texts.proofs.ReadingDigits.{own, digits_at-ok}
 use Rattle.texts.proofs.ReadingStarts.{Starts, starts, decimal_digits}
 
--- zeros in front change no number
+-- zeros before it change no number
 pub zeros_value : (k : ℕ) (ds : List ℕ) → digits_value 10 (replicate k 48 ++ ds) ≡ digits_value 10 ds
 zeros_value zero ds = refl
 zeros_value (suc k) ds = zeros_value k ds
@@ -46,7 +46,7 @@ digits_again least most n rest low long small fits bars =
     let few : length (padded most n) ≤ most = omega arith in
     let within : leb least (length (padded most n)) && leb (length (padded most n)) most ≡ true = and_from _ _ (le-leb _ _ some) (le-leb _ _ few) in
     let value : digits_value 10 (padded most n) ≡ n = zeros_value (most - length (decimal n)) (decimal n) ∙ digits_value-decimal own n (omega arith) in
-    digits_at-ok (padded most n) (padded most n ++ rest) least most (sym c.front) within ∙ (λ i. Ok ((ap (digits_value 10) c.front ∙ value) i, c.after i))
+    digits_at-ok (padded most n) (padded most n ++ rest) least most (sym c.prefix) within ∙ (λ i. Ok ((ap (digits_value 10) c.prefix ∙ value) i, c.after i))
 
 -- a part that was written is read back
 pub part_again : (n : ℕ) (rest : List ℕ) → n < 99 → Bars (passes Digit) rest → part_at (counted_text n ++ rest) ≡ Ok (Some (n + 1), rest)

@@ -18,7 +18,8 @@ pub fn write_year<W: fmt::Write>(year: i32, f: &mut fmt::Formatter<W>) -> fmt::R
 
 /// Writes a hyphen before a negative year.
 fn write_sign<W: fmt::Write>(year: i32, f: &mut fmt::Formatter<W>) -> fmt::Result
-    ensures { DisplaysOnOk W.write_str_gives f.old result (Some (text_of (sign_text (is_negative year)))) f.new }
+    ensures { DisplaysOnOk W.write_str_gives f.old result
+        (Some (text_of (sign_text (is_negative year)))) f.new }
 {
     if year < 0 {
         return f.write_str("-");
@@ -28,7 +29,8 @@ fn write_sign<W: fmt::Write>(year: i32, f: &mut fmt::Formatter<W>) -> fmt::Resul
 
 /// Writes a hyphen and a number that counts from zero, in two digits or more that count from one.
 pub fn write_counted<W: fmt::Write>(number: u8, f: &mut fmt::Formatter<W>) -> fmt::Result
-    ensures { DisplaysOnOk W.write_str_gives f.old result (Some (text_of (counted_text number))) f.new }
+    ensures { DisplaysOnOk W.write_str_gives f.old result
+        (Some (text_of (counted_text number))) f.new }
 {
     f.write_str("-")?;
     write_padded(u32::from(number) + 1, 2, f)
@@ -40,7 +42,8 @@ pub fn write_padded<W: fmt::Write>(
     width: usize,
     f: &mut fmt::Formatter<W>,
 ) -> fmt::Result
-    ensures { DisplaysOnOk W.write_str_gives f.old result (Some (text_of (padded width number))) f.new }
+    ensures { DisplaysOnOk W.write_str_gives f.old result
+        (Some (text_of (padded width number))) f.new }
 {
     write!(f, "{number:0width$}")
 }

@@ -6,9 +6,9 @@ use Rattle.rendering_style.specs.Styles.{Citation}
 use Rattle.rendering_taxonomy.specs.declared.style.Collapse.{Collapse}
 use Rattle.rendering_taxonomy.specs.declared.style.Collapse.TheVariants as collapses
 use Rattle.driver_blocks.specs.Blocks.{Gathered, blocks, gathered, gathered_at, gathers, inside_delimiter, is_of_block}
-use Rattle.driver_blocks.specs.Collapsing.{after_row, arranged, block_by, collapsed, continues, delimiter_after_collapsed, has_later, is_next_number, is_numbered, later, numbers_collapsed, suffixes_collapsed, uncollapsed, uncollapsed_block, with_previous_test, year_block, years_collapsed}
-use Rattle.driver_blocks.specs.Rows.{Arranged, collapsed_row, is_long, last_after_dash, rows_of}
-use Rattle.driver.proofs.ArrangedCount.{rows_all}
+use Rattle.driver_blocks.specs.Collapsing.{after_run, arranged, block_by, collapsed, continues, delimiter_after_collapsed, has_later, is_next_number, is_numbered, later, numbers_collapsed, suffixes_collapsed, uncollapsed, uncollapsed_block, with_previous_test, year_block, years_collapsed}
+use Rattle.driver_blocks.specs.Runs.{Arranged, collapsed_run, is_long, last_after_dash, runs_of}
+use Rattle.driver.proofs.ArrangedCount.{runs_all}
 use Rattle.driver.proofs.Members.{drop_all, either_all, enumerate_all, filter_all, flat_all, map_all, parts_all, weaker_all, zip_all}
 
 module _ {X : Type 0} (c : Citation) (P : Gathered X → Type 0) where
@@ -16,8 +16,8 @@ module _ {X : Type 0} (c : Citation) (P : Gathered X → Type 0) where
   abbrev pub IsOne : Arranged X → Type 0
   IsOne a = P a.cite × (a.cite.is_shown ≡ false → a.is_shown ≡ false)
 
-  rows_each : {A : Type 0} (Q : A → Type 0) (follows : A → A → Bool) (ys : List A) → AllByRecursion Q ys → AllByRecursion (AllByRecursion Q) (rows_of follows ys)
-  rows_each Q follows ys h = parts_all Q (rows_of follows ys) (subst (AllByRecursion Q) (sym (rows_all follows ys)) h)
+  runs_each : {A : Type 0} (Q : A → Type 0) (follows : A → A → Bool) (ys : List A) → AllByRecursion Q ys → AllByRecursion (AllByRecursion Q) (runs_of follows ys)
+  runs_each Q follows ys h = parts_all Q (runs_of follows ys) (subst (AllByRecursion Q) (sym (runs_all follows ys)) h)
 
   tested_each : {A : Type 0} (Q : A → Type 0) (test : List A → Bool) (xss : List (List A)) → AllByRecursion (AllByRecursion Q) xss → AllByRecursion (λ (p : Bool × List A). AllByRecursion Q p.1) (with_previous_test test xss)
   tested_each Q test xss h = zip_all (AllByRecursion Q) (false ∷ map test xss) xss h
@@ -27,25 +27,25 @@ module _ {X : Type 0} (c : Citation) (P : Gathered X → Type 0) where
   dashed_all (a ∷ []) h = h
   dashed_all (a ∷ b ∷ others) h = ((h.0.0, λ e. refl), dashed_all (b ∷ others) h.1)
 
-  row_all : (xs : List (Arranged X)) → AllByRecursion IsOne xs → AllByRecursion IsOne (collapsed_row xs)
-  row_all [] h = tt
-  row_all (a ∷ others) h = either_all IsOne (is_long (a ∷ others)) (a ∷ last_after_dash others) (a ∷ others) (h.0, dashed_all others h.1) h
+  run_all : (xs : List (Arranged X)) → AllByRecursion IsOne xs → AllByRecursion IsOne (collapsed_run xs)
+  run_all [] h = tt
+  run_all (a ∷ others) h = either_all IsOne (is_long (a ∷ others)) (a ∷ last_after_dash others) (a ∷ others) (h.0, dashed_all others h.1) h
 
-  after_all : (p : Bool × List (Arranged X)) → AllByRecursion IsOne p.1 → AllByRecursion IsOne (after_row c p)
+  after_all : (p : Bool × List (Arranged X)) → AllByRecursion IsOne p.1 → AllByRecursion IsOne (after_run c p)
   after_all (is_after, []) h = tt
   after_all (is_after, a ∷ others) h = either_all IsOne (is_after && is_numbered a) (record a { delimiter = delimiter_after_collapsed c } ∷ others) (a ∷ others) h h
 
   numbers_all : (xs : List (Arranged X)) → AllByRecursion IsOne xs → AllByRecursion IsOne (numbers_collapsed c xs)
   numbers_all xs h =
-      let rows = with_previous_test is_long (rows_of is_next_number xs) in
-      flat_all IsOne (λ r. collapsed_row (after_row c r)) rows
-      (weaker_all (λ (r : Bool × List (Arranged X)). AllByRecursion IsOne r.1) (λ r. AllByRecursion IsOne (collapsed_row (after_row c r))) (λ r g. row_all (after_row c r) (after_all r g)) rows
-      (tested_each IsOne is_long (rows_of is_next_number xs) (rows_each IsOne is_next_number xs h)))
+      let runs = with_previous_test is_long (runs_of is_next_number xs) in
+      flat_all IsOne (λ r. collapsed_run (after_run c r)) runs
+      (weaker_all (λ (r : Bool × List (Arranged X)). AllByRecursion IsOne r.1) (λ r. AllByRecursion IsOne (collapsed_run (after_run c r))) (λ r g. run_all (after_run c r) (after_all r g)) runs
+      (tested_each IsOne is_long (runs_of is_next_number xs) (runs_each IsOne is_next_number xs h)))
 
   suffixes_all : (xs : List (Arranged X)) → AllByRecursion IsOne xs → AllByRecursion IsOne (suffixes_collapsed xs)
   suffixes_all xs h =
-      flat_all IsOne collapsed_row (rows_of continues xs)
-      (weaker_all (AllByRecursion IsOne) (λ r. AllByRecursion IsOne (collapsed_row r)) row_all (rows_of continues xs) (rows_each IsOne continues xs h))
+      flat_all IsOne collapsed_run (runs_of continues xs)
+      (weaker_all (AllByRecursion IsOne) (λ r. AllByRecursion IsOne (collapsed_run r)) run_all (runs_of continues xs) (runs_each IsOne continues xs h))
 
   each_uncollapsed : (d : Option (List ℕ)) (xs : List (Gathered X)) → AllByRecursion P xs → AllByRecursion IsOne (map (uncollapsed d) xs)
   each_uncollapsed d xs h = map_all IsOne (uncollapsed d) xs (weaker_all P (λ x. IsOne (uncollapsed d x)) (λ x g. (g, λ e. e)) xs h)

@@ -7,8 +7,8 @@ use Rattle.rendering_style.specs.Styles.{Citation}
 use Rattle.rendering_taxonomy.specs.declared.style.Collapse.{Collapse}
 use Rattle.rendering_taxonomy.specs.declared.style.Collapse.TheVariants as collapses
 use Rattle.driver_blocks.specs.Blocks.{Gathered, blocks, gathered, gathers, inside_delimiter, is_of_block}
-use Rattle.driver_blocks.specs.Collapsing.{after_row, arranged, block_by, collapsed, continues, delimiter_after_collapsed, has_later, is_next_number, is_numbered, later, numbers_collapsed, suffixes_collapsed, uncollapsed, uncollapsed_block, with_previous_test, year_block}
-use Rattle.driver_blocks.specs.Rows.{Arranged, added_to_rows, collapsed_row, is_long, last_after_dash, rows_of}
+use Rattle.driver_blocks.specs.Collapsing.{after_run, arranged, block_by, collapsed, continues, delimiter_after_collapsed, has_later, is_next_number, is_numbered, later, numbers_collapsed, suffixes_collapsed, uncollapsed, uncollapsed_block, with_previous_test, year_block}
+use Rattle.driver_blocks.specs.Runs.{Arranged, added_to_runs, collapsed_run, is_long, last_after_dash, runs_of}
 use Rattle.driver_blocks.specs.Views.{put_in, takes}
 use Rattle.driver_blocks.proofs.GatheredSteps.{block-last}
 use Rattle.driver.specs.Stages.{flattened}
@@ -26,19 +26,19 @@ tested_each test b (xs ∷ xss) = ap (λ ys. xs ++ ys) (tested_each test (test x
 count_tested : {A B : Type 0} (v : B → ℕ) (w : A → ℕ) (test : List A → Bool) (g : Bool × List A → List B) → ((p : Bool × List A) → sum_by v (g p) ≡ sum_by w p.1) → (xss : List (List A)) → sum_by v (flat_map g (with_previous_test test xss)) ≡ sum_by w (flattened xss)
 count_tested v w test g e xss = count_each v w g (λ p. p.1) e (with_previous_test test xss) ∙ ap (sum_by w) (tested_each test false xss)
 
-added_all : {A : Type 0} (follows : A → A → Bool) (y : A) (rows : List (List A)) → flattened (added_to_rows follows y rows) ≡ y ∷ flattened rows
+added_all : {A : Type 0} (follows : A → A → Bool) (y : A) (runs : List (List A)) → flattened (added_to_runs follows y runs) ≡ y ∷ flattened runs
 added_all follows y [] = refl
-added_all follows y ([] ∷ rows) = refl
-added_all follows y ((z ∷ zs) ∷ rows) = by_value (follows y z)
+added_all follows y ([] ∷ runs) = refl
+added_all follows y ((z ∷ zs) ∷ runs) = by_value (follows y z)
   where
-    by_value : (b : Bool) → flattened (cond b ((y ∷ z ∷ zs) ∷ rows) ((y ∷ []) ∷ (z ∷ zs) ∷ rows)) ≡ y ∷ flattened ((z ∷ zs) ∷ rows)
+    by_value : (b : Bool) → flattened (cond b ((y ∷ z ∷ zs) ∷ runs) ((y ∷ []) ∷ (z ∷ zs) ∷ runs)) ≡ y ∷ flattened ((z ∷ zs) ∷ runs)
     by_value true = refl
     by_value false = refl
 
--- rows, one after the other, are the members that they are rows of
-pub rows_all : {A : Type 0} (follows : A → A → Bool) (ys : List A) → flattened (rows_of follows ys) ≡ ys
-rows_all follows [] = refl
-rows_all follows (y ∷ ys) = added_all follows y (rows_of follows ys) ∙ ap (λ zs. y ∷ zs) (rows_all follows ys)
+-- runs, one after the other, are the members that they are runs of
+pub runs_all : {A : Type 0} (follows : A → A → Bool) (ys : List A) → flattened (runs_of follows ys) ≡ ys
+runs_all follows [] = refl
+runs_all follows (y ∷ ys) = added_all follows y (runs_of follows ys) ∙ ap (λ zs. y ∷ zs) (runs_all follows ys)
 
 count_either : {A : Type 0} (w : A → ℕ) (b : Bool) (xs ys : List A) (n : ℕ) → sum_by w xs ≡ n → sum_by w ys ≡ n → sum_by w (cond b xs ys) ≡ n
 count_either w true xs ys n e f = e
@@ -72,12 +72,12 @@ module _ {X : Type 0} (c : Citation) (w : Gathered X → ℕ) where
   count_dash (a ∷ []) = refl
   count_dash (a ∷ b ∷ others) = count_cons weight weight (record a { is_shown = false }) a (last_after_dash (b ∷ others)) (b ∷ others) refl (count_dash (b ∷ others))
 
-  count_row : (xs : List (Arranged X)) → sum_by weight (collapsed_row xs) ≡ sum_by weight xs
-  count_row [] = refl
-  count_row (a ∷ others) =
+  count_run : (xs : List (Arranged X)) → sum_by weight (collapsed_run xs) ≡ sum_by weight xs
+  count_run [] = refl
+  count_run (a ∷ others) =
       count_either weight (is_long (a ∷ others)) (a ∷ last_after_dash others) (a ∷ others) (sum_by weight (a ∷ others)) (count_cons weight weight a a (last_after_dash others) others refl (count_dash others)) refl
 
-  count_after : (p : Bool × List (Arranged X)) → sum_by weight (after_row c p) ≡ sum_by weight p.1
+  count_after : (p : Bool × List (Arranged X)) → sum_by weight (after_run c p) ≡ sum_by weight p.1
   count_after (is_after, []) = refl
   count_after (is_after, a ∷ others) =
       let moved = record a { delimiter = delimiter_after_collapsed c } in
@@ -85,10 +85,10 @@ module _ {X : Type 0} (c : Citation) (w : Gathered X → ℕ) where
 
   count_numbers : (xs : List (Arranged X)) → sum_by weight (numbers_collapsed c xs) ≡ sum_by weight xs
   count_numbers xs =
-      count_tested weight weight is_long (λ r. collapsed_row (after_row c r)) (λ r. count_row (after_row c r) ∙ count_after r) (rows_of is_next_number xs) ∙ ap (sum_by weight) (rows_all is_next_number xs)
+      count_tested weight weight is_long (λ r. collapsed_run (after_run c r)) (λ r. count_run (after_run c r) ∙ count_after r) (runs_of is_next_number xs) ∙ ap (sum_by weight) (runs_all is_next_number xs)
 
   count_suffixes : (xs : List (Arranged X)) → sum_by weight (suffixes_collapsed xs) ≡ sum_by weight xs
-  count_suffixes xs = count_each weight weight collapsed_row (λ ys. ys) count_row (rows_of continues xs) ∙ ap (sum_by weight) (rows_all continues xs)
+  count_suffixes xs = count_each weight weight collapsed_run (λ ys. ys) count_run (runs_of continues xs) ∙ ap (sum_by weight) (runs_all continues xs)
 
   count_block : (xs : List (Gathered X)) → sum_by weight (uncollapsed_block c xs) ≡ sum_by w xs
   count_block [] = refl

@@ -7,8 +7,8 @@ use Rattle.rendering_style.specs.Styles.{Citation}
 use Rattle.rendering_taxonomy.specs.declared.style.Collapse.{Collapse}
 use Rattle.rendering_taxonomy.specs.declared.style.Collapse.TheVariants as collapses
 use Rattle.driver_blocks.specs.Blocks.{Gathered, blocks, gathered, gathered_at, gathers, inside_delimiter, is_of_block}
-use Rattle.driver_blocks.specs.Collapsing.{after_row, arranged, block_by, collapsed, continues, delimiter_after_collapsed, has_later, is_next_number, is_numbered, later, numbers_collapsed, suffixes_collapsed, uncollapsed, uncollapsed_block, with_previous_test, year_block, years_collapsed}
-use Rattle.driver_blocks.specs.Rows.{Arranged, added_to_rows, collapsed_row, is_long, last_after_dash, rows_of}
+use Rattle.driver_blocks.specs.Collapsing.{after_run, arranged, block_by, collapsed, continues, delimiter_after_collapsed, has_later, is_next_number, is_numbered, later, numbers_collapsed, suffixes_collapsed, uncollapsed, uncollapsed_block, with_previous_test, year_block, years_collapsed}
+use Rattle.driver_blocks.specs.Runs.{Arranged, added_to_runs, collapsed_run, is_long, last_after_dash, runs_of}
 use Rattle.driver.specs.Renaming.{arranged_as, gathered_as}
 use Rattle.driver.proofs.Maps.{any_map, enumerate_map, placed}
 
@@ -49,20 +49,20 @@ blocks_if : {A B : Type 0} (k : A → B) (b : Bool) (xs ys : List (List A)) (us 
 blocks_if k true xs ys us vs e f = e
 blocks_if k false xs ys us vs e f = f
 
--- members in rows
-added_if : {A B : Type 0} (k : A → B) (b : Bool) (y z : A) (zs : List A) (rows : List (List A))
-    → (if b then (k y ∷ k z ∷ map k zs) ∷ map (map k) rows else (k y ∷ []) ∷ (k z ∷ map k zs) ∷ map (map k) rows) ≡ map (map k) (if b then (y ∷ z ∷ zs) ∷ rows else (y ∷ []) ∷ (z ∷ zs) ∷ rows)
-added_if k true y z zs rows = refl
-added_if k false y z zs rows = refl
+-- members in runs
+added_if : {A B : Type 0} (k : A → B) (b : Bool) (y z : A) (zs : List A) (runs : List (List A))
+    → (if b then (k y ∷ k z ∷ map k zs) ∷ map (map k) runs else (k y ∷ []) ∷ (k z ∷ map k zs) ∷ map (map k) runs) ≡ map (map k) (if b then (y ∷ z ∷ zs) ∷ runs else (y ∷ []) ∷ (z ∷ zs) ∷ runs)
+added_if k true y z zs runs = refl
+added_if k false y z zs runs = refl
 
-added_renamed : {A B : Type 0} (k : A → B) (follows : B → B → Bool) (y : A) (rows : List (List A)) → added_to_rows follows (k y) (map (map k) rows) ≡ map (map k) (added_to_rows (λ x z. follows (k x) (k z)) y rows)
+added_renamed : {A B : Type 0} (k : A → B) (follows : B → B → Bool) (y : A) (runs : List (List A)) → added_to_runs follows (k y) (map (map k) runs) ≡ map (map k) (added_to_runs (λ x z. follows (k x) (k z)) y runs)
 added_renamed k follows y [] = refl
-added_renamed k follows y ([] ∷ rows) = refl
-added_renamed k follows y ((z ∷ zs) ∷ rows) = added_if k (follows (k y) (k z)) y z zs rows
+added_renamed k follows y ([] ∷ runs) = refl
+added_renamed k follows y ((z ∷ zs) ∷ runs) = added_if k (follows (k y) (k z)) y z zs runs
 
-rows_renamed : {A B : Type 0} (k : A → B) (follows : B → B → Bool) (ys : List A) → rows_of follows (map k ys) ≡ map (map k) (rows_of (λ x z. follows (k x) (k z)) ys)
-rows_renamed k follows [] = refl
-rows_renamed k follows (y ∷ ys) = ap (added_to_rows follows (k y)) (rows_renamed k follows ys) ∙ added_renamed k follows y (rows_of (λ x z. follows (k x) (k z)) ys)
+runs_renamed : {A B : Type 0} (k : A → B) (follows : B → B → Bool) (ys : List A) → runs_of follows (map k ys) ≡ map (map k) (runs_of (λ x z. follows (k x) (k z)) ys)
+runs_renamed k follows [] = refl
+runs_renamed k follows (y ∷ ys) = ap (added_to_runs follows (k y)) (runs_renamed k follows ys) ∙ added_renamed k follows y (runs_of (λ x z. follows (k x) (k z)) ys)
 
 -- a list with whether the one before it passed
 abbrev tested : {A B : Type 0} → (A → B) → Bool × List A → Bool × List B
@@ -90,34 +90,34 @@ module _ {X Y : Type 0} (f : X → Y) (c : Citation) where
   later_renamed : {A B : Type 0} (k : A → B) (xs : List A) → has_later (map k xs) ≡ has_later xs
   later_renamed k xs = ap (nat_le 2) (length-map xs k)
 
-  row_if : (b : Bool) (a : Arranged X) (xs ys : List (Arranged X)) (us : List (Arranged Y)) → us ≡ map (arranged_as f) xs
+  run_if : (b : Bool) (a : Arranged X) (xs ys : List (Arranged X)) (us : List (Arranged Y)) → us ≡ map (arranged_as f) xs
       → (if b then arranged_as f a ∷ us else arranged_as f a ∷ map (arranged_as f) ys) ≡ map (arranged_as f) (if b then a ∷ xs else a ∷ ys)
-  row_if true a xs ys us e = ap (λ zs. arranged_as f a ∷ zs) e
-  row_if false a xs ys us e = refl
+  run_if true a xs ys us e = ap (λ zs. arranged_as f a ∷ zs) e
+  run_if false a xs ys us e = refl
 
-  row_renamed : (xs : List (Arranged X)) → collapsed_row (map (arranged_as f) xs) ≡ map (arranged_as f) (collapsed_row xs)
-  row_renamed [] = refl
-  row_renamed (a ∷ others) =
+  run_renamed : (xs : List (Arranged X)) → collapsed_run (map (arranged_as f) xs) ≡ map (arranged_as f) (collapsed_run xs)
+  run_renamed [] = refl
+  run_renamed (a ∷ others) =
       ap (λ b. if b then arranged_as f a ∷ last_after_dash (map (arranged_as f) others) else arranged_as f a ∷ map (arranged_as f) others) (long_renamed (arranged_as f) (a ∷ others))
-      ∙ row_if (is_long (a ∷ others)) a (last_after_dash others) others (last_after_dash (map (arranged_as f) others)) (dashed_renamed others)
+      ∙ run_if (is_long (a ∷ others)) a (last_after_dash others) others (last_after_dash (map (arranged_as f) others)) (dashed_renamed others)
 
   after_if : (b : Bool) (a d : Arranged X) (others : List (Arranged X)) → (if b then arranged_as f a ∷ map (arranged_as f) others else arranged_as f d ∷ map (arranged_as f) others) ≡ map (arranged_as f) (if b then a ∷ others else d ∷ others)
   after_if true a d others = refl
   after_if false a d others = refl
 
-  after_renamed : (p : Bool × List (Arranged X)) → after_row c (tested (arranged_as f) p) ≡ map (arranged_as f) (after_row c p)
+  after_renamed : (p : Bool × List (Arranged X)) → after_run c (tested (arranged_as f) p) ≡ map (arranged_as f) (after_run c p)
   after_renamed (is_after, []) = refl
   after_renamed (is_after, a ∷ others) = after_if (is_after && is_numbered a) (record a { delimiter = delimiter_after_collapsed c }) a others
 
   numbers_renamed : (xs : List (Arranged X)) → numbers_collapsed c (map (arranged_as f) xs) ≡ map (arranged_as f) (numbers_collapsed c xs)
   numbers_renamed xs =
-      ap (λ rows. flat_map (λ r. collapsed_row (after_row c r)) (with_previous_test is_long rows)) (rows_renamed (arranged_as f) is_next_number xs)
-      ∙ ap (flat_map (λ r. collapsed_row (after_row c r))) (tests_renamed (arranged_as f) is_long is_long (long_renamed (arranged_as f)) (rows_of is_next_number xs))
-      ∙ flat_both (tested (arranged_as f)) (arranged_as f) (λ r. collapsed_row (after_row c r)) (λ r. collapsed_row (after_row c r)) (λ r. ap collapsed_row (after_renamed r) ∙ row_renamed (after_row c r))
-      (with_previous_test is_long (rows_of is_next_number xs))
+      ap (λ runs. flat_map (λ r. collapsed_run (after_run c r)) (with_previous_test is_long runs)) (runs_renamed (arranged_as f) is_next_number xs)
+      ∙ ap (flat_map (λ r. collapsed_run (after_run c r))) (tests_renamed (arranged_as f) is_long is_long (long_renamed (arranged_as f)) (runs_of is_next_number xs))
+      ∙ flat_both (tested (arranged_as f)) (arranged_as f) (λ r. collapsed_run (after_run c r)) (λ r. collapsed_run (after_run c r)) (λ r. ap collapsed_run (after_renamed r) ∙ run_renamed (after_run c r))
+      (with_previous_test is_long (runs_of is_next_number xs))
 
   suffixes_renamed : (xs : List (Arranged X)) → suffixes_collapsed (map (arranged_as f) xs) ≡ map (arranged_as f) (suffixes_collapsed xs)
-  suffixes_renamed xs = ap (flat_map collapsed_row) (rows_renamed (arranged_as f) continues xs) ∙ flat_both (map (arranged_as f)) (arranged_as f) collapsed_row collapsed_row row_renamed (rows_of continues xs)
+  suffixes_renamed xs = ap (flat_map collapsed_run) (runs_renamed (arranged_as f) continues xs) ∙ flat_both (map (arranged_as f)) (arranged_as f) collapsed_run collapsed_run run_renamed (runs_of continues xs)
 
   each_uncollapsed : (d : Option (List ℕ)) (xs : List (Gathered X)) → map (uncollapsed d) (map (gathered_as f) xs) ≡ map (arranged_as f) (map (uncollapsed d) xs)
   each_uncollapsed d [] = refl

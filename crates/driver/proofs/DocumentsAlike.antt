@@ -23,30 +23,30 @@ use Rattle.driver_requests.specs.Errors.{overflow}
 use Rattle.driver_requests.specs.Order.{cited, numbers_overflow}
 use Rattle.driver_requests.specs.Positions.{with_previous}
 use Rattle.driver_requests.specs.Requests.{Item, Request}
-use Rattle.driver_marks.specs.Marks.{suffixes_overflow}
-use Rattle.driver_marks.specs.Rounds.{Disambiguation, disambiguated}
+use Rattle.driver_disambiguation.specs.States.{suffixes_overflow}
+use Rattle.driver_disambiguation.specs.Rounds.{Disambiguation, disambiguated}
 use Rattle.driver_blocks.specs.Collapsing.{arranged}
-use Rattle.driver_blocks.specs.Rows.{Arranged}
+use Rattle.driver_blocks.specs.Runs.{Arranged}
 use Rattle.driver_bibliography.specs.Items.{items_of}
 use Rattle.driver.specs.Citations.{citation_of}
 use Rattle.driver.specs.Documents.{Document, document_with, item_with, order_in, request_with, requests_named}
 use Rattle.driver.specs.Finish.{citation_in, finish, is_final_of, item_of_cite, item_of_entry, item_properties, rendered_from, shown}
 use Rattle.driver.specs.Laws.{AlikeEntriesGiveOne}
 use Rattle.driver.specs.Renaming.{arranged_as, gathered_as}
-use Rattle.driver.specs.Stages.{Final, FirstPrint, arranged_for, candidate, cite_of, disambiguated_in, final, finals_in, first_print, first_print_of, first_prints_in, flattened, gathered_by, has_letter_date, has_purpose, located, mark_for, numbered_after, printed_at_last, printed_by, purpose_at_first}
+use Rattle.driver.specs.Stages.{Final, FirstPrint, arranged_for, candidate, cite_of, disambiguated_in, final, finals_in, first_print, first_print_of, first_prints_in, flattened, gathered_by, has_suffix_date, has_purpose, located, state_for, numbered_after, printed_at_last, printed_by, purpose_at_first}
 use Rattle.driver.proofs.ArrangedRenamed.{arranged_renamed}
 use Rattle.driver.proofs.DocumentsRenamed.{adds_same, cited_same, numbered_same, numbered_with, order_same, purpose_same}
-use Rattle.driver.proofs.FinalsOf.{finals_all, prints_all}
+use Rattle.driver.proofs.FinalPrintsOf.{finals_all, prints_all}
 use Rattle.driver.proofs.Maps.{after, both, flat_maps, map_map, map_same, maps_of_maps, maps_same, maps_turned, previous_map}
 use Rattle.driver.proofs.Members.{flat_all, map_all, previous_all, weaker_all}
 
--- what is named always, at its place
+-- what is named always, at its index
 nine_named : length always_named.variables ≡ 9
 nine_named = refl
 
--- the dates that make letters possible
-letters_alike : (x : StyleContext) (a b : Answers) → AreAlike (style_named x.style) a b → has_letter_date a ≡ has_letter_date b
-letters_alike x a b h =
+-- the dates that make year suffixes possible
+suffix_dates_alike : (x : StyleContext) (a b : Answers) → AreAlike (style_named x.style) a b → has_suffix_date a ≡ has_suffix_date b
+suffix_dates_alike x a b h =
     let always = first_alike always_named (joined_named _ (named_in_bibliography x.style x.style.bibliography)) a b h in
     let issued = always.variables (variables.Date date.Issued) (2, omega (arith, nine_named), refl) in
     let accessed = always.variables (variables.Date date.Accessed) (3, omega (arith, nine_named), refl) in
@@ -70,8 +70,8 @@ module _ {P : Type 0} (answers : ℕ → Answers) where
   abbrev pub final_with : Final P → Final P
   final_with f = record f { arranged = arranged_as first_with f.arranged }
 
-  printed_alike : (n : Numbered P) (mark : DisambiguateState) → IsAlike n.cite → printed_by (numbered_with answers n) mark ≡ printed_by n mark
-  printed_alike n mark h = sym (cites_alike n.cite.context n.cite.item.entry.answers (answers (entry_of n.cite)) (properties_of n mark) None (purpose_at_first n.cite.item.purpose) None h)
+  printed_alike : (n : Numbered P) (state : DisambiguateState) → IsAlike n.cite → printed_by (numbered_with answers n) state ≡ printed_by n state
+  printed_alike n state h = sym (cites_alike n.cite.context n.cite.item.entry.answers (answers (entry_of n.cite)) (properties_of n state) None (purpose_at_first n.cite.item.purpose) None h)
 
   first_alike_one : (n : Numbered P) → IsAlike n.cite → first_print (numbered_with answers n) ≡ first_with (first_print n)
   first_alike_one n h = λ k. record { numbered = numbered_with answers n; rendered = printed_alike n undisturbed h k }
@@ -82,8 +82,8 @@ module _ {P : Type 0} (answers : ℕ → Answers) where
 
   candidate_alike : (b : FirstPrint P) → OfAlike b → candidate (first_with b) ≡ candidate b
   candidate_alike b h =
-      let printed : (λ (mark : DisambiguateState). (printed_by (numbered_with answers b.numbered) mark).tree) ≡ (λ mark. (printed_by b.numbered mark).tree) = fun_ext (λ mark. ap (λ (r : purposes.Rendered). r.tree) (printed_alike b.numbered mark h)) in
-      let dates = sym (letters_alike b.numbered.cite.context b.numbered.cite.item.entry.answers (answers (entry_of b.numbered.cite)) h) in
+      let printed : (λ (state : DisambiguateState). (printed_by (numbered_with answers b.numbered) state).tree) ≡ (λ state. (printed_by b.numbered state).tree) = fun_ext (λ state. ap (λ (r : purposes.Rendered). r.tree) (printed_alike b.numbered state h)) in
+      let dates = sym (suffix_dates_alike b.numbered.cite.context b.numbered.cite.item.entry.answers (answers (entry_of b.numbered.cite)) h) in
       λ k. record {
         entry = entry_of b.numbered.cite;
         has_date = dates k;
@@ -95,7 +95,7 @@ module _ {P : Type 0} (answers : ℕ → Answers) where
 
   gathered_alike : (t : Disambiguation) (b : FirstPrint P) → OfAlike b → gathered_by t (first_with b) ≡ gathered_as first_with (gathered_by t b)
   gathered_alike t b h =
-      let tree : (printed_by (numbered_with answers b.numbered) (mark_for t b)).tree ≡ (printed_by b.numbered (mark_for t b)).tree = ap (λ (r : purposes.Rendered). r.tree) (printed_alike b.numbered (mark_for t b) h) in
+      let tree : (printed_by (numbered_with answers b.numbered) (state_for t b)).tree ≡ (printed_by b.numbered (state_for t b)).tree = ap (λ (r : purposes.Rendered). r.tree) (printed_alike b.numbered (state_for t b) h) in
       λ k. record {
         cite = first_with b;
         names = names_element (tree k);
@@ -105,8 +105,8 @@ module _ {P : Type 0} (answers : ℕ → Answers) where
         suffix = (gathered_by t b).suffix;
       }
 
-  row_alike : (t : Disambiguation) (p : Request P × List (FirstPrint P)) → AllByRecursion OfAlike p.1 → arranged_for t (both (request_with answers) (map first_with) p) ≡ map (arranged_as first_with) (arranged_for t p)
-  row_alike t (r, bs) h =
+  run_alike : (t : Disambiguation) (p : Request P × List (FirstPrint P)) → AllByRecursion OfAlike p.1 → arranged_for t (both (request_with answers) (map first_with) p) ≡ map (arranged_as first_with) (arranged_for t p)
+  run_alike t (r, bs) h =
       let c = r.context.style.citation in
       let gathered : map (gathered_by t) (map first_with bs) ≡ map (gathered_as first_with) (map (gathered_by t) bs) =
       map_map (gathered_by t) first_with bs
@@ -114,11 +114,11 @@ module _ {P : Type 0} (answers : ℕ → Answers) where
       ∙ sym (map_map (gathered_as first_with) (gathered_by t) bs) in
       (λ k. arranged c (purpose_same answers r k) (gathered k)) ∙ arranged_renamed first_with c (has_purpose r) (map (gathered_by t) bs)
 
-  rows_alike : (t : Disambiguation) (rs : List (Request P)) (bss : List (List (FirstPrint P))) → AllByRecursion (AllByRecursion OfAlike) bss
+  runs_alike : (t : Disambiguation) (rs : List (Request P)) (bss : List (List (FirstPrint P))) → AllByRecursion (AllByRecursion OfAlike) bss
       → map (arranged_for t) (zip (map (request_with answers) rs) (map (map first_with) bss)) ≡ map (map (arranged_as first_with)) (map (arranged_for t) (zip rs bss))
-  rows_alike t [] bss h = refl
-  rows_alike t (r ∷ rs) [] h = refl
-  rows_alike t (r ∷ rs) (bs ∷ bss) h = λ k. row_alike t (r, bs) h.0 k ∷ rows_alike t rs bss h.1 k
+  runs_alike t [] bss h = refl
+  runs_alike t (r ∷ rs) [] h = refl
+  runs_alike t (r ∷ rs) (bs ∷ bss) h = λ k. run_alike t (r, bs) h.0 k ∷ runs_alike t rs bss h.1 k
 
   final_alike : (same : P → P → Bool) (t : Disambiguation) (p : Option (Arranged (FirstPrint P)) × Arranged (FirstPrint P)) → final same t (after (arranged_as first_with) p) ≡ final_with (final same t p)
   final_alike same t (None, a) = refl
@@ -128,7 +128,7 @@ module _ {P : Type 0} (answers : ℕ → Answers) where
   finals_alike : (same : P → P → Bool) (t : Disambiguation) (rs : List (Request P)) (bss : List (List (FirstPrint P))) → AllByRecursion (AllByRecursion OfAlike) bss
       → map (map (final same t)) (with_previous None (map (arranged_for t) (zip (map (request_with answers) rs) (map (map first_with) bss)))) ≡ map (map final_with) (map (map (final same t)) (with_previous None (map (arranged_for t) (zip rs bss))))
   finals_alike same t rs bss h =
-      ap (λ xss. map (map (final same t)) (with_previous None xss)) (rows_alike t rs bss h)
+      ap (λ xss. map (map (final same t)) (with_previous None xss)) (runs_alike t rs bss h)
       ∙ ap (map (map (final same t))) (previous_map (arranged_as first_with) None (map (arranged_for t) (zip rs bss)))
       ∙ maps_turned (final same t) (after (arranged_as first_with)) final_with (final same t) (final_alike same t) (with_previous None (map (arranged_for t) (zip rs bss)))
 
@@ -172,14 +172,14 @@ module _ {P : Type 0} (answers : ℕ → Answers) where
     found_alike true f one other h e = item_alike f h
     found_alike false f one other h e = e
 
-    entry_alike : (fs : List (Final P)) (place : ℕ) → AllByRecursion (IsListedAlike d.bibliography_context) fs → item_of_entry (document_with answers d) (map final_with fs) place ≡ item_of_entry d fs place
-    entry_alike [] place h = refl
-    entry_alike (f ∷ fs) place h = found_alike (is_final_of place f) f (find (is_final_of place) (map final_with fs)) (find (is_final_of place) fs) h.0 (entry_alike fs place h.1)
+    entry_alike : (fs : List (Final P)) (entry_index : ℕ) → AllByRecursion (IsListedAlike d.bibliography_context) fs → item_of_entry (document_with answers d) (map final_with fs) entry_index ≡ item_of_entry d fs entry_index
+    entry_alike [] entry_index h = refl
+    entry_alike (f ∷ fs) entry_index h = found_alike (is_final_of entry_index f) f (find (is_final_of entry_index) (map final_with fs)) (find (is_final_of entry_index) fs) h.0 (entry_alike fs entry_index h.1)
 
     -- the bibliography is the same
     trees_alike : (same : P → P → Bool) (fs : List (Final P)) → AllByRecursion (IsListedAlike d.bibliography_context) fs
         → filter_map (item_of_entry (document_with answers d) (map final_with fs)) (order_in (document_with answers d)) ≡ filter_map (item_of_entry d fs) (order_in d)
-    trees_alike same fs h = λ k. filter_map (fun_ext (λ place. entry_alike fs place h) k) (order_same answers same d k)
+    trees_alike same fs h = λ k. filter_map (fun_ext (λ entry_index. entry_alike fs entry_index h) k) (order_same answers same d k)
 
     rendered_alike : (same : P → P → Bool) (fss : List (List (Final P))) → AllByRecursion (AllByRecursion OfFinal) fss → AllByRecursion (IsListedAlike d.bibliography_context) (flattened fss) → rendered_from (document_with answers d) (map (map final_with) fss) ≡ rendered_from d fss
     rendered_alike same fss h g =
@@ -233,8 +233,8 @@ module _ {P : Type 0} (answers : ℕ → Answers) where
           ∙ map_map candidate first_with (flattened bss)
           ∙ map_same (λ b. candidate (first_with b)) candidate (flattened bss) (weaker_all OfAlike (λ b. candidate (first_with b) ≡ candidate b) candidate_alike (flattened bss) (flat_all OfAlike (λ bs. bs) bss (of_first IsAlike h)))
 
-      marks_alike : disambiguated_in (document_with answers d) (first_prints_in same (document_with answers d)) ≡ disambiguated_in d (first_prints_in same d)
-      marks_alike = λ k. disambiguated (adds_same answers d.requests k) (length (cited_same answers d.requests k)) (candidates_alike k)
+      states_alike : disambiguated_in (document_with answers d) (first_prints_in same (document_with answers d)) ≡ disambiguated_in d (first_prints_in same d)
+      states_alike = λ k. disambiguated (adds_same answers d.requests k) (length (cited_same answers d.requests k)) (candidates_alike k)
 
       -- what such a document gives
       pub given_alike : finish same (document_with answers d) ≡ finish same d
@@ -247,7 +247,7 @@ module _ {P : Type 0} (answers : ℕ → Answers) where
           ap (λ css. rendered_from (document_with answers d) (finals_in same (document_with answers d) css t)) firsts_alike
           ∙ ap (rendered_from (document_with answers d)) (finals_alike same t d.requests bss (of_first IsAlike h))
           ∙ rendered_alike same finals (of_finals IsAlike t (of_first IsAlike h)) listed in
-          (λ k. if numbers_overflow d.offset (cited_same answers d.requests k) || suffixes_overflow (marks_alike k).given then Err overflow else Ok (rendered_from (document_with answers d) (finals_in same (document_with answers d) (first_prints_in same (document_with answers d)) (marks_alike k))))
+          (λ k. if numbers_overflow d.offset (cited_same answers d.requests k) || suffixes_overflow (states_alike k).given then Err overflow else Ok (rendered_from (document_with answers d) (finals_in same (document_with answers d) (first_prints_in same (document_with answers d)) (states_alike k))))
           ∙ ap (λ r. if numbers_overflow d.offset (cited d.requests) || suffixes_overflow t.given then Err overflow else Ok r) rendered
 
 module _ {P : Type 0} (a b : ℕ → Answers) where
@@ -262,21 +262,21 @@ module _ {P : Type 0} (a b : ℕ → Answers) where
   twice : (d : Document P) → document_with b (document_with a d) ≡ document_with b d
   twice d = λ k. record d { requests = requests_twice d.requests k }
 
-  -- what is said of all entries holds of the entries of cites
+  -- what holds of all entries holds of the entries of cites
   abbrev OfCite : StyleContext → Cite P → Type 0
   OfCite x c = AreAlike (style_named x.style) c.item.entry.answers (b (entry_of c))
 
   cites_in : (Q : Cite P → Type 0) (earlier : List (Request P)) (r : Request P) → ((p : ℕ × Item P) → Q (cite_at earlier (request_with a r) (p.0, item_with a p.1))) → AllByRecursion Q (map (cite_at earlier (request_with a r)) (enumerate_from 0 (map (item_with a) r.items)))
-  cites_in Q earlier r k = in_row 0 r.items
+  cites_in Q earlier r k = in_run 0 r.items
     where
-      in_row : (n : ℕ) (is : List (Item P)) → AllByRecursion Q (map (cite_at earlier (request_with a r)) (enumerate_from n (map (item_with a) is)))
-      in_row n [] = tt
-      in_row n (i ∷ is) = (k (n, i), in_row (n + 1) is)
+      in_run : (n : ℕ) (is : List (Item P)) → AllByRecursion Q (map (cite_at earlier (request_with a r)) (enumerate_from n (map (item_with a) is)))
+      in_run n [] = tt
+      in_run n (i ∷ is) = (k (n, i), in_run (n + 1) is)
 
   own_alike : (n : Named) (earlier rs : List (Request P)) → ((entry : ℕ) → AreAlike (requests_named n rs) (a entry) (b entry)) → AllByRecursion (AllByRecursion (λ (c : Cite P). OfCite c.context c)) (cites_after earlier (map (request_with a) rs))
   own_alike n earlier [] h = tt
   own_alike n earlier (r ∷ rs) h = (
-    cites_in (λ (c : Cite P). OfCite c.context c) earlier r (λ p. first_alike (style_named r.context.style) (requests_named n rs) (a p.1.entry.place) (b p.1.entry.place) (h p.1.entry.place)),
+    cites_in (λ (c : Cite P). OfCite c.context c) earlier r (λ p. first_alike (style_named r.context.style) (requests_named n rs) (a p.1.entry.index) (b p.1.entry.index) (h p.1.entry.index)),
     own_alike n (earlier ++ request_with a r ∷ []) rs (λ entry. others_alike (style_named r.context.style) (requests_named n rs) (a entry) (b entry) (h entry)),
   )
 
@@ -286,7 +286,7 @@ module _ {P : Type 0} (a b : ℕ → Answers) where
 
   listed_alike : (x : StyleContext) (earlier rs : List (Request P)) → ((entry : ℕ) → AreAlike (style_named x.style) (a entry) (b entry)) → AllByRecursion (AllByRecursion (OfCite x)) (cites_after earlier (map (request_with a) rs))
   listed_alike x earlier [] h = tt
-  listed_alike x earlier (r ∷ rs) h = (cites_in (OfCite x) earlier r (λ p. h p.1.entry.place), listed_alike x (earlier ++ request_with a r ∷ []) rs h)
+  listed_alike x earlier (r ∷ rs) h = (cites_in (OfCite x) earlier r (λ p. h p.1.entry.index), listed_alike x (earlier ++ request_with a r ∷ []) rs h)
 
 -- what cited entries answer to what no style names changes nothing
 pub alike_entries : (P : Type 0) → AlikeEntriesGiveOne P

@@ -7,12 +7,12 @@ use Rattle.std.proofs.lemmas.List.Folds.{list_any-append}
 use Rattle.std.proofs.lemmas.Map.Keys.{IsDistinct-head, IsDistinct-push, IsDistinct-tail}
 use Rattle.rendering_style.specs.Styles.{Bibliography}
 use Rattle.driver_requests.specs.CitedEntries.{once}
-use Rattle.driver_requests.specs.Order.{cited, is_place_in, number_in, ordered}
-use Rattle.driver_requests.specs.Places.{grown, pushed}
+use Rattle.driver_requests.specs.Order.{cited, is_index_in, number_in, ordered}
+use Rattle.driver_requests.specs.Indices.{grown, pushed}
 use Rattle.driver_requests.specs.Requests.{Item, Request}
 use Rattle.driver_requests.proofs.Once.{grown_all, once-any}
 use Rattle.driver.specs.Documents.{Document, order_in}
-use Rattle.driver.specs.Laws.{NumbersArePlaces, OrderHasTheCited}
+use Rattle.driver.specs.Laws.{NumbersAreIndices, OrderHasTheCited}
 
 none_distinct : {K : Type 0} (eq : K → K → Bool) → IsDistinct eq []
 unfolding IsDistinct
@@ -31,28 +31,28 @@ once_distinct xs = subst (λ (ys : List ℕ). IsDistinct nat_eq ys) (grown_all n
 
 ordered_distinct : (b : Option Bibliography) (wanted xs : List ℕ) → IsDistinct nat_eq (ordered b wanted (once nat_eq xs))
 ordered_distinct None wanted xs = once_distinct xs
-ordered_distinct (Some b) wanted xs = once_distinct (filter (is_place_in (once nat_eq xs)) wanted ++ once nat_eq xs)
+ordered_distinct (Some b) wanted xs = once_distinct (filter (is_index_in (once nat_eq xs)) wanted ++ once nat_eq xs)
 
 has_step : (t r x : Bool) → (t ≡ true → x ≡ true) → (r || x) ≡ x → ((t || r) || x) ≡ x
 has_step true r x h ih = sym (h refl)
 has_step false r x h ih = ih
 
-wanted_step : (ps ws : List ℕ) (w e : ℕ) (b : Bool) → is_place_in ps w ≡ b → (list_any (nat_eq e) (filter (is_place_in ps) ws) || is_place_in ps e) ≡ is_place_in ps e
-    → (list_any (nat_eq e) (cond b (w ∷ filter (is_place_in ps) ws) (filter (is_place_in ps) ws)) || is_place_in ps e) ≡ is_place_in ps e
-wanted_step ps ws w e true h ih = has_step (nat_eq e w) (list_any (nat_eq e) (filter (is_place_in ps) ws)) (is_place_in ps e) (λ q. ap (is_place_in ps) (eqb-true e w q) ∙ h) ih
+wanted_step : (ps ws : List ℕ) (w e : ℕ) (b : Bool) → is_index_in ps w ≡ b → (list_any (nat_eq e) (filter (is_index_in ps) ws) || is_index_in ps e) ≡ is_index_in ps e
+    → (list_any (nat_eq e) (cond b (w ∷ filter (is_index_in ps) ws) (filter (is_index_in ps) ws)) || is_index_in ps e) ≡ is_index_in ps e
+wanted_step ps ws w e true h ih = has_step (nat_eq e w) (list_any (nat_eq e) (filter (is_index_in ps) ws)) (is_index_in ps e) (λ q. ap (is_index_in ps) (eqb-true e w q) ∙ h) ih
 wanted_step ps ws w e false h ih = ih
 
-wanted_has : (ps ws : List ℕ) (e : ℕ) → (list_any (nat_eq e) (filter (is_place_in ps) ws) || is_place_in ps e) ≡ is_place_in ps e
+wanted_has : (ps ws : List ℕ) (e : ℕ) → (list_any (nat_eq e) (filter (is_index_in ps) ws) || is_index_in ps e) ≡ is_index_in ps e
 wanted_has ps [] e = refl
-wanted_has ps (w ∷ ws) e = wanted_step ps ws w e (is_place_in ps w) refl (wanted_has ps ws e)
+wanted_has ps (w ∷ ws) e = wanted_step ps ws w e (is_index_in ps w) refl (wanted_has ps ws e)
 
-ordered_has : (b : Option Bibliography) (wanted ps : List ℕ) (e : ℕ) → is_place_in (ordered b wanted ps) e ≡ is_place_in ps e
+ordered_has : (b : Option Bibliography) (wanted ps : List ℕ) (e : ℕ) → is_index_in (ordered b wanted ps) e ≡ is_index_in ps e
 ordered_has None wanted ps e = refl
 ordered_has (Some b) wanted ps e =
-    once-any nat_eq_equiv e (filter (is_place_in ps) wanted ++ ps) ∙ list_any-append (nat_eq e) (filter (is_place_in ps) wanted) ps ∙ wanted_has ps wanted e
+    once-any nat_eq_equiv e (filter (is_index_in ps) wanted ++ ps) ∙ list_any-append (nat_eq e) (filter (is_index_in ps) wanted) ps ∙ wanted_has ps wanted e
 
 in_order_distinct : {P : Type 0} (d : Document P) → IsDistinct nat_eq (order_in d)
-in_order_distinct {P} d = ordered_distinct d.bibliography_context.style.bibliography d.wanted (flat_map (λ (r : Request P). map (λ (i : Item P). i.entry.place) r.items) d.requests)
+in_order_distinct {P} d = ordered_distinct d.bibliography_context.style.bibliography d.wanted (flat_map (λ (r : Request P). map (λ (i : Item P). i.entry.index) r.items) d.requests)
 
 -- the order has each cited entry once, and no other
 pub order_has_the_cited : (P : Type 0) → OrderHasTheCited P
@@ -77,5 +77,5 @@ numbers_along offset (x ∷ xs) d =
     λ k. at_once offset (position_or_len (nat_eq x) xs) (nat_eq x x) (eq-eqb x x refl) k ∷ others k
 
 -- the numbers of the cited entries, taken in the order of these, count on from the offset
-pub numbers_are_places : (P : Type 0) → NumbersArePlaces P
-numbers_are_places P = λ d. numbers_along d.offset (order_in d) (in_order_distinct d)
+pub numbers_are_indices : (P : Type 0) → NumbersAreIndices P
+numbers_are_indices P = λ d. numbers_along d.offset (order_in d) (in_order_distinct d)

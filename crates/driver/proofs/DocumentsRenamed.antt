@@ -26,28 +26,28 @@ module _ {P : Type 0} (answers : ℕ → Answers) where
   abbrev pub numbered_with : Numbered P → Numbered P
   numbered_with n = record n { cite = cite_with n.cite }
 
-  request_same : (place : ℕ) (r : Request P) → request_cites place (request_with answers r) ≡ request_cites place r
-  request_same place r = any_map (item_with answers) (cites_entry place) r.items
+  request_same : (entry_index : ℕ) (r : Request P) → request_cites entry_index (request_with answers r) ≡ request_cites entry_index r
+  request_same entry_index r = any_map (item_with answers) (cites_entry entry_index) r.items
 
-  note_same : (place : ℕ) (r : Request P) → note_citing place (request_with answers r) ≡ note_citing place r
-  note_same place r = ap (λ b. if b then r.note_number else None) (request_same place r)
+  note_same : (entry_index : ℕ) (r : Request P) → note_citing entry_index (request_with answers r) ≡ note_citing entry_index r
+  note_same entry_index r = ap (λ b. if b then r.note_number else None) (request_same entry_index r)
 
-  first_same : (place : ℕ) (earlier : List (Request P)) (r : Request P) → first_note place (map (request_with answers) earlier) (request_with answers r) ≡ first_note place earlier r
-  first_same place earlier r = ap (λ ns. option_map (λ n. unwrap_or (slice_get ns 0) n) r.note_number) (filter_map_map (request_with answers) (note_citing place) (note_citing place) (note_same place) earlier)
+  first_same : (entry_index : ℕ) (earlier : List (Request P)) (r : Request P) → first_note entry_index (map (request_with answers) earlier) (request_with answers r) ≡ first_note entry_index earlier r
+  first_same entry_index earlier r = ap (λ ns. option_map (λ n. unwrap_or (slice_get ns 0) n) r.note_number) (filter_map_map (request_with answers) (note_citing entry_index) (note_citing entry_index) (note_same entry_index) earlier)
 
-  near_same : (place : ℕ) (earlier : List (Request P)) (r : Request P) → is_near place (map (request_with answers) earlier) (request_with answers r) ≡ is_near place earlier r
-  near_same place earlier r =
+  near_same : (entry_index : ℕ) (earlier : List (Request P)) (r : Request P) → is_near entry_index (map (request_with answers) earlier) (request_with answers r) ≡ is_near entry_index earlier r
+  near_same entry_index earlier r =
       let distance = r.context.style.citation.near_note_distance in
       ap (λ b. is_some r.note_number && b)
-      (ap (list_any (λ (q : Request P). is_some (note_citing place q))) (last_same (request_with answers) distance earlier)
-      ∙ any_map (request_with answers) (λ (q : Request P). is_some (note_citing place q)) (last_n distance earlier)
-      ∙ any_same (λ (q : Request P). is_some (note_citing place (request_with answers q))) (λ (q : Request P). is_some (note_citing place q)) (λ q. ap is_some (note_same place q)) (last_n distance earlier))
+      (ap (list_any (λ (q : Request P). is_some (note_citing entry_index q))) (last_same (request_with answers) distance earlier)
+      ∙ any_map (request_with answers) (λ (q : Request P). is_some (note_citing entry_index q)) (last_n distance earlier)
+      ∙ any_same (λ (q : Request P). is_some (note_citing entry_index (request_with answers q))) (λ (q : Request P). is_some (note_citing entry_index q)) (λ q. ap is_some (note_same entry_index q)) (last_n distance earlier))
 
-  before_same : (place : ℕ) (earlier : List (Request P)) (n : ℕ) (is : List (Item P)) → is_cited_before place (map (request_with answers) earlier) (take n (map (item_with answers) is)) ≡ is_cited_before place earlier (take n is)
-  before_same place earlier n is =
-      let requests : list_any (request_cites place) (map (request_with answers) earlier) ≡ list_any (request_cites place) earlier =
-      any_map (request_with answers) (request_cites place) earlier ∙ any_same (λ (q : Request P). request_cites place (request_with answers q)) (request_cites place) (request_same place) earlier in
-      let items : list_any (cites_entry place) (take n (map (item_with answers) is)) ≡ list_any (cites_entry place) (take n is) = ap (list_any (cites_entry place)) (take-map (item_with answers) n is) ∙ any_map (item_with answers) (cites_entry place) (take n is) in
+  before_same : (entry_index : ℕ) (earlier : List (Request P)) (n : ℕ) (is : List (Item P)) → is_cited_before entry_index (map (request_with answers) earlier) (take n (map (item_with answers) is)) ≡ is_cited_before entry_index earlier (take n is)
+  before_same entry_index earlier n is =
+      let requests : list_any (request_cites entry_index) (map (request_with answers) earlier) ≡ list_any (request_cites entry_index) earlier =
+      any_map (request_with answers) (request_cites entry_index) earlier ∙ any_same (λ (q : Request P). request_cites entry_index (request_with answers q)) (request_cites entry_index) (request_same entry_index) earlier in
+      let items : list_any (cites_entry entry_index) (take n (map (item_with answers) is)) ≡ list_any (cites_entry entry_index) (take n is) = ap (list_any (cites_entry entry_index)) (take-map (item_with answers) n is) ∙ any_map (item_with answers) (cites_entry entry_index) (take n is) in
       λ k. requests k || items k
 
   cite_same : (earlier : List (Request P)) (r : Request P) (p : ℕ × Item P) → cite_at (map (request_with answers) earlier) (request_with answers r) (placed (item_with answers) p) ≡ cite_with (cite_at earlier r p)
@@ -56,30 +56,30 @@ module _ {P : Type 0} (answers : ℕ → Answers) where
     index = index;
     context = r.context;
     note_number = r.note_number;
-    first_note_number = first_same i.entry.place earlier r k;
-    is_near_note = near_same i.entry.place earlier r k;
-    is_first = not (before_same i.entry.place earlier index r.items k);
+    first_note_number = first_same i.entry.index earlier r k;
+    is_near_note = near_same i.entry.index earlier r k;
+    is_first = not (before_same i.entry.index earlier index r.items k);
   }
 
-  row_same : (earlier : List (Request P)) (r : Request P)
+  run_same : (earlier : List (Request P)) (r : Request P)
       → map (cite_at (map (request_with answers) earlier) (request_with answers r)) (enumerate_from 0 (map (item_with answers) r.items)) ≡ map cite_with (map (cite_at earlier r) (enumerate_from 0 r.items))
-  row_same earlier r =
+  run_same earlier r =
       ap (map (cite_at (map (request_with answers) earlier) (request_with answers r))) (enumerate_map (item_with answers) 0 r.items)
       ∙ map_turned (cite_at (map (request_with answers) earlier) (request_with answers r)) (placed (item_with answers)) cite_with (cite_at earlier r) (cite_same earlier r) (enumerate_from 0 r.items)
 
   cites_same : (earlier rs : List (Request P)) → cites_after (map (request_with answers) earlier) (map (request_with answers) rs) ≡ map (map cite_with) (cites_after earlier rs)
   cites_same earlier [] = refl
   cites_same earlier (r ∷ rs) =
-      (λ k. row_same earlier r k ∷ cites_after (sym (map-append (request_with answers) earlier (r ∷ [])) k) (map (request_with answers) rs))
+      (λ k. run_same earlier r k ∷ cites_after (sym (map-append (request_with answers) earlier (r ∷ [])) k) (map (request_with answers) rs))
       ∙ ap (λ css. map cite_with (map (cite_at earlier r) (enumerate_from 0 r.items)) ∷ css) (cites_same (earlier ++ r ∷ []) rs)
 
-  places_same : (rs : List (Request P)) → flat_map (λ (r : Request P). map (λ (i : Item P). i.entry.place) r.items) (map (request_with answers) rs) ≡ flat_map (λ (r : Request P). map (λ (i : Item P). i.entry.place) r.items) rs
-  places_same [] = refl
-  places_same (r ∷ rs) = λ k. map_map (λ (i : Item P). i.entry.place) (item_with answers) r.items k ++ places_same rs k
+  indices_same : (rs : List (Request P)) → flat_map (λ (r : Request P). map (λ (i : Item P). i.entry.index) r.items) (map (request_with answers) rs) ≡ flat_map (λ (r : Request P). map (λ (i : Item P). i.entry.index) r.items) rs
+  indices_same [] = refl
+  indices_same (r ∷ rs) = λ k. map_map (λ (i : Item P). i.entry.index) (item_with answers) r.items k ++ indices_same rs k
 
   -- the same entries are cited
   pub cited_same : (rs : List (Request P)) → cited (map (request_with answers) rs) ≡ cited rs
-  cited_same rs = ap (once nat_eq) (places_same rs)
+  cited_same rs = ap (once nat_eq) (indices_same rs)
 
   -- and names are added alike
   pub adds_same : (rs : List (Request P)) → adds_names (map (request_with answers) rs) ≡ adds_names rs

@@ -14,19 +14,19 @@ use Rattle.driver_requests.specs.Errors.{Overflow, overflow}
 use Rattle.driver_requests.specs.Order.{cited, numbers_overflow}
 use Rattle.driver_requests.specs.Positions.{with_previous}
 use Rattle.driver_requests.specs.Requests.{Request}
-use Rattle.driver_requests.specs.Views.{request_by}
+use Rattle.driver_requests.specs.Views.{request_view}
 use Rattle.driver_requests.specs.declared.request.CitationRequest.{CitationRequest}
-use Rattle.driver_marks.specs.Classes.{Candidate, printed_under}
-use Rattle.driver_marks.specs.Marks.{Given, Marks, joined_for, marked, suffixes_overflow}
-use Rattle.driver_marks.specs.Rounds as rounds
-use Rattle.driver_marks.specs.Rounds.{Disambiguation, after_round, disambiguated}
+use Rattle.driver_disambiguation.specs.Classes.{Candidate, printed_under}
+use Rattle.driver_disambiguation.specs.States.{GivenState, States, joined_for, states_after, suffixes_overflow}
+use Rattle.driver_disambiguation.specs.Rounds as rounds
+use Rattle.driver_disambiguation.specs.Rounds.{Disambiguation, after_round, disambiguated}
 use Rattle.driver.specs.Documents.{Document, items_count, order_in}
-use Rattle.driver.specs.Finals.{finals_from, firsts, listed_as}
+use Rattle.driver.specs.FinalPrints.{finals_from, firsts, listed_as}
 use Rattle.driver.specs.Finish.{effort_bound, finish, is_final_of, item_of_entry, rendered_from}
-use Rattle.driver.specs.Known.{KnownCites, known_in, known_of, numbered_in}
+use Rattle.driver.specs.OrderAndNumbers.{KnownCites, known_in, known_of, numbered_in}
 use Rattle.driver.specs.Listing.{bibliography_from, item_first, item_listed, rendered_of}
 use Rattle.driver.specs.Stages.{Final, adds_names, candidate, disambiguated_in, finals_in, first_print, first_prints_in, flattened, numbered_after}
-use Rattle.driver.proofs.KnownPlaces.{passed}
+use Rattle.driver.proofs.KnownIndices.{passed}
 use Rattle.driver.proofs.Maps.{flat_maps, map_map, maps_of_maps}
 
 -- what is known of cites, where no number overflows
@@ -37,33 +37,33 @@ known_parts same d k e = passed (numbers_overflow d.offset (cited d.requests)) o
 pub firsts_are : {P : Type 0} (same : P → P → Bool) (d : Document P) → first_prints_in same d ≡ firsts (numbered_in same d)
 firsts_are {P} same d = maps_of_maps (first_print {P = P}) (numbered_after same d) (with_previous None (cites_of d.requests))
 
-adds_alike : {T P : Type 0} (answers : T → Answers) (p q : T → ℕ) (rs : List (CitationRequest T P)) → adds_names (map (request_by {P = P} p answers) rs) ≡ adds_names (map (request_by {P = P} q answers) rs)
+adds_alike : {T P : Type 0} (answers : T → Answers) (p q : T → ℕ) (rs : List (CitationRequest T P)) → adds_names (map (request_view {P = P} p answers) rs) ≡ adds_names (map (request_view {P = P} q answers) rs)
 adds_alike answers p q [] = refl
 adds_alike answers p q (r ∷ rs) = refl
 
--- the marks of a document
-pub marks_are : {T P : Type 0} (same : P → P → Bool) (answers : T → Answers) (place : T → ℕ) (rs : List (CitationRequest T P)) (d : Document P) (count : ℕ) (nss : List (List (Numbered P))) → d.requests ≡ map (request_by place answers) rs
+-- the states of a document
+pub states_are : {T P : Type 0} (same : P → P → Bool) (answers : T → Answers) (index : T → ℕ) (rs : List (CitationRequest T P)) (d : Document P) (count : ℕ) (nss : List (List (Numbered P))) → d.requests ≡ map (request_view index answers) rs
     → length (cited d.requests) ≡ count → numbered_in same d ≡ nss
-    → disambiguated (adds_names (map (request_by {P = P} (λ e. 0) answers) rs)) count (map (λ (n : Numbered P). candidate (first_print n)) (flattened nss)) ≡ disambiguated_in d (first_prints_in same d)
-marks_are {T} {P} same answers place rs d count nss requests many are =
+    → disambiguated (adds_names (map (request_view {P = P} (λ e. 0) answers) rs)) count (map (λ (n : Numbered P). candidate (first_print n)) (flattened nss)) ≡ disambiguated_in d (first_prints_in same d)
+states_are {T} {P} same answers index rs d count nss requests many are =
     let cites : map (λ (n : Numbered P). candidate (first_print n)) (flattened nss) ≡ map candidate (flattened (first_prints_in same d)) =
     ap (λ (mss : List (List (Numbered P))). map (λ (n : Numbered P). candidate (first_print n)) (flattened mss)) (sym are)
     ∙ sym (map_map (candidate {P = P}) (first_print {P = P}) (flattened (numbered_in same d)))
     ∙ ap (map candidate) (sym (flat_maps (first_print {P = P}) (numbered_in same d)))
     ∙ ap (λ bss. map candidate (flattened bss)) (sym (firsts_are same d)) in
-    let adds : adds_names (map (request_by {P = P} (λ e. 0) answers) rs) ≡ adds_names d.requests = adds_alike answers (λ e. 0) place rs ∙ ap adds_names (sym requests) in
+    let adds : adds_names (map (request_view {P = P} (λ e. 0) answers) rs) ≡ adds_names d.requests = adds_alike answers (λ e. 0) index rs ∙ ap adds_names (sym requests) in
     λ k. disambiguated (adds k) (sym many k) (cites k)
 
-marked_long : (gs : List Given) (ms : Marks) → length (marked gs ms) ≡ length ms
-marked_long gs ms = length-map (enumerate_from 0 ms) (λ p. unwrap_or (joined_for p.0 gs) p.1) ∙ length-enumerate_from 0 ms
+states_after_long : (gs : List GivenState) (ms : States) → length (states_after gs ms) ≡ length ms
+states_after_long gs ms = length-map (enumerate_from 0 ms) (λ p. unwrap_or (joined_for p.0 gs) p.1) ∙ length-enumerate_from 0 ms
 
-rounds_long : (adds : Bool) (cites : List Candidate) (t : Disambiguation) (ns : List ℕ) → length (fold (after_round adds cites) t ns).marks ≡ length t.marks
+rounds_long : (adds : Bool) (cites : List Candidate) (t : Disambiguation) (ns : List ℕ) → length (fold (after_round adds cites) t ns).states ≡ length t.states
 rounds_long adds cites t [] = refl
-rounds_long adds cites t (n ∷ ns) = rounds_long adds cites (after_round adds cites t n) ns ∙ marked_long (rounds.round_given adds n (map (printed_under t.marks) cites)) t.marks
+rounds_long adds cites t (n ∷ ns) = rounds_long adds cites (after_round adds cites t n) ns ∙ states_after_long (rounds.round_given adds n (map (printed_under t.states) cites)) t.states
 
--- there is a mark for each cited entry
-pub marks_long : (adds : Bool) (n : ℕ) (cites : List Candidate) → length (disambiguated adds n cites).marks ≡ n
-marks_long adds n cites = rounds_long adds cites (rounds.before_rounds n) (range_with_len 0 3) ∙ length-replicate n undisturbed
+-- there is a state for each cited entry
+pub states_long : (adds : Bool) (n : ℕ) (cites : List Candidate) → length (disambiguated adds n cites).states ≡ n
+states_long adds n cites = rounds_long adds cites (rounds.before_rounds n) (range_with_len 0 3) ∙ length-replicate n undisturbed
 
 -- numbers that overflow
 pub numbers_end : {X Y : Type 0} (r : Option Overflow) (b s : Bool) (x : X) (y : Y) → EndsWith r (if b then Err overflow else Ok x) → EndsWith r (if b || s then Err overflow else Ok y)
@@ -73,17 +73,17 @@ numbers_end (Some o) true s x y h =
     ap (λ q. Err q) same
 numbers_end (Some o) false s x y h = absurd cc
 
--- letters that overflow
-pub letters_end : {X Y : Type 0} (r : Option Overflow) (b s t : Bool) (x : X) (y : Y) → s ≡ t → EndsWith r (if s then Err overflow else Ok x) → EndsWith r (if b || t then Err overflow else Ok y)
-letters_end None b s t x y e h = tt
-letters_end (Some o) true true t x y e h =
+-- year suffixes that overflow
+pub suffixes_end : {X Y : Type 0} (r : Option Overflow) (b s t : Bool) (x : X) (y : Y) → s ≡ t → EndsWith r (if s then Err overflow else Ok x) → EndsWith r (if b || t then Err overflow else Ok y)
+suffixes_end None b s t x y e h = tt
+suffixes_end (Some o) true true t x y e h =
     let same : overflow ≡ o = cc in
     ap (λ q. Err q) same
-letters_end (Some o) false true true x y e h =
+suffixes_end (Some o) false true true x y e h =
     let same : overflow ≡ o = cc in
     ap (λ q. Err q) same
-letters_end (Some o) false true false x y e h = absurd cc
-letters_end (Some o) b false t x y e h = absurd cc
+suffixes_end (Some o) false true false x y e h = absurd cc
+suffixes_end (Some o) b false t x y e h = absurd cc
 
 -- a value that is given back is what is given
 pub back_gives : {E F X Y : Type 0} (refusal : E → Option F) (view : X → Y) (r : Result X E) (v : Y) (read : Result Y F) → read ≡ Ok v → GivesBack refusal view r v → Gives refusal view r read
@@ -94,8 +94,8 @@ pub and_then_map : {A B C : Type 0} (g : B → Option C) (f : A → B) (o : Opti
 and_then_map g f None = refl
 and_then_map g f (Some a) = refl
 
-items_alike : {P : Type 0} (d : Document P) (fs : List (Final P)) (place : ℕ) → item_of_entry d fs place ≡ item_first d.bibliography_context fs place
-items_alike {P} d fs place = and_then_map (item_listed d.bibliography_context) (listed_as {P = P}) (find (is_final_of place) fs)
+items_alike : {P : Type 0} (d : Document P) (fs : List (Final P)) (index : ℕ) → item_of_entry d fs index ≡ item_first d.bibliography_context fs index
+items_alike {P} d fs index = and_then_map (item_listed d.bibliography_context) (listed_as {P = P}) (find (is_final_of index) fs)
 
 -- what is rendered of a document
 pub rendered_is : {P : Type 0} (d : Document P) (order : List ℕ) (fss : List (List (Final P))) → order_in d ≡ order → rendered_from d fss ≡ rendered_of d.bibliography_context order d.requests fss
@@ -111,12 +111,12 @@ rendered_is {P} d order fss are =
 pub finish_is : {P : Type 0} (same : P → P → Bool) (d : Document P) (order : List ℕ) (nss : List (List (Numbered P))) (t : Disambiguation) → numbers_overflow d.offset (cited d.requests) ≡ false → order_in d ≡ order → numbered_in same d ≡ nss
     → disambiguated_in d (first_prints_in same d) ≡ t → suffixes_overflow t.given ≡ false
     → finish same d ≡ Ok (rendered_of d.bibliography_context order d.requests (finals_from same t d.requests (firsts nss)))
-finish_is {P} same d order nss t fits in_order are marks letters =
+finish_is {P} same d order nss t fits in_order are states year_suffixes =
     let bs = first_prints_in same d in
-    let none : (numbers_overflow d.offset (cited d.requests) || suffixes_overflow (disambiguated_in d bs).given) ≡ false = (λ k. fits k || suffixes_overflow (marks k).given) ∙ letters in
+    let none : (numbers_overflow d.offset (cited d.requests) || suffixes_overflow (disambiguated_in d bs).given) ≡ false = (λ k. fits k || suffixes_overflow (states k).given) ∙ year_suffixes in
     let prints : bs ≡ firsts nss = firsts_are same d ∙ ap firsts are in
     (λ k. if none k then Err overflow else Ok (rendered_from d (finals_in same d bs (disambiguated_in d bs))))
-    ∙ ap (λ r. Ok r) (rendered_is d order (finals_in same d bs (disambiguated_in d bs)) in_order ∙ (λ k. rendered_of d.bibliography_context order d.requests (finals_from same (marks k) d.requests (prints k))))
+    ∙ ap (λ r. Ok r) (rendered_is d order (finals_in same d bs (disambiguated_in d bs)) in_order ∙ (λ k. rendered_of d.bibliography_context order d.requests (finals_from same (states k) d.requests (prints k))))
 
 zip_long : {X : Type 0} (last : Option X) (xs : List X) → length (zip (last ∷ map (λ x. Some x) xs) xs) ≡ length xs
 zip_long last [] = refl
@@ -145,8 +145,8 @@ listing_at_most m n None e = refl
 listing_at_most m n (Some b) e = e
 
 -- the cites of the code are as many as the items
-pub rows_many : {P : Type 0} (same : P → P → Bool) (d : Document P) (nss : List (List (Numbered P))) → numbered_in same d ≡ nss → length (flattened nss) ≡ items_count d
-rows_many {P} same d nss are = ap (λ (mss : List (List (Numbered P))). length (flattened mss)) (sym are) ∙ all_long same d
+pub runs_many : {P : Type 0} (same : P → P → Bool) (d : Document P) (nss : List (List (Numbered P))) → numbered_in same d ≡ nss → length (flattened nss) ≡ items_count d
+runs_many {P} same d nss are = ap (λ (mss : List (List (Numbered P))). length (flattened mss)) (sym are) ∙ all_long same d
 
 -- how much is done, part by part
 pub effort_is : {P : Type 0} (d : Document P) (order : List ℕ) (start first after last l m n : ℕ) → start ≡ 0 → l ≡ items_count d → m ≡ items_count d → n ≡ items_count d → length order ≡ length (cited d.requests)

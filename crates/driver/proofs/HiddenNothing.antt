@@ -6,9 +6,9 @@ use Rattle.rendering_tree.specs.Trees.{nothing}
 use Rattle.driver_requests.specs.Cites.{Cite, cite_at, cites_after}
 use Rattle.driver_requests.specs.Positions.{with_previous}
 use Rattle.driver_requests.specs.Requests.{Item, Request}
-use Rattle.driver_marks.specs.Rounds.{Disambiguation}
+use Rattle.driver_disambiguation.specs.Rounds.{Disambiguation}
 use Rattle.driver_blocks.specs.Blocks.{Gathered}
-use Rattle.driver_blocks.specs.Rows.{Arranged}
+use Rattle.driver_blocks.specs.Runs.{Arranged}
 use Rattle.driver.specs.Citations.{citation_of}
 use Rattle.driver.specs.Documents.{Document}
 use Rattle.driver.specs.Finish.{citation_tree, shown, shown_cite}
@@ -71,17 +71,17 @@ module _ {P : Type 0} (same : P → P → Bool) (d : Document P) (t : Disambigua
       (λ h. prints_hidden last cs (cites_hidden earlier r h), first_hidden (earlier ++ r ∷ []) (last_or last cs) rs)
 
   -- a cite as it is gathered, of a hidden item
-  abbrev IsUnseen : Gathered (FirstPrint P) → Type 0
-  IsUnseen x = x.is_shown ≡ false
+  abbrev IsHiddenCite : Gathered (FirstPrint P) → Type 0
+  IsHiddenCite x = x.is_shown ≡ false
 
   -- a cite that is arranged is not shown
   abbrev IsUnshown : Arranged (FirstPrint P) → Type 0
   IsUnshown a = a.is_shown ≡ false
 
-  row_hidden : (r : Request P) (bs : List (FirstPrint P)) → AllByRecursion IsHidden bs → AllByRecursion IsUnshown (arranged_for t (r, bs))
-  row_hidden r bs h =
-      let gs = map_all IsUnseen (gathered_by t) bs (weaker_all IsHidden (λ b. IsUnseen (gathered_by t b)) (λ b g. ap not g) bs h) in
-      weaker_all (IsOne r.context.style.citation IsUnseen) IsUnshown (λ a g. g.1 g.0) (arranged_for t (r, bs)) (arranged_all r.context.style.citation IsUnseen (has_purpose r) (map (gathered_by t) bs) gs)
+  run_hidden : (r : Request P) (bs : List (FirstPrint P)) → AllByRecursion IsHidden bs → AllByRecursion IsUnshown (arranged_for t (r, bs))
+  run_hidden r bs h =
+      let gs = map_all IsHiddenCite (gathered_by t) bs (weaker_all IsHidden (λ b. IsHiddenCite (gathered_by t b)) (λ b g. ap not g) bs h) in
+      weaker_all (IsOne r.context.style.citation IsHiddenCite) IsUnshown (λ a g. g.1 g.0) (arranged_for t (r, bs)) (arranged_all r.context.style.citation IsHiddenCite (has_purpose r) (map (gathered_by t) bs) gs)
 
   -- a request of hidden items prints nothing
   abbrev PrintsNothing : Request P × List (Final P) → Type 0
@@ -103,7 +103,7 @@ module _ {P : Type 0} (same : P → P → Bool) (d : Document P) (t : Disambigua
   finals_hidden last [] bss h = tt
   finals_hidden last (r ∷ rs) [] h = tt
   finals_hidden last (r ∷ rs) (bs ∷ bss) h =
-      (λ g. prints_nothing r last (arranged_for t (r, bs)) (row_hidden r bs (h.0 g)), finals_hidden (last_or last (arranged_for t (r, bs))) rs bss h.1)
+      (λ g. prints_nothing r last (arranged_for t (r, bs)) (run_hidden r bs (h.0 g)), finals_hidden (last_or last (arranged_for t (r, bs))) rs bss h.1)
 
   -- and so in the whole document
   pub all_hidden : AllByRecursion PrintsNothing (zip d.requests (map (map (final same t)) (with_previous None (map (arranged_for t) (zip d.requests (first_prints_in same d))))))

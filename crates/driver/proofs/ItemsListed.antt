@@ -3,13 +3,13 @@ use Rattle.std.proofs.Common.{◌≡◌, ℕ, List, [], ◌∷◌, length, map, 
 use Rattle.std.specs.Option.{option_or}
 use Rattle.std.proofs.lemmas.List.{length-map}
 use Rattle.rendering_tree.specs.Trees.{Children, Element, names_element}
-use Rattle.rendering_tree.specs.Views.{tree}
+use Rattle.rendering_tree.specs.Views.{tree_view}
 use Rattle.rendering_tree.specs.declared.element.ElemChildren.{ElemChildren}
 use Rattle.rendering_style.specs.Styles.{Bibliography}
 use Rattle.rendering_taxonomy.specs.declared.style.SubsequentAuthorSubstituteRule.{SubsequentAuthorSubstituteRule}
 use Rattle.driver_bibliography.specs.Items.{all_substituted, fields_by, items_of}
 use Rattle.driver_bibliography.specs.Substitution.{substituted, with_names_before}
-use Rattle.driver_bibliography.specs.Views.{fields_seen}
+use Rattle.driver_bibliography.specs.Views.{fields_view}
 use Rattle.driver_bibliography.specs.declared.fields.ItemFields.{ItemFields}
 
 before_long : (last : Option Element) (trees : List Children) → length (with_names_before last trees) ≡ length trees
@@ -24,5 +24,5 @@ pub items_long : (b : Bibliography) (trees : List Children) → length (items_of
 items_long b trees = length-map (all_substituted b.substitute_rule b.substitute trees) (fields_by b.second_field_align) ∙ substituted_long b.substitute_rule b.substitute trees
 
 -- the same of items that were made
-pub fields_long : (b : Bibliography) (fields : List ItemFields) (trees : List ElemChildren) → map fields_seen fields ≡ items_of b (map tree trees) → length fields ≡ length trees
-fields_long b fields trees e = sym (length-map fields fields_seen) ∙ ap length e ∙ items_long b (map tree trees) ∙ length-map trees tree
+pub fields_long : (b : Bibliography) (fields : List ItemFields) (trees : List ElemChildren) → map fields_view fields ≡ items_of b (map tree_view trees) → length fields ≡ length trees
+fields_long b fields trees e = sym (length-map fields fields_view) ∙ ap length e ∙ items_long b (map tree_view trees) ∙ length-map trees tree_view

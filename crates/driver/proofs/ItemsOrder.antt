@@ -9,13 +9,13 @@ use Rattle.std.proofs.lemmas.List.Folds.{list_any-append}
 use Rattle.rendering_style.specs.Styles.{Bibliography}
 use Rattle.rendering.specs.Purposes.{Rendered, bibliography}
 use Rattle.driver_requests.specs.Cites.{Cite, cite_at, cites_after, entry_of}
-use Rattle.driver_requests.specs.Order.{cited, is_place_in}
+use Rattle.driver_requests.specs.Order.{cited, is_index_in}
 use Rattle.driver_requests.specs.Positions.{with_previous}
 use Rattle.driver_requests.specs.Requests.{Item, Request, cites_entry}
 use Rattle.driver_requests.proofs.Once.{once-any}
-use Rattle.driver_marks.specs.Rounds.{Disambiguation}
+use Rattle.driver_disambiguation.specs.Rounds.{Disambiguation}
 use Rattle.driver_blocks.specs.Blocks.{Gathered}
-use Rattle.driver_blocks.specs.Rows.{Arranged}
+use Rattle.driver_blocks.specs.Runs.{Arranged}
 use Rattle.driver.specs.Documents.{Document, order_in}
 use Rattle.driver.specs.Finish.{is_final_of, item_of_cite, item_of_entry, item_properties, item_trees, key_at, keys_in}
 use Rattle.driver.specs.Laws.{ItemsAreTheOrder, KeysAreTheOrder, finals_of}
@@ -41,28 +41,28 @@ any_both p q xs ys us vs e f = list_any-append p xs ys ∙ (λ k. e k || f k) �
 eq_turned : (m n : ℕ) → nat_eq m n ≡ nat_eq n m
 eq_turned m n = nat_eq_equiv.symm m n
 
-module _ {P : Type 0} (same : P → P → Bool) (d : Document P) (t : Disambiguation) (place : ℕ) where
-  -- whether a cite is of the entry at the place
+module _ {P : Type 0} (same : P → P → Bool) (d : Document P) (t : Disambiguation) (entry_index : ℕ) where
+  -- whether a cite is of the entry at the index
   abbrev is_first_of : FirstPrint P → Bool
-  is_first_of b = entry_of_first b == place
+  is_first_of b = entry_of_first b == entry_index
 
-  item_cited : (earlier : List (Request P)) (r : Request P) → list_any (λ (c : Cite P). entry_of c == place) (map (cite_at earlier r) (enumerate_from 0 r.items)) ≡ list_any (cites_entry place) r.items
+  item_cited : (earlier : List (Request P)) (r : Request P) → list_any (λ (c : Cite P). entry_of c == entry_index) (map (cite_at earlier r) (enumerate_from 0 r.items)) ≡ list_any (cites_entry entry_index) r.items
   item_cited earlier r =
-      any_map (cite_at earlier r) (λ (c : Cite P). entry_of c == place) (enumerate_from 0 r.items)
-      ∙ any_same (λ p. entry_of (cite_at earlier r p) == place) (λ (p : ℕ × Item P). cites_entry place p.1) at (enumerate_from 0 r.items)
-      ∙ any_numbered (cites_entry place) 0 r.items
+      any_map (cite_at earlier r) (λ (c : Cite P). entry_of c == entry_index) (enumerate_from 0 r.items)
+      ∙ any_same (λ p. entry_of (cite_at earlier r p) == entry_index) (λ (p : ℕ × Item P). cites_entry entry_index p.1) at (enumerate_from 0 r.items)
+      ∙ any_numbered (cites_entry entry_index) 0 r.items
     where
-      at : (p : ℕ × Item P) → (entry_of (cite_at earlier r p) == place) ≡ cites_entry place p.1
+      at : (p : ℕ × Item P) → (entry_of (cite_at earlier r p) == entry_index) ≡ cites_entry entry_index p.1
       at (index, i) = refl
 
-  printed_cited : (last : Option (Cite P)) (cs : List (Cite P)) → list_any is_first_of (map (λ p. first_print (numbered_after same d p)) (zip (last ∷ map (λ c. Some c) cs) cs)) ≡ list_any (λ (c : Cite P). entry_of c == place) cs
+  printed_cited : (last : Option (Cite P)) (cs : List (Cite P)) → list_any is_first_of (map (λ p. first_print (numbered_after same d p)) (zip (last ∷ map (λ c. Some c) cs) cs)) ≡ list_any (λ (c : Cite P). entry_of c == entry_index) cs
   printed_cited last cs =
       let pairs = zip (last ∷ map (λ c. Some c) cs) cs in
       any_map (λ p. first_print (numbered_after same d p)) is_first_of pairs
-      ∙ any_same (λ p. is_first_of (first_print (numbered_after same d p))) (λ (p : Option (Cite P) × Cite P). entry_of p.1 == place) at pairs
-      ∙ any_second (λ (c : Cite P). entry_of c == place) last (λ c. Some c) cs
+      ∙ any_same (λ p. is_first_of (first_print (numbered_after same d p))) (λ (p : Option (Cite P) × Cite P). entry_of p.1 == entry_index) at pairs
+      ∙ any_second (λ (c : Cite P). entry_of c == entry_index) last (λ c. Some c) cs
     where
-      at : (p : Option (Cite P) × Cite P) → is_first_of (first_print (numbered_after same d p)) ≡ (entry_of p.1 == place)
+      at : (p : Option (Cite P) × Cite P) → is_first_of (first_print (numbered_after same d p)) ≡ (entry_of p.1 == entry_index)
       at (last, c) = refl
 
   arranged_cited : (r : Request P) (bs : List (FirstPrint P)) → list_any (λ (a : Arranged (FirstPrint P)). is_first_of a.cite.cite) (arranged_for t (r, bs)) ≡ list_any is_first_of bs
@@ -71,20 +71,20 @@ module _ {P : Type 0} (same : P → P → Bool) (d : Document P) (t : Disambigua
       ∙ any_map (gathered_by t) (λ (x : Gathered (FirstPrint P)). is_first_of x.cite) bs
 
   final_cited : (last : Option (Arranged (FirstPrint P))) (xs : List (Arranged (FirstPrint P)))
-      → list_any (is_final_of place) (map (final same t) (zip (last ∷ map (λ a. Some a) xs) xs)) ≡ list_any (λ (a : Arranged (FirstPrint P)). is_first_of a.cite.cite) xs
+      → list_any (is_final_of entry_index) (map (final same t) (zip (last ∷ map (λ a. Some a) xs) xs)) ≡ list_any (λ (a : Arranged (FirstPrint P)). is_first_of a.cite.cite) xs
   final_cited last xs =
       let pairs = zip (last ∷ map (λ a. Some a) xs) xs in
-      any_map (final same t) (is_final_of place) pairs
-      ∙ any_same (λ p. is_final_of place (final same t p)) (λ (p : Option (Arranged (FirstPrint P)) × Arranged (FirstPrint P)). is_first_of p.1.cite.cite) at pairs
+      any_map (final same t) (is_final_of entry_index) pairs
+      ∙ any_same (λ p. is_final_of entry_index (final same t p)) (λ (p : Option (Arranged (FirstPrint P)) × Arranged (FirstPrint P)). is_first_of p.1.cite.cite) at pairs
       ∙ any_second (λ (a : Arranged (FirstPrint P)). is_first_of a.cite.cite) last (λ a. Some a) xs
     where
-      at : (p : Option (Arranged (FirstPrint P)) × Arranged (FirstPrint P)) → is_final_of place (final same t p) ≡ is_first_of p.1.cite.cite
+      at : (p : Option (Arranged (FirstPrint P)) × Arranged (FirstPrint P)) → is_final_of entry_index (final same t p) ≡ is_first_of p.1.cite.cite
       at (last, a) = refl
 
   -- an entry has a cite in the final order where an item cites it
   all_cited : (earlier : List (Request P)) (before : Option (Cite P)) (last : Option (Arranged (FirstPrint P))) (rs : List (Request P))
-      → list_any (is_final_of place) (flattened (map (map (final same t)) (with_previous last (map (arranged_for t) (zip rs (map (map (λ p. first_print (numbered_after same d p))) (with_previous before (cites_after earlier rs))))))))
-      ≡ list_any (cites_entry place) (flat_map (λ (r : Request P). r.items) rs)
+      → list_any (is_final_of entry_index) (flattened (map (map (final same t)) (with_previous last (map (arranged_for t) (zip rs (map (map (λ p. first_print (numbered_after same d p))) (with_previous before (cites_after earlier rs))))))))
+      ≡ list_any (cites_entry entry_index) (flat_map (λ (r : Request P). r.items) rs)
   all_cited earlier before last [] = refl
   all_cited earlier before last (r ∷ rs) =
       let cs = map (cite_at earlier r) (enumerate_from 0 r.items) in
@@ -92,19 +92,19 @@ module _ {P : Type 0} (same : P → P → Bool) (d : Document P) (t : Disambigua
       let xs = arranged_for t (r, bs) in
       let fs = map (final same t) (zip (last ∷ map (λ a. Some a) xs) xs) in
       let rest = flattened (map (map (final same t)) (with_previous (last_or last xs) (map (arranged_for t) (zip rs (map (map (λ p. first_print (numbered_after same d p))) (with_previous (last_or before cs) (cites_after (earlier ++ r ∷ []) rs))))))) in
-      any_both (is_final_of place) (cites_entry place) fs rest r.items (flat_map (λ (q : Request P). q.items) rs) (final_cited last xs ∙ arranged_cited r bs ∙ printed_cited before cs ∙ item_cited earlier r) (all_cited (earlier ++ r ∷ []) (last_or before cs) (last_or last xs) rs)
+      any_both (is_final_of entry_index) (cites_entry entry_index) fs rest r.items (flat_map (λ (q : Request P). q.items) rs) (final_cited last xs ∙ arranged_cited r bs ∙ printed_cited before cs ∙ item_cited earlier r) (all_cited (earlier ++ r ∷ []) (last_or before cs) (last_or last xs) rs)
 
-module _ {P : Type 0} (place : ℕ) where
-  items_places : (rs : List (Request P)) → list_any (nat_eq place) (flat_map (λ (r : Request P). map (λ (i : Item P). i.entry.place) r.items) rs) ≡ list_any (cites_entry place) (flat_map (λ (r : Request P). r.items) rs)
-  items_places [] = refl
-  items_places (r ∷ rs) =
-      list_any-append (nat_eq place) (map (λ (i : Item P). i.entry.place) r.items) (flat_map (λ (q : Request P). map (λ (i : Item P). i.entry.place) q.items) rs)
-      ∙ (λ k. (any_map (λ (i : Item P). i.entry.place) (nat_eq place) r.items ∙ any_same (λ (i : Item P). nat_eq place i.entry.place) (cites_entry place) (λ i. eq_turned place i.entry.place) r.items) k || items_places rs k)
-      ∙ sym (list_any-append (cites_entry place) r.items (flat_map (λ (q : Request P). q.items) rs))
+module _ {P : Type 0} (entry_index : ℕ) where
+  items_indices : (rs : List (Request P)) → list_any (nat_eq entry_index) (flat_map (λ (r : Request P). map (λ (i : Item P). i.entry.index) r.items) rs) ≡ list_any (cites_entry entry_index) (flat_map (λ (r : Request P). r.items) rs)
+  items_indices [] = refl
+  items_indices (r ∷ rs) =
+      list_any-append (nat_eq entry_index) (map (λ (i : Item P). i.entry.index) r.items) (flat_map (λ (q : Request P). map (λ (i : Item P). i.entry.index) q.items) rs)
+      ∙ (λ k. (any_map (λ (i : Item P). i.entry.index) (nat_eq entry_index) r.items ∙ any_same (λ (i : Item P). nat_eq entry_index i.entry.index) (cites_entry entry_index) (λ i. eq_turned entry_index i.entry.index) r.items) k || items_indices rs k)
+      ∙ sym (list_any-append (cites_entry entry_index) r.items (flat_map (λ (q : Request P). q.items) rs))
 
   -- an entry is cited where an item cites it
-  pub is_cited : (d : Document P) → is_place_in (cited d.requests) place ≡ list_any (cites_entry place) (flat_map (λ (r : Request P). r.items) d.requests)
-  is_cited d = once-any nat_eq_equiv place (flat_map (λ (r : Request P). map (λ (i : Item P). i.entry.place) r.items) d.requests) ∙ items_places d.requests
+  pub is_cited : (d : Document P) → is_index_in (cited d.requests) entry_index ≡ list_any (cites_entry entry_index) (flat_map (λ (r : Request P). r.items) d.requests)
+  is_cited d = once-any nat_eq_equiv entry_index (flat_map (λ (r : Request P). map (λ (i : Item P). i.entry.index) r.items) d.requests) ∙ items_indices d.requests
 
 pub found_some : {A : Type 0} (p : A → Bool) (xs : List A) → is_some (find p xs) ≡ list_any p xs
 found_some p [] = refl
@@ -132,40 +132,40 @@ all_some {A} {B} f (x ∷ xs) h = by_value (f x) refl (all_some f xs h.1)
     by_value (Some y) e others = (λ k. e k ∷ others k) ∙ sym (ap (λ o. map (λ z. Some z) (cons_option o (filter_map f xs))) e)
 
 -- each member is among the members
-themselves : (xs ys : List ℕ) → AllByRecursion (λ x. is_place_in (xs ++ ys) x ≡ true) ys
+themselves : (xs ys : List ℕ) → AllByRecursion (λ x. is_index_in (xs ++ ys) x ≡ true) ys
 themselves xs [] = tt
 themselves xs (y ∷ ys) = (here, moved (themselves (xs ++ y ∷ []) ys))
   where
-    here : is_place_in (xs ++ y ∷ ys) y ≡ true
+    here : is_index_in (xs ++ y ∷ ys) y ≡ true
     here = list_any-append (nat_eq y) xs (y ∷ ys) ∙ or_true (list_any (nat_eq y) xs) (nat_eq y y) (list_any (nat_eq y) ys) (eq-eqb y y refl)
       where
         or_true : (a b c : Bool) → b ≡ true → (a || (b || c)) ≡ true
         or_true true b c e = refl
         or_true false b c e = ap (λ v. v || c) e
 
-    moved : AllByRecursion (λ x. is_place_in ((xs ++ y ∷ []) ++ ys) x ≡ true) ys → AllByRecursion (λ x. is_place_in (xs ++ y ∷ ys) x ≡ true) ys
-    moved others = weaker_all (λ x. is_place_in ((xs ++ y ∷ []) ++ ys) x ≡ true) (λ x. is_place_in (xs ++ y ∷ ys) x ≡ true) (λ x g. ap (λ zs. is_place_in zs x) (sym (append_assoc xs (y ∷ []) ys)) ∙ g) ys others
+    moved : AllByRecursion (λ x. is_index_in ((xs ++ y ∷ []) ++ ys) x ≡ true) ys → AllByRecursion (λ x. is_index_in (xs ++ y ∷ ys) x ≡ true) ys
+    moved others = weaker_all (λ x. is_index_in ((xs ++ y ∷ []) ++ ys) x ≡ true) (λ x. is_index_in (xs ++ y ∷ ys) x ≡ true) (λ x g. ap (λ zs. is_index_in zs x) (sym (append_assoc xs (y ∷ []) ys)) ∙ g) ys others
 
 module _ {P : Type 0} (d : Document P) where
   -- each entry of the order is cited by an item
-  pub order_cited : AllByRecursion (λ place. list_any (cites_entry place) (flat_map (λ (r : Request P). r.items) d.requests) ≡ true) (order_in d)
+  pub order_cited : AllByRecursion (λ entry_index. list_any (cites_entry entry_index) (flat_map (λ (r : Request P). r.items) d.requests) ≡ true) (order_in d)
   order_cited =
-      weaker_all (λ place. is_place_in (order_in d) place ≡ true) (λ place. list_any (cites_entry place) (flat_map (λ (r : Request P). r.items) d.requests) ≡ true)
-      (λ place h. sym (is_cited place d) ∙ sym ((order_has_the_cited P d).1 place) ∙ h) (order_in d) (themselves [] (order_in d))
+      weaker_all (λ entry_index. is_index_in (order_in d) entry_index ≡ true) (λ entry_index. list_any (cites_entry entry_index) (flat_map (λ (r : Request P). r.items) d.requests) ≡ true)
+      (λ entry_index h. sym (is_cited entry_index d) ∙ sym ((order_has_the_cited P d).1 entry_index) ∙ h) (order_in d) (themselves [] (order_in d))
 
   -- there is a key for each of them
   pub keys_there : map (key_at d) (order_in d) ≡ map (λ key. Some key) (keys_in d)
   keys_there =
       all_some (key_at d) (order_in d)
-      (weaker_all (λ place. list_any (cites_entry place) (flat_map (λ (r : Request P). r.items) d.requests) ≡ true) (λ place. is_some (key_at d place) ≡ true)
-      (λ place h. map_some (λ (i : Item P). i.entry.answers.key) (find (cites_entry place) (flat_map (λ (r : Request P). r.items) d.requests)) ∙ found_some (cites_entry place) (flat_map (λ (r : Request P). r.items) d.requests) ∙ h) (order_in d) order_cited)
+      (weaker_all (λ entry_index. list_any (cites_entry entry_index) (flat_map (λ (r : Request P). r.items) d.requests) ≡ true) (λ entry_index. is_some (key_at d entry_index) ≡ true)
+      (λ entry_index h. map_some (λ (i : Item P). i.entry.answers.key) (find (cites_entry entry_index) (flat_map (λ (r : Request P). r.items) d.requests)) ∙ found_some (cites_entry entry_index) (flat_map (λ (r : Request P). r.items) d.requests) ∙ h) (order_in d) order_cited)
 
   module _ (same : P → P → Bool) where
     -- each of them has a cite in the final order
-    pub final_there : (place : ℕ) → list_any (cites_entry place) (flat_map (λ (r : Request P). r.items) d.requests) ≡ true → is_some (find (is_final_of place) (finals_of same d)) ≡ true
-    final_there place h =
-        found_some (is_final_of place) (finals_of same d)
-        ∙ all_cited same d (disambiguated_in d (first_prints_in same d)) place [] None None d.requests
+    pub final_there : (entry_index : ℕ) → list_any (cites_entry entry_index) (flat_map (λ (r : Request P). r.items) d.requests) ≡ true → is_some (find (is_final_of entry_index) (finals_of same d)) ≡ true
+    final_there entry_index h =
+        found_some (is_final_of entry_index) (finals_of same d)
+        ∙ all_cited same d (disambiguated_in d (first_prints_in same d)) entry_index [] None None d.requests
         ∙ h
 
     pub item_there : (b : Bibliography) (f : Final P) → d.bibliography_context.style.bibliography ≡ Some b → is_some (item_of_cite d f) ≡ true
@@ -178,8 +178,8 @@ module _ {P : Type 0} (d : Document P) where
     pub items_there : (b : Bibliography) → d.bibliography_context.style.bibliography ≡ Some b → map (item_of_entry d (finals_of same d)) (order_in d) ≡ map (λ tree. Some tree) (item_trees d (finals_of same d))
     items_there b e =
         all_some (item_of_entry d (finals_of same d)) (order_in d)
-        (weaker_all (λ place. list_any (cites_entry place) (flat_map (λ (r : Request P). r.items) d.requests) ≡ true) (λ place. is_some (item_of_entry d (finals_of same d) place) ≡ true)
-        (λ place h. and_then_some (item_of_cite d) (find (is_final_of place) (finals_of same d)) (λ f. item_there b f e) (final_there place h)) (order_in d) order_cited)
+        (weaker_all (λ entry_index. list_any (cites_entry entry_index) (flat_map (λ (r : Request P). r.items) d.requests) ≡ true) (λ entry_index. is_some (item_of_entry d (finals_of same d) entry_index) ≡ true)
+        (λ entry_index h. and_then_some (item_of_cite d) (find (is_final_of entry_index) (finals_of same d)) (λ f. item_there b f e) (final_there entry_index h)) (order_in d) order_cited)
 
 -- where the style has a bibliography, this has one item for each cited entry, in their order
 pub items_order : (P : Type 0) → ItemsAreTheOrder P

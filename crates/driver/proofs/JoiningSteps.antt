@@ -5,7 +5,7 @@ use Rattle.std.specs.Prelude.{if◌then◌else◌}
 use Rattle.rendering_page.specs.Tail.{ends_in}
 use Rattle.rendering_taxonomy.specs.declared.formatting.Formatting.{Formatting}
 use Rattle.rendering_tree.specs.Trees.{Child, Children, Text, nothing, before, followed_by, flat, simplified, tree_of}
-use Rattle.rendering_tree.specs.Views.{child, row, tree}
+use Rattle.rendering_tree.specs.Views.{child_view, children_view, tree_view}
 use Rattle.rendering_tree.specs.declared.element.ElemChildren.{ElemChildren}
 use Rattle.rendering_tree.specs.declared.element.ElemChild.{ElemChild}
 use Rattle.rendering_tree.proofs.SimplifySteps.{flat-followed_by, followed_by-assoc, followed_by-nothing}
@@ -14,7 +14,7 @@ use Rattle.rendering_style.specs.Styles.{Layout}
 use Rattle.driver.specs.Citations.{Shown, affixed, after_cite, citation_look, citation_of, end_of, entry_element, followed_by_text, suffixed}
 use Rattle.rendering_names.specs.Persons.{comma_and_space}
 use Rattle.driver.specs.Standalone.{after_tree, joined_alone}
-use Rattle.driver.specs.Joining.{delimited_trees, finished, put_cite, put_cites, shown_seen, suffix_put}
+use Rattle.driver.specs.Joining.{delimited_trees, finished, put_cite, put_cites, shown_view, suffix_put}
 use Rattle.driver.specs.declared.citation.ShownCite.{ShownCite}
 
 -- a delimiter and a cite before others are put after what is there
@@ -36,20 +36,20 @@ finished_is l true (s ∷ ss) = ap (finished l true) (put_after (citation_look l
 finished_is l false (s ∷ ss) = ap (finished l false) (put_after (citation_look l) (entry_element s) nothing ss)
 
 -- one more cite is put
-pub cite_put : (f : Formatting) (now new all : Children) (x : ShownCite) (rest items : List ShownCite) → items ≡ x ∷ rest → fold (put_cite f) now (map shown_seen items) ≡ all → new ≡ put_cite f now (shown_seen x)
-    → fold (put_cite f) new (map shown_seen rest) ≡ all
+pub cite_put : (f : Formatting) (now new all : Children) (x : ShownCite) (rest items : List ShownCite) → items ≡ x ∷ rest → fold (put_cite f) now (map shown_view items) ≡ all → new ≡ put_cite f now (shown_view x)
+    → fold (put_cite f) new (map shown_view rest) ≡ all
 cite_put f now new all x rest items steps h e =
-    ap (λ t. fold (put_cite f) t (map shown_seen rest)) e ∙ ap (λ xs. fold (put_cite f) now (map shown_seen xs)) (sym steps) ∙ h
+    ap (λ t. fold (put_cite f) t (map shown_view rest)) e ∙ ap (λ xs. fold (put_cite f) now (map shown_view xs)) (sym steps) ∙ h
 
 -- one more child is put
-pub child_put : (now new all : Children) (x : ElemChild) (rest items : List ElemChild) → items ≡ x ∷ rest → followed_by now (row items) ≡ all → new ≡ followed_by now (before (child x) nothing)
-    → followed_by new (row rest) ≡ all
+pub child_put : (now new all : Children) (x : ElemChild) (rest items : List ElemChild) → items ≡ x ∷ rest → followed_by now (children_view items) ≡ all → new ≡ followed_by now (before (child_view x) nothing)
+    → followed_by new (children_view rest) ≡ all
 child_put now new all x rest items steps h e =
-    ap (λ t. followed_by t (row rest)) e ∙ followed_by-assoc now (before (child x) nothing) (row rest) ∙ ap (λ xs. followed_by now (row xs)) (sym steps) ∙ h
+    ap (λ t. followed_by t (children_view rest)) e ∙ followed_by-assoc now (before (child_view x) nothing) (children_view rest) ∙ ap (λ xs. followed_by now (children_view xs)) (sym steps) ∙ h
 
 -- after the last one
-pub none_left : (now all : Children) (items : List ElemChild) → items ≡ [] → followed_by now (row items) ≡ all → now ≡ all
-none_left now all items none h = sym (followed_by-nothing now) ∙ ap (λ xs. followed_by now (row xs)) (sym none) ∙ h
+pub none_left : (now all : Children) (items : List ElemChild) → items ≡ [] → followed_by now (children_view items) ≡ all → now ≡ all
+none_left now all items none h = sym (followed_by-nothing now) ∙ ap (λ xs. followed_by now (children_view xs)) (sym none) ∙ h
 
 -- what follows a tree may follow its normal form
 pub simplified_after : (xs ys : Children) → simplified (followed_by (simplified xs) ys) ≡ simplified (followed_by xs ys)
@@ -65,24 +65,24 @@ suffix_after f suffix xs =
 
 -- one more tree is put
 pub tree_put : (f : Formatting) (between : List ℕ) (is_first : Bool) (now mid new all : Children) (x : ElemChildren) (rest items : List ElemChildren) → items ≡ x ∷ rest
-    → followed_by now (delimited_trees f between is_first (map tree items)) ≡ all → mid ≡ (if is_first then now else followed_by_text f between now) → new ≡ followed_by mid (tree x)
-    → followed_by new (delimited_trees f between false (map tree rest)) ≡ all
+    → followed_by now (delimited_trees f between is_first (map tree_view items)) ≡ all → mid ≡ (if is_first then now else followed_by_text f between now) → new ≡ followed_by mid (tree_view x)
+    → followed_by new (delimited_trees f between false (map tree_view rest)) ≡ all
 tree_put f between true now mid new all x rest items steps h m e =
-    ap (λ t. followed_by t (after_tree f between (map tree rest))) (e ∙ ap (λ t. followed_by t (tree x)) m)
-    ∙ followed_by-assoc now (tree x) (after_tree f between (map tree rest))
-    ∙ ap (λ xs. followed_by now (delimited_trees f between true (map tree xs))) (sym steps)
+    ap (λ t. followed_by t (after_tree f between (map tree_view rest))) (e ∙ ap (λ t. followed_by t (tree_view x)) m)
+    ∙ followed_by-assoc now (tree_view x) (after_tree f between (map tree_view rest))
+    ∙ ap (λ xs. followed_by now (delimited_trees f between true (map tree_view xs))) (sym steps)
     ∙ h
 tree_put f between false now mid new all x rest items steps h m e =
-    ap (λ t. followed_by t (after_tree f between (map tree rest))) (e ∙ ap (λ t. followed_by t (tree x)) m)
-    ∙ followed_by-assoc (followed_by_text f between now) (tree x) (after_tree f between (map tree rest))
-    ∙ followed_by-assoc now (before (Text f between) nothing) (followed_by (tree x) (after_tree f between (map tree rest)))
-    ∙ ap (λ xs. followed_by now (delimited_trees f between false (map tree xs))) (sym steps)
+    ap (λ t. followed_by t (after_tree f between (map tree_view rest))) (e ∙ ap (λ t. followed_by t (tree_view x)) m)
+    ∙ followed_by-assoc (followed_by_text f between now) (tree_view x) (after_tree f between (map tree_view rest))
+    ∙ followed_by-assoc now (before (Text f between) nothing) (followed_by (tree_view x) (after_tree f between (map tree_view rest)))
+    ∙ ap (λ xs. followed_by now (delimited_trees f between false (map tree_view xs))) (sym steps)
     ∙ h
 
 pub no_tree_left : (f : Formatting) (between : List ℕ) (is_first : Bool) (now all : Children) (items : List ElemChildren) → items ≡ []
-    → followed_by now (delimited_trees f between is_first (map tree items)) ≡ all → now ≡ all
-no_tree_left f between true now all items none h = sym (followed_by-nothing now) ∙ ap (λ xs. followed_by now (delimited_trees f between true (map tree xs))) (sym none) ∙ h
-no_tree_left f between false now all items none h = sym (followed_by-nothing now) ∙ ap (λ xs. followed_by now (delimited_trees f between false (map tree xs))) (sym none) ∙ h
+    → followed_by now (delimited_trees f between is_first (map tree_view items)) ≡ all → now ≡ all
+no_tree_left f between true now all items none h = sym (followed_by-nothing now) ∙ ap (λ xs. followed_by now (delimited_trees f between true (map tree_view xs))) (sym none) ∙ h
+no_tree_left f between false now all items none h = sym (followed_by-nothing now) ∙ ap (λ xs. followed_by now (delimited_trees f between false (map tree_view xs))) (sym none) ∙ h
 
 -- where there are trees they are joined
 pub joined_is : (l : Layout) (ts : List Children) → (length ts ≢ 0) → simplified (affixed l (delimited_trees (citation_look l) (unwrap_or l.delimiter comma_and_space) true ts)) ≡ joined_alone l ts
@@ -91,7 +91,7 @@ joined_is l (t ∷ ts) some = refl
 
 -- a layout's affixes were put round what is inside
 pub affixed_is : {E : Type 0} (l : Layout) (look : Formatting) (prefix suffix : List ℕ) (inside first mid simple : Children) (r : Result ElemChildren E) → look ≡ citation_look l → prefix ≡ unwrap_or l.prefix [] → suffix ≡ unwrap_or l.suffix []
-    → first ≡ followed_by_text look prefix nothing → mid ≡ followed_by first inside → simple ≡ simplified mid → IfOk r (λ t. tree t ≡ suffix_put look suffix simple) → IfOk r (λ t. tree t ≡ simplified (affixed l inside))
+    → first ≡ followed_by_text look prefix nothing → mid ≡ followed_by first inside → simple ≡ simplified mid → IfOk r (λ t. tree_view t ≡ suffix_put look suffix simple) → IfOk r (λ t. tree_view t ≡ simplified (affixed l inside))
 affixed_is l look prefix suffix inside first mid simple (Err e) looks p s f m is h = tt
 affixed_is l look prefix suffix inside first mid simple (Ok t) looks p s f m is h =
     h
@@ -99,7 +99,7 @@ affixed_is l look prefix suffix inside first mid simple (Ok t) looks p s f m is 
     ∙ suffix_after (citation_look l) (unwrap_or l.suffix []) (before (Text (citation_look l) (unwrap_or l.prefix [])) inside)
 
 -- what was finished is the citation
-pub citation_is : {E : Type 0} (l : Layout) (p : Bool) (look : Formatting) (ss : List Shown) (joined : Children) (r : Result ElemChildren E) → look ≡ citation_look l → joined ≡ put_cites look ss → IfOk r (λ t. tree t ≡ finished l p joined)
-    → IfOk r (λ t. tree t ≡ citation_of l p ss)
+pub citation_is : {E : Type 0} (l : Layout) (p : Bool) (look : Formatting) (ss : List Shown) (joined : Children) (r : Result ElemChildren E) → look ≡ citation_look l → joined ≡ put_cites look ss → IfOk r (λ t. tree_view t ≡ finished l p joined)
+    → IfOk r (λ t. tree_view t ≡ citation_of l p ss)
 citation_is l p look ss joined (Err e) looks is h = tt
 citation_is l p look ss joined (Ok t) looks is h = h ∙ ap (finished l p) (is ∙ ap (λ f. put_cites f ss) looks) ∙ finished_is l p ss

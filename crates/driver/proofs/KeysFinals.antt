@@ -8,12 +8,12 @@ use Rattle.rendering_style.specs.Styles.{Bibliography}
 use Rattle.rendering_tree.specs.Trees.{Children}
 use Rattle.driver_requests.specs.Cites.{Cite, cite_at, cites_after}
 use Rattle.driver_requests.specs.Requests.{Item, Request, cites_entry}
-use Rattle.driver_blocks.specs.Rows.{Arranged}
+use Rattle.driver_blocks.specs.Runs.{Arranged}
 use Rattle.driver.specs.Documents.{Document, order_in}
 use Rattle.driver.specs.Finish.{is_final_of, item_of_cite, key_at, keys_in}
 use Rattle.driver.specs.Laws.{finals_of}
 use Rattle.driver.specs.Stages.{Final, FirstPrint, cite_of, disambiguated_in, final, finals_in, first_print, first_print_of, first_prints_in, numbered_after}
-use Rattle.driver.proofs.FinalsOf.{finals_all, prints_all}
+use Rattle.driver.proofs.FinalPrintsOf.{finals_all, prints_all}
 use Rattle.driver.proofs.ItemsOrder.{final_there, found_some, item_there, order_cited}
 use Rattle.driver.proofs.Members.{both_all, enumerate_all, flat_all, map_all, weaker_all}
 
@@ -34,22 +34,22 @@ pub filter_map_same : {A B : Type 0} (f g : A → Option B) (xs : List A) → Al
 filter_map_same f g [] h = refl
 filter_map_same f g (x ∷ xs) h = λ k. cons_option (h.0 k) (filter_map_same f g xs h.1 k)
 
--- Where a table says what the entry at each place answers.
+-- Where a table says what the entry at each index answers.
 module _ {P : Type 0} (d : Document P) (table : ℕ → Option Answers) where
   -- an item answers so
   abbrev pub IsInTable : Item P → Type 0
-  IsInTable i = table i.entry.place ≡ Some i.entry.answers
+  IsInTable i = table i.entry.index ≡ Some i.entry.answers
 
   -- the key of the entry of a cite, where the bibliography prints it
   abbrev pub key_final : Final P → Option (List ℕ)
   key_final f = option_map (λ (t : Children). (cite_of f).item.entry.answers.key) (item_of_cite d f)
 
   module _ (h : AllByRecursion IsInTable (flat_map (λ (r : Request P). r.items) d.requests)) where
-    key_of_item : (place : ℕ) (o : Option (Item P)) → find (cites_entry place) (flat_map (λ (r : Request P). r.items) d.requests) ≡ o → is_some o ≡ true → option_map (λ (i : Item P). i.entry.answers.key) o ≡ option_map (λ (a : Answers). a.key) (table place)
-    key_of_item place None e some = absurd (true≢false (sym some))
-    key_of_item place (Some i) e some =
-        let found = found_all IsInTable (cites_entry place) (flat_map (λ (r : Request P). r.items) d.requests) i h e in
-        sym (ap (option_map (λ (a : Answers). a.key)) (ap table (sym (eqb-true i.entry.place place found.1)) ∙ found.0))
+    key_of_item : (entry_index : ℕ) (o : Option (Item P)) → find (cites_entry entry_index) (flat_map (λ (r : Request P). r.items) d.requests) ≡ o → is_some o ≡ true → option_map (λ (i : Item P). i.entry.answers.key) o ≡ option_map (λ (a : Answers). a.key) (table entry_index)
+    key_of_item entry_index None e some = absurd (true≢false (sym some))
+    key_of_item entry_index (Some i) e some =
+        let found = found_all IsInTable (cites_entry entry_index) (flat_map (λ (r : Request P). r.items) d.requests) i h e in
+        sym (ap (option_map (λ (a : Answers). a.key)) (ap table (sym (eqb-true i.entry.index entry_index found.1)) ∙ found.0))
 
     module _ (same : P → P → Bool) where
       -- a cite is of an entry in the table
@@ -92,20 +92,20 @@ module _ {P : Type 0} (d : Document P) (table : ℕ → Option Answers) where
           at : (p : Option (Arranged (FirstPrint P)) × Arranged (FirstPrint P)) → FirstOfTable (first_print_of p.1) → FinalOfTable (final same (disambiguated_in d (first_prints_in same d)) p)
           at (last, a) g = g
 
-      key_of_final : (b : Bibliography) → d.bibliography_context.style.bibliography ≡ Some b → (place : ℕ) (o : Option (Final P)) → find (is_final_of place) (finals_of same d) ≡ o → is_some o ≡ true → option_and_then key_final o ≡ option_map (λ (a : Answers). a.key) (table place)
-      key_of_final b is place None e some = absurd (true≢false (sym some))
-      key_of_final b is place (Some f) e some =
-          let found = found_all FinalOfTable (is_final_of place) (finals_of same d) f finals_there e in
-          key_there f (item_of_cite d f) (item_there d same b f is) ∙ sym (ap (option_map (λ (a : Answers). a.key)) (ap table (sym (eqb-true (cite_of f).item.entry.place place found.1)) ∙ found.0))
+      key_of_final : (b : Bibliography) → d.bibliography_context.style.bibliography ≡ Some b → (entry_index : ℕ) (o : Option (Final P)) → find (is_final_of entry_index) (finals_of same d) ≡ o → is_some o ≡ true → option_and_then key_final o ≡ option_map (λ (a : Answers). a.key) (table entry_index)
+      key_of_final b is entry_index None e some = absurd (true≢false (sym some))
+      key_of_final b is entry_index (Some f) e some =
+          let found = found_all FinalOfTable (is_final_of entry_index) (finals_of same d) f finals_there e in
+          key_there f (item_of_cite d f) (item_there d same b f is) ∙ sym (ap (option_map (λ (a : Answers). a.key)) (ap table (sym (eqb-true (cite_of f).item.entry.index entry_index found.1)) ∙ found.0))
         where
           key_there : (f : Final P) (o : Option Children) → is_some o ≡ true → option_map (λ (t : Children). (cite_of f).item.entry.answers.key) o ≡ Some (cite_of f).item.entry.answers.key
           key_there f None k = absurd (true≢false (sym k))
           key_there f (Some t) k = refl
 
       -- the keys of the entries that the bibliography prints
-      pub keys_final : (b : Bibliography) → d.bibliography_context.style.bibliography ≡ Some b → filter_map (λ place. option_and_then key_final (find (is_final_of place) (finals_of same d))) (order_in d) ≡ keys_in d
+      pub keys_final : (b : Bibliography) → d.bibliography_context.style.bibliography ≡ Some b → filter_map (λ entry_index. option_and_then key_final (find (is_final_of entry_index) (finals_of same d))) (order_in d) ≡ keys_in d
       keys_final b is =
-          filter_map_same (λ place. option_and_then key_final (find (is_final_of place) (finals_of same d))) (key_at d) (order_in d)
-          (weaker_all (λ place. list_any (cites_entry place) (flat_map (λ (r : Request P). r.items) d.requests) ≡ true) (λ place. option_and_then key_final (find (is_final_of place) (finals_of same d)) ≡ key_at d place)
-          (λ place k. key_of_final b is place (find (is_final_of place) (finals_of same d)) refl (final_there d same place k)
-          ∙ sym (key_of_item place (find (cites_entry place) (flat_map (λ (r : Request P). r.items) d.requests)) refl (found_some (cites_entry place) (flat_map (λ (r : Request P). r.items) d.requests) ∙ k))) (order_in d) (order_cited d))
+          filter_map_same (λ entry_index. option_and_then key_final (find (is_final_of entry_index) (finals_of same d))) (key_at d) (order_in d)
+          (weaker_all (λ entry_index. list_any (cites_entry entry_index) (flat_map (λ (r : Request P). r.items) d.requests) ≡ true) (λ entry_index. option_and_then key_final (find (is_final_of entry_index) (finals_of same d)) ≡ key_at d entry_index)
+          (λ entry_index k. key_of_final b is entry_index (find (is_final_of entry_index) (finals_of same d)) refl (final_there d same entry_index k)
+          ∙ sym (key_of_item entry_index (find (cites_entry entry_index) (flat_map (λ (r : Request P). r.items) d.requests)) refl (found_some (cites_entry entry_index) (flat_map (λ (r : Request P). r.items) d.requests) ∙ k))) (order_in d) (order_cited d))

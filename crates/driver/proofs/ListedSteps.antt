@@ -8,19 +8,19 @@ use Rattle.std.proofs.Math.ListN.{get_or-eq_default}
 use Rattle.std.proofs.lemmas.List.Elements.{All-head, All-tail}
 use Rattle.std.proofs.lemmas.List.FromFn.{get_or-map-range_with_len, length-map-range_with_len}
 use Rattle.rendering_context.specs.Cites.{undisturbed}
-use Rattle.rendering_context.specs.Views.{state_by}
+use Rattle.rendering_context.specs.Views.{state_view}
 use Rattle.rendering_context.specs.declared.cite.DisambiguateState.{DisambiguateState as CodeState}
 use Rattle.rendering_context.specs.Contexts.{StyleContext}
 use Rattle.rendering_entries.specs.Answers.{Answers}
 use Rattle.rendering_style.specs.Styles as styles
 use Rattle.rendering_tree.specs.Trees.{Children}
-use Rattle.driver_marks.specs.Marks.{mark_of}
-use Rattle.driver.specs.Finals.{Listed, first_listed, listed_as, listed_by}
+use Rattle.driver_disambiguation.specs.States.{state_of}
+use Rattle.driver.specs.FinalPrints.{Listed, first_listed, listed_as, listed_view}
 use Rattle.driver.specs.Finish.{is_final_of}
-use Rattle.driver.specs.Listing.{StandAtPlaces, bibliography_from, keys_listed, listed_marked, trees_listed}
-use Rattle.driver.specs.RenderedViews.{bibliography_by, key_by}
+use Rattle.driver.specs.Listing.{AreAtIndices, bibliography_from, keys_listed, listed_in_state, trees_listed}
+use Rattle.driver.specs.RenderedViews.{rendered_bibliography_view, key_view}
 use Rattle.driver.specs.Stages.{Final, cite_of}
-use Rattle.driver.specs.declared.finals.ListedCite.{ListedCite}
+use Rattle.driver.specs.declared.final_prints.ListedCite.{ListedCite}
 use Rattle.driver.specs.declared.rendered.RenderedBibliography.{RenderedBibliography}
 
 consed : {B : Type 0} (o : Option B) (bs cs : List B) → bs ++ cons_option o cs ≡ (bs ++ option_to_list o) ++ cs
@@ -29,13 +29,13 @@ consed (Some b) bs cs = sym (append_assoc bs (b ∷ []) cs)
 
 -- the bibliography of what is printed of entries in a context
 pub bibliography_in : {E : Type 0} (r : Result RenderedBibliography E) (s : styles.Bibliography) (ts : List Children) (x y : StyleContext) (ls : List (Option Listed)) (order : List ℕ)
-    → IfOk r (λ b. bibliography_by b ≡ bibliography_from s ts) → ts ≡ trees_listed x ls order → x ≡ y → IfOk r (λ b. bibliography_by b ≡ bibliography_from s (trees_listed y ls order))
-bibliography_in r s ts x y ls order is at same = subst (λ us. IfOk r (λ b. bibliography_by b ≡ bibliography_from s us)) (at ∙ ap (λ z. trees_listed z ls order) same) is
+    → IfOk r (λ b. rendered_bibliography_view b ≡ bibliography_from s ts) → ts ≡ trees_listed x ls order → x ≡ y → IfOk r (λ b. rendered_bibliography_view b ≡ bibliography_from s (trees_listed y ls order))
+bibliography_in r s ts x y ls order is at same = subst (λ us. IfOk r (λ b. rendered_bibliography_view b ≡ bibliography_from s us)) (at ∙ ap (λ z. trees_listed z ls order) same) is
 
 -- its keys
 pub keys_in_order : {E : Type 0} (r : Result RenderedBibliography E) (ks : List (List ℕ)) (x y : StyleContext) (ls : List (Option Listed)) (order : List ℕ)
-    → IfOk r (λ b. map key_by b.items.items ≡ ks) → ks ≡ keys_listed x ls order → x ≡ y → IfOk r (λ b. map key_by b.items.items ≡ keys_listed y ls order)
-keys_in_order r ks x y ls order is at same = subst (λ us. IfOk r (λ b. map key_by b.items.items ≡ us)) (at ∙ ap (λ z. keys_listed z ls order) same) is
+    → IfOk r (λ b. map key_view b.items.items ≡ ks) → ks ≡ keys_listed x ls order → x ≡ y → IfOk r (λ b. map key_view b.items.items ≡ keys_listed y ls order)
+keys_in_order r ks x y ls order is at same = subst (λ us. IfOk r (λ b. map key_view b.items.items ≡ us)) (at ∙ ap (λ z. keys_listed z ls order) same) is
 
 -- one more is tried
 pub tried_goes_on : {A B : Type 0} (f : A → Option B) (es : List A) (old new : List B) (n : ℕ) (e : A) (o : Option B) (all : List B) → n < length es → e ≡ get_or es n e → o ≡ f e
@@ -52,47 +52,47 @@ tried_goes_on f es old new n e o all less at is h made =
 pub tried_ends : {A B : Type 0} (f : A → Option B) (es : List A) (old : List B) (n : ℕ) (all : List B) → length es ≤ n → old ++ filter_map f (drop n es) ≡ all → old ≡ all
 tried_ends f es old n all over h = sym (append-nil old) ∙ ap (λ xs. old ++ filter_map f xs) (sym (drop_all n es over)) ∙ h
 
-marked_alike : {T : Type 0} (answers : T → Answers) (marks : List CodeState) (mark : CodeState) (place : ℕ) (o : Option (ListedCite T)) → place < length marks → mark ≡ get_or marks place mark
-    → IfSome (option_map (listed_by answers (map state_by marks)) o) (λ l. l.place ≡ place) → option_map (listed_marked answers (state_by mark)) o ≡ option_map (listed_by answers (map state_by marks)) o
-marked_alike answers marks mark place None less at h = refl
-marked_alike answers marks mark place (Some l) less at h =
-    let same : state_by mark ≡ mark_of (map state_by marks) l.cite.entry =
-    ap state_by at ∙ sym (get_or-map state_by marks place mark undisturbed less) ∙ ap (λ p. get_or (map state_by marks) p undisturbed) (sym h) in
-    ap (λ m. Some (listed_marked answers m l)) same
+in_state_alike : {T : Type 0} (answers : T → Answers) (states : List CodeState) (state : CodeState) (index : ℕ) (o : Option (ListedCite T)) → index < length states → state ≡ get_or states index state
+    → IfSome (option_map (listed_view answers (map state_view states)) o) (λ l. l.index ≡ index) → option_map (listed_in_state answers (state_view state)) o ≡ option_map (listed_view answers (map state_view states)) o
+in_state_alike answers states state index None less at h = refl
+in_state_alike answers states state index (Some l) less at h =
+    let same : state_view state ≡ state_of (map state_view states) l.cite.entry =
+    ap state_view at ∙ sym (get_or-map state_view states index state undisturbed less) ∙ ap (λ p. get_or (map state_view states) p undisturbed) (sym h) in
+    ap (λ m. Some (listed_in_state answers m l)) same
 
--- what is made of the entry at a place, by its mark
-pub made_by_mark : {T B : Type 0} (make : Listed → Option B) (answers : T → Answers) (marks : List CodeState) (listed : List (Option (ListedCite T))) (place : ℕ) (mark : CodeState) (o : Option (ListedCite T)) → place < length marks → length listed ≡ length marks
-    → mark ≡ get_or marks place mark → o ≡ get_or listed place o → StandAtPlaces (map (option_map (listed_by answers (map state_by marks))) listed)
-    → option_and_then make (option_map (listed_marked answers (state_by mark)) o) ≡ option_and_then make (slice_index_or (map (option_map (listed_by answers (map state_by marks))) listed) place None)
-made_by_mark make answers marks listed place mark o less long at_mark at stand =
-    let here : get_or (map (option_map (listed_by answers (map state_by marks))) listed) place None ≡ option_map (listed_by answers (map state_by marks)) o =
-    get_or-map (option_map (listed_by answers (map state_by marks))) listed place o None (omega (arith, less, long)) ∙ ap (option_map (listed_by answers (map state_by marks))) (sym at) in
-    let own : IfSome (option_map (listed_by answers (map state_by marks)) o) (λ l. l.place ≡ place) = subst (λ (p : Option Listed). IfSome p (λ l. l.place ≡ place)) here (stand place) in
-    ap (option_and_then make) (marked_alike answers marks mark place o less at_mark own ∙ sym here)
+-- what is made of the entry at an index, by its state
+pub made_by_state : {T B : Type 0} (make : Listed → Option B) (answers : T → Answers) (states : List CodeState) (listed : List (Option (ListedCite T))) (index : ℕ) (state : CodeState) (o : Option (ListedCite T)) → index < length states → length listed ≡ length states
+    → state ≡ get_or states index state → o ≡ get_or listed index o → AreAtIndices (map (option_map (listed_view answers (map state_view states))) listed)
+    → option_and_then make (option_map (listed_in_state answers (state_view state)) o) ≡ option_and_then make (slice_index_or (map (option_map (listed_view answers (map state_view states))) listed) index None)
+made_by_state make answers states listed index state o less long at_state at stand =
+    let here : get_or (map (option_map (listed_view answers (map state_view states))) listed) index None ≡ option_map (listed_view answers (map state_view states)) o =
+    get_or-map (option_map (listed_view answers (map state_view states))) listed index o None (omega (arith, less, long)) ∙ ap (option_map (listed_view answers (map state_view states))) (sym at) in
+    let own : IfSome (option_map (listed_view answers (map state_view states)) o) (λ l. l.index ≡ index) = subst (λ (p : Option Listed). IfSome p (λ l. l.index ≡ index)) here (stand index) in
+    ap (option_and_then make) (in_state_alike answers states state index o less at_state own ∙ sym here)
 
-own_if : {P : Type 0} (place : ℕ) (f : Final P) (o : Option (Final P)) (b : Bool) → is_final_of place f ≡ b → IfSome (option_map listed_as o) (λ l. l.place ≡ place) → IfSome (option_map listed_as (cond b (Some f) o)) (λ l. l.place ≡ place)
-own_if place f o true e h = eqb-true (cite_of f).item.entry.place place e
-own_if place f o false e h = h
+own_if : {P : Type 0} (index : ℕ) (f : Final P) (o : Option (Final P)) (b : Bool) → is_final_of index f ≡ b → IfSome (option_map listed_as o) (λ l. l.index ≡ index) → IfSome (option_map listed_as (cond b (Some f) o)) (λ l. l.index ≡ index)
+own_if index f o true e h = eqb-true (cite_of f).item.entry.index index e
+own_if index f o false e h = h
 
-first_own : {P : Type 0} (fs : List (Final P)) (place : ℕ) → IfSome (first_listed fs place) (λ l. l.place ≡ place)
-first_own [] place = tt
-first_own (f ∷ fs) place = own_if place f (find (is_final_of place) fs) (is_final_of place f) refl (first_own fs place)
+first_own : {P : Type 0} (fs : List (Final P)) (index : ℕ) → IfSome (first_listed fs index) (λ l. l.index ≡ index)
+first_own [] index = tt
+first_own (f ∷ fs) index = own_if index f (find (is_final_of index) fs) (is_final_of index f) refl (first_own fs index)
 
-placed_if : {P : Type 0} (fs : List (Final P)) (count place : ℕ) (b : Bool) → nat_lt place count ≡ b → IfSome (get_or (map (first_listed fs) (range_with_len 0 count)) place None) (λ l. l.place ≡ place)
-placed_if fs count place true e =
-    let less : place < count = ltb-true place count e in
-    subst (λ (o : Option Listed). IfSome o (λ l. l.place ≡ place)) (sym (get_or-map-range_with_len (first_listed fs) 0 count place place None less (zero-add place))) (first_own fs place)
-placed_if {P} fs count place false e =
-    let over : length (map (first_listed fs) (range_with_len 0 count)) ≤ place = omega (arith, length-map-range_with_len (first_listed fs) 0 count, ltb-false place count e) in
-    subst (λ (o : Option Listed). IfSome o (λ l. l.place ≡ place)) (sym (get_or-eq_default (map (first_listed fs) (range_with_len 0 count)) None over)) tt
+placed_if : {P : Type 0} (fs : List (Final P)) (count index : ℕ) (b : Bool) → nat_lt index count ≡ b → IfSome (get_or (map (first_listed fs) (range_with_len 0 count)) index None) (λ l. l.index ≡ index)
+placed_if fs count index true e =
+    let less : index < count = ltb-true index count e in
+    subst (λ (o : Option Listed). IfSome o (λ l. l.index ≡ index)) (sym (get_or-map-range_with_len (first_listed fs) 0 count index index None less (zero-add index))) (first_own fs index)
+placed_if {P} fs count index false e =
+    let over : length (map (first_listed fs) (range_with_len 0 count)) ≤ index = omega (arith, length-map-range_with_len (first_listed fs) 0 count, ltb-false index count e) in
+    subst (λ (o : Option Listed). IfSome o (λ l. l.index ≡ index)) (sym (get_or-eq_default (map (first_listed fs) (range_with_len 0 count)) None over)) tt
 
--- the first cites of entries stand at the places of these
-pub firsts_stand : {P : Type 0} (fs : List (Final P)) (count : ℕ) (ls : List (Option Listed)) → ls ≡ map (first_listed fs) (range_with_len 0 count) → StandAtPlaces ls
-firsts_stand fs count ls e = λ place. subst (λ (ms : List (Option Listed)). IfSome (slice_index_or ms place None) (λ l. l.place ≡ place)) (sym e) (placed_if fs count place (nat_lt place count) refl)
+-- the first cites of entries stand at the indices of these
+pub firsts_stand : {P : Type 0} (fs : List (Final P)) (count : ℕ) (ls : List (Option Listed)) → ls ≡ map (first_listed fs) (range_with_len 0 count) → AreAtIndices ls
+firsts_stand fs count ls e = λ index. subst (λ (ms : List (Option Listed)). IfSome (slice_index_or ms index None) (λ l. l.index ≡ index)) (sym e) (placed_if fs count index (nat_lt index count) refl)
 
 -- what is made of entries by their first cites
 pub made_are : {P B : Type 0} (make : Listed → Option B) (fs : List (Final P)) (count : ℕ) (ls : List (Option Listed)) (order : List ℕ) → ls ≡ map (first_listed fs) (range_with_len 0 count) → All (λ p. p < count) order
-    → filter_map (λ place. option_and_then make (slice_index_or ls place None)) order ≡ filter_map (λ place. option_and_then make (first_listed fs place)) order
+    → filter_map (λ index. option_and_then make (slice_index_or ls index None)) order ≡ filter_map (λ index. option_and_then make (first_listed fs index)) order
 made_are make fs count ls [] e within = refl
 made_are make fs count ls (p ∷ ps) e within =
     let here : option_and_then make (slice_index_or ls p None) ≡ option_and_then make (first_listed fs p) = ap (λ (ms : List (Option Listed)). option_and_then make (slice_index_or ms p None)) e ∙ ap (option_and_then make) (get_or-map-range_with_len (first_listed fs) 0 count p p None (All-head (λ q. q < count) p ps within) (zero-add p)) in

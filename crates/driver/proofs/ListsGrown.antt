@@ -17,7 +17,7 @@ made_goes_on f g items new x y rest whole all split h says e =
 pub made_ends : {A B C : Type 0} (f : A → B) (g : C → B) (items : List A) (whole : List C) (all : List B) → whole ≡ [] → map f items ++ map g whole ≡ all → map f items ≡ all
 made_ends f g items whole all none h = sym (append-nil (map f items)) ∙ ap (λ xs. map f items ++ map g xs) (sym none) ∙ h
 
--- one more is made of the member at a place
+-- one more is made of the member at an index
 pub read_goes_on : {A B C : Type 0} (f : A → B) (g : C → B) (es : List C) (items new : List A) (n : ℕ) (e : C) (y : A) (all : List B) → n < length es → e ≡ get_or es n e
     → map f items ++ map g (drop n es) ≡ all → f y ≡ g e → new ≡ items ++ y ∷ [] → map f new ++ map g (drop (n + 1) es) ≡ all
 read_goes_on {C = C} f g es items new n e y all less at h says made =
@@ -27,7 +27,7 @@ read_goes_on {C = C} f g es items new n e y all less at h says made =
 pub read_ends : {A B C : Type 0} (f : A → B) (g : C → B) (es : List C) (items : List A) (n : ℕ) (all : List B) → length es ≤ n → map f items ++ map g (drop n es) ≡ all → map f items ≡ all
 read_ends f g es items n all over h = made_ends f g items (drop n es) all (drop_all n es over) h
 
--- what is as long in two lists is as long at each place
+-- what is as long in two lists is as long at each index
 pub long_at : {A B : Type 0} (f : A → ℕ) (g : B → ℕ) (xs : List A) (ys : List B) (n : ℕ) (a : A) (b : B) → map f xs ≡ map g ys → n < length ys → a ≡ get_or xs n a → b ≡ get_or ys n b → f a ≡ g b
 long_at f g xs ys n a b same less at_a at_b =
     let long : n < length xs = omega (arith, less, sym (length-map xs f) ∙ ap length same ∙ length-map ys g) in

@@ -49,7 +49,7 @@ pub filter_map_map : {A B C : Type 0} (f : A → B) (g : B → Option C) (h : A 
 filter_map_map f g h e [] = refl
 filter_map_map f g h e (x ∷ xs) = λ k. cons_option (e x k) (filter_map_map f g h e xs k)
 
--- a member with its place
+-- a member with its index
 abbrev pub placed : {A B : Type 0} → (A → B) → ℕ × A → ℕ × B
 placed f p = (p.0, f p.1)
 

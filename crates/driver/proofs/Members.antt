@@ -59,7 +59,7 @@ pub previous_all : {X : Type 0} (P : X → Type 0) (last : Option X) (xss : List
 previous_all P last [] h = tt
 previous_all P last (xs ∷ xss) h = (zip_all P (last ∷ map (λ x. Some x) xs) xs h.0, previous_all P (last_or last xs) xss h.1)
 
--- what holds of each member of two lists in a row holds of each member of both
+-- what holds of each member of two lists one after the other holds of each member of both
 pub both_all : {A : Type 0} (P : A → Type 0) (xs ys : List A) → AllByRecursion P (xs ++ ys) → AllByRecursion P xs × AllByRecursion P ys
 both_all P [] ys h = (tt, h)
 both_all P (x ∷ xs) ys h = let rest = both_all P xs ys h.1 in ((h.0, rest.0), rest.1)

@@ -1,4 +1,4 @@
--- Marks after a round, and what cites print by them.
+-- States after a round, and what cites print by them.
 use Rattle.std.proofs.Common.{◌≡◌, ℕ, suc, ◌+◌, ◌-◌, ◌*◌, ◌<◌, ◌≤◌, zero-add, Bool, true, false, true≢false, ◌||◌, All, List, [], ◌∷◌, ◌++◌, length, map, filter, get_or, slice_index_or, refl, sym, ap, ◌∙◌, cond, arith, Option, Some, None, Ok, Err}
 use Rattle.std.specs.Prelude.{if◌then◌else◌, fold}
 use Rattle.std.specs.Option.{unwrap_or}
@@ -12,13 +12,13 @@ use Rattle.std.proofs.lemmas.List.FromFn.{get_or-enumerate_from, get_or-map-rang
 use Rattle.rendering_context.specs.Cites.{undisturbed, greater_state}
 use Rattle.driver_requests.specs.Cites.{Numbered, entry_of}
 use Rattle.driver_requests.specs.Errors.{Overflow, overflow}
-use Rattle.driver_marks.specs.Classes.{Candidate, Printed, printed_as, printed_under}
-use Rattle.driver_marks.specs.Marks.{Given, Marks, is_beyond, is_given_to, joined_for, mark_of, marked, no_marks, suffixes_overflow}
-use Rattle.driver_marks.specs.Rounds.{Disambiguation, after_round, round_given}
-use Rattle.driver_marks.specs.Views.{unless_beyond}
+use Rattle.driver_disambiguation.specs.Classes.{Candidate, Printed, printed_as, printed_under}
+use Rattle.driver_disambiguation.specs.States.{GivenState, States, is_beyond, is_given_to, joined_for, state_of, states_after, undisturbed_states, suffixes_overflow}
+use Rattle.driver_disambiguation.specs.Rounds.{Disambiguation, after_round, round_given}
+use Rattle.driver_disambiguation.specs.Views.{unless_beyond}
 use Rattle.driver.specs.Rounding.{again_by, again_if, are_again, unless_overflow}
 use Rattle.driver.specs.Stages.{candidate, first_print}
-use Rattle.driver.specs.Views.{marked_by, unmarked}
+use Rattle.driver.specs.Views.{printed_by_states, printed_undisturbed}
 
 -- the first member passes or not
 none_if : {X : Type 0} (b more : Bool) (x : X) (xs : List X) → (b || more) ≡ false → (more ≡ false → xs ≡ []) → cond b (x ∷ xs) xs ≡ []
@@ -35,49 +35,49 @@ none_passes : {X : Type 0} (test : X → Bool) (xs : List X) → list_any test x
 none_passes test [] h = refl
 none_passes test (x ∷ xs) h = none_if (test x) (list_any test xs) x (filter test xs) h (none_passes test xs)
 
--- there are as many marks after a round
-pub marked_length : (gs : List Given) (old : Marks) → length (marked gs old) ≡ length old
-marked_length gs old = length-map (enumerate_from 0 old) (λ p. unwrap_or (joined_for p.0 gs) p.1) ∙ length-enumerate_from 0 old
+-- there are as many states after a round
+pub states_after_length : (gs : List GivenState) (old : States) → length (states_after gs old) ≡ length old
+states_after_length gs old = length-map (enumerate_from 0 old) (λ p. unwrap_or (joined_for p.0 gs) p.1) ∙ length-enumerate_from 0 old
 
--- an entry to which nothing is given has the mark that it had
-unmarked_kept : (gs : List Given) (old : Marks) (entry : ℕ) → entry < length old → list_any (is_given_to entry) gs ≡ false → mark_of (marked gs old) entry ≡ mark_of old entry
-unmarked_kept gs old entry less h =
+-- an entry to which nothing is given has the state that it had
+state_kept : (gs : List GivenState) (old : States) (entry : ℕ) → entry < length old → list_any (is_given_to entry) gs ≡ false → state_of (states_after gs old) entry ≡ state_of old entry
+state_kept gs old entry less h =
     get_or-map (λ p. unwrap_or (joined_for p.0 gs) p.1) (enumerate_from 0 old) entry (0, undisturbed) undisturbed (omega (arith, less, length-enumerate_from 0 old))
     ∙ ap (λ p. unwrap_or (joined_for p.0 gs) p.1) (get_or-enumerate_from 0 old entry (0, undisturbed) less)
     ∙ ap (λ n. unwrap_or (joined_for n gs) (get_or old entry undisturbed)) (zero-add entry)
-    ∙ ap (λ hs. unwrap_or (reduce greater_state (map (λ g. g.mark) hs)) (get_or old entry undisturbed)) (none_passes (is_given_to entry) gs h)
+    ∙ ap (λ hs. unwrap_or (reduce greater_state (map (λ g. g.state) hs)) (get_or old entry undisturbed)) (none_passes (is_given_to entry) gs h)
 
--- whether something is given to the entry at a place
-given_at : (gs : List Given) (count entry : ℕ) → entry < count → slice_index_or (map (λ e. list_any (is_given_to e) gs) (range_with_len 0 count)) entry false ≡ list_any (is_given_to entry) gs
+-- whether something is given to the entry at an index
+given_at : (gs : List GivenState) (count entry : ℕ) → entry < count → slice_index_or (map (λ e. list_any (is_given_to e) gs) (range_with_len 0 count)) entry false ≡ list_any (is_given_to entry) gs
 given_at gs count entry less = get_or-map-range_with_len (λ e. list_any (is_given_to e) gs) 0 count entry entry false less (zero-add entry)
 
 -- whether its entry was given something or not
-again_cases : {P : Type 0} (n : Numbered P) (old new : Marks) (b : Bool) → (b ≡ false → mark_of new (entry_of n.cite) ≡ mark_of old (entry_of n.cite))
-    → (if b then again_by (mark_of new (entry_of n.cite)) n (marked_by old n) else marked_by old n) ≡ marked_by new n
+again_cases : {P : Type 0} (n : Numbered P) (old new : States) (b : Bool) → (b ≡ false → state_of new (entry_of n.cite) ≡ state_of old (entry_of n.cite))
+    → (if b then again_by (state_of new (entry_of n.cite)) n (printed_by_states old n) else printed_by_states old n) ≡ printed_by_states new n
 again_cases n old new true h = refl
 again_cases n old new false h = ap (λ m. printed_as (candidate (first_print n)) m ((candidate (first_print n)).printed m)) (sym (h refl))
 
--- a cite that is printed again, where its entry was given something, prints by the marks after the round
-again_marked : {P : Type 0} (gs : List Given) (old : Marks) (n : Numbered P) → entry_of n.cite < length old
-    → again_if (marked gs old) (map (λ e. list_any (is_given_to e) gs) (range_with_len 0 (length old))) n (marked_by old n) ≡ marked_by (marked gs old) n
-again_marked gs old n less =
-    again_cases n old (marked gs old) _ (λ h. unmarked_kept gs old (entry_of n.cite) less (sym (given_at gs (length old) (entry_of n.cite) less) ∙ h))
+-- a cite that is printed again, where its entry was given something, prints by the states after the round
+again_by_states : {P : Type 0} (gs : List GivenState) (old : States) (n : Numbered P) → entry_of n.cite < length old
+    → again_if (states_after gs old) (map (λ e. list_any (is_given_to e) gs) (range_with_len 0 (length old))) n (printed_by_states old n) ≡ printed_by_states (states_after gs old) n
+again_by_states gs old n less =
+    again_cases n old (states_after gs old) _ (λ h. state_kept gs old (entry_of n.cite) less (sym (given_at gs (length old) (entry_of n.cite) less) ∙ h))
 
 -- the same of all cites
-pub all_again : {P : Type 0} (gs : List Given) (old : Marks) (ns : List (Numbered P)) → All (λ (m : Numbered P). entry_of m.cite < length old) ns
-    → are_again (marked gs old) (map (λ e. list_any (is_given_to e) gs) (range_with_len 0 (length old))) ns (map (marked_by old) ns) ≡ map (marked_by (marked gs old)) ns
+pub all_again : {P : Type 0} (gs : List GivenState) (old : States) (ns : List (Numbered P)) → All (λ (m : Numbered P). entry_of m.cite < length old) ns
+    → are_again (states_after gs old) (map (λ e. list_any (is_given_to e) gs) (range_with_len 0 (length old))) ns (map (printed_by_states old) ns) ≡ map (printed_by_states (states_after gs old)) ns
 all_again gs old [] h = refl
 all_again {P} gs old (n ∷ ns) h =
-    let first = again_marked gs old n (All-head (λ (m : Numbered P). entry_of m.cite < length old) n ns h) in
+    let first = again_by_states gs old n (All-head (λ (m : Numbered P). entry_of m.cite < length old) n ns h) in
     let others = all_again gs old ns (All-tail (λ (m : Numbered P). entry_of m.cite < length old) n ns h) in
     λ j. first j ∷ others j
 
--- cites by their marks
-each_marked : {P : Type 0} (old : Marks) (ns : List (Numbered P)) → map (printed_under old) (map (λ n. candidate (first_print n)) ns) ≡ map (marked_by old) ns
-each_marked old [] = refl
-each_marked old (n ∷ ns) = ap (λ ss. marked_by old n ∷ ss) (each_marked old ns)
+-- cites by their states
+each_by_states : {P : Type 0} (old : States) (ns : List (Numbered P)) → map (printed_under old) (map (λ n. candidate (first_print n)) ns) ≡ map (printed_by_states old) ns
+each_by_states old [] = refl
+each_by_states old (n ∷ ns) = ap (λ ss. printed_by_states old n ∷ ss) (each_by_states old ns)
 
--- where letters are after the last nothing is given
+-- where a year suffix is after the last nothing is given
 overflow_if : {X : Type 0} (b : Bool) (x : X) → b ≡ true → (if b then Err overflow else Ok x) ≡ Err overflow
 overflow_if b x h = ap (λ c. if c then Err overflow else Ok x) h
 
@@ -85,7 +85,7 @@ overflow_if b x h = ap (λ c. if c then Err overflow else Ok x) h
 no_overflow_if : {X : Type 0} (b : Bool) (x : X) → b ≡ false → (if b then Err overflow else Ok x) ≡ Ok x
 no_overflow_if b x h = ap (λ c. if c then Err overflow else Ok x) h
 
--- what is refused has letters after the last
+-- what is refused has a year suffix after the last
 refused : {X : Type 0} (b : Bool) (x : X) → (if b then Err overflow else Ok x) ≡ Err overflow → b ≡ true
 refused true x h = refl
 refused false x h = cc
@@ -95,7 +95,7 @@ accepted : {X : Type 0} (b : Bool) (x y : X) → (if b then Err overflow else Ok
 accepted true x y h = cc
 accepted false x y h = (refl, cc)
 
--- letters overflow where some of them do
+-- year suffixes overflow where some of them do
 or_overflow : (b c : Bool) → c ≡ true → (b || c) ≡ true
 or_overflow true c h = refl
 or_overflow false c h = h
@@ -106,50 +106,50 @@ both_in b c h k = (λ j. h j || k j)
 
 module _ {P : Type 0} (adds_names : Bool) (round : ℕ) (ns : List (Numbered P)) (old : Disambiguation) where
   -- what a round gives is what it gives to these cites
-  given_is : (printed : List Printed) → printed ≡ map (marked_by old.marks) ns → round_given adds_names round printed ≡ round_given adds_names round (map (printed_under old.marks) (map (λ n. candidate (first_print n)) ns))
-  given_is printed h = ap (round_given adds_names round) (h ∙ sym (each_marked old.marks ns))
+  given_is : (printed : List Printed) → printed ≡ map (printed_by_states old.states) ns → round_given adds_names round printed ≡ round_given adds_names round (map (printed_under old.states) (map (λ n. candidate (first_print n)) ns))
+  given_is printed h = ap (round_given adds_names round) (h ∙ sym (each_by_states old.states ns))
 
-  -- a round that gives letters after the last is refused
-  pub round_refused : (printed : List Printed) → printed ≡ map (marked_by old.marks) ns → unless_beyond (round_given adds_names round printed) ≡ Err overflow
+  -- a round that gives a year suffix after the last is refused
+  pub round_refused : (printed : List Printed) → printed ≡ map (printed_by_states old.states) ns → unless_beyond (round_given adds_names round printed) ≡ Err overflow
       → unless_overflow ns (after_round adds_names (map (λ n. candidate (first_print n)) ns) old round) ≡ Err overflow
   round_refused printed h e =
-      let gs = round_given adds_names round (map (printed_under old.marks) (map (λ n. candidate (first_print n)) ns)) in
+      let gs = round_given adds_names round (map (printed_under old.states) (map (λ n. candidate (first_print n)) ns)) in
       let more : suffixes_overflow gs ≡ true = ap suffixes_overflow (sym (given_is printed h)) ∙ refused (suffixes_overflow (round_given adds_names round printed)) (round_given adds_names round printed) e in
-      overflow_if (suffixes_overflow (old.given ++ gs)) (after_round adds_names (map (λ n. candidate (first_print n)) ns) old round, map (marked_by (marked gs old.marks)) ns)
-      (list_any-append (λ g. is_beyond g.mark) old.given gs ∙ or_overflow (suffixes_overflow old.given) (suffixes_overflow gs) more)
+      overflow_if (suffixes_overflow (old.given ++ gs)) (after_round adds_names (map (λ n. candidate (first_print n)) ns) old round, map (printed_by_states (states_after gs old.states)) ns)
+      (list_any-append (λ g. is_beyond g.state) old.given gs ∙ or_overflow (suffixes_overflow old.given) (suffixes_overflow gs) more)
 
-  -- another round leaves its marks, and what cites print by them
-  pub round_given_is : (printed again : List Printed) (gs all : List Given) (new : Marks) (is_given : List Bool) → printed ≡ map (marked_by old.marks) ns → unless_beyond (round_given adds_names round printed) ≡ Ok gs
-      → suffixes_overflow old.given ≡ false → All (λ (m : Numbered P). entry_of m.cite < length old.marks) ns
-      → new ≡ marked gs old.marks → is_given ≡ map (λ e. list_any (is_given_to e) gs) (range_with_len 0 (length old.marks)) → again ≡ are_again new is_given ns printed → all ≡ old.given ++ gs
-      → unless_overflow ns (after_round adds_names (map (λ n. candidate (first_print n)) ns) old round) ≡ Ok (record { marks = new; given = all }, again)
-  round_given_is printed again gs all new is_given h e before within marks_are given_are again_are all_are =
+  -- another round leaves its states, and what cites print by them
+  pub round_given_is : (printed again : List Printed) (gs all : List GivenState) (new : States) (is_given : List Bool) → printed ≡ map (printed_by_states old.states) ns → unless_beyond (round_given adds_names round printed) ≡ Ok gs
+      → suffixes_overflow old.given ≡ false → All (λ (m : Numbered P). entry_of m.cite < length old.states) ns
+      → new ≡ states_after gs old.states → is_given ≡ map (λ e. list_any (is_given_to e) gs) (range_with_len 0 (length old.states)) → again ≡ are_again new is_given ns printed → all ≡ old.given ++ gs
+      → unless_overflow ns (after_round adds_names (map (λ n. candidate (first_print n)) ns) old round) ≡ Ok (record { states = new; given = all }, again)
+  round_given_is printed again gs all new is_given h e before within states_are given_are again_are all_are =
       let accept = accepted (suffixes_overflow (round_given adds_names round printed)) (round_given adds_names round printed) gs e in
-      let same : round_given adds_names round (map (printed_under old.marks) (map (λ n. candidate (first_print n)) ns)) ≡ gs = sym (given_is printed h) ∙ accept.1 in
+      let same : round_given adds_names round (map (printed_under old.states) (map (λ n. candidate (first_print n)) ns)) ≡ gs = sym (given_is printed h) ∙ accept.1 in
       let none : suffixes_overflow gs ≡ false = ap suffixes_overflow (sym accept.1) ∙ accept.0 in
-      let printed_again : again ≡ map (marked_by (marked gs old.marks)) ns = again_are ∙ (λ j. are_again (marks_are j) (given_are j) ns (h j)) ∙ all_again gs old.marks ns within in
-      ap (λ hs. unless_overflow ns (record { marks = marked hs old.marks; given = old.given ++ hs })) same
-      ∙ no_overflow_if (suffixes_overflow (old.given ++ gs)) (record { marks = marked gs old.marks; given = old.given ++ gs }, map (marked_by (marked gs old.marks)) ns)
-      (list_any-append (λ g. is_beyond g.mark) old.given gs ∙ both_in (suffixes_overflow old.given) (suffixes_overflow gs) before none)
-      ∙ (λ j. Ok (record { marks = sym marks_are j; given = sym all_are j }, sym printed_again j))
+      let printed_again : again ≡ map (printed_by_states (states_after gs old.states)) ns = again_are ∙ (λ j. are_again (states_are j) (given_are j) ns (h j)) ∙ all_again gs old.states ns within in
+      ap (λ hs. unless_overflow ns (record { states = states_after hs old.states; given = old.given ++ hs })) same
+      ∙ no_overflow_if (suffixes_overflow (old.given ++ gs)) (record { states = states_after gs old.states; given = old.given ++ gs }, map (printed_by_states (states_after gs old.states)) ns)
+      (list_any-append (λ g. is_beyond g.state) old.given gs ∙ both_in (suffixes_overflow old.given) (suffixes_overflow gs) before none)
+      ∙ (λ j. Ok (record { states = sym states_are j; given = sym all_are j }, sym printed_again j))
 
-  -- what another round leaves is its marks, and what cites print by them, and no letters are after the last
+  -- what another round leaves is its states, and what cites print by them, and no year suffix is after the last
   pub round_leaves : (new : Disambiguation) (again : List Printed) → unless_overflow ns (after_round adds_names (map (λ n. candidate (first_print n)) ns) old round) ≡ Ok (new, again)
-      → (after_round adds_names (map (λ n. candidate (first_print n)) ns) old round ≡ new) × (again ≡ map (marked_by new.marks) ns) × (suffixes_overflow new.given ≡ false) × (length new.marks ≡ length old.marks)
+      → (after_round adds_names (map (λ n. candidate (first_print n)) ns) old round ≡ new) × (again ≡ map (printed_by_states new.states) ns) × (suffixes_overflow new.given ≡ false) × (length new.states ≡ length old.states)
   round_leaves new again e =
       let t = after_round adds_names (map (λ n. candidate (first_print n)) ns) old round in
-      let gs = round_given adds_names round (map (printed_under old.marks) (map (λ n. candidate (first_print n)) ns)) in
-      let accept = accepted (suffixes_overflow t.given) (t, map (marked_by t.marks) ns) (new, again) e in
+      let gs = round_given adds_names round (map (printed_under old.states) (map (λ n. candidate (first_print n)) ns)) in
+      let accept = accepted (suffixes_overflow t.given) (t, map (printed_by_states t.states) ns) (new, again) e in
       let same : t ≡ new = ap (λ p. p.0) accept.1 in
-      let printed : map (marked_by t.marks) ns ≡ again = ap (λ p. p.1) accept.1 in
-      (same, sym printed ∙ ap (λ u. map (marked_by u.marks) ns) same, ap (λ u. suffixes_overflow u.given) (sym same) ∙ accept.0, ap (λ u. length u.marks) (sym same) ∙ marked_length gs old.marks)
+      let printed : map (printed_by_states t.states) ns ≡ again = ap (λ p. p.1) accept.1 in
+      (same, sym printed ∙ ap (λ u. map (printed_by_states u.states) ns) same, ap (λ u. suffixes_overflow u.given) (sym same) ∙ accept.0, ap (λ u. length u.states) (sym same) ∙ states_after_length gs old.states)
 
--- letters after the last stay through the rounds that are left
+-- a year suffix after the last stays through the rounds that are left
 pub still_refused : (adds_names : Bool) (cites : List Candidate) (old : Disambiguation) (rounds : List ℕ) → suffixes_overflow old.given ≡ true → suffixes_overflow (fold (after_round adds_names cites) old rounds).given ≡ true
 still_refused adds_names cites old [] h = h
 still_refused adds_names cites old (r ∷ rounds) h =
-    let gs = round_given adds_names r (map (printed_under old.marks) cites) in
-    let more : suffixes_overflow (old.given ++ gs) ≡ true = list_any-append (λ g. is_beyond g.mark) old.given gs ∙ ap (λ b. b || suffixes_overflow gs) h in
+    let gs = round_given adds_names r (map (printed_under old.states) cites) in
+    let more : suffixes_overflow (old.given ++ gs) ≡ true = list_any-append (λ g. is_beyond g.state) old.given gs ∙ ap (λ b. b || suffixes_overflow gs) h in
     still_refused adds_names cites (after_round adds_names cites old r) rounds more
 
 -- where a round is refused all rounds are
@@ -158,14 +158,14 @@ pub rounds_refused : {P : Type 0} (adds_names : Bool) (ns : List (Numbered P)) (
 rounds_refused adds_names ns old t r rounds is e =
     let cites = map (λ n. candidate (first_print n)) ns in
     let next = after_round adds_names cites old r in
-    let refuse : suffixes_overflow next.given ≡ true = refused (suffixes_overflow next.given) (next, map (marked_by next.marks) ns) e in
+    let refuse : suffixes_overflow next.given ≡ true = refused (suffixes_overflow next.given) (next, map (printed_by_states next.states) ns) e in
     ap (unless_overflow ns) (sym is)
-    ∙ overflow_if (suffixes_overflow (fold (after_round adds_names cites) next rounds).given) (fold (after_round adds_names cites) next rounds, map (marked_by (fold (after_round adds_names cites) next rounds).marks) ns)
+    ∙ overflow_if (suffixes_overflow (fold (after_round adds_names cites) next rounds).given) (fold (after_round adds_names cites) next rounds, map (printed_by_states (fold (after_round adds_names cites) next rounds).states) ns)
     (still_refused adds_names cites next rounds refuse)
 
 module _ {P : Type 0} (adds_names : Bool) (ns : List (Numbered P)) where
   -- a round that is refused, whatever its refusal is
-  pub round_ends : (refusal : Option Overflow) (round : ℕ) (old : Disambiguation) (printed : List Printed) → printed ≡ map (marked_by old.marks) ns → EndsWith refusal (unless_beyond (round_given adds_names round printed))
+  pub round_ends : (refusal : Option Overflow) (round : ℕ) (old : Disambiguation) (printed : List Printed) → printed ≡ map (printed_by_states old.states) ns → EndsWith refusal (unless_beyond (round_given adds_names round printed))
       → EndsWith refusal (unless_overflow ns (after_round adds_names (map (λ n. candidate (first_print n)) ns) old round))
   round_ends None round old printed h e = tt
   round_ends (Some overflow) round old printed h e = round_refused adds_names round ns old printed h e
@@ -179,7 +179,7 @@ module _ {P : Type 0} (adds_names : Bool) (ns : List (Numbered P)) where
   -- after another round those after it are left
   pub rounds_go_on : (adds : Bool) (round : ℕ) (old new t : Disambiguation) (again : List Printed) → adds ≡ adds_names → round < 3 → fold (after_round adds_names (map (λ n. candidate (first_print n)) ns)) old (range_with_len round (3 - round)) ≡ t
       → unless_overflow ns (after_round adds (map (λ n. candidate (first_print n)) ns) old round) ≡ Ok (new, again)
-      → (fold (after_round adds_names (map (λ n. candidate (first_print n)) ns)) new (range_with_len (round + 1) (3 - (round + 1))) ≡ t) × (again ≡ map (marked_by new.marks) ns) × (suffixes_overflow new.given ≡ false) × (length new.marks ≡ length old.marks)
+      → (fold (after_round adds_names (map (λ n. candidate (first_print n)) ns)) new (range_with_len (round + 1) (3 - (round + 1))) ≡ t) × (again ≡ map (printed_by_states new.states) ns) × (suffixes_overflow new.given ≡ false) × (length new.states ≡ length old.states)
   rounds_go_on adds round old new t again same less h e =
       let leaves = round_leaves adds round ns old new again e in
       let next : after_round adds_names (map (λ n. candidate (first_print n)) ns) old round ≡ new = ap (λ b. after_round b (map (λ n. candidate (first_print n)) ns) old round) (sym same) ∙ leaves.0 in
@@ -199,20 +199,20 @@ module _ {P : Type 0} (adds_names : Bool) (ns : List (Numbered P)) where
 
   -- after the last round
   pub rounds_done : (round : ℕ) (old t : Disambiguation) (printed : List Printed) → 3 ≤ round → fold (after_round adds_names (map (λ n. candidate (first_print n)) ns)) old (range_with_len round (3 - round)) ≡ t
-      → printed ≡ map (marked_by old.marks) ns → suffixes_overflow old.given ≡ false → unless_overflow ns t ≡ Ok (old, printed)
+      → printed ≡ map (printed_by_states old.states) ns → suffixes_overflow old.given ≡ false → unless_overflow ns t ≡ Ok (old, printed)
   rounds_done round old t printed le h is none =
       let over : 3 - round ≡ 0 = omega arith in
       let same : old ≡ t = ap (λ n. fold (after_round adds_names (map (λ n. candidate (first_print n)) ns)) old (range_with_len round n)) (sym over) ∙ h in
       ap (unless_overflow ns) (sym same)
-      ∙ no_overflow_if (suffixes_overflow old.given) (old, map (marked_by old.marks) ns) none
+      ∙ no_overflow_if (suffixes_overflow old.given) (old, map (printed_by_states old.states) ns) none
       ∙ (λ j. Ok (old, sym is j))
 
--- without marks cites print by no marks
-pub unmarked_all : {P : Type 0} (count : ℕ) (ns : List (Numbered P)) → All (λ (m : Numbered P). entry_of m.cite < count) ns → map unmarked ns ≡ map (marked_by (no_marks count)) ns
-unmarked_all count [] h = refl
-unmarked_all {P} count (n ∷ ns) h =
-    let none : mark_of (no_marks count) (entry_of n.cite) ≡ undisturbed = get_or-replicate count (entry_of n.cite) undisturbed undisturbed (All-head (λ (m : Numbered P). entry_of m.cite < count) n ns h) in
-    let others = unmarked_all count ns (All-tail (λ (m : Numbered P). entry_of m.cite < count) n ns h) in
+-- what is not disambiguated prints undisturbed
+pub printed_undisturbed_all : {P : Type 0} (count : ℕ) (ns : List (Numbered P)) → All (λ (m : Numbered P). entry_of m.cite < count) ns → map printed_undisturbed ns ≡ map (printed_by_states (undisturbed_states count)) ns
+printed_undisturbed_all count [] h = refl
+printed_undisturbed_all {P} count (n ∷ ns) h =
+    let none : state_of (undisturbed_states count) (entry_of n.cite) ≡ undisturbed = get_or-replicate count (entry_of n.cite) undisturbed undisturbed (All-head (λ (m : Numbered P). entry_of m.cite < count) n ns h) in
+    let others = printed_undisturbed_all count ns (All-tail (λ (m : Numbered P). entry_of m.cite < count) n ns h) in
     λ j. printed_as (candidate (first_print n)) (sym none j) ((candidate (first_print n)).printed (sym none j)) ∷ others j
 
 -- calls of the rounds that are left

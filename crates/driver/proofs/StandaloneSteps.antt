@@ -7,20 +7,20 @@ use Rattle.rendering_context.specs.declared.locator.LocatorPayload.{LocatorPaylo
 use Rattle.rendering_context.specs.declared.locator.LocatorPayload.TheVariants as payloads
 use Rattle.rendering_context.specs.declared.locator.SpecificLocator.{SpecificLocator}
 use Rattle.rendering_tree.specs.Trees.{Children}
-use Rattle.rendering_tree.specs.Views.{tree}
+use Rattle.rendering_tree.specs.Views.{tree_view}
 use Rattle.rendering_tree.specs.declared.element.ElemChildren.{ElemChildren}
 use Rattle.rendering_context.specs.Contexts.{StyleContext}
 use Rattle.driver_requests.specs.Requests.{Item, plain_locator, plain_payload}
-use Rattle.driver_requests.specs.Views.{locator_by, payload_by}
+use Rattle.driver_requests.specs.Views.{request_locator_view, request_payload_view}
 use Rattle.driver.specs.Standalone.{has_content, printed_alone}
 use Rattle.driver.specs.Views.{all_alone, alone, with_content}
 
-payload_plain : {P : Type 0} (p : LocatorPayload P) → contexts.payload_by p ≡ plain_payload (payload_by p)
+payload_plain : {P : Type 0} (p : LocatorPayload P) → contexts.payload_view p ≡ plain_payload (request_payload_view p)
 payload_plain (payloads.Str s) = refl
 payload_plain (payloads.Transparent t) = refl
 
 -- a locator without what the caller prints by itself
-pub locator_plain : {P : Type 0} (l : SpecificLocator P) → contexts.locator_by l ≡ plain_locator (locator_by l)
+pub locator_plain : {P : Type 0} (l : SpecificLocator P) → contexts.locator_view l ≡ plain_locator (request_locator_view l)
 locator_plain l = λ k. record { label = l.label; payload = payload_plain l.payload k }
 
 alone_if : (b : Bool) (t : Children) (ts : List Children) → (if b then t ∷ ts else ts) ≡ (if b then t ∷ [] else []) ++ ts
@@ -70,6 +70,6 @@ some_content t true now new is h e = e ∙ ap (λ b. now ++ (if b then t ∷ [] 
 some_content t false now new is h e = absurd (true≢false (sym h))
 
 -- what items print in a style is what they print in the style of their request
-pub trees_are : {P A E : Type 0} (x y : StyleContext) (is js : List (Item P)) (r : Result (Vec ElemChildren A) E) → x ≡ y → is ≡ js → IfOk r (λ v. map tree v.items ≡ all_alone x is) → IfOk r (λ v. map tree v.items ≡ all_alone y js)
+pub trees_are : {P A E : Type 0} (x y : StyleContext) (is js : List (Item P)) (r : Result (Vec ElemChildren A) E) → x ≡ y → is ≡ js → IfOk r (λ v. map tree_view v.items ≡ all_alone x is) → IfOk r (λ v. map tree_view v.items ≡ all_alone y js)
 trees_are x y is js (Err e) a b h = tt
 trees_are x y is js (Ok v) a b h = h ∙ (λ k. all_alone (a k) (b k))

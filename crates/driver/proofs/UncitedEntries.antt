@@ -7,9 +7,9 @@ use Rattle.rendering_style.specs.Styles.{Bibliography}
 use Rattle.driver_requests.specs.CitedEntries.{once}
 use Rattle.driver_requests.specs.Cites.{Cite, Numbered, cites_of, entry_of}
 use Rattle.driver_requests.specs.Errors.{Overflow, overflow}
-use Rattle.driver_requests.specs.Order.{cited, is_place_in, number_in, numbers_overflow, ordered}
+use Rattle.driver_requests.specs.Order.{cited, is_index_in, number_in, numbers_overflow, ordered}
 use Rattle.driver_requests.specs.Positions.{counts_at_first, ibid_after, with_previous}
-use Rattle.driver_marks.specs.Marks.{suffixes_overflow}
+use Rattle.driver_disambiguation.specs.States.{suffixes_overflow}
 use Rattle.driver_bibliography.specs.Items.{items_of}
 use Rattle.driver.specs.Documents.{Document, order_in}
 use Rattle.driver.specs.Finish.{Rendered, citation_in, finish, item_of_entry}
@@ -62,13 +62,13 @@ filter_twice p (x ∷ xs) = by_value (p x) refl (filter_twice p xs)
     by_value true e others = ap (λ b. cond b (x ∷ filter p (filter p xs)) (filter p (filter p xs))) e ∙ ap (λ ys. x ∷ ys) others
     by_value false e others = others
 
-wanted_once : (b : Option Bibliography) (wanted places : List ℕ) → ordered b (filter (is_place_in places) wanted) places ≡ ordered b wanted places
-wanted_once None wanted places = refl
-wanted_once (Some b) wanted places = ap (λ ws. once nat_eq (ws ++ places)) (filter_twice (is_place_in places) wanted)
+wanted_once : (b : Option Bibliography) (wanted indices : List ℕ) → ordered b (filter (is_index_in indices) wanted) indices ≡ ordered b wanted indices
+wanted_once None wanted indices = refl
+wanted_once (Some b) wanted indices = ap (λ ws. once nat_eq (ws ++ indices)) (filter_twice (is_index_in indices) wanted)
 
 -- entries that are wanted and not cited change nothing
 pub uncited_entries : (P : Type 0) → UncitedEntriesChangeNothing P
 uncited_entries P = λ same d.
-    let other : Document P = record d { wanted = filter (is_place_in (cited d.requests)) d.wanted } in
+    let other : Document P = record d { wanted = filter (is_index_in (cited d.requests)) d.wanted } in
     let order : order_in other ≡ order_in d = wanted_once d.bibliography_context.style.bibliography d.wanted (cited d.requests) in
     finish_in_order same other ∙ ap (λ ps. given_in_order same d ps (prints_in_order same d ps)) order ∙ sym (finish_in_order same d)

@@ -38,7 +38,7 @@ suffixed f suffix xs = if ends_in suffix (end_of (simplified xs)) then xs else f
 abbrev pub affixed : Layout → Children → Children
 affixed l xs = suffixed (citation_look l) (unwrap_or l.suffix []) (before (Text (citation_look l) (unwrap_or l.prefix [])) xs)
 
--- A cite that is shown: the delimiter before it if it is not the first, its place in its request, and what it prints.
+-- A cite that is shown: the delimiter before it if it is not the first, its index in its request, and what it prints.
 pub record Shown : Type 0 where
   pub delimiter : Option (List ℕ)
   pub index : ℕ
@@ -53,7 +53,7 @@ abbrev pub after_cite : Formatting → List Shown → Children
 after_cite f [] = nothing
 after_cite f (s ∷ ss) = before (Text f (unwrap_or s.delimiter [])) (before (entry_element s) (after_cite f ss))
 
--- cites in a row
+-- cites one after the other
 abbrev pub joined_cites : Formatting → Shown → List Shown → Children
 joined_cites f s ss = before (entry_element s) (after_cite f ss)
 

@@ -1,42 +1,42 @@
 -- The cites of a document with what they are printed from.
 use Rattle.std.specs.Prelude.{◌≡◌, ℕ, List, length, map}
-use Rattle.rendering.specs.Views.{context_seen}
+use Rattle.rendering.specs.Views.{style_context_view}
 use Rattle.rendering_entries.specs.Answers.{Answers}
 use Rattle.driver_requests.specs.Cites.{Numbered}
 use Rattle.driver_requests.specs.Requests.{Request}
-use Rattle.driver_requests.specs.Views.{context_of, request_by}
-use Rattle.driver_marks.specs.Classes.{Candidate}
+use Rattle.driver_requests.specs.Views.{context_of, request_view}
+use Rattle.driver_disambiguation.specs.Classes.{Candidate}
 use Rattle.driver.specs.Stages.{candidate, first_print, flattened}
-use Rattle.driver.specs.Views.{numbered_seen, row_seen, rows_seen}
+use Rattle.driver.specs.Views.{numbered_view, numbered_cites_view, all_numbered_cites_view}
 use Rattle.driver.specs.declared.cite.StyledCite.{StyledCite}
 use Rattle.driver.specs.declared.document_cites.DocumentCites.{DocumentCites}
 use Rattle.driver.specs.declared.document_cites.RequestCites.{RequestCites}
 
--- The contexts are those of the requests, and each row has a cite for each item of its request.
+-- The contexts are those of the requests, and each run has a cite for each item of its request.
 pub record AreInStep {T P : Type 0} (d : DocumentCites T P) : Type 0 where
-  pub contexts : map context_seen d.contexts.now ≡ map context_of d.requests.now
-  pub rows : map (λ v. length v.items) d.rows.now ≡ map (λ r. length r.items.items) d.requests.now
+  pub contexts : map style_context_view d.contexts.now ≡ map context_of d.requests.now
+  pub runs : map (λ v. length v.items) d.runs.now ≡ map (λ r. length r.items.items) d.requests.now
 
--- The context is that of the request, and the row has a cite for each of its items.
+-- The context is that of the request, and the run has a cite for each of its items.
 pub record IsInStep {T P : Type 0} (c : RequestCites T P) : Type 0 where
-  pub context : context_seen c.context.now ≡ context_of c.request.now
-  pub row : length c.row.now ≡ length c.request.now.items.items
+  pub context : style_context_view c.context.now ≡ context_of c.request.now
+  pub run : length c.run.now ≡ length c.request.now.items.items
 
 -- a cite in its style
 abbrev pub styled_seen : {T P : Type 0} → (T → Answers) → StyledCite T P → Numbered P
-styled_seen answers c = numbered_seen answers (context_seen c.context.now) c.item.now c.numbered
+styled_seen answers c = numbered_view answers (style_context_view c.context.now) c.item.now c.numbered
 
 -- the cites of a request
 abbrev pub request_cites : {T P : Type 0} → (T → Answers) → RequestCites T P → List (Numbered P)
-request_cites answers c = row_seen answers (context_of c.request.now) c.request.now.items.items c.row.now
+request_cites answers c = numbered_cites_view answers (context_of c.request.now) c.request.now.items.items c.run.now
 
--- the requests, where each entry has a place and answers
+-- the requests, where each entry has an index and answers
 abbrev pub requests_by : {T P : Type 0} → (T → ℕ) → (T → Answers) → DocumentCites T P → List (Request P)
-requests_by place answers d = map (request_by place answers) d.requests.now
+requests_by index answers d = map (request_view index answers) d.requests.now
 
 -- the cites of a document request by request
 abbrev pub document_cites : {T P : Type 0} → (T → Answers) → DocumentCites T P → List (List (Numbered P))
-document_cites answers d = rows_seen answers d.requests.now d.rows.now
+document_cites answers d = all_numbered_cites_view answers d.requests.now d.runs.now
 
 -- all cites of a document
 abbrev pub all_cites : {T P : Type 0} → (T → Answers) → DocumentCites T P → List (Numbered P)

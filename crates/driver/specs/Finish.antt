@@ -9,8 +9,8 @@ use Rattle.rendering.specs.Purposes.{bibliography}
 use Rattle.driver_requests.specs.Errors.{Overflow, overflow}
 use Rattle.driver_requests.specs.Requests.{Request, cites_entry}
 use Rattle.driver_requests.specs.Order.{cited, numbers_overflow}
-use Rattle.driver_marks.specs.Marks.{suffixes_overflow}
-use Rattle.driver_marks.specs.Rounds.{Disambiguation}
+use Rattle.driver_disambiguation.specs.States.{suffixes_overflow}
+use Rattle.driver_disambiguation.specs.Rounds.{Disambiguation}
 use Rattle.driver_bibliography.specs.Items.{Fields, items_of}
 use Rattle.driver.specs.Citations.{Shown, citation_of}
 use Rattle.driver.specs.Documents.{Document, order_in, items_count}
@@ -51,9 +51,9 @@ citation_tree r fs = citation_of r.context.style.citation.layout (has_purpose r)
 abbrev pub citation_in : {P : Type 0} → Request P × List (Final P) → Citation
 citation_in (r, fs) = record { note_number = r.note_number; tree = citation_tree r fs }
 
--- whether a cite is of the entry at a place
+-- whether a cite is of the entry at an index
 abbrev pub is_final_of : {P : Type 0} → ℕ → Final P → Bool
-is_final_of place f = (cite_of f).item.entry.place == place
+is_final_of index f = (cite_of f).item.entry.index == index
 
 -- what is known of an entry for its item: what is known of the cite, without locator, and which identifiers that cite printed at first
 abbrev pub item_properties : {P : Type 0} → Final P → CiteProperties
@@ -63,9 +63,9 @@ item_properties f = record f.properties { identifier_usage = (first_print_of f.a
 abbrev pub item_of_cite : {P : Type 0} → Document P → Final P → Option Children
 item_of_cite d f = option_map (λ r. r.tree) (bibliography d.bibliography_context (cite_of f).item.entry.answers (item_properties f) None)
 
--- the item of the entry at a place, by its first cite
+-- the item of the entry at an index, by its first cite
 abbrev pub item_of_entry : {P : Type 0} → Document P → List (Final P) → ℕ → Option Children
-item_of_entry d fs place = option_and_then (item_of_cite d) (find (is_final_of place) fs)
+item_of_entry d fs index = option_and_then (item_of_cite d) (find (is_final_of index) fs)
 
 -- what the bibliography prints of the cited entries, in their order
 abbrev pub item_trees : {P : Type 0} → Document P → List (Final P) → List Children
@@ -92,11 +92,11 @@ rendered_from d fss = record {
   citations = map citation_in (zip d.requests fss);
 }
 
--- whether a number is above the greatest that is printed, or letters are after the last
+-- whether a number is above the greatest that is printed, or a year suffix is after the last
 abbrev pub overflows : {P : Type 0} → Document P → Disambiguation → Bool
 overflows d t = numbers_overflow d.offset (cited d.requests) || suffixes_overflow t.given
 
--- citations and bibliography, from first prints and marks
+-- citations and bibliography, from first prints and states
 abbrev pub finish_disambiguated : {P : Type 0} → (P → P → Bool) → Document P → List (List (FirstPrint P)) → Disambiguation → Result Rendered Overflow
 finish_disambiguated same d bs t = if overflows d t then Err overflow else Ok (rendered_from d (finals_in same d bs t))
 
@@ -104,13 +104,13 @@ finish_disambiguated same d bs t = if overflows d t then Err overflow else Ok (r
 abbrev pub finish_first : {P : Type 0} → (P → P → Bool) → Document P → List (List (FirstPrint P)) → Result Rendered Overflow
 finish_first same d bs = finish_disambiguated same d bs (disambiguated_in d bs)
 
--- Citations and bibliography of a document, or that a number is above the greatest that is printed, or letters are after the last.
+-- Citations and bibliography of a document, or that a number is above the greatest that is printed, or a year suffix is after the last.
 abbrev pub finish : {P : Type 0} → (P → P → Bool) → Document P → Result Rendered Overflow
 finish same d = finish_first same d (first_prints_in same d)
 
--- the key of the entry at a place
+-- the key of the entry at an index
 abbrev pub key_at : {P : Type 0} → Document P → ℕ → Option (List ℕ)
-key_at d place = option_map (λ i. i.entry.answers.key) (find (cites_entry place) (flat_map (λ r. r.items) d.requests))
+key_at d index = option_map (λ i. i.entry.answers.key) (find (cites_entry index) (flat_map (λ r. r.items) d.requests))
 
 -- The keys of the items of the bibliography, in their order.
 abbrev pub keys_in : {P : Type 0} → Document P → List (List ℕ)

@@ -5,15 +5,15 @@ use Rattle.laws.specs.Text.{spelled}
 use Rattle.rendering_page.specs.Tail.{ends_in}
 use Rattle.rendering_taxonomy.specs.declared.formatting.Formatting.{Formatting}
 use Rattle.rendering_tree.specs.Trees.{Children, nothing, before, followed_by, is_nothing, simplified}
-use Rattle.rendering_tree.specs.Views.{tree}
+use Rattle.rendering_tree.specs.Views.{tree_view}
 use Rattle.rendering_style.specs.Styles.{Layout}
 use Rattle.driver.specs.Citations.{Shown, affixed, end_of, entry_element, followed_by_text}
 use Rattle.driver.specs.Standalone.{after_tree}
 use Rattle.driver.specs.declared.citation.ShownCite.{ShownCite}
 
 -- a cite that is shown
-abbrev pub shown_seen : ShownCite → Shown
-shown_seen s = record { delimiter = option_map spelled s.delimiter; index = s.index; tree = tree s.tree }
+abbrev pub shown_view : ShownCite → Shown
+shown_view s = record { delimiter = option_map spelled s.delimiter; index = s.index; tree = tree_view s.tree }
 
 -- what is already there before the next cite
 abbrev pub delimited_after : Formatting → Children → Option (List ℕ) → Children
@@ -37,7 +37,7 @@ finished l some_purpose nothing = nothing
 finished l true (before x xs) = simplified (before x xs)
 finished l false (before x xs) = simplified (affixed l (before x xs))
 
--- trees in a row with a text between them, and before the first unless nothing stands before it
+-- trees one after the other with a text between them, and before the first unless nothing stands before it
 abbrev pub delimited_trees : Formatting → List ℕ → Bool → List Children → Children
 delimited_trees f between true [] = nothing
 delimited_trees f between true (t ∷ ts) = followed_by t (after_tree f between ts)

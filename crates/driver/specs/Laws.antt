@@ -8,11 +8,11 @@ use Rattle.rendering_nodes.specs.Named.{AreAlike}
 use Rattle.rendering_context.specs.Cites.{by_suffix}
 use Rattle.driver_requests.specs.Requests.{Request}
 use Rattle.driver_requests.specs.Suffixes.{Suffix}
-use Rattle.driver_requests.specs.Order.{cited, is_place_in}
-use Rattle.driver_marks.specs.Marks.{mark_of, suffix_by}
-use Rattle.driver_marks.specs.Classes as marks
-use Rattle.driver_marks.specs.Classes.{printed_under}
-use Rattle.driver_marks.specs.Rounds.{Disambiguation, disambiguated, after_rounds, round_given}
+use Rattle.driver_requests.specs.Order.{cited, is_index_in}
+use Rattle.driver_disambiguation.specs.States.{state_of, suffix_by}
+use Rattle.driver_disambiguation.specs.Classes as states
+use Rattle.driver_disambiguation.specs.Classes.{printed_under}
+use Rattle.driver_disambiguation.specs.Rounds.{Disambiguation, disambiguated, after_rounds, round_given}
 use Rattle.driver.specs.Documents.{Document, order_in, number_of, document_with, document_named}
 use Rattle.driver.specs.Stages.{Final, flattened, first_print_of, first_prints_in, disambiguated_in, finals_in, entry_of_first}
 use Rattle.driver.specs.Finish.{citation_tree, finish, item_of_entry, item_trees, items_in, key_at, keys_in}
@@ -25,26 +25,26 @@ finals_by_request same d = finals_in same d (first_prints_in same d) (disambigua
 abbrev pub finals_of : {P : Type 0} → (P → P → Bool) → Document P → List (Final P)
 finals_of same d = flattened (finals_by_request same d)
 
--- the place of the entry of a cite
+-- the index of the entry of a cite
 abbrev pub entry_final : {P : Type 0} → Final P → ℕ
 entry_final f = entry_of_first (first_print_of f.arranged)
 
--- All cites of an entry have one number, and one mark.
-abbrev pub EntriesHaveOneNumberAndMark : Type 0 → Type 0
-EntriesHaveOneNumberAndMark P =
+-- All cites of an entry have one number, and one state.
+abbrev pub EntriesHaveOneNumberAndState : Type 0 → Type 0
+EntriesHaveOneNumberAndState P =
     (same : P → P → Bool) (d : Document P) (f g : Final P)
     → Contains (finals_of same d) f → Contains (finals_of same d) g → entry_final f ≡ entry_final g
     → (f.properties.citation_number ≡ g.properties.citation_number) × (f.properties.disambiguation ≡ g.properties.disambiguation)
 
 -- The numbers of the cited entries, taken in the order of these, count on from the offset.
-abbrev pub NumbersArePlaces : Type 0 → Type 0
-NumbersArePlaces P = (d : Document P) → map (number_of d) (order_in d) ≡ range_with_len d.offset (length (order_in d))
+abbrev pub NumbersAreIndices : Type 0 → Type 0
+NumbersAreIndices P = (d : Document P) → map (number_of d) (order_in d) ≡ range_with_len d.offset (length (order_in d))
 
 -- The order has each cited entry once, and no other.
 abbrev pub OrderHasTheCited : Type 0 → Type 0
 OrderHasTheCited P =
     (d : Document P)
-    → IsDistinct nat_eq (order_in d) × ((entry : ℕ) → is_place_in (order_in d) entry ≡ is_place_in (cited d.requests) entry)
+    → IsDistinct nat_eq (order_in d) × ((entry : ℕ) → is_index_in (order_in d) entry ≡ is_index_in (cited d.requests) entry)
 
 -- Where the style has a bibliography, this has one item for each cited entry, in their order.
 abbrev pub ItemsAreTheOrder : Type 0 → Type 0
@@ -54,7 +54,7 @@ ItemsAreTheOrder P =
     → (length (items_in d (finals_of same d) b) ≡ length (order_in d))
     × (map (item_of_entry d (finals_of same d)) (order_in d) ≡ map (λ tree. Some tree) (item_trees d (finals_of same d)))
 
--- There is one key for each cited entry, in their order: keys and items go together place by place.
+-- There is one key for each cited entry, in their order: keys and items go together one by one.
 abbrev pub KeysAreTheOrder : Type 0 → Type 0
 KeysAreTheOrder P = (d : Document P) → map (key_at d) (order_in d) ≡ map (λ key. Some key) (keys_in d)
 
@@ -68,35 +68,35 @@ HiddenItemsPrintNothing P =
     (same : P → P → Bool) (d : Document P) (r : Request P) (fs : List (Final P))
     → Contains (zip d.requests (finals_by_request same d)) (r, fs) → is_all_hidden r ≡ true → citation_tree r fs ≡ nothing
 
--- Letters are final: what has them after some rounds has the same after one more.
-abbrev pub LettersAreFinal : Type 0
-LettersAreFinal =
-    (adds_names : Bool) (n : ℕ) (cites : List marks.Candidate) (rounds entry place : ℕ)
-    → mark_of (after_rounds rounds adds_names n cites).marks entry ≡ by_suffix place
-    → mark_of (after_rounds (rounds + 1) adds_names n cites).marks entry ≡ by_suffix place
+-- Year suffixes are final: what has one after some rounds has the same after one more.
+abbrev pub YearSuffixesAreFinal : Type 0
+YearSuffixesAreFinal =
+    (adds_names : Bool) (n : ℕ) (cites : List states.Candidate) (rounds entry index : ℕ)
+    → state_of (after_rounds rounds adds_names n cites).states entry ≡ by_suffix index
+    → state_of (after_rounds (rounds + 1) adds_names n cites).states entry ≡ by_suffix index
 
--- the letters of an entry
+-- the year suffix of an entry
 abbrev pub suffix_of : Disambiguation → ℕ → Option Suffix
-suffix_of t entry = suffix_by (mark_of t.marks entry) entry t.given
+suffix_of t entry = suffix_by (state_of t.states entry) entry t.given
 
--- No two entries have the same letters of one class in one round.
-abbrev pub LettersAreDistinct : Type 0
-LettersAreDistinct =
-    (adds_names : Bool) (n : ℕ) (cites : List marks.Candidate) (entry other : ℕ) (s : Suffix)
+-- No two entries have the same year suffix of one class in one round.
+abbrev pub YearSuffixesAreDistinct : Type 0
+YearSuffixesAreDistinct =
+    (adds_names : Bool) (n : ℕ) (cites : List states.Candidate) (entry other : ℕ) (s : Suffix)
     → suffix_of (disambiguated adds_names n cites) entry ≡ Some s → suffix_of (disambiguated adds_names n cites) other ≡ Some s → entry ≡ other
 
 -- A round that gives nothing changes nothing.
 abbrev pub RoundsThatGiveNothingChangeNothing : Type 0
 RoundsThatGiveNothingChangeNothing =
-    (adds_names : Bool) (n : ℕ) (cites : List marks.Candidate) (rounds : ℕ)
-    → round_given adds_names rounds (map (printed_under (after_rounds rounds adds_names n cites).marks) cites) ≡ []
+    (adds_names : Bool) (n : ℕ) (cites : List states.Candidate) (rounds : ℕ)
+    → round_given adds_names rounds (map (printed_under (after_rounds rounds adds_names n cites).states) cites) ≡ []
     → after_rounds (rounds + 1) adds_names n cites ≡ after_rounds rounds adds_names n cites
 
 -- Entries that are wanted and not cited change nothing.
 abbrev pub UncitedEntriesChangeNothing : Type 0 → Type 0
 UncitedEntriesChangeNothing P =
     (same : P → P → Bool) (d : Document P)
-    → finish same (record d { wanted = filter (is_place_in (cited d.requests)) d.wanted }) ≡ finish same d
+    → finish same (record d { wanted = filter (is_index_in (cited d.requests)) d.wanted }) ≡ finish same d
 
 -- What cited entries answer to what no style names changes nothing.
 abbrev pub AlikeEntriesGiveOne : Type 0 → Type 0

@@ -15,6 +15,6 @@ pub mod Numbering
 pub mod Rounding
 pub mod RenderedViews
 pub mod Listing
-pub mod Finals
+pub mod FinalPrints
 pub mod Printing
-pub mod Known
+pub mod OrderAndNumbers

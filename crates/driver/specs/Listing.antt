@@ -10,11 +10,11 @@ use Rattle.rendering_context.specs.Contexts.{StyleContext}
 use Rattle.rendering.specs.Purposes.{bibliography}
 use Rattle.driver_requests.specs.Requests.{Request}
 use Rattle.driver_bibliography.specs.Items.{items_of}
-use Rattle.driver.specs.Finals.{Listed, first_listed}
+use Rattle.driver.specs.FinalPrints.{Listed, first_listed}
 use Rattle.driver.specs.Finish.{Rendered, RenderedBibliography, citation_in}
 use Rattle.driver.specs.Stages.{Final, flattened}
 use Rattle.driver.specs.Views.{properties_with}
-use Rattle.driver.specs.declared.finals.ListedCite.{ListedCite}
+use Rattle.driver.specs.declared.final_prints.ListedCite.{ListedCite}
 
 -- the bibliography from the trees of its items
 abbrev pub bibliography_from : Bibliography → List Children → RenderedBibliography
@@ -30,21 +30,21 @@ bibliography_from b trees = record {
 abbrev pub keys_of : {T : Type 0} → (T → Answers) → List (Bor T) → List (List ℕ)
 keys_of {T} answers es = map (λ (e : Bor T). (answers e.now).key) es
 
--- an entry that the code lists, by its mark
-abbrev pub listed_marked : {T : Type 0} → (T → Answers) → DisambiguateState → ListedCite T → Listed
-listed_marked answers mark l = record {
-  place = l.cite.entry;
+-- an entry that the code lists, by its state
+abbrev pub listed_in_state : {T : Type 0} → (T → Answers) → DisambiguateState → ListedCite T → Listed
+listed_in_state answers state l = record {
+  index = l.cite.entry;
   answers = answers l.entry.now;
-  properties = properties_with l.cite mark None l.ibid l.usage;
+  properties = properties_with l.cite state None l.ibid l.usage;
 }
 
 -- what the bibliography prints of an entry, where there is one
 abbrev pub item_listed : StyleContext → Listed → Option Children
 item_listed x l = option_map (λ r. r.tree) (bibliography x l.answers l.properties None)
 
--- the same of the entry at a place, where it is listed
+-- the same of the entry at an index, where it is listed
 abbrev pub item_at : StyleContext → List (Option Listed) → ℕ → Option Children
-item_at x ls place = option_and_then (item_listed x) (slice_index_or ls place None)
+item_at x ls index = option_and_then (item_listed x) (slice_index_or ls index None)
 
 -- what the bibliography prints of entries in that order
 abbrev pub trees_listed : StyleContext → List (Option Listed) → List ℕ → List Children
@@ -54,25 +54,25 @@ trees_listed x ls order = filter_map (item_at x ls) order
 abbrev pub key_printed : StyleContext → Listed → Option (List ℕ)
 key_printed x l = option_map (λ (t : Children). l.answers.key) (item_listed x l)
 
--- the same of the entry at a place, where it is listed
+-- the same of the entry at an index, where it is listed
 abbrev pub key_listed_at : StyleContext → List (Option Listed) → ℕ → Option (List ℕ)
-key_listed_at x ls place = option_and_then (key_printed x) (slice_index_or ls place None)
+key_listed_at x ls index = option_and_then (key_printed x) (slice_index_or ls index None)
 
 -- the keys of the entries that the bibliography prints, in that order
 abbrev pub keys_listed : StyleContext → List (Option Listed) → List ℕ → List (List ℕ)
 keys_listed x ls order = filter_map (key_listed_at x ls) order
 
--- what is listed at a place is the entry of that place
-abbrev pub StandAtPlaces : List (Option Listed) → Type 0
-StandAtPlaces ls = (place : ℕ) → IfSome (slice_index_or ls place None) (λ l. l.place ≡ place)
+-- what is listed at an index is the entry of that index
+abbrev pub AreAtIndices : List (Option Listed) → Type 0
+AreAtIndices ls = (index : ℕ) → IfSome (slice_index_or ls index None) (λ l. l.index ≡ index)
 
--- the entry at a place, in the bibliography
+-- the entry at an index, in the bibliography
 abbrev pub item_first : {P : Type 0} → StyleContext → List (Final P) → ℕ → Option Children
-item_first x fs place = option_and_then (item_listed x) (first_listed fs place)
+item_first x fs index = option_and_then (item_listed x) (first_listed fs index)
 
--- the key of the entry at a place, where the bibliography prints this
+-- the key of the entry at an index, where the bibliography prints this
 abbrev pub key_first : {P : Type 0} → StyleContext → List (Final P) → ℕ → Option (List ℕ)
-key_first x fs place = option_and_then (key_printed x) (first_listed fs place)
+key_first x fs index = option_and_then (key_printed x) (first_listed fs index)
 
 -- the keys of the entries that the bibliography prints by their first cites, in that order
 abbrev pub keys_first : {P : Type 0} → StyleContext → List (Final P) → List ℕ → List (List ℕ)

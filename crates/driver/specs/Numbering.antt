@@ -1,4 +1,4 @@
--- Cites from items with places and what is known of them, and their numbers one after the other.
+-- Cites from items with indices and what is known of them, and their numbers one after the other.
 use Rattle.std.specs.Prelude.{ℕ, ◌+◌, Bool, List, [], ◌∷◌, map, Vec, Option, Some}
 use Rattle.std.specs.Borrow.{Bor}
 use Rattle.std.specs.Option.{option_map}
@@ -7,16 +7,16 @@ use Rattle.rendering_context.specs.Contexts.{StyleContext}
 use Rattle.driver_requests.specs.Cites.{Cite, Numbered, entry_of}
 use Rattle.driver_requests.specs.Positions.{counts_at_first, ibid_after}
 use Rattle.driver_requests.specs.Requests.{Item}
-use Rattle.driver_requests.specs.Views.{context_of, item_by}
+use Rattle.driver_requests.specs.Views.{context_of, item_view}
 use Rattle.driver_requests.specs.declared.item.CitationItem.{CitationItem}
 use Rattle.driver_requests.specs.declared.request.CitationRequest.{CitationRequest}
-use Rattle.driver_requests.specs.declared.standing.CiteFacts.{CiteFacts}
+use Rattle.driver_requests.specs.declared.history.CiteFacts.{CiteFacts}
 use Rattle.driver.specs.declared.cite.NumberedCite.{NumberedCite}
 
--- an item at a place in its request, whose entry has that place, with what is known of the cite
-abbrev pub cite_seen : {T P : Type 0} → (T → Answers) → StyleContext → Option ℕ → ℕ → CitationItem T P → ℕ → CiteFacts → Cite P
-cite_seen answers x number index i place facts = record {
-  item = item_by (λ e. place) answers i;
+-- an item at an index in its request, whose entry has that index, with what is known of the cite
+abbrev pub cite_view : {T P : Type 0} → (T → Answers) → StyleContext → Option ℕ → ℕ → CitationItem T P → ℕ → CiteFacts → Cite P
+cite_view answers x number index i entry_index facts = record {
+  item = item_view (λ e. entry_index) answers i;
   index = index;
   context = x;
   note_number = number;
@@ -26,36 +26,36 @@ cite_seen answers x number index i place facts = record {
 }
 
 -- the cites of items from an index on
-abbrev pub cites_seen : {T P : Type 0} → (T → Answers) → StyleContext → Option ℕ → ℕ → List (CitationItem T P) → List ℕ → List CiteFacts → List (Cite P)
-cites_seen answers x number index [] places facts = []
-cites_seen answers x number index (i ∷ is) [] facts = []
-cites_seen answers x number index (i ∷ is) (p ∷ ps) [] = []
-cites_seen answers x number index (i ∷ is) (p ∷ ps) (f ∷ fs) = cite_seen answers x number index i p f ∷ cites_seen answers x number (index + 1) is ps fs
+abbrev pub cites_view : {T P : Type 0} → (T → Answers) → StyleContext → Option ℕ → ℕ → List (CitationItem T P) → List ℕ → List CiteFacts → List (Cite P)
+cites_view answers x number index [] indices facts = []
+cites_view answers x number index (i ∷ is) [] facts = []
+cites_view answers x number index (i ∷ is) (p ∷ ps) [] = []
+cites_view answers x number index (i ∷ is) (p ∷ ps) (f ∷ fs) = cite_view answers x number index i p f ∷ cites_view answers x number (index + 1) is ps fs
 
 -- the cites of requests
-abbrev pub all_cites_seen : {T P A B : Type 0} → (T → Answers) → List (CitationRequest T P) → List (Vec ℕ A) → List (Vec CiteFacts B) → List (List (Cite P))
-all_cites_seen answers [] ps fs = []
-all_cites_seen answers (r ∷ rs) [] fs = []
-all_cites_seen answers (r ∷ rs) (p ∷ ps) [] = []
-all_cites_seen answers (r ∷ rs) (p ∷ ps) (f ∷ fs) = cites_seen answers (context_of r) r.note_number 0 r.items.items p.items f.items ∷ all_cites_seen answers rs ps fs
+abbrev pub all_cites_view : {T P A B : Type 0} → (T → Answers) → List (CitationRequest T P) → List (Vec ℕ A) → List (Vec CiteFacts B) → List (List (Cite P))
+all_cites_view answers [] ps fs = []
+all_cites_view answers (r ∷ rs) [] fs = []
+all_cites_view answers (r ∷ rs) (p ∷ ps) [] = []
+all_cites_view answers (r ∷ rs) (p ∷ ps) (f ∷ fs) = cites_view answers (context_of r) r.note_number 0 r.items.items p.items f.items ∷ all_cites_view answers rs ps fs
 
--- the last item, whose entry has that place
+-- the last item, whose entry has that index
 abbrev pub last_item : {T P : Type 0} → (T → Answers) → ℕ → Option (Bor (CitationItem T P)) → Option (Item P)
-last_item {T} {P} answers place last = option_map (λ (i : Bor (CitationItem T P)). item_by (λ e. place) answers i.now) last
+last_item {T} {P} answers entry_index last = option_map (λ (i : Bor (CitationItem T P)). item_view (λ e. entry_index) answers i.now) last
 
--- the last of items, whose entries have these places, or the one before them
-abbrev pub last_seen : {T P : Type 0} → (T → Answers) → Option (Item P) → List (CitationItem T P) → List ℕ → Option (Item P)
-last_seen answers last [] places = last
-last_seen answers last (i ∷ is) [] = last
-last_seen answers last (i ∷ is) (p ∷ ps) = last_seen answers (Some (item_by (λ e. p) answers i)) is ps
+-- the last of items, whose entries have these indices, or the one before them
+abbrev pub last_item_among : {T P : Type 0} → (T → Answers) → Option (Item P) → List (CitationItem T P) → List ℕ → Option (Item P)
+last_item_among answers last [] indices = last
+last_item_among answers last (i ∷ is) [] = last
+last_item_among answers last (i ∷ is) (p ∷ ps) = last_item_among answers (Some (item_view (λ e. p) answers i)) is ps
 
--- the place of the entry of a cite
+-- the index of the entry of a cite
 abbrev pub entry_at : NumberedCite → ℕ
 entry_at n = n.entry
 
 -- the same of cites request by request
-abbrev pub entry_rows : {A : Type 0} → List (Vec NumberedCite A) → List (List ℕ)
-entry_rows {A} vs = map (λ (v : Vec NumberedCite A). map entry_at v.items) vs
+abbrev pub entry_runs : {A : Type 0} → List (Vec NumberedCite A) → List (List ℕ)
+entry_runs {A} vs = map (λ (v : Vec NumberedCite A). map entry_at v.items) vs
 
 -- a cite with its number, and its ibid state after an item
 abbrev pub numbered_from : {P : Type 0} → (P → P → Bool) → (ℕ → ℕ) → Option (Item P) → Cite P → Numbered P

@@ -1,6 +1,6 @@
 -- Cites that are gathered and arranged, known in another way.
 use Rattle.driver_blocks.specs.Blocks.{Gathered}
-use Rattle.driver_blocks.specs.Rows.{Arranged}
+use Rattle.driver_blocks.specs.Runs.{Arranged}
 
 -- a cite as it is gathered
 abbrev pub gathered_as : {X Y : Type 0} → (X → Y) → Gathered X → Gathered Y

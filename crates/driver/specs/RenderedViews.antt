@@ -3,7 +3,7 @@ use Rattle.std.specs.Prelude.{ℕ, List, map, string_bytes, Option, Some, None}
 use Rattle.std.specs.Int.NonZero.{non_zero_i16_get}
 use Rattle.std.specs.Option.{option_and_then, option_map}
 use Rattle.rendering_tree.specs.Trees.{Child, Element, Elem, Link, Markup, Text, Transparent}
-use Rattle.rendering_tree.specs.Views.{child, tree}
+use Rattle.rendering_tree.specs.Views.{child_view, tree_view}
 use Rattle.driver_bibliography.specs.Items.{Fields}
 use Rattle.driver.specs.Finish as finish
 use Rattle.driver.specs.declared.rendered.BibliographyItem.{BibliographyItem}
@@ -20,31 +20,31 @@ element_if (Link f cs url) = None
 element_if (Transparent f n) = None
 
 -- an item of a bibliography
-abbrev pub fields_by : BibliographyItem → Fields
-fields_by i = record { first_field = option_and_then (λ x. element_if (child x)) i.first_field; content = tree i.content }
+abbrev pub item_fields_view : BibliographyItem → Fields
+item_fields_view i = record { first_field = option_and_then (λ x. element_if (child_view x)) i.first_field; content = tree_view i.content }
 
 -- the bytes of its key
-abbrev pub key_by : BibliographyItem → List ℕ
-key_by i = string_bytes i.key
+abbrev pub key_view : BibliographyItem → List ℕ
+key_view i = string_bytes i.key
 
 -- a citation
-abbrev pub citation_by : RenderedCitation → finish.Citation
-citation_by c = record { note_number = c.note_number; tree = tree c.citation }
+abbrev pub rendered_citation_view : RenderedCitation → finish.Citation
+rendered_citation_view c = record { note_number = c.note_number; tree = tree_view c.citation }
 
 -- a bibliography
-abbrev pub bibliography_by : RenderedBibliography → finish.RenderedBibliography
-bibliography_by b = record {
+abbrev pub rendered_bibliography_view : RenderedBibliography → finish.RenderedBibliography
+rendered_bibliography_view b = record {
   hanging_indent = b.hanging_indent;
   second_field_align = b.second_field_align;
   line_spacing = non_zero_i16_get b.line_spacing;
   entry_spacing = b.entry_spacing;
-  items = map fields_by b.items.items;
+  items = map item_fields_view b.items.items;
 }
 
 -- the bytes of the keys of its items
-abbrev pub keys_by : RenderedBibliography → List (List ℕ)
-keys_by b = map key_by b.items.items
+abbrev pub keys_view : RenderedBibliography → List (List ℕ)
+keys_view b = map key_view b.items.items
 
 -- citations and bibliography
-abbrev pub rendered_by : Rendered → finish.Rendered
-rendered_by r = record { bibliography = option_map bibliography_by r.bibliography; citations = map citation_by r.citations.items }
+abbrev pub rendered_view : Rendered → finish.Rendered
+rendered_view r = record { bibliography = option_map rendered_bibliography_view r.bibliography; citations = map rendered_citation_view r.citations.items }

@@ -1,47 +1,47 @@
--- Marks and what cites print by them, round after round.
+-- States and what cites print by them, round after round.
 use Rattle.std.specs.Prelude.{ℕ, ◌<◌, Bool, false, All, List, [], ◌∷◌, map, slice_index_or, if◌then◌else◌, Vec, Result, Ok, Err}
 use Rattle.rendering_context.specs.Cites.{DisambiguateState}
-use Rattle.rendering_context.specs.Views.{state_by}
+use Rattle.rendering_context.specs.Views.{state_view}
 use Rattle.rendering_tree.specs.Writing.{plain_text}
 use Rattle.driver_requests.specs.Cites.{Numbered, entry_of}
 use Rattle.driver_requests.specs.Errors.{Overflow, overflow}
-use Rattle.driver_marks.specs.Classes.{Printed}
-use Rattle.driver_marks.specs.CitesViews.{cites_seen}
-use Rattle.driver_marks.specs.Marks.{Marks, mark_of, suffixes_overflow}
-use Rattle.driver_marks.specs.Rounds.{Disambiguation}
-use Rattle.driver_marks.specs.Views.{givens_by}
+use Rattle.driver_disambiguation.specs.Classes.{Printed}
+use Rattle.driver_disambiguation.specs.CitesViews.{printed_cites_view}
+use Rattle.driver_disambiguation.specs.States.{States, state_of, suffixes_overflow}
+use Rattle.driver_disambiguation.specs.Rounds.{Disambiguation}
+use Rattle.driver_disambiguation.specs.Views.{given_states_view}
 use Rattle.driver.specs.Stages.{printed_by}
-use Rattle.driver.specs.Views.{marked_by}
+use Rattle.driver.specs.Views.{printed_by_states}
 use Rattle.driver.specs.declared.cite.NumberedCite.{NumberedCite}
-use Rattle.driver.specs.declared.final_marks.FinalMarks.{FinalMarks}
-use Rattle.driver.specs.declared.rounds.Marked.{Marked}
+use Rattle.driver.specs.declared.final_marks.FinalStates.{FinalStates}
+use Rattle.driver.specs.declared.rounds.RoundStates.{RoundStates}
 
--- marks, all that was given, and what cites print
-abbrev pub marked_seen : Marked → Disambiguation × List Printed
-marked_seen m = (record { marks = map state_by m.marks.items; given = givens_by m.given.items }, cites_seen m.printed)
+-- states, all that was given, and what cites print
+abbrev pub round_states_view : RoundStates → Disambiguation × List Printed
+round_states_view m = (record { states = map state_view m.states.items; given = given_states_view m.given.items }, printed_cites_view m.printed)
 
--- final marks, and all that was given
-abbrev pub disambiguation_seen : FinalMarks → Disambiguation
-disambiguation_seen m = record { marks = map state_by m.marks.now; given = givens_by m.given.now }
+-- final states, and all that was given
+abbrev pub final_marks_view : FinalStates → Disambiguation
+final_marks_view m = record { states = map state_view m.states.now; given = given_states_view m.given.now }
 
--- marks with what cites print by them, unless letters are after the last
+-- states with what cites print by them, unless a year suffix is after the last
 abbrev pub unless_overflow : {P : Type 0} → List (Numbered P) → Disambiguation → Result (Disambiguation × List Printed) Overflow
-unless_overflow ns t = if suffixes_overflow t.given then Err overflow else Ok (t, map (marked_by t.marks) ns)
+unless_overflow ns t = if suffixes_overflow t.given then Err overflow else Ok (t, map (printed_by_states t.states) ns)
 
 -- the entries of cites are among so many
 abbrev pub AreWithin : {A : Type 0} → ℕ → List (Vec NumberedCite A) → Type 0
 AreWithin {A} count vs = All (λ (v : Vec NumberedCite A). All (λ (n : NumberedCite). n.entry < count) v.items) vs
 
--- a cite that is printed again by a mark
+-- a cite that is printed again by a state
 abbrev pub again_by : {P : Type 0} → DisambiguateState → Numbered P → Printed → Printed
-again_by mark n s = record s { mark = mark; tree = (printed_by n mark).tree; text = plain_text (printed_by n mark).tree }
+again_by state n s = record s { state = state; tree = (printed_by n state).tree; text = plain_text (printed_by n state).tree }
 
 -- a cite that is printed again where its entry was given something
-abbrev pub again_if : {P : Type 0} → Marks → List Bool → Numbered P → Printed → Printed
-again_if marks is_given n s = if slice_index_or is_given (entry_of n.cite) false then again_by (mark_of marks (entry_of n.cite)) n s else s
+abbrev pub again_if : {P : Type 0} → States → List Bool → Numbered P → Printed → Printed
+again_if states is_given n s = if slice_index_or is_given (entry_of n.cite) false then again_by (state_of states (entry_of n.cite)) n s else s
 
--- the same of cites in a row, with what comes after these
-abbrev pub are_again : {P : Type 0} → Marks → List Bool → List (Numbered P) → List Printed → List Printed
-are_again marks is_given [] ss = ss
-are_again marks is_given (n ∷ ns) [] = []
-are_again marks is_given (n ∷ ns) (s ∷ ss) = again_if marks is_given n s ∷ are_again marks is_given ns ss
+-- the same of cites one after the other, with what comes after these
+abbrev pub are_again : {P : Type 0} → States → List Bool → List (Numbered P) → List Printed → List Printed
+are_again states is_given [] ss = ss
+are_again states is_given (n ∷ ns) [] = []
+are_again states is_given (n ∷ ns) (s ∷ ss) = again_if states is_given n s ∷ are_again states is_given ns ss

@@ -37,12 +37,12 @@ printed_alone x i = (citation x i.entry.answers (properties_alone i) None i.purp
 abbrev pub has_content : Children → Bool
 has_content tree = prints 0 (flat tree)
 
--- trees in a row, each after a text
+-- trees one after the other, each after a text
 abbrev pub after_tree : Formatting → List ℕ → List Children → Children
 after_tree f between [] = nothing
 after_tree f between (t ∷ ts) = before (Text f between) (followed_by t (after_tree f between ts))
 
--- trees in a row, with the delimiter of the layout between them
+-- trees one after the other, with the delimiter of the layout between them
 abbrev pub delimited : Layout → Children → List Children → Children
 delimited l t ts = followed_by t (after_tree (citation_look l) (unwrap_or l.delimiter comma_and_space) ts)
 

@@ -4,23 +4,23 @@ use Rattle.std.specs.Option.{option_map}
 use Rattle.rendering_context.specs.Cites as cites
 use Rattle.rendering_context.specs.Cites.{CiteProperties, DisambiguateState, undisturbed}
 use Rattle.rendering_entries.specs.Answers.{Answers}
-use Rattle.rendering_locale.specs.CodeViews.{code_seen}
-use Rattle.rendering_locale.specs.Views.{locale_seen}
-use Rattle.rendering_style.specs.StyleViews.{style_seen}
+use Rattle.rendering_locale.specs.CodeViews.{code_view}
+use Rattle.rendering_locale.specs.Views.{locale_view}
+use Rattle.rendering_style.specs.StyleViews.{style_view}
 use Rattle.rendering_tree.specs.Trees.{Children}
 use Rattle.rendering_context.specs.Contexts.{StyleContext}
 use Rattle.rendering_taxonomy.specs.declared.cite.IbidState.{IbidState}
 use Rattle.rendering_taxonomy.specs.declared.cite.IdentifierUsage.{IdentifierUsage}
-use Rattle.driver_requests.specs.CitedEntries.{place_among, places_among}
+use Rattle.driver_requests.specs.CitedEntries.{index_among, indices_among}
 use Rattle.driver_requests.specs.Cites.{Numbered}
 use Rattle.driver_requests.specs.Requests.{Item}
-use Rattle.driver_requests.specs.Views.{context_of, entries_in, item_by, lent, request_by}
+use Rattle.driver_requests.specs.Views.{context_of, entries_in, item_view, lent, request_view}
 use Rattle.driver_requests.specs.declared.item.CitationItem.{CitationItem}
 use Rattle.driver_requests.specs.declared.request.CitationRequest.{CitationRequest}
 use Rattle.driver_requests.specs.declared.bibliography_request.BibliographyRequest.{BibliographyRequest}
-use Rattle.driver_marks.specs.Classes as marks
-use Rattle.driver_marks.specs.Classes.{printed_as, printed_under}
-use Rattle.driver_marks.specs.Marks.{Marks}
+use Rattle.driver_disambiguation.specs.Classes as states
+use Rattle.driver_disambiguation.specs.Classes.{printed_as, printed_under}
+use Rattle.driver_disambiguation.specs.States.{States}
 use Rattle.driver.specs.Documents.{Document}
 use Rattle.driver.specs.Stages.{candidate, first_print, printed_by}
 use Rattle.driver.specs.Standalone.{has_content, printed_alone}
@@ -28,20 +28,20 @@ use Rattle.driver.specs.declared.cite.NumberedCite.{NumberedCite}
 
 -- the style of the bibliography with the language that is asked for, and the files with locales
 abbrev pub bibliography_context_of : {T : Type 0} → BibliographyRequest T → StyleContext
-bibliography_context_of r = record { style = style_seen r.style.now; locale = option_map code_seen r.locale; locale_files = map locale_seen r.locale_files.now }
+bibliography_context_of r = record { style = style_view r.style.now; locale = option_map code_view r.locale; locale_files = map locale_view r.locale_files.now }
 
 -- a document, where entries are the same and answer so
-abbrev pub document_by : {T P : Type 0} → (T → T → Bool) → (T → Answers) → List (CitationRequest T P) → ℕ → BibliographyRequest T → Document P
-document_by same answers requests offset r = record {
-  requests = map (request_by (place_among same (entries_in requests)) answers) requests;
+abbrev pub document_view : {T P : Type 0} → (T → T → Bool) → (T → Answers) → List (CitationRequest T P) → ℕ → BibliographyRequest T → Document P
+document_view same answers requests offset r = record {
+  requests = map (request_view (index_among same (entries_in requests)) answers) requests;
   bibliography_context = bibliography_context_of r;
-  wanted = places_among same (entries_in requests) (lent r.order.now);
+  wanted = indices_among same (entries_in requests) (lent r.order.now);
   offset = offset;
 }
 
--- what is known of a cite with a mark, a locator, an ibid state, and which identifiers it printed
+-- what is known of a cite with a state of disambiguation, a locator, an ibid state, and which identifiers it printed
 abbrev pub properties_with : NumberedCite → DisambiguateState → Option cites.SpecificLocator → IbidState → IdentifierUsage → CiteProperties
-properties_with n mark locator ibid usage = record {
+properties_with n state locator ibid usage = record {
   note_number = n.note_number;
   first_note_number = n.facts.first_note_number;
   is_near_note = n.facts.is_near_note;
@@ -50,15 +50,15 @@ properties_with n mark locator ibid usage = record {
   locator = locator;
   citation_number = n.number;
   ibid = ibid;
-  disambiguation = mark;
+  disambiguation = state;
   identifier_usage = usage;
 }
 
 -- a cite with its number and its ibid state, in a style
-abbrev pub numbered_seen : {T P : Type 0} → (T → Answers) → StyleContext → CitationItem T P → NumberedCite → Numbered P
-numbered_seen answers x i n = record {
+abbrev pub numbered_view : {T P : Type 0} → (T → Answers) → StyleContext → CitationItem T P → NumberedCite → Numbered P
+numbered_view answers x i n = record {
   cite = record {
-    item = item_by (λ e. n.entry) answers i;
+    item = item_view (λ e. n.entry) answers i;
     index = n.index;
     context = x;
     note_number = n.note_number;
@@ -71,28 +71,28 @@ numbered_seen answers x i n = record {
 }
 
 -- the cites of items
-abbrev pub row_seen : {T P : Type 0} → (T → Answers) → StyleContext → List (CitationItem T P) → List NumberedCite → List (Numbered P)
-row_seen answers x [] ns = []
-row_seen answers x (i ∷ is) [] = []
-row_seen answers x (i ∷ is) (n ∷ ns) = numbered_seen answers x i n ∷ row_seen answers x is ns
+abbrev pub numbered_cites_view : {T P : Type 0} → (T → Answers) → StyleContext → List (CitationItem T P) → List NumberedCite → List (Numbered P)
+numbered_cites_view answers x [] ns = []
+numbered_cites_view answers x (i ∷ is) [] = []
+numbered_cites_view answers x (i ∷ is) (n ∷ ns) = numbered_view answers x i n ∷ numbered_cites_view answers x is ns
 
 -- the cites of requests
-abbrev pub rows_seen : {T P A : Type 0} → (T → Answers) → List (CitationRequest T P) → List (Vec NumberedCite A) → List (List (Numbered P))
-rows_seen answers [] vs = []
-rows_seen answers (r ∷ rs) [] = []
-rows_seen answers (r ∷ rs) (v ∷ vs) = row_seen answers (context_of r) r.items.items v.items ∷ rows_seen answers rs vs
+abbrev pub all_numbered_cites_view : {T P A : Type 0} → (T → Answers) → List (CitationRequest T P) → List (Vec NumberedCite A) → List (List (Numbered P))
+all_numbered_cites_view answers [] vs = []
+all_numbered_cites_view answers (r ∷ rs) [] = []
+all_numbered_cites_view answers (r ∷ rs) (v ∷ vs) = numbered_cites_view answers (context_of r) r.items.items v.items ∷ all_numbered_cites_view answers rs vs
 
--- a cite that is to be told apart, as it prints without a mark
-abbrev pub unmarked : {P : Type 0} → Numbered P → marks.Printed
-unmarked p = printed_as (candidate (first_print p)) undisturbed (printed_by p undisturbed).tree
+-- a cite that is to be disambiguated, as it prints undisambiguated
+abbrev pub printed_undisturbed : {P : Type 0} → Numbered P → states.Printed
+printed_undisturbed p = printed_as (candidate (first_print p)) undisturbed (printed_by p undisturbed).tree
 
--- which identifiers a cite prints without a mark
+-- which identifiers a cite prints undisambiguated
 abbrev pub usage_of : {P : Type 0} → Numbered P → IdentifierUsage
 usage_of p = (printed_by p undisturbed).usage
 
--- a cite that is to be told apart, as it prints by the marks of a round
-abbrev pub marked_by : {P : Type 0} → Marks → Numbered P → marks.Printed
-marked_by marks p = printed_under marks (candidate (first_print p))
+-- a cite that is to be disambiguated, as it prints by the states of a round
+abbrev pub printed_by_states : {P : Type 0} → States → Numbered P → states.Printed
+printed_by_states states p = printed_under states (candidate (first_print p))
 
 -- what items of a citation outside of any document print, but hidden ones and what is white space alone
 abbrev pub all_alone : {P : Type 0} → StyleContext → List (Item P) → List Children

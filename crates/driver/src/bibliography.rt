@@ -2,11 +2,11 @@
 
 ghost use Rattle.std.specs.Prelude.{◌≡◌, length, map, string_bytes, IfOk};
 ghost use Rattle.std.specs.Option.{option_and_then, option_map};
-ghost use Rattle.rendering_style.specs.Views.{bibliography_seen};
-ghost use Rattle.rendering_tree.specs.Views.{child, element, tree};
-ghost use Rattle.driver_bibliography.specs.Views.{fields_seen};
+ghost use Rattle.rendering_style.specs.Views.{bibliography_layout_view};
+ghost use Rattle.rendering_tree.specs.Views.{child_view, element_view, tree_view};
+ghost use Rattle.driver_bibliography.specs.Views.{fields_view};
 ghost use Rattle.driver.specs.Listing.{bibliography_from, keys_of};
-ghost use Rattle.driver.specs.RenderedViews.{bibliography_by, element_if, fields_by, key_by};
+ghost use Rattle.driver.specs.RenderedViews.{rendered_bibliography_view, element_if, item_fields_view, key_view};
 
 use crate::rendered::{BibliographyItem, RenderedBibliography};
 use driver_bibliography::{ItemFields, items};
@@ -23,8 +23,9 @@ pub(crate) fn bibliography_of<T: EntryLike>(
     entries: &[&T],
 ) -> Result<RenderedBibliography, AllocError>
     requires { length entries.now ≡ length trees.items }
-    ensures bibliography { IfOk result (λ b. bibliography_by b ≡ bibliography_from (bibliography_seen style.now) (map tree trees.items)) }
-    ensures keys { IfOk result (λ b. map key_by b.items.items ≡ keys_of T.answers entries.now) }
+    ensures bibliography { IfOk result (λ b. rendered_bibliography_view b
+        ≡ bibliography_from (bibliography_layout_view style.now) (map tree_view trees.items)) }
+    ensures keys { IfOk result (λ b. map key_view b.items.items ≡ keys_of T.answers entries.now) }
 {
     let fields = items(alloc, style, trees)?;
     let items = with_keys(alloc, fields, entries)?;
@@ -44,8 +45,9 @@ fn with_keys<T: EntryLike>(
     entries: &[&T],
 ) -> Result<Vec<BibliographyItem>, AllocError>
     requires { length entries.now ≡ length fields.items }
-    ensures fields { IfOk result (λ v. map fields_by v.items ≡ map fields_seen fields.items) }
-    ensures keys { IfOk result (λ v. map key_by v.items ≡ keys_of T.answers entries.now) }
+    ensures fields { IfOk result (λ v. map item_fields_view v.items
+        ≡ map fields_view fields.items) }
+    ensures keys { IfOk result (λ v. map key_view v.items ≡ keys_of T.answers entries.now) }
 {
     let mut items = Vec::with_capacity(alloc, fields.len())?;
     for own in fields {
@@ -61,8 +63,8 @@ fn with_key<T: EntryLike>(
     fields: ItemFields,
     entry: &T,
 ) -> Result<BibliographyItem, AllocError>
-    ensures fields { IfOk result (λ i. fields_by i ≡ fields_seen fields) }
-    ensures key { IfOk result (λ i. key_by i ≡ (T.answers entry.now).key) }
+    ensures fields { IfOk result (λ i. item_fields_view i ≡ fields_view fields) }
+    ensures key { IfOk result (λ i. key_view i ≡ (T.answers entry.now).key) }
 {
     let key = key_of(alloc, entry)?;
     let ItemFields {
@@ -85,7 +87,8 @@ fn key_of<T: EntryLike>(alloc: Global, entry: &T) -> Result<String, AllocError>
 
 /// An element as a child, where there is one.
 fn as_child(elem: Option<Elem>) -> Option<ElemChild>
-    ensures { option_and_then (λ x. element_if (child x)) result ≡ option_map (λ e. element e) elem }
+    ensures { option_and_then (λ x. element_if (child_view x)) result
+        ≡ option_map (λ e. element_view e) elem }
 {
     match elem {
         Some(elem) => Some(ElemChild::Elem(elem)),

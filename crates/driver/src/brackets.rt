@@ -1,7 +1,7 @@
 //! Brackets around a citation.
 
 ghost use Rattle.std.specs.Prelude.{◌≡◌};
-ghost use Rattle.driver.specs.BracketViews.{brackets_by};
+ghost use Rattle.driver.specs.BracketViews.{brackets_view};
 ghost use Rattle.driver.specs.Brackets as brackets;
 
 /// Brackets around a citation, for callers that print them.
@@ -18,7 +18,7 @@ pub enum Brackets {
 impl Brackets {
     /// The character before what they enclose; none where there are no brackets.
     pub fn left(self) -> Option<char>
-        ensures { result ≡ brackets.left (brackets_by self) }
+        ensures { result ≡ brackets.left (brackets_view self) }
     {
         match self {
             Brackets::Round => Some('('),
@@ -29,7 +29,7 @@ impl Brackets {
 
     /// The character after what they enclose; none where there are no brackets.
     pub fn right(self) -> Option<char>
-        ensures { result ≡ brackets.right (brackets_by self) }
+        ensures { result ≡ brackets.right (brackets_view self) }
     {
         match self {
             Brackets::Round => Some(')'),

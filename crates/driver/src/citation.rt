@@ -4,20 +4,20 @@ ghost use Rattle.std.specs.Prelude.{◌≡◌, map, IfOk, OnOk};
 ghost use Rattle.std.specs.Option.{option_map};
 ghost use Rattle.std.specs.Str.{chars};
 ghost use Rattle.laws.specs.Text.{spelled};
-ghost use Rattle.rendering_style.specs.Views.{layout_seen};
+ghost use Rattle.rendering_style.specs.Views.{layout_view};
 ghost use Rattle.rendering_tree.specs.Trees.{followed_by, simplified};
-ghost use Rattle.rendering_tree.specs.Views.{tree};
+ghost use Rattle.rendering_tree.specs.Views.{tree_view};
 ghost use Rattle.driver.specs.Citations.{affixed, citation_of};
-ghost use Rattle.driver.specs.Joining.{delimited_after, finished, put_cite, put_cites, shown_seen, suffix_put};
+ghost use Rattle.driver.specs.Joining.{delimited_after, finished, put_cite, put_cites, shown_view, suffix_put};
 
-use crate::ends::{end_of, ends_in};
-use crate::looks::{citation_look, or_empty, own_text, push_own};
+use crate::ending_text::{end_of, ends_in};
+use crate::layout_texts::{citation_look, or_empty, own_text, push_own};
 use rendering_style::Layout;
 use rendering_taxonomy::Formatting;
 use rendering_tree::{Elem, ElemChild, ElemChildren, ElemMeta, simplify_children};
 use std::alloc::{AllocError, Global};
 
-/// A cite that is shown: the delimiter before it if it is not the first, its place in its request, and what it prints.
+/// A cite that is shown: the delimiter before it if it is not the first, its index in its request, and what it prints.
 #[derive(Drop)]
 pub(crate) struct ShownCite<'s> {
     pub(crate) delimiter: Option<&'s str>,
@@ -32,19 +32,20 @@ pub(crate) fn citation_of(
     some_purpose: bool,
     cites: Vec<ShownCite<'_>>,
 ) -> Result<ElemChildren, AllocError>
-    ensures { IfOk result (λ t. tree t ≡ citation_of (layout_seen layout.now) some_purpose (map shown_seen cites.entry.items)) }
+    ensures { IfOk result (λ t. tree_view t
+        ≡ citation_of (layout_view layout.now) some_purpose (map shown_view cites.entry.items)) }
 {
     let joined = joined_cites(alloc, citation_look(layout), cites)?;
     finished(alloc, layout, some_purpose, joined)
 }
 
-/// Cites in a row.
+/// Cites one after the other.
 fn joined_cites(
     alloc: Global,
     look: Formatting,
     cites: Vec<ShownCite<'_>>,
 ) -> Result<ElemChildren, AllocError>
-    ensures { IfOk result (λ t. tree t ≡ put_cites look (map shown_seen cites.entry.items)) }
+    ensures { IfOk result (λ t. tree_view t ≡ put_cites look (map shown_view cites.entry.items)) }
 {
     let mut joined = ElemChildren::new(alloc);
     for cite in cites {
@@ -60,7 +61,8 @@ fn push_cite(
     cite: ShownCite<'_>,
     joined: &mut ElemChildren,
 ) -> Result<(), AllocError>
-    ensures { OnOk result (tree joined.new ≡ put_cite look (tree joined.old) (shown_seen cite.entry)) }
+    ensures { OnOk result (tree_view joined.new
+        ≡ put_cite look (tree_view joined.old) (shown_view cite.entry)) }
 {
     let ShownCite {
         delimiter,
@@ -82,7 +84,8 @@ fn push_delimiter(
     delimiter: Option<&str>,
     joined: &mut ElemChildren,
 ) -> Result<(), AllocError>
-    ensures { OnOk result (tree joined.new ≡ delimited_after look (tree joined.old) (option_map spelled delimiter.entry)) }
+    ensures { OnOk result (tree_view joined.new
+        ≡ delimited_after look (tree_view joined.old) (option_map spelled delimiter.entry)) }
 {
     if joined.is_empty() {
         return Ok(());
@@ -97,7 +100,8 @@ fn finished(
     some_purpose: bool,
     joined: ElemChildren,
 ) -> Result<ElemChildren, AllocError>
-    ensures { IfOk result (λ t. tree t ≡ finished (layout_seen layout.now) some_purpose (tree joined)) }
+    ensures { IfOk result (λ t. tree_view t
+        ≡ finished (layout_view layout.now) some_purpose (tree_view joined)) }
 {
     if joined.is_empty() {
         return Ok(joined);
@@ -115,7 +119,8 @@ pub(crate) fn affixed(
     layout: &Layout,
     inside: ElemChildren,
 ) -> Result<ElemChildren, AllocError>
-    ensures { IfOk result (λ t. tree t ≡ simplified (affixed (layout_seen layout.now) (tree inside))) }
+    ensures { IfOk result (λ t. tree_view t
+        ≡ simplified (affixed (layout_view layout.now) (tree_view inside))) }
 {
     let look = citation_look(layout);
     let mut parts = ElemChildren::new(alloc);
@@ -132,7 +137,8 @@ fn put_suffix(
     suffix: &str,
     simple: ElemChildren,
 ) -> Result<ElemChildren, AllocError>
-    ensures { IfOk result (λ t. tree t ≡ suffix_put look (chars suffix.now) (tree simple)) }
+    ensures { IfOk result (λ t. tree_view t
+        ≡ suffix_put look (chars suffix.now) (tree_view simple)) }
 {
     if ends_in(suffix, end_of(&simple)) {
         return Ok(simple);
@@ -144,7 +150,8 @@ fn put_suffix(
 
 /// Appends children.
 pub(crate) fn append(more: ElemChildren, parts: &mut ElemChildren) -> Result<(), AllocError>
-    ensures { OnOk result (tree parts.new ≡ followed_by (tree parts.old) (tree more)) }
+    ensures { OnOk result (tree_view parts.new
+        ≡ followed_by (tree_view parts.old) (tree_view more)) }
 {
     for part in more.0 {
         parts.push(part)?;

@@ -1,14 +1,14 @@
-//! Cites with what is known of them from their places.
+//! Cites with what is known of them from their indices.
 
 ghost use Rattle.std.specs.Prelude.{◌≡◌, IfOk, is_some};
 ghost use Rattle.std.specs.Option.{option_map};
-ghost use Rattle.rendering_context.specs.Views.{cite_by, locator_by, state_by};
+ghost use Rattle.rendering_context.specs.Views.{cite_properties_view, locator_view, state_view};
 ghost use Rattle.rendering.specs.Purposes.{citation, counted};
-ghost use Rattle.rendering.specs.Views.{rendered_by};
+ghost use Rattle.rendering.specs.Views.{rendering_view};
 ghost use Rattle.driver_requests.specs.Views as requests;
 ghost use Rattle.driver_requests.specs.Requests.{plain_locator};
 ghost use Rattle.driver.specs.CitesInStep.{styled_seen};
-ghost use Rattle.driver.specs.Stages.{has_letter_date, printed_by, purpose_at_first};
+ghost use Rattle.driver.specs.Stages.{has_suffix_date, printed_by, purpose_at_first};
 ghost use Rattle.driver.specs.Views.{properties_with};
 
 use driver_requests::{CitationItem, CiteFacts};
@@ -18,12 +18,12 @@ use rendering_entries::EntryLike;
 use rendering_taxonomy::{CitePurpose, DateVariable, IbidState, IdentifierUsage};
 use std::alloc::AllocError;
 
-/// A cite with what is known of it from its place.
+/// A cite with what is known of it from its index.
 #[derive(Clone, Copy)]
 pub(crate) struct NumberedCite {
-    /// The place of its entry among all that are cited, from zero.
+    /// The index of its entry among all that are cited, from zero.
     pub(crate) entry: usize,
-    /// Its place in its request, from zero.
+    /// Its index in its request, from zero.
     pub(crate) index: usize,
     pub(crate) note_number: Option<usize>,
     pub(crate) facts: CiteFacts,
@@ -34,15 +34,16 @@ pub(crate) struct NumberedCite {
 }
 
 impl NumberedCite {
-    /// What is known of it with a mark.
+    /// What is known of it in a state of disambiguation.
     pub(crate) fn properties<'c>(
         self,
-        mark: DisambiguateState,
+        state: DisambiguateState,
         locator: Option<SpecificLocator<'c, ()>>,
         ibid: IbidState,
         usage: IdentifierUsage,
     ) -> CiteProperties<'c>
-        ensures { cite_by result ≡ properties_with self (state_by mark) (option_map locator_by locator.entry) ibid usage }
+        ensures { cite_properties_view result ≡ properties_with self
+            (state_view state) (option_map locator_view locator.entry) ibid usage }
     {
         CiteProperties {
             note_number: self.note_number,
@@ -53,7 +54,7 @@ impl NumberedCite {
             locator,
             citation_number: self.number,
             ibid,
-            disambiguation: mark,
+            disambiguation: state,
             identifier_usage: usage,
         }
     }
@@ -67,7 +68,7 @@ pub(crate) struct StyledCite<'r, 'c, T, P> {
     pub(crate) numbered: NumberedCite,
 }
 
-/// The purpose for which a cite is printed until marks are final: a cite for its year is printed whole.
+/// The purpose for which a cite is printed until states are final: a cite for its year is printed whole.
 fn purpose_at_first(purpose: Option<CitePurpose>) -> Option<CitePurpose>
     ensures { result ≡ purpose_at_first purpose }
 {
@@ -77,18 +78,18 @@ fn purpose_at_first(purpose: Option<CitePurpose>) -> Option<CitePurpose>
     }
 }
 
-/// What a cite prints by a mark, without its locator.
+/// What a cite prints by a state, without its locator.
 pub(crate) fn printed_by<T: EntryLike, P>(
     cite: StyledCite<'_, '_, T, P>,
-    mark: DisambiguateState,
+    state: DisambiguateState,
     effort: &mut Effort,
 ) -> Result<Rendering, AllocError>
-    ensures prints { IfOk result (λ r. rendered_by r
-        ≡ printed_by (styled_seen T.answers cite.entry) (state_by mark)) }
+    ensures prints { IfOk result (λ r. rendering_view r
+        ≡ printed_by (styled_seen T.answers cite.entry) (state_view state)) }
     ensures effort { effort.new ≡ counted effort.old }
 {
     let numbered = cite.numbered;
-    let properties = numbered.properties(mark, None, numbered.ibid, IdentifierUsage::None);
+    let properties = numbered.properties(state, None, numbered.ibid, IdentifierUsage::None);
     let purpose = purpose_at_first(cite.item.purpose);
     cite.context
         .citation(cite.item.entry, &properties, None, purpose, None, effort)
@@ -98,7 +99,8 @@ pub(crate) fn printed_by<T: EntryLike, P>(
 pub(crate) fn plain_locator<'i, T, P>(
     item: &'i CitationItem<'_, T, P>,
 ) -> Option<SpecificLocator<'i, ()>>
-    ensures { option_map locator_by result ≡ option_map plain_locator (option_map requests.locator_by item.entry.now.locator) }
+    ensures { option_map locator_view result ≡ option_map plain_locator
+        (option_map requests.request_locator_view item.entry.now.locator) }
 {
     match &item.locator {
         Some(locator) => Some(locator.without_payload()),
@@ -106,9 +108,9 @@ pub(crate) fn plain_locator<'i, T, P>(
     }
 }
 
-/// Whether an entry has a date that makes letters possible.
-pub(crate) fn has_letter_date<T: EntryLike>(entry: &T) -> bool
-    ensures { result ≡ has_letter_date (T.answers entry.now) }
+/// Whether an entry has a date that makes year suffixes possible.
+pub(crate) fn has_suffix_date<T: EntryLike>(entry: &T) -> bool
+    ensures { result ≡ has_suffix_date (T.answers entry.now) }
 {
     has_date(entry, DateVariable::Issued)
         || has_date(entry, DateVariable::Accessed)

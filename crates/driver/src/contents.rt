@@ -2,7 +2,7 @@
 
 ghost use Rattle.std.specs.Prelude.{◌≡◌};
 ghost use Rattle.laws.specs.Text.{characters};
-ghost use Rattle.rendering_tree.specs.Views.{child, tree};
+ghost use Rattle.rendering_tree.specs.Views.{child_view, tree_view};
 ghost use Rattle.driver.specs.Contents.{child_has_content, children_have_content, is_visible};
 ghost use Rattle.driver.specs.Standalone as standalone;
 
@@ -10,7 +10,7 @@ use rendering_tree::{ElemChild, ElemChildren};
 
 /// Whether a tree is more than white space.
 pub(crate) fn has_content(parts: &ElemChildren) -> bool
-    ensures { result ≡ standalone.has_content (tree parts.now) }
+    ensures { result ≡ standalone.has_content (tree_view parts.now) }
 {
     children_have_content(parts)
 }
@@ -18,7 +18,7 @@ pub(crate) fn has_content(parts: &ElemChildren) -> bool
 /// The same, child by child.
 #[cycle(content)]
 fn children_have_content(parts: &ElemChildren) -> bool
-    ensures { result ≡ children_have_content (tree parts.now) }
+    ensures { result ≡ children_have_content (tree_view parts.now) }
 {
     for part in &parts.0 {
         if child_has_content(part) {
@@ -31,7 +31,7 @@ fn children_have_content(parts: &ElemChildren) -> bool
 /// Whether a child is more than white space.
 #[cycle(content)]
 fn child_has_content(part: &ElemChild) -> bool
-    ensures { result ≡ child_has_content (child part.now) }
+    ensures { result ≡ child_has_content (child_view part.now) }
 {
     match part {
         ElemChild::Text(text) => is_visible(&text.text),

@@ -12,7 +12,7 @@ use rendering::StyleContext;
 pub(crate) struct DocumentCites<'r, 'c, T, P> {
     pub(crate) requests: &'r [CitationRequest<'r, T, P>],
     pub(crate) contexts: &'c [StyleContext<'c>],
-    pub(crate) rows: &'c [Vec<NumberedCite>],
+    pub(crate) runs: &'c [Vec<NumberedCite>],
 }
 
 /// A request with its style, and its cites in the order of its items.
@@ -20,7 +20,7 @@ pub(crate) struct DocumentCites<'r, 'c, T, P> {
 pub(crate) struct RequestCites<'r, 'c, T, P> {
     pub(crate) request: &'r CitationRequest<'r, T, P>,
     pub(crate) context: &'c StyleContext<'c>,
-    pub(crate) row: &'c [NumberedCite],
+    pub(crate) run: &'c [NumberedCite],
 }
 
 impl<'r, 'c, T, P> DocumentCites<'r, 'c, T, P> {
@@ -29,14 +29,14 @@ impl<'r, 'c, T, P> DocumentCites<'r, 'c, T, P> {
         requires in_step { AreInStep self }
         requires index { index < length self.requests.now }
         ensures request { slice_get self.entry.requests.now index ≡ Some result.request.now }
-        ensures row { slice_get (map (λ v. v.items) self.entry.rows.now) index
-            ≡ Some result.row.now }
+        ensures run { slice_get (map (λ v. v.items) self.entry.runs.now) index
+            ≡ Some result.run.now }
         ensures in_step { IsInStep result }
     {
         RequestCites {
             request: &self.requests[index],
             context: &self.contexts[index],
-            row: self.rows[index].as_slice(),
+            run: self.runs[index].as_slice(),
         }
     }
 }

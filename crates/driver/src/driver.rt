@@ -3,26 +3,26 @@
 ghost use Rattle.std.specs.Prelude.{◌≡◌, ◌+◌, ◌<◌, ◌≤◌, ◌++◌, ◌∷◌, [], ℕ, All, length, map, replicate, None, IfOk, OnErr, OnOk};
 ghost use Rattle.std.specs.Option.{option_map};
 ghost use Rattle.laws.specs.Results.{Gives, GivesBack};
-ghost use Rattle.driver_marks.specs.CitesViews.{cites_seen};
+ghost use Rattle.driver_disambiguation.specs.CitesViews.{printed_cites_view};
 ghost use Rattle.driver_requests.specs.Errors.{overflow_of};
 ghost use Rattle.driver.specs.CitesInStep.{cites_count, requests_by};
 ghost use Rattle.driver.specs.Finish.{effort_bound, finish, keys_in};
 ghost use Rattle.driver.specs.Listing.{items_at_most, keys_made, rendered_of};
 ghost use Rattle.driver.specs.Printing.{ArePrinted, document_citations, document_finals, document_listed, entries_listed};
-ghost use Rattle.driver.specs.RenderedViews.{citation_by, keys_by, rendered_by};
-ghost use Rattle.driver.specs.Rounding.{marked_seen};
-ghost use Rattle.driver.specs.Views.{bibliography_context_of, document_by};
+ghost use Rattle.driver.specs.RenderedViews.{rendered_citation_view, keys_view, rendered_view};
+ghost use Rattle.driver.specs.Rounding.{round_states_view};
+ghost use Rattle.driver.specs.Views.{bibliography_context_of, document_view};
 
+use crate::bibliography_items::bibliography;
 use crate::contexts::contexts;
 use crate::document_cites::DocumentCites;
-use crate::final_marks::FinalMarks;
-use crate::finals::{ListedCite, citations};
-use crate::first::{FirstPrints, first_prints};
-use crate::known::known_of;
-use crate::listed::bibliography;
+use crate::final_marks::FinalStates;
+use crate::final_prints::{ListedCite, citations};
+use crate::first_prints::{FirstPrints, first_prints};
+use crate::order_and_numbers::known_of;
 use crate::rendered::{Rendered, RenderedCitation};
-use crate::rounds::{Marked, disambiguated};
-use driver_marks::suffixes;
+use crate::rounds::{RoundStates, disambiguated};
+use driver_disambiguation::suffixes;
 use driver_requests::{BibliographyRequest, CitationRequest, DriverError};
 use rendering::Effort;
 use rendering_context::DisambiguateState;
@@ -31,12 +31,12 @@ use rendering_taxonomy::IdentifierUsage;
 use std::alloc::{AllocError, Global};
 use std::hash::Hash;
 
-/// The citations of requests, and what a bibliography lists entries by: the first cite of each, and the marks of all.
+/// The citations of requests, and what a bibliography lists entries by: the first cite of each, and the states of all.
 #[derive(Drop)]
 struct FinalCitations<'r, T> {
     citations: Vec<RenderedCitation>,
     listed: Vec<Option<ListedCite<'r, T>>>,
-    marks: Vec<DisambiguateState>,
+    states: Vec<DisambiguateState>,
 }
 
 /// Requests in the order of the text, from which citations and a bibliography are made.
@@ -73,7 +73,7 @@ impl<'a, T, P: Drop> BibliographyDriver<'a, T, P> {
         }
     }
 
-    /// The same with so much added to the number of each entry, in place of what was said before.
+    /// The same with so much added to the number of each entry, instead of what was asked before.
     pub fn with_citation_number_offset(self, offset: usize) -> BibliographyDriver<'a, T, P>
         ensures requests { result.citations.items ≡ self.entry.citations.items }
         ensures offset { result.offset ≡ offset }
@@ -91,7 +91,8 @@ impl<'a, T, P: Drop> BibliographyDriver<'a, T, P> {
     /// # Errors
     /// Out of memory.
     pub fn citation(&mut self, request: CitationRequest<'a, T, P>) -> Result<(), AllocError>
-        ensures ok { OnOk result (self.new.citations.items ≡ self.old.citations.items ++ request.entry ∷ []) }
+        ensures ok { OnOk result (self.new.citations.items
+            ≡ self.old.citations.items ++ request.entry ∷ []) }
         ensures err { OnErr result (self.new.citations.items ≡ self.old.citations.items) }
         ensures offset { self.new.offset ≡ self.old.offset }
     {
@@ -105,16 +106,20 @@ impl<'a, T: EntryLike + Hash, P: PartialEq + Drop> BibliographyDriver<'a, T, P> 
     ///
     /// Equal entries are one. They are numbered in the order of the bibliography: where its style has one, the entries that its request
     /// wants first, so far as they are cited, then the others by their first cites. Hidden items are counted and numbered. Cites of
-    /// different entries that print alike are told apart by more of their names, by other branches of a style or by letters after the
+    /// different entries that print alike are disambiguated by more of their names, by other branches of a style or by the suffix after the
     /// year, as the styles say.
     ///
     /// # Errors
     /// `Overflow` where the offset and the number of cited entries are together above 2147483647, or where more than 256 entries that
-    /// print alike need letters; `Memory` where a request for memory was refused.
+    /// print alike need year suffixes; `Memory` where a request for memory was refused.
     pub fn finish(self, request: BibliographyRequest<'a, T>) -> Result<Rendered, DriverError>
-        ensures rendered { Gives overflow_of rendered_by result (finish P.eq (document_by T.eq T.answers self.entry.citations.items self.entry.offset request.entry)) }
-        ensures keys { IfOk result (λ r. option_map keys_by r.bibliography ≡ option_map (λ s. keys_in (document_by T.eq T.answers self.entry.citations.items self.entry.offset request.entry)) (bibliography_context_of request.entry).style.bibliography) }
-        ensures effort { IfOk result (λ r. r.effort ≤ effort_bound (document_by T.eq T.answers self.entry.citations.items self.entry.offset request.entry)) }
+        ensures rendered { Gives overflow_of rendered_view result (finish P.eq (document_view
+            T.eq T.answers self.entry.citations.items self.entry.offset request.entry)) }
+        ensures keys { IfOk result (λ r. option_map keys_view r.bibliography ≡ option_map
+            (λ s. keys_in (document_view T.eq T.answers self.entry.citations.items self.entry.offset
+            request.entry)) (bibliography_context_of request.entry).style.bibliography) }
+        ensures effort { IfOk result (λ r. r.effort ≤ effort_bound (document_view T.eq
+            T.answers self.entry.citations.items self.entry.offset request.entry)) }
     {
         let BibliographyDriver {
             alloc,
@@ -132,61 +137,65 @@ fn finish_requests<'r, T: EntryLike + Hash, P: PartialEq>(
     offset: usize,
     request: &BibliographyRequest<'r, T>,
 ) -> Result<Rendered, DriverError>
-    ensures rendered { Gives overflow_of rendered_by result (finish P.eq (document_by T.eq T.answers requests.now offset request.now)) }
-    ensures keys { IfOk result (λ r. option_map keys_by r.bibliography ≡ option_map (λ s. keys_in (document_by T.eq T.answers requests.now offset request.now)) (bibliography_context_of request.now).style.bibliography) }
-    ensures effort { IfOk result (λ r. r.effort ≤ effort_bound (document_by T.eq T.answers requests.now offset request.now)) }
+    ensures rendered { Gives overflow_of rendered_view result
+        (finish P.eq (document_view T.eq T.answers requests.now offset request.now)) }
+    ensures keys { IfOk result (λ r. option_map keys_view r.bibliography
+        ≡ option_map (λ s. keys_in (document_view T.eq T.answers requests.now offset request.now))
+        (bibliography_context_of request.now).style.bibliography) }
+    ensures effort { IfOk result (λ r. r.effort
+        ≤ effort_bound (document_view T.eq T.answers requests.now offset request.now)) }
 {
     let known = known_of(alloc, requests, offset, request)?;
     let contexts = contexts(alloc, requests)?;
     let cites = DocumentCites {
         requests,
         contexts: &contexts,
-        rows: &known.rows,
+        runs: &known.runs,
     };
     let mut effort = Effort::default();
     let first = first_prints(alloc, cites, &mut effort)?;
     let FirstPrints { printed, usages } = first;
-    let marked = disambiguated(alloc, cites, printed, known.count, &mut effort)?;
+    let entry_states = disambiguated(alloc, cites, printed, known.count, &mut effort)?;
     render(
         alloc,
         cites,
         request,
         &known.order,
         &usages,
-        marked,
+        entry_states,
         &mut effort,
     )
 }
 
-/// Citations and bibliography of requests by the final marks. The bibliography is printed once what cites have printed is let go.
+/// Citations and bibliography of requests by the final states. The bibliography is printed once what cites have printed is freed.
 fn render<'r, T: EntryLike, P: PartialEq>(
     alloc: Global,
     cites: DocumentCites<'r, '_, T, P>,
     request: &BibliographyRequest<'_, T>,
     order: &[usize],
     usages: &[IdentifierUsage],
-    marked: Marked,
+    entry_states: RoundStates,
     effort: &mut Effort,
 ) -> Result<Rendered, DriverError>
-    requires printed { ArePrinted T.answers cites marked.marks.items usages.now
-        (cites_seen marked.printed) }
-    requires order { All (λ p. p < length marked.marks.items) order.now }
-    ensures rendered { (place : T → ℕ) → GivesBack overflow_of rendered_by result
+    requires printed { ArePrinted T.answers cites entry_states.states.items usages.now
+        (printed_cites_view entry_states.printed) }
+    requires order { All (λ p. p < length entry_states.states.items) order.now }
+    ensures rendered { (index : T → ℕ) → GivesBack overflow_of rendered_view result
         (rendered_of (bibliography_context_of request.now) order.now
-        (requests_by place T.answers cites.entry)
-        (document_finals P.eq T.answers place (marked_seen marked).0 cites.entry)) }
-    ensures keys { (place : T → ℕ) → IfOk result (λ r. option_map keys_by r.bibliography
+        (requests_by index T.answers cites.entry)
+        (document_finals P.eq T.answers index (round_states_view entry_states).0 cites.entry)) }
+    ensures keys { (index : T → ℕ) → IfOk result (λ r. option_map keys_view r.bibliography
         ≡ keys_made (bibliography_context_of request.now) order.now
-        (document_finals P.eq T.answers place (marked_seen marked).0 cites.entry)) }
+        (document_finals P.eq T.answers index (round_states_view entry_states).0 cites.entry)) }
     ensures effort { IfOk result (λ r. r.effort ≤ effort.old + cites_count T.answers cites.entry
         + items_at_most (bibliography_context_of request.now) order.now) }
 {
     let FinalCitations {
         citations,
         listed,
-        marks,
-    } = final_citations(alloc, cites, usages, marked, effort)?;
-    let bibliography = bibliography(alloc, request, order, &marks, &listed, effort)?;
+        states,
+    } = final_citations(alloc, cites, usages, entry_states, effort)?;
+    let bibliography = bibliography(alloc, request, order, &states, &listed, effort)?;
     Ok(Rendered {
         bibliography,
         citations,
@@ -194,43 +203,45 @@ fn render<'r, T: EntryLike, P: PartialEq>(
     })
 }
 
-/// The citations of requests by the final marks, and what a bibliography lists entries by. What cites have printed goes into the citations.
+/// The citations of requests by the final states, and what a bibliography lists entries by. What cites have printed goes into the
+/// citations.
 fn final_citations<'r, T: EntryLike, P: PartialEq>(
     alloc: Global,
     cites: DocumentCites<'r, '_, T, P>,
     usages: &[IdentifierUsage],
-    marked: Marked,
+    entry_states: RoundStates,
     effort: &mut Effort,
 ) -> Result<FinalCitations<'r, T>, AllocError>
-    requires { ArePrinted T.answers cites marked.marks.items usages.now
-        (cites_seen marked.printed) }
-    ensures citations { (place : T → ℕ) → IfOk result (λ c. map citation_by c.citations.items
-        ≡ document_citations P.eq T.answers place (marked_seen marked).0 cites.entry) }
-    ensures listed { (place : T → ℕ) → IfOk result (λ c.
-        entries_listed T.answers c.marks.items c.listed.items
-        ≡ document_listed P.eq T.answers place (marked_seen marked).0
-        (length marked.marks.items) cites.entry) }
-    ensures marks { IfOk result (λ c. c.marks.items ≡ marked.marks.items) }
+    requires { ArePrinted T.answers cites entry_states.states.items usages.now
+        (printed_cites_view entry_states.printed) }
+    ensures citations { (index : T → ℕ)
+        → IfOk result (λ c. map rendered_citation_view c.citations.items
+        ≡ document_citations P.eq T.answers index (round_states_view entry_states).0 cites.entry) }
+    ensures listed { (index : T → ℕ) → IfOk result (λ c.
+        entries_listed T.answers c.states.items c.listed.items
+        ≡ document_listed P.eq T.answers index (round_states_view entry_states).0
+        (length entry_states.states.items) cites.entry) }
+    ensures states { IfOk result (λ c. c.states.items ≡ entry_states.states.items) }
     ensures effort { OnOk result (effort.new ≤ effort.old + cites_count T.answers cites.entry) }
 {
-    let Marked {
-        marks,
+    let RoundStates {
+        states,
         given,
         printed,
-    } = marked;
-    let letters = suffixes(alloc, &marks, &given)?;
-    let mut listed = unlisted(alloc, marks.len())?;
-    let finals = FinalMarks {
-        marks: &marks,
+    } = entry_states;
+    let year_suffixes = suffixes(alloc, &states, &given)?;
+    let mut listed = unlisted(alloc, states.len())?;
+    let finals = FinalStates {
+        states: &states,
         given: &given,
-        letters: &letters,
+        year_suffixes: &year_suffixes,
     };
     let printed = printed.into_cites();
     let citations = citations(alloc, cites, usages, finals, printed, &mut listed, effort)?;
     Ok(FinalCitations {
         citations,
         listed,
-        marks,
+        states,
     })
 }
 

@@ -1,11 +1,11 @@
 //! What holds of all documents, for users of what the driver gives.
 
-ghost use Rattle.driver.specs.Laws.{AlikeEntriesGiveOne, EntriesHaveOneNumberAndMark, HiddenItemsPrintNothing, ItemsAreTheOrder, KeysAreTheOrder, LettersAreDistinct, LettersAreFinal, NumbersArePlaces, OrderHasTheCited, RoundsThatGiveNothingChangeNothing, UncitedEntriesChangeNothing};
+ghost use Rattle.driver.specs.Laws.{AlikeEntriesGiveOne, EntriesHaveOneNumberAndState, HiddenItemsPrintNothing, ItemsAreTheOrder, KeysAreTheOrder, YearSuffixesAreDistinct, YearSuffixesAreFinal, NumbersAreIndices, OrderHasTheCited, RoundsThatGiveNothingChangeNothing, UncitedEntriesChangeNothing};
 
 /// The numbers of the cited entries, taken in the order of these, count on from the offset.
-#[tactic(auto, using(crate::proofs::DocumentsOrder::numbers_are_places))]
-pub fn numbers_are_places<P>()
-    ensures { NumbersArePlaces P }
+#[tactic(auto, using(crate::proofs::DocumentsOrder::numbers_are_indices))]
+pub fn numbers_are_indices<P>()
+    ensures { NumbersAreIndices P }
 {}
 
 /// The order has each cited entry once, and no other.
@@ -13,9 +13,9 @@ pub fn order_has_the_cited<P>()
     ensures { OrderHasTheCited P }
 {}
 
-/// All cites of an entry have one number, and one mark: what tells one of them apart from cites of other entries tells all of them.
-pub fn entries_have_one_number_and_mark<P>()
-    ensures { EntriesHaveOneNumberAndMark P }
+/// All cites of an entry have one number and one state: what disambiguates one of them from cites of other entries does so for all.
+pub fn entries_have_one_number_and_state<P>()
+    ensures { EntriesHaveOneNumberAndState P }
 {}
 
 /// Where the style has a bibliography, this has one item for each cited entry, in their order.
@@ -23,7 +23,7 @@ pub fn items_are_the_order<P>()
     ensures { ItemsAreTheOrder P }
 {}
 
-/// There is one key for each cited entry, in their order: keys and items go together place by place.
+/// There is one key for each cited entry, in their order: keys and items go together one by one.
 pub fn keys_are_the_order<P>()
     ensures { KeysAreTheOrder P }
 {}
@@ -33,14 +33,14 @@ pub fn hidden_items_print_nothing<P>()
     ensures { HiddenItemsPrintNothing P }
 {}
 
-/// Letters are final: an entry that has them after some rounds has the same after one more.
-pub fn letters_are_final()
-    ensures { LettersAreFinal }
+/// Year suffixes are final: an entry that has one after some rounds has the same after one more.
+pub fn year_suffixes_are_final()
+    ensures { YearSuffixesAreFinal }
 {}
 
-/// No two entries have the same letters of one class in one round.
-pub fn letters_are_distinct()
-    ensures { LettersAreDistinct }
+/// No two entries have the same year suffix of one class in one round.
+pub fn year_suffixes_are_distinct()
+    ensures { YearSuffixesAreDistinct }
 {}
 
 /// A round that gives nothing changes nothing.

@@ -1,22 +1,22 @@
-//! Final marks of entries.
+//! Final states of entries.
 
 ghost use Rattle.std.specs.Prelude.{◌≡◌, map};
 ghost use Rattle.std.specs.Option.{option_map};
-ghost use Rattle.rendering_context.specs.Views.{state_by};
-ghost use Rattle.driver_marks.specs.Lettered.{suffixes_by};
-ghost use Rattle.driver_marks.specs.Views.{givens_by};
-ghost use Rattle.driver_requests.specs.SuffixViews.{suffix_by};
+ghost use Rattle.rendering_context.specs.Views.{state_view};
+ghost use Rattle.driver_disambiguation.specs.SuffixesFound.{suffixes_by};
+ghost use Rattle.driver_disambiguation.specs.Views.{given_states_view};
+ghost use Rattle.driver_requests.specs.SuffixViews.{suffix_view};
 
-use driver_marks::Given;
+use driver_disambiguation::GivenState;
 use driver_requests::Suffix;
 use rendering_context::DisambiguateState;
 
-/// The final marks of cited entries, all that rounds have given, and the letters of these entries.
+/// The final states of cited entries, all that rounds have given, and the year suffix of these entries.
 #[derive(Clone, Copy)]
-pub(crate) struct FinalMarks<'m> {
-    pub(crate) marks: &'m [DisambiguateState],
-    pub(crate) given: &'m [Given],
-    pub(crate) letters: &'m [Option<Suffix>],
-    ghost lettered: { map (option_map suffix_by) letters.now
-        ≡ suffixes_by (map state_by marks.now) (givens_by given.now) },
+pub(crate) struct FinalStates<'m> {
+    pub(crate) states: &'m [DisambiguateState],
+    pub(crate) given: &'m [GivenState],
+    pub(crate) year_suffixes: &'m [Option<Suffix>],
+    ghost lettered: { map (option_map suffix_view) year_suffixes.now
+        ≡ suffixes_by (map state_view states.now) (given_states_view given.now) },
 }

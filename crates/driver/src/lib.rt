@@ -7,6 +7,7 @@
 #![tactic(auto)]
 
 mod bibliography;
+mod bibliography_items;
 mod brackets;
 mod citation;
 mod cite;
@@ -15,14 +16,13 @@ mod contexts;
 mod document_cites;
 mod driver;
 mod driver_laws;
-mod ends;
+mod ending_text;
 mod final_marks;
-mod finals;
-mod first;
-mod known;
-mod listed;
-mod looks;
+mod final_prints;
+mod first_prints;
+mod layout_texts;
 mod numbered;
+mod order_and_numbers;
 mod rendered;
 mod rounds;
 mod standalone;
@@ -30,10 +30,10 @@ mod standalone;
 pub use brackets::Brackets;
 pub use driver::BibliographyDriver;
 pub use driver_laws::{
-    alike_entries_give_one, entries_have_one_number_and_mark, hidden_items_print_nothing,
-    items_are_the_order, keys_are_the_order, letters_are_distinct, letters_are_final,
-    numbers_are_places, order_has_the_cited, rounds_that_give_nothing_change_nothing,
-    uncited_entries_change_nothing,
+    alike_entries_give_one, entries_have_one_number_and_state, hidden_items_print_nothing,
+    items_are_the_order, keys_are_the_order, numbers_are_indices, order_has_the_cited,
+    rounds_that_give_nothing_change_nothing, uncited_entries_change_nothing,
+    year_suffixes_are_distinct, year_suffixes_are_final,
 };
 pub use driver_requests::{BibliographyRequest, CitationItem, CitationRequest, DriverError};
 pub use rendered::{BibliographyItem, Rendered, RenderedBibliography, RenderedCitation};

@@ -48,7 +48,7 @@ pub struct BibliographyItem {
 pub struct RenderedCitation {
     /// The number of the note that it stands in, as its request says; none in a style without notes.
     pub note_number: Option<usize>,
-    /// What is printed, as a tree in its normal form: each cite that is shown is an element that stands for the place of its item in the
+    /// What is printed, as a tree in its normal form: each cite that is shown is an element that stands for the index of its item in the
     /// request, from zero. Empty where all items are hidden.
     pub citation: ElemChildren,
 }

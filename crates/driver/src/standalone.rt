@@ -4,23 +4,23 @@ ghost use Rattle.std.specs.Prelude.{◌≡◌, ◌++◌, true, map, if◌then◌
 ghost use Rattle.std.specs.Option.{option_map, unwrap_or};
 ghost use Rattle.std.specs.Str.{chars};
 ghost use Rattle.laws.specs.Text.{characters};
-ghost use Rattle.rendering_style.specs.Views.{layout_seen};
-ghost use Rattle.rendering_tree.specs.Views.{tree};
+ghost use Rattle.rendering_style.specs.Views.{layout_view};
+ghost use Rattle.rendering_tree.specs.Views.{tree_view};
 ghost use Rattle.driver.specs.Citations.{citation_look, followed_by_text};
 ghost use Rattle.rendering_names.specs.Persons.{comma_and_space};
 ghost use Rattle.driver.specs.Joining.{delimited_trees};
 ghost use Rattle.driver.specs.Standalone as standalone;
 ghost use Rattle.driver.specs.Standalone.{joined_alone, printed_alone, properties_alone};
 ghost use Rattle.driver.specs.Views.{all_alone, alone, with_content};
-ghost use Rattle.driver_requests.specs.Views.{item_by, request_by};
-ghost use Rattle.rendering.specs.Views.{context_seen};
-ghost use Rattle.rendering_context.specs.Views.{cite_by};
+ghost use Rattle.driver_requests.specs.Views.{item_view, request_view};
+ghost use Rattle.rendering.specs.Views.{style_context_view};
+ghost use Rattle.rendering_context.specs.Views.{cite_properties_view};
 
 use crate::citation::{affixed, append};
 use crate::cite::plain_locator;
 use crate::contents::has_content;
 use crate::contexts::context_for;
-use crate::looks::{citation_look, push_own};
+use crate::layout_texts::{citation_look, push_own};
 use driver_requests::{CitationItem, CitationRequest};
 use rendering::{Effort, StyleContext};
 use rendering_context::{CiteProperties, DisambiguateState};
@@ -33,7 +33,7 @@ use std::alloc::{AllocError, Global};
 /// A citation outside of any document, in the style of the request, as a tree in its normal form.
 ///
 /// Each item that is not hidden is printed with its locator and for its purpose, as no first cite, outside of notes, and with the number
-/// one. Nothing is told apart or collapsed. What prints more than white space stands in order in the affixes of the layout, with its
+/// one. Nothing is disambiguated or collapsed. What prints more than white space stands in order in the affixes of the layout, with its
 /// delimiter between, which is a comma and a space where the layout has none; where nothing does, the tree is empty.
 ///
 /// # Errors
@@ -42,7 +42,8 @@ pub fn standalone_citation<T: EntryLike, P: Drop>(
     alloc: Global,
     request: CitationRequest<'_, T, P>,
 ) -> Result<ElemChildren, AllocError>
-    ensures { IfOk result (λ t. tree t ≡ standalone.standalone_citation (request_by (λ e. 0) T.answers request.entry)) }
+    ensures { IfOk result (λ t. tree_view t
+        ≡ standalone.standalone_citation (request_view (λ e. 0) T.answers request.entry)) }
 {
     let trees = trees_alone(alloc, &request)?;
     joined_alone(alloc, &request.style().parts().citation.layout, trees)
@@ -53,7 +54,8 @@ fn trees_alone<T: EntryLike, P>(
     alloc: Global,
     request: &CitationRequest<'_, T, P>,
 ) -> Result<Vec<ElemChildren>, AllocError>
-    ensures { IfOk result (λ v. map tree v.items ≡ standalone.trees_alone (request_by (λ e. 0) T.answers request.now)) }
+    ensures { IfOk result (λ v. map tree_view v.items
+        ≡ standalone.trees_alone (request_view (λ e. 0) T.answers request.now)) }
 {
     let context = context_for(alloc, request)?;
     print_items(alloc, &context, request.items.as_slice())
@@ -65,7 +67,8 @@ fn print_items<T: EntryLike, P>(
     context: &StyleContext<'_>,
     items: &[CitationItem<'_, T, P>],
 ) -> Result<Vec<ElemChildren>, AllocError>
-    ensures { IfOk result (λ v. map tree v.items ≡ all_alone (context_seen context.now) (map (item_by (λ e. 0) T.answers) items.now)) }
+    ensures { IfOk result (λ v. map tree_view v.items ≡ all_alone
+        (style_context_view context.now) (map (item_view (λ e. 0) T.answers) items.now)) }
 {
     let mut trees = Vec::new(alloc);
     for item in items {
@@ -80,7 +83,8 @@ fn push_alone<T: EntryLike, P>(
     item: &CitationItem<'_, T, P>,
     trees: &mut Vec<ElemChildren>,
 ) -> Result<(), AllocError>
-    ensures { OnOk result (map tree trees.new.items ≡ map tree trees.old.items ++ alone (context_seen context.now) (item_by (λ e. 0) T.answers item.now)) }
+    ensures { OnOk result (map tree_view trees.new.items ≡ map tree_view trees.old.items
+        ++ alone (style_context_view context.now) (item_view (λ e. 0) T.answers item.now)) }
 {
     if item.hidden {
         return Ok(());
@@ -90,7 +94,8 @@ fn push_alone<T: EntryLike, P>(
 
 /// Appends a tree that is more than white space.
 fn push_content(printed: ElemChildren, trees: &mut Vec<ElemChildren>) -> Result<(), AllocError>
-    ensures { OnOk result (map tree trees.new.items ≡ map tree trees.old.items ++ with_content (tree printed)) }
+    ensures { OnOk result (map tree_view trees.new.items
+        ≡ map tree_view trees.old.items ++ with_content (tree_view printed)) }
 {
     if !has_content(&printed) {
         return Ok(());
@@ -104,7 +109,8 @@ fn printed_alone<T: EntryLike, P>(
     context: &StyleContext<'_>,
     item: &CitationItem<'_, T, P>,
 ) -> Result<ElemChildren, AllocError>
-    ensures { IfOk result (λ t. tree t ≡ printed_alone (context_seen context.now) (item_by (λ e. 0) T.answers item.now)) }
+    ensures { IfOk result (λ t. tree_view t
+        ≡ printed_alone (style_context_view context.now) (item_view (λ e. 0) T.answers item.now)) }
 {
     let properties = properties_alone(item);
     let mut effort = Effort::default();
@@ -121,7 +127,8 @@ fn printed_alone<T: EntryLike, P>(
 
 /// What is known of an item.
 fn properties_alone<'i, T: EntryLike, P>(item: &'i CitationItem<'_, T, P>) -> CiteProperties<'i>
-    ensures { cite_by result ≡ properties_alone (item_by (λ e. 0) T.answers item.entry.now) }
+    ensures { cite_properties_view result
+        ≡ properties_alone (item_view (λ e. 0) T.answers item.entry.now) }
 {
     CiteProperties {
         note_number: None,
@@ -143,7 +150,8 @@ fn joined_alone(
     layout: &Layout,
     trees: Vec<ElemChildren>,
 ) -> Result<ElemChildren, AllocError>
-    ensures { IfOk result (λ t. tree t ≡ joined_alone (layout_seen layout.now) (map tree trees.items)) }
+    ensures { IfOk result (λ t. tree_view t
+        ≡ joined_alone (layout_view layout.now) (map tree_view trees.items)) }
 {
     if trees.is_empty() {
         return Ok(ElemChildren::new(alloc));
@@ -163,14 +171,15 @@ fn delimiter(text: &Option<String>) -> &str
     }
 }
 
-/// Trees in a row with a text between them.
+/// Trees one after the other with a text between them.
 fn delimited(
     alloc: Global,
     look: Formatting,
     between: &str,
     trees: Vec<ElemChildren>,
 ) -> Result<ElemChildren, AllocError>
-    ensures { IfOk result (λ t. tree t ≡ delimited_trees look (chars between.now) true (map tree trees.items)) }
+    ensures { IfOk result (λ t. tree_view t
+        ≡ delimited_trees look (chars between.now) true (map tree_view trees.items)) }
 {
     let mut inside = ElemChildren::new(alloc);
     let mut is_first = true;
@@ -190,7 +199,8 @@ fn push_between(
     is_first: bool,
     inside: &mut ElemChildren,
 ) -> Result<(), AllocError>
-    ensures { OnOk result (tree inside.new ≡ (if is_first then tree inside.old else followed_by_text look (chars between.now) (tree inside.old))) }
+    ensures { OnOk result (tree_view inside.new ≡ (if is_first then tree_view inside.old
+        else followed_by_text look (chars between.now) (tree_view inside.old))) }
 {
     if is_first {
         return Ok(());

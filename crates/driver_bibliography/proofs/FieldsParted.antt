@@ -6,40 +6,40 @@ use Rattle.std.specs.Option.{option_or}
 use Rattle.std.proofs.lemmas.List.{length-map, map-append}
 use Rattle.rendering_tree.specs.Parting.{taken, left}
 use Rattle.rendering_tree.specs.Trees.{Children, Element, Parted, simplified, names_element}
-use Rattle.rendering_tree.specs.Views.{tree}
+use Rattle.rendering_tree.specs.Views.{tree_view}
 use Rattle.rendering_tree.specs.declared.element.ElemChildren.{ElemChildren}
 use Rattle.driver_bibliography.specs.Items.{Fields, fields_by, fields_of}
-use Rattle.driver_bibliography.specs.Views.{fields_seen, repeated_seen, repeats_after}
+use Rattle.driver_bibliography.specs.Views.{fields_view, repeated_view, repeats_after}
 use Rattle.driver_bibliography.specs.declared.fields.ItemFields.{ItemFields}
 use Rattle.driver_bibliography.specs.declared.repeats.Repetition.{Repetition}
 use Rattle.rendering_taxonomy.specs.declared.style.SecondFieldAlign.{SecondFieldAlign}
 use Rattle.rendering_taxonomy.specs.declared.style.SubsequentAuthorSubstituteRule.{SubsequentAuthorSubstituteRule}
 
--- there is something said of each item
+-- something holds of each item
 pub repeats_long : (rule : SubsequentAuthorSubstituteRule) (last : Option Element) (trees : List Children) → length (repeats_after rule last trees) ≡ length trees
 repeats_long rule last [] = refl
 repeats_long rule last (item ∷ items) = ap suc (repeats_long rule (option_or (names_element item) last) items)
 
 -- items that were parted, and those that are left to be
 pub fields_go_on : (align : Option SecondFieldAlign) (items new : List ItemFields) (x : ElemChildren) (y : ItemFields) (rest whole : List ElemChildren) (all : List Fields) → whole ≡ x ∷ rest
-    → map fields_seen items ++ map (fields_by align) (map tree whole) ≡ all → fields_seen y ≡ fields_by align (tree x) → new ≡ items ++ y ∷ [] → map fields_seen new ++ map (fields_by align) (map tree rest) ≡ all
+    → map fields_view items ++ map (fields_by align) (map tree_view whole) ≡ all → fields_view y ≡ fields_by align (tree_view x) → new ≡ items ++ y ∷ [] → map fields_view new ++ map (fields_by align) (map tree_view rest) ≡ all
 fields_go_on align items new x y rest whole all split h says e =
-    ap (λ fs. map fields_seen fs ++ map (fields_by align) (map tree rest)) e
-    ∙ ap (λ fs. fs ++ map (fields_by align) (map tree rest)) (map-append fields_seen items (y ∷ []))
-    ∙ append_assoc (map fields_seen items) (fields_seen y ∷ []) (map (fields_by align) (map tree rest))
-    ∙ ap (λ f. map fields_seen items ++ f ∷ map (fields_by align) (map tree rest)) says
-    ∙ ap (λ xs. map fields_seen items ++ map (fields_by align) (map tree xs)) (sym split)
+    ap (λ fs. map fields_view fs ++ map (fields_by align) (map tree_view rest)) e
+    ∙ ap (λ fs. fs ++ map (fields_by align) (map tree_view rest)) (map-append fields_view items (y ∷ []))
+    ∙ append_assoc (map fields_view items) (fields_view y ∷ []) (map (fields_by align) (map tree_view rest))
+    ∙ ap (λ f. map fields_view items ++ f ∷ map (fields_by align) (map tree_view rest)) says
+    ∙ ap (λ xs. map fields_view items ++ map (fields_by align) (map tree_view xs)) (sym split)
     ∙ h
 
-pub fields_end : (align : Option SecondFieldAlign) (items : List ItemFields) (whole : List ElemChildren) (all : List Fields) → whole ≡ [] → map fields_seen items ++ map (fields_by align) (map tree whole) ≡ all → map fields_seen items ≡ all
-fields_end align items whole all none h = sym (append-nil (map fields_seen items)) ∙ ap (λ xs. map fields_seen items ++ map (fields_by align) (map tree xs)) (sym none) ∙ h
+pub fields_end : (align : Option SecondFieldAlign) (items : List ItemFields) (whole : List ElemChildren) (all : List Fields) → whole ≡ [] → map fields_view items ++ map (fields_by align) (map tree_view whole) ≡ all → map fields_view items ≡ all
+fields_end align items whole all none h = sym (append-nil (map fields_view items)) ∙ ap (λ xs. map fields_view items ++ map (fields_by align) (map tree_view xs)) (sym none) ∙ h
 
--- what is said of items is said of as many
-pub as_many : (rule : SubsequentAuthorSubstituteRule) (rs : List Repetition) (trees : List ElemChildren) → map repeated_seen rs ≡ repeats_after rule None (map tree trees) → length rs ≡ length trees
-as_many rule rs trees e = sym (length-map rs repeated_seen) ∙ ap length e ∙ repeats_long rule None (map tree trees) ∙ length-map trees tree
+-- what holds of items holds of as many
+pub as_many : (rule : SubsequentAuthorSubstituteRule) (rs : List Repetition) (trees : List ElemChildren) → map repeated_view rs ≡ repeats_after rule None (map tree_view trees) → length rs ≡ length trees
+as_many rule rs trees e = sym (length-map rs repeated_view) ∙ ap length e ∙ repeats_long rule None (map tree_view trees) ∙ length-map trees tree_view
 
 -- the same of items that were made
-pub made_as : {E : Type 0} (r : Result (Vec ElemChildren Global) E) (before after : List Children) → before ≡ after → IfOk r (λ v. map tree v.items ≡ before) → IfOk r (λ v. map tree v.items ≡ after)
+pub made_as : {E : Type 0} (r : Result (Vec ElemChildren Global) E) (before after : List Children) → before ≡ after → IfOk r (λ v. map tree_view v.items ≡ before) → IfOk r (λ v. map tree_view v.items ≡ after)
 made_as (Ok v) before after e p = p ∙ e
 made_as (Err d) before after e p = tt
 

@@ -1,4 +1,4 @@
-pub mod ItemsRows
+pub mod ItemsCases
 pub mod ChangedSteps
 pub mod NamedSteps
 pub mod NamesListed

@@ -1,13 +1,13 @@
--- A text in place of the first single names in a row of children.
+-- A text instead of the first single names in a list of children.
 use Rattle.std.proofs.Common.{◌≡◌, ℕ, ◌+◌, ◌<◌, ◌≤◌, List, [], ◌∷◌, length, take, drop, get_or, set, refl, sym, ap, ◌∙◌, arith, suc, zero, false, ◌≢◌, Option, Result, Ok, Err}
 use Rattle.std.specs.Prelude.{IfOk, if◌then◌else◌}
 use Rattle.std.proofs.lemmas.List.{drop_more, drop_all, take_all, drop-set-lt, take_more_set}
 use Rattle.rendering_taxonomy.specs.declared.formatting.Display.{Display}
 use Rattle.rendering_tree.specs.Metas.{Meta}
 use Rattle.rendering_tree.specs.Trees.{Child, Children, Elem, nothing, before, followed_by}
-use Rattle.rendering_tree.specs.Views.{child, row}
+use Rattle.rendering_tree.specs.Views.{child_view, children_view}
 use Rattle.rendering_tree.specs.declared.element.ElemChild.{ElemChild}
-use Rattle.rendering_tree.proofs.SimplifySteps.{row-append, followed_by-assoc, followed_by-nothing}
+use Rattle.rendering_tree.proofs.SimplifySteps.{children-append, followed_by-assoc, followed_by-nothing}
 use Rattle.driver_bibliography.specs.Substitution.{names_replaced, names_replaced_in, then_others, is_some_name, name_replaced_or_inside}
 
 -- what is made of a list that stands after another one
@@ -19,33 +19,33 @@ after-before zs x p = ap (λ ys. (ys, p.1)) (sym (followed_by-assoc zs (before x
 
 -- what is left to be made of the children makes of them what is made of all
 pub Naming : Children → List ElemChild → ℕ → List ElemChild → ℕ → ℕ → Type 0
-Naming text old wanted xs i left = names_replaced text (row old) wanted ≡ after (row (take i xs)) (names_replaced text (row (drop i xs)) left)
+Naming text old wanted xs i left = names_replaced text (children_view old) wanted ≡ after (children_view (take i xs)) (names_replaced text (children_view (drop i xs)) left)
 
 pub naming_begins : (text : Children) (xs : List ElemChild) (wanted : ℕ) → Naming text xs wanted xs 0 wanted
 unfolding Naming
 naming_begins text xs wanted = refl
 
-pub naming_ends : (text : Children) (old : List ElemChild) (wanted : ℕ) (xs : List ElemChild) (i left : ℕ) → Naming text old wanted xs i left → length xs ≤ i → (row xs, left) ≡ names_replaced text (row old) wanted
+pub naming_ends : (text : Children) (old : List ElemChild) (wanted : ℕ) (xs : List ElemChild) (i left : ℕ) → Naming text old wanted xs i left → length xs ≤ i → (children_view xs, left) ≡ names_replaced text (children_view old) wanted
 unfolding Naming
 naming_ends text old wanted xs i left h all =
-    sym (h ∙ (λ k. after (row (take_all i xs all k)) (names_replaced text (row (drop_all i xs all k)) left)) ∙ ap (λ ys. (ys, left)) (followed_by-nothing (row xs)))
+    sym (h ∙ (λ k. after (children_view (take_all i xs all k)) (names_replaced text (children_view (drop_all i xs all k)) left)) ∙ ap (λ ys. (ys, left)) (followed_by-nothing (children_view xs)))
 
 pub naming_goes_on : (text : Children) (old : List ElemChild) (wanted : ℕ) (xs : List ElemChild) (i left : ℕ) (x d y : ElemChild) (m : ℕ) → Naming text old wanted xs i left → i < length xs
-    → x ≡ get_or xs i d → (child y, m) ≡ names_replaced_in text (child x) left → Naming text old wanted (set xs i y) (i + 1) m
+    → x ≡ get_or xs i d → (child_view y, m) ≡ names_replaced_in text (child_view x) left → Naming text old wanted (set xs i y) (i + 1) m
 unfolding Naming
 naming_goes_on text old wanted xs i left x d y m h less is e =
-    let zs = row (take i xs) in
-    let rest = row (drop (i + 1) xs) in
-    let from : row (drop i xs) ≡ before (child x) (row (drop (i + 1) xs)) = ap row (drop_more xs i d less) ∙ ap (λ z. before (child z) (row (drop (i + 1) xs))) (sym is) in
-    let front : row (take (i + 1) (set xs i y)) ≡ followed_by zs (before (child y) nothing) = ap row (take_more_set xs i y less) ∙ row-append (take i xs) (y ∷ []) in
+    let zs = children_view (take i xs) in
+    let rest = children_view (drop (i + 1) xs) in
+    let from : children_view (drop i xs) ≡ before (child_view x) (children_view (drop (i + 1) xs)) = ap children_view (drop_more xs i d less) ∙ ap (λ z. before (child_view z) (children_view (drop (i + 1) xs))) (sym is) in
+    let leading : children_view (take (i + 1) (set xs i y)) ≡ followed_by zs (before (child_view y) nothing) = ap children_view (take_more_set xs i y less) ∙ children-append (take i xs) (y ∷ []) in
     let others : drop (i + 1) (set xs i y) ≡ drop (i + 1) xs = drop-set-lt (i + 1) xs i y (omega arith) in
     h
     ∙ ap (λ ys. after zs (names_replaced text ys left)) from
     ∙ ap (λ p. after zs (then_others p (λ k. names_replaced text rest k))) (sym e)
-    ∙ after-before zs (child y) (names_replaced text rest m)
-    ∙ (λ k. after (sym front k) (names_replaced text (row (sym others k)) m))
+    ∙ after-before zs (child_view y) (names_replaced text rest m)
+    ∙ (λ k. after (sym leading k) (names_replaced text (children_view (sym others k)) m))
 
--- what was made of a child that is seen in another way
+-- what was made of a child that is viewed in another way
 pub single_in : {E : Type 0} (text : Children) (wanted : ℕ) (r : Result ℕ E) {new now old first : Child} → new ≡ now → old ≡ first → IfOk r (λ left. (now, left) ≡ names_replaced_in text old wanted)
     → IfOk r (λ left. (new, left) ≡ names_replaced_in text first wanted)
 single_in text wanted (Ok left) g o p = (λ k. (g k, left)) ∙ p ∙ ap (λ z. names_replaced_in text z wanted) o

@@ -1,10 +1,10 @@
--- How many names are the same, and what of the names of items in a row repeats those before them.
+-- How many names are the same, and what of the names of items one after the other repeats those before them.
 use Rattle.std.proofs.Common.{◌≡◌, ℕ, suc, ◌+◌, ◌<◌, ◌≤◌, ◌==◌, ◌&&◌, ◌⊎◌, ◌≢◌, inl, inr, Bool, true, false, cond, List, [], ◌∷◌, ◌++◌, append_assoc, append-nil, length, map, drop, get_or, refl, sym, ap, subst, ◌∙◌, arith, Option}
 use Rattle.std.specs.Borrow.{Bor}
 use Rattle.std.proofs.lemmas.List.{get_or-map, length-map, drop_all, drop_more}
 use Rattle.std.proofs.lemmas.List.Sums.{common_prefix_len-drop_yes, common_prefix_len-drop_no}
 use Rattle.rendering_tree.specs.Same.{is_element}
-use Rattle.rendering_tree.specs.Views.{element, tree}
+use Rattle.rendering_tree.specs.Views.{element_view, tree_view}
 use Rattle.rendering_tree.specs.declared.element.Elem.{Elem as ElemOf}
 use Rattle.rendering_tree.specs.declared.element.ElemChildren.{ElemChildren}
 use Rattle.std.specs.List.{common_prefix_len}
@@ -12,7 +12,7 @@ use Rattle.std.specs.Option.{option_or}
 use Rattle.std.specs.Cmp.Lexicographic.{pointwise, unequal}
 use Rattle.rendering_tree.specs.Trees.{Children, Element, names_element}
 use Rattle.driver_bibliography.specs.Substitution.{Repeated, repeated, substituted, with_names_before}
-use Rattle.driver_bibliography.specs.Views.{borrowed, repeats_after, all_changed}
+use Rattle.driver_bibliography.specs.Views.{borrowed_elements_view, repeats_after, all_changed}
 use Rattle.rendering_taxonomy.specs.declared.style.SubsequentAuthorSubstituteRule.{SubsequentAuthorSubstituteRule}
 
 same_step : (b : Bool) (m n k : ℕ) → ((suc m == suc n) && (cond b (1 + k) 0 == suc m)) ≡ (b && ((m == n) && (k == m)))
@@ -26,48 +26,48 @@ same_from_common same [] (y ∷ ys) = grind arith
 same_from_common same (x ∷ xs) [] = grind arith
 same_from_common same (x ∷ xs) (y ∷ ys) = same_step (same x y) (length xs) (length ys) (common_prefix_len same xs ys) ∙ ap (λ b. same x y && b) (same_from_common same xs ys)
 
-long : (ns : List (Bor ElemOf)) → length (borrowed ns) ≡ length ns
-long ns = length-map ns (λ (e : Bor ElemOf). element e.now)
+long : (ns : List (Bor ElemOf)) → length (borrowed_elements_view ns) ≡ length ns
+long ns = length-map ns (λ (e : Bor ElemOf). element_view e.now)
 
 -- whether as many are the same, where there are as many
-pub same_as_many : (ns ms : List (Bor ElemOf)) (k : ℕ) → length ns ≡ length ms → k ≡ common_prefix_len is_element (borrowed ns) (borrowed ms) → (k == length ns) ≡ pointwise is_element (borrowed ns) (borrowed ms)
+pub same_as_many : (ns ms : List (Bor ElemOf)) (k : ℕ) → length ns ≡ length ms → k ≡ common_prefix_len is_element (borrowed_elements_view ns) (borrowed_elements_view ms) → (k == length ns) ≡ pointwise is_element (borrowed_elements_view ns) (borrowed_elements_view ms)
 same_as_many ns ms k as_many is =
-    let same : (length (borrowed ns) == length (borrowed ms)) ≡ true = grind (arith, long ns, long ms) in
+    let same : (length (borrowed_elements_view ns) == length (borrowed_elements_view ms)) ≡ true = grind (arith, long ns, long ms) in
     (λ i. is i == sym (long ns) i)
-    ∙ ap (λ b. b && (common_prefix_len is_element (borrowed ns) (borrowed ms) == length (borrowed ns))) (sym same)
-    ∙ same_from_common is_element (borrowed ns) (borrowed ms)
+    ∙ ap (λ b. b && (common_prefix_len is_element (borrowed_elements_view ns) (borrowed_elements_view ms) == length (borrowed_elements_view ns))) (sym same)
+    ∙ same_from_common is_element (borrowed_elements_view ns) (borrowed_elements_view ms)
 
 -- where there are not, they are not the same
-pub not_as_many : (ns ms : List (Bor ElemOf)) → (length ns ≢ length ms) → (length ns == length ms) ≡ pointwise is_element (borrowed ns) (borrowed ms)
+pub not_as_many : (ns ms : List (Bor ElemOf)) → (length ns ≢ length ms) → (length ns == length ms) ≡ pointwise is_element (borrowed_elements_view ns) (borrowed_elements_view ms)
 not_as_many ns ms other =
     let apart : (length ns == length ms) ≡ false = grind (arith, other) in
-    apart ∙ sym (unequal is_element (borrowed ns) (borrowed ms) (λ e. other (sym (long ns) ∙ e ∙ long ms)))
+    apart ∙ sym (unequal is_element (borrowed_elements_view ns) (borrowed_elements_view ms) (λ e. other (sym (long ns) ∙ e ∙ long ms)))
 
--- elements that are lent, at a place
-lent_at : (ns : List (Bor ElemOf)) (i : ℕ) (x : Bor ElemOf) → i < length ns → x ≡ get_or ns i x → get_or (borrowed ns) i (element x.now) ≡ element x.now
-lent_at ns i x less is = get_or-map (λ (e : Bor ElemOf). element e.now) ns i x (element x.now) less ∙ ap (λ (e : Bor ElemOf). element e.now) (sym is)
+-- elements that are lent, at an index
+lent_at : (ns : List (Bor ElemOf)) (i : ℕ) (x : Bor ElemOf) → i < length ns → x ≡ get_or ns i x → get_or (borrowed_elements_view ns) i (element_view x.now) ≡ element_view x.now
+lent_at ns i x less is = get_or-map (λ (e : Bor ElemOf). element_view e.now) ns i x (element_view x.now) less ∙ ap (λ (e : Bor ElemOf). element_view e.now) (sym is)
 
 module _ (ns ms : List (Bor ElemOf)) (i : ℕ) (x y : Bor ElemOf) (less : i < length ns) (below : i < length ms) (is : x ≡ get_or ns i x) (also : y ≡ get_or ms i y) where
-  within : i < length (borrowed ns)
-  within = subst (λ (n : ℕ). i < n) (sym (length-map ns (λ (e : Bor ElemOf). element e.now))) less
+  within : i < length (borrowed_elements_view ns)
+  within = subst (λ (n : ℕ). i < n) (sym (length-map ns (λ (e : Bor ElemOf). element_view e.now))) less
 
-  within_last : i < length (borrowed ms)
-  within_last = subst (λ (n : ℕ). i < n) (sym (length-map ms (λ (e : Bor ElemOf). element e.now))) below
+  within_last : i < length (borrowed_elements_view ms)
+  within_last = subst (λ (n : ℕ). i < n) (sym (length-map ms (λ (e : Bor ElemOf). element_view e.now))) below
 
   -- two names that are the same
-  pub common_more : (n : ℕ) → is_element (element x.now) (element y.now) ≡ true → i + common_prefix_len is_element (drop i (borrowed ns)) (drop i (borrowed ms)) ≡ n
-      → i + 1 + common_prefix_len is_element (drop (i + 1) (borrowed ns)) (drop (i + 1) (borrowed ms)) ≡ n
+  pub common_more : (n : ℕ) → is_element (element_view x.now) (element_view y.now) ≡ true → i + common_prefix_len is_element (drop i (borrowed_elements_view ns)) (drop i (borrowed_elements_view ms)) ≡ n
+      → i + 1 + common_prefix_len is_element (drop (i + 1) (borrowed_elements_view ns)) (drop (i + 1) (borrowed_elements_view ms)) ≡ n
   common_more n e h =
-      let step : common_prefix_len is_element (drop i (borrowed ns)) (drop i (borrowed ms)) ≡ 1 + common_prefix_len is_element (drop (i + 1) (borrowed ns)) (drop (i + 1) (borrowed ms)) =
-      common_prefix_len-drop_yes is_element (borrowed ns) (borrowed ms) i (element x.now) (element y.now) within within_last
+      let step : common_prefix_len is_element (drop i (borrowed_elements_view ns)) (drop i (borrowed_elements_view ms)) ≡ 1 + common_prefix_len is_element (drop (i + 1) (borrowed_elements_view ns)) (drop (i + 1) (borrowed_elements_view ms)) =
+      common_prefix_len-drop_yes is_element (borrowed_elements_view ns) (borrowed_elements_view ms) i (element_view x.now) (element_view y.now) within within_last
       ((λ k. is_element (lent_at ns i x less is k) (lent_at ms i y below also k)) ∙ e) in
       omega (arith, step, h)
 
   -- two that are not
-  pub common_no_more : (n : ℕ) → is_element (element x.now) (element y.now) ≡ false → i + common_prefix_len is_element (drop i (borrowed ns)) (drop i (borrowed ms)) ≡ n → i ≡ n
+  pub common_no_more : (n : ℕ) → is_element (element_view x.now) (element_view y.now) ≡ false → i + common_prefix_len is_element (drop i (borrowed_elements_view ns)) (drop i (borrowed_elements_view ms)) ≡ n → i ≡ n
   common_no_more n e h =
-      let step : common_prefix_len is_element (drop i (borrowed ns)) (drop i (borrowed ms)) ≡ 0 =
-      common_prefix_len-drop_no is_element (borrowed ns) (borrowed ms) i (element x.now) (element y.now) within within_last
+      let step : common_prefix_len is_element (drop i (borrowed_elements_view ns)) (drop i (borrowed_elements_view ms)) ≡ 0 =
+      common_prefix_len-drop_no is_element (borrowed_elements_view ns) (borrowed_elements_view ms) i (element_view x.now) (element_view y.now) within within_last
       ((λ k. is_element (lent_at ns i x less is k) (lent_at ms i y below also k)) ∙ e) in
       omega (arith, step, h)
 
@@ -76,14 +76,14 @@ nothing_common [] = refl
 nothing_common (e ∷ es) = refl
 
 -- after all of either nothing is the same
-pub common_none : (ns ms : List (Bor ElemOf)) (i n : ℕ) → (length ns ≤ i) ⊎ (length ms ≤ i) → i + common_prefix_len is_element (drop i (borrowed ns)) (drop i (borrowed ms)) ≡ n → i ≡ n
+pub common_none : (ns ms : List (Bor ElemOf)) (i n : ℕ) → (length ns ≤ i) ⊎ (length ms ≤ i) → i + common_prefix_len is_element (drop i (borrowed_elements_view ns)) (drop i (borrowed_elements_view ms)) ≡ n → i ≡ n
 common_none ns ms i n (inl le) h =
-    let none : drop i (borrowed ns) ≡ [] = drop_all i (borrowed ns) (subst (λ (k : ℕ). k ≤ i) (sym (length-map ns (λ (e : Bor ElemOf). element e.now))) le) in
-    let step : common_prefix_len is_element (drop i (borrowed ns)) (drop i (borrowed ms)) ≡ 0 = ap (λ xs. common_prefix_len is_element xs (drop i (borrowed ms))) none in
+    let none : drop i (borrowed_elements_view ns) ≡ [] = drop_all i (borrowed_elements_view ns) (subst (λ (k : ℕ). k ≤ i) (sym (length-map ns (λ (e : Bor ElemOf). element_view e.now))) le) in
+    let step : common_prefix_len is_element (drop i (borrowed_elements_view ns)) (drop i (borrowed_elements_view ms)) ≡ 0 = ap (λ xs. common_prefix_len is_element xs (drop i (borrowed_elements_view ms))) none in
     omega (arith, step, h)
 common_none ns ms i n (inr le) h =
-    let none : drop i (borrowed ms) ≡ [] = drop_all i (borrowed ms) (subst (λ (k : ℕ). k ≤ i) (sym (length-map ms (λ (e : Bor ElemOf). element e.now))) le) in
-    let step : common_prefix_len is_element (drop i (borrowed ns)) (drop i (borrowed ms)) ≡ 0 = ap (common_prefix_len is_element (drop i (borrowed ns))) none ∙ nothing_common (drop i (borrowed ns)) in
+    let none : drop i (borrowed_elements_view ms) ≡ [] = drop_all i (borrowed_elements_view ms) (subst (λ (k : ℕ). k ≤ i) (sym (length-map ms (λ (e : Bor ElemOf). element_view e.now))) le) in
+    let step : common_prefix_len is_element (drop i (borrowed_elements_view ns)) (drop i (borrowed_elements_view ms)) ≡ 0 = ap (common_prefix_len is_element (drop i (borrowed_elements_view ns))) none ∙ nothing_common (drop i (borrowed_elements_view ns)) in
     omega (arith, step, h)
 
 -- the substituted items are the items changed by what repeats
@@ -92,18 +92,18 @@ pub substituted_by_repeats : (rule : SubsequentAuthorSubstituteRule) (text : Lis
 substituted_by_repeats rule text last [] = refl
 substituted_by_repeats rule text last (tree ∷ trees) = ap (λ ts. substituted rule text (last, tree) ∷ ts) (substituted_by_repeats rule text (option_or (names_element tree) last) trees)
 
--- what repeats was said of the items before a place, and is left to be said of the others
-pub repeats_go_on : (rule : SubsequentAuthorSubstituteRule) (trees : List ElemChildren) (i : ℕ) (x : ElemChildren) (last next : Option Element) (said new all : List Repeated) (r : Repeated)
-    → i < length trees → x ≡ get_or trees i x → said ++ repeats_after rule last (map tree (drop i trees)) ≡ all → r ≡ repeated rule last (names_element (tree x)) → next ≡ option_or (names_element (tree x)) last
-    → new ≡ said ++ r ∷ [] → new ++ repeats_after rule next (map tree (drop (i + 1) trees)) ≡ all
-repeats_go_on rule trees i x last next said new all r less is h says on e =
-    let from : map tree (drop i trees) ≡ tree x ∷ map tree (drop (i + 1) trees) = ap (map tree) (drop_more trees i x less) ∙ ap (λ y. tree y ∷ map tree (drop (i + 1) trees)) (sym is) in
-    (λ k. e k ++ repeats_after rule (on k) (map tree (drop (i + 1) trees)))
-    ∙ append_assoc said (r ∷ []) (repeats_after rule (option_or (names_element (tree x)) last) (map tree (drop (i + 1) trees)))
-    ∙ ap (λ y. said ++ y ∷ repeats_after rule (option_or (names_element (tree x)) last) (map tree (drop (i + 1) trees))) says
-    ∙ ap (λ ys. said ++ repeats_after rule last ys) (sym from)
+-- what repeats was found of the items before an index, and is left to be found of the others
+pub repeats_go_on : (rule : SubsequentAuthorSubstituteRule) (trees : List ElemChildren) (i : ℕ) (x : ElemChildren) (last next : Option Element) (known new all : List Repeated) (r : Repeated)
+    → i < length trees → x ≡ get_or trees i x → known ++ repeats_after rule last (map tree_view (drop i trees)) ≡ all → r ≡ repeated rule last (names_element (tree_view x)) → next ≡ option_or (names_element (tree_view x)) last
+    → new ≡ known ++ r ∷ [] → new ++ repeats_after rule next (map tree_view (drop (i + 1) trees)) ≡ all
+repeats_go_on rule trees i x last next known new all r less is h says on e =
+    let from : map tree_view (drop i trees) ≡ tree_view x ∷ map tree_view (drop (i + 1) trees) = ap (map tree_view) (drop_more trees i x less) ∙ ap (λ y. tree_view y ∷ map tree_view (drop (i + 1) trees)) (sym is) in
+    (λ k. e k ++ repeats_after rule (on k) (map tree_view (drop (i + 1) trees)))
+    ∙ append_assoc known (r ∷ []) (repeats_after rule (option_or (names_element (tree_view x)) last) (map tree_view (drop (i + 1) trees)))
+    ∙ ap (λ y. known ++ y ∷ repeats_after rule (option_or (names_element (tree_view x)) last) (map tree_view (drop (i + 1) trees))) says
+    ∙ ap (λ ys. known ++ repeats_after rule last ys) (sym from)
     ∙ h
 
-pub repeats_end : (rule : SubsequentAuthorSubstituteRule) (trees : List ElemChildren) (i : ℕ) (last : Option Element) (said all : List Repeated) → length trees ≤ i
-    → said ++ repeats_after rule last (map tree (drop i trees)) ≡ all → said ≡ all
-repeats_end rule trees i last said all le h = sym (append-nil said) ∙ ap (λ ys. said ++ repeats_after rule last (map tree ys)) (sym (drop_all i trees le)) ∙ h
+pub repeats_end : (rule : SubsequentAuthorSubstituteRule) (trees : List ElemChildren) (i : ℕ) (last : Option Element) (known all : List Repeated) → length trees ≤ i
+    → known ++ repeats_after rule last (map tree_view (drop i trees)) ≡ all → known ≡ all
+repeats_end rule trees i last known all le h = sym (append-nil known) ∙ ap (λ ys. known ++ repeats_after rule last (map tree_view ys)) (sym (drop_all i trees le)) ∙ h

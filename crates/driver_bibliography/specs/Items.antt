@@ -11,7 +11,7 @@ pub record Fields : Type 0 where
   pub first_field : Option Element
   pub content : Children
 
--- the items, with the text in place of repeated names where the style has such a text
+-- the items, with the text instead of repeated names where the style has such a text
 abbrev pub all_substituted : SubsequentAuthorSubstituteRule → Option (List ℕ) → List Children → List Children
 all_substituted rule None trees = trees
 all_substituted rule (Some text) trees = map (substituted rule text) (with_names_before None trees)

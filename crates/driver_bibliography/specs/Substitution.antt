@@ -114,7 +114,7 @@ abbrev mutual
 abbrev pub with_names : (Children → Children) → Children → Children
 with_names change tree = unwrap_or (changed change tree) tree
 
--- a tree with the text in place of what is repeated of its first names element
+-- a tree with the text instead of what is repeated of its first names element
 abbrev pub text_for : List ℕ → Repeated → Children → Children
 text_for text none_of_them tree = tree
 text_for text all_of_them tree = with_names (λ xs. text_alone text) tree
@@ -125,6 +125,6 @@ abbrev pub with_names_before : Option Element → List Children → List (Option
 with_names_before last [] = []
 with_names_before last (tree ∷ trees) = (last, tree) ∷ with_names_before (option_or (names_element tree) last) trees
 
--- An item after a names element, with the text in place of what it repeats.
+-- An item after a names element, with the text instead of what it repeats.
 abbrev pub substituted : SubsequentAuthorSubstituteRule → List ℕ → Option Element × Children → Children
 substituted rule text (last, tree) = simplified (text_for text (repeated rule last (names_element tree)) tree)

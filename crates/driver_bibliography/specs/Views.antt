@@ -4,7 +4,7 @@ use Rattle.std.specs.Borrow.{Bor}
 use Rattle.std.specs.Option.{option_map, unwrap_or}
 use Rattle.laws.specs.Text.{spelled}
 use Rattle.rendering_tree.specs.Trees.{Child, Children, Elem, Element, names_element, simplified}
-use Rattle.rendering_tree.specs.Views.{element, tree}
+use Rattle.rendering_tree.specs.Views.{element_view, tree_view}
 use Rattle.driver_bibliography.specs.Items as items
 use Rattle.driver_bibliography.specs.Substitution.{Repeated, none_of_them, all_of_them, first_of_them, with_names_before, is_some_name, names_replaced, repeated, text_alone, text_for}
 use Rattle.rendering_taxonomy.specs.declared.style.SubsequentAuthorSubstituteRule.{SubsequentAuthorSubstituteRule}
@@ -14,12 +14,12 @@ use Rattle.driver_bibliography.specs.declared.repeats.Repetition.{Repetition}
 use Rattle.driver_bibliography.specs.declared.repeats.Repetition.TheVariants as repeats
 
 -- elements that are lent
-abbrev pub borrowed : List (Bor ElemOf) → List Element
-borrowed es = map (λ e. element e.now) es
+abbrev pub borrowed_elements_view : List (Bor ElemOf) → List Element
+borrowed_elements_view es = map (λ e. element_view e.now) es
 
 -- an element that may be lent
-abbrev pub lent : Option (Bor ElemOf) → Option Element
-lent e = option_map (λ f. element f.now) e
+abbrev pub lent_element_view : Option (Bor ElemOf) → Option Element
+lent_element_view e = option_map (λ f. element_view f.now) e
 
 -- a text that may be lent
 abbrev pub spelled_if : Option (Bor (List ℕ)) → Option (List ℕ)
@@ -34,14 +34,14 @@ abbrev pub as_child : Element → Child
 as_child e = Elem e.display e.meta e.children
 
 -- what a text stands for
-abbrev pub repeated_seen : Repetition → Repeated
-repeated_seen repeats.Nothing = none_of_them
-repeated_seen repeats.All = all_of_them
-repeated_seen (repeats.First n) = first_of_them n
+abbrev pub repeated_view : Repetition → Repeated
+repeated_view repeats.Nothing = none_of_them
+repeated_view repeats.All = all_of_them
+repeated_view (repeats.First n) = first_of_them n
 
 -- an item in fields
-abbrev pub fields_seen : ItemFields → items.Fields
-fields_seen f = record { first_field = option_map (λ e. element e) f.first_field; content = tree f.content }
+abbrev pub fields_view : ItemFields → items.Fields
+fields_view f = record { first_field = option_map (λ e. element_view e) f.first_field; content = tree_view f.content }
 
 -- what of the names of each item repeats those before them
 abbrev pub repeats_after : SubsequentAuthorSubstituteRule → Option Element → List Children → List Repeated

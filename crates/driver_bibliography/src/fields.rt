@@ -3,10 +3,10 @@
 ghost use Rattle.std.specs.Prelude.{◌≡◌, IfOk, Some, length, map};
 ghost use Rattle.std.specs.Str.{chars};
 ghost use Rattle.rendering_tree.specs.Trees.{parted};
-ghost use Rattle.rendering_tree.specs.Views.{tree};
-ghost use Rattle.rendering_style.specs.Views.{bibliography_seen};
+ghost use Rattle.rendering_tree.specs.Views.{tree_view};
+ghost use Rattle.rendering_style.specs.Views.{bibliography_layout_view};
 ghost use Rattle.driver_bibliography.specs.Items.{all_substituted, fields_by, fields_of, items_of};
-ghost use Rattle.driver_bibliography.specs.Views.{all_changed, fields_seen, repeated_seen, spelled_if};
+ghost use Rattle.driver_bibliography.specs.Views.{all_changed, fields_view, repeated_view, spelled_if};
 
 use crate::repeats::{Repetition, repeats};
 use crate::substitute::substitute;
@@ -32,7 +32,8 @@ pub fn items(
     bibliography: &Bibliography,
     trees: Vec<ElemChildren>,
 ) -> Result<Vec<ItemFields>, AllocError>
-    ensures { IfOk result (λ v. map fields_seen v.items ≡ items_of (bibliography_seen bibliography.now) (map tree trees.items)) }
+    ensures { IfOk result (λ v. map fields_view v.items
+        ≡ items_of (bibliography_layout_view bibliography.now) (map tree_view trees.items)) }
 {
     let substituted = substitute_all(
         alloc,
@@ -50,7 +51,8 @@ fn substitute_all(
     text: Option<&str>,
     trees: Vec<ElemChildren>,
 ) -> Result<Vec<ElemChildren>, AllocError>
-    ensures { IfOk result (λ v. map tree v.items ≡ all_substituted rule (spelled_if text.entry) (map tree trees.items)) }
+    ensures { IfOk result (λ v. map tree_view v.items
+        ≡ all_substituted rule (spelled_if text.entry) (map tree_view trees.items)) }
 {
     match text {
         Some(text) => substitute_repeated(alloc, rule, text, trees),
@@ -65,7 +67,8 @@ fn substitute_repeated(
     text: &str,
     trees: Vec<ElemChildren>,
 ) -> Result<Vec<ElemChildren>, AllocError>
-    ensures { IfOk result (λ v. map tree v.items ≡ all_substituted rule (Some (chars text.now)) (map tree trees.items)) }
+    ensures { IfOk result (λ v. map tree_view v.items
+        ≡ all_substituted rule (Some (chars text.now)) (map tree_view trees.items)) }
 {
     let repeats = repeats(alloc, rule, &trees)?;
     substitute_each(alloc, text, &repeats, trees)
@@ -79,7 +82,8 @@ fn substitute_each(
     trees: Vec<ElemChildren>,
 ) -> Result<Vec<ElemChildren>, AllocError>
     requires { length repeats.now ≡ length trees.items }
-    ensures { IfOk result (λ v. map tree v.items ≡ all_changed (chars text.now) (map repeated_seen repeats.now) (map tree trees.items)) }
+    ensures { IfOk result (λ v. map tree_view v.items ≡ all_changed (chars text.now)
+        (map repeated_view repeats.now) (map tree_view trees.items)) }
 {
     let mut items = Vec::with_capacity(alloc, trees.len())?;
     for tree in trees {
@@ -95,7 +99,8 @@ fn fields_of_all(
     align: Option<SecondFieldAlign>,
     trees: Vec<ElemChildren>,
 ) -> Result<Vec<ItemFields>, AllocError>
-    ensures { IfOk result (λ v. map fields_seen v.items ≡ map (fields_by align) (map tree trees.items)) }
+    ensures { IfOk result (λ v. map fields_view v.items
+        ≡ map (fields_by align) (map tree_view trees.items)) }
 {
     let mut items = Vec::with_capacity(alloc, trees.len())?;
     for tree in trees {
@@ -106,7 +111,7 @@ fn fields_of_all(
 
 /// An item in fields.
 fn fields_of(align: Option<SecondFieldAlign>, item: ElemChildren) -> Result<ItemFields, AllocError>
-    ensures { IfOk result (λ f. fields_seen f ≡ fields_by align (tree item)) }
+    ensures { IfOk result (λ f. fields_view f ≡ fields_by align (tree_view item)) }
 {
     match align {
         Some(_) => first_apart(item),
@@ -119,7 +124,8 @@ fn fields_of(align: Option<SecondFieldAlign>, item: ElemChildren) -> Result<Item
 
 /// An item without the first element that stands for something, which is its first field.
 fn first_apart(mut item: ElemChildren) -> Result<ItemFields, AllocError>
-    ensures { IfOk result (λ f. fields_seen f ≡ fields_of (tree item) (parted (tree item))) }
+    ensures { IfOk result (λ f. fields_view f
+        ≡ fields_of (tree_view item) (parted (tree_view item))) }
 {
     match item.remove_any_meta() {
         Some(elem) => Ok(ItemFields {

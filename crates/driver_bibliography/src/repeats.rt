@@ -6,9 +6,9 @@ ghost use Rattle.std.specs.List.{common_prefix_len};
 ghost use Rattle.std.specs.Option.{option_or};
 ghost use Rattle.rendering_tree.specs.Same.{is_element};
 ghost use Rattle.rendering_tree.specs.Trees.{elements, elements_in};
-ghost use Rattle.rendering_tree.specs.Views.{child, element, tree};
+ghost use Rattle.rendering_tree.specs.Views.{child_view, element_view, tree_view};
 ghost use Rattle.driver_bibliography.specs.Substitution.{all_if, is_some_name, name_list, repeated, repeated_by, repeated_of};
-ghost use Rattle.driver_bibliography.specs.Views.{borrowed, is_single, lent, repeated_seen, repeats_after};
+ghost use Rattle.driver_bibliography.specs.Views.{borrowed_elements_view, is_single, lent_element_view, repeated_view, repeats_after};
 
 use rendering_taxonomy::SubsequentAuthorSubstituteRule;
 use rendering_tree::{Elem, ElemChild, ElemChildren, ElemMeta, are_equal_elements};
@@ -30,7 +30,8 @@ pub(crate) fn repeats(
     rule: SubsequentAuthorSubstituteRule,
     trees: &[ElemChildren],
 ) -> Result<Vec<Repetition>, AllocError>
-    ensures { IfOk result (λ v. map repeated_seen v.items ≡ repeats_after rule None (map tree trees.now)) }
+    ensures { IfOk result (λ v. map repeated_view v.items
+        ≡ repeats_after rule None (map tree_view trees.now)) }
 {
     let mut repeats = Vec::with_capacity(alloc, trees.len())?;
     let mut last = None;
@@ -44,7 +45,8 @@ pub(crate) fn repeats(
 
 /// The names of an item, or else those before it.
 fn latest<'a>(names: Option<&'a Elem>, last: Option<&'a Elem>) -> Option<&'a Elem>
-    ensures { lent result ≡ option_or (lent names.entry) (lent last.entry) }
+    ensures { lent_element_view result
+        ≡ option_or (lent_element_view names.entry) (lent_element_view last.entry) }
 {
     names.or(last)
 }
@@ -56,7 +58,8 @@ fn repeated(
     last: Option<&Elem>,
     names: Option<&Elem>,
 ) -> Result<Repetition, AllocError>
-    ensures { IfOk result (λ r. repeated_seen r ≡ repeated rule (lent last.entry) (lent names.entry)) }
+    ensures { IfOk result (λ r. repeated_view r
+        ≡ repeated rule (lent_element_view last.entry) (lent_element_view names.entry)) }
 {
     match (last, names) {
         (Some(last), Some(names)) => repeated_of(alloc, rule, names, last),
@@ -71,7 +74,8 @@ fn repeated_of(
     names: &Elem,
     last: &Elem,
 ) -> Result<Repetition, AllocError>
-    ensures { IfOk result (λ r. repeated_seen r ≡ repeated_of rule (element names.now) (element last.now) (name_list (element names.now))) }
+    ensures { IfOk result (λ r. repeated_view r ≡ repeated_of rule (element_view names.now)
+        (element_view last.now) (name_list (element_view names.now))) }
 {
     let singles = single_names(alloc, names)?;
     if singles.is_empty() {
@@ -83,7 +87,7 @@ fn repeated_of(
 
 /// All names, if so.
 fn all_if(are_same: bool) -> Repetition
-    ensures { repeated_seen result ≡ all_if are_same }
+    ensures { repeated_view result ≡ all_if are_same }
 {
     if are_same {
         Repetition::All
@@ -94,7 +98,8 @@ fn all_if(are_same: bool) -> Repetition
 
 /// What of single names repeats those before them, by the rule.
 fn repeated_by(rule: SubsequentAuthorSubstituteRule, names: &[&Elem], last: &[&Elem]) -> Repetition
-    ensures { repeated_seen result ≡ repeated_by rule (borrowed names.now) (borrowed last.now) }
+    ensures { repeated_view result
+        ≡ repeated_by rule (borrowed_elements_view names.now) (borrowed_elements_view last.now) }
 {
     match rule {
         SubsequentAuthorSubstituteRule::CompleteAll => all_if(are_same(names, last)),
@@ -114,14 +119,16 @@ fn repeated_by(rule: SubsequentAuthorSubstituteRule, names: &[&Elem], last: &[&E
 
 /// Whether names are the same, one by one.
 fn are_same(names: &[&Elem], last: &[&Elem]) -> bool
-    ensures { result ≡ pointwise is_element (borrowed names.now) (borrowed last.now) }
+    ensures { result ≡ pointwise is_element (borrowed_elements_view names.now)
+        (borrowed_elements_view last.now) }
 {
     names.len() == last.len() && common_len(names, last) == names.len()
 }
 
 /// How many names are the same, from the first on.
 fn common_len(names: &[&Elem], last: &[&Elem]) -> usize
-    ensures { result ≡ common_prefix_len is_element (borrowed names.now) (borrowed last.now) }
+    ensures { result ≡ common_prefix_len is_element
+        (borrowed_elements_view names.now) (borrowed_elements_view last.now) }
 {
     let mut count = 0;
     while count < names.len() && count < last.len() {
@@ -135,7 +142,8 @@ fn common_len(names: &[&Elem], last: &[&Elem]) -> usize
 
 /// The single names in an element.
 fn single_names(alloc: Global, names: &Elem) -> Result<Vec<&Elem>, AllocError>
-    ensures { IfOk result (λ v. borrowed v.items ≡ name_list (element names.now)) }
+    ensures { IfOk result (λ v. borrowed_elements_view v.items
+        ≡ name_list (element_view names.now)) }
 {
     let mut singles = Vec::new(alloc);
     push_names(&names.children, &mut singles)?;
@@ -145,7 +153,9 @@ fn single_names(alloc: Global, names: &Elem) -> Result<Vec<&Elem>, AllocError>
 /// Appends the single names in a list.
 #[cycle(names)]
 fn push_names<'a>(parts: &'a ElemChildren, names: &mut Vec<&'a Elem>) -> Result<(), AllocError>
-    ensures { OnOk result (borrowed names.new.items ≡ borrowed names.old.items ++ filter is_single (elements (tree parts.now))) }
+    ensures { OnOk result (borrowed_elements_view names.new.items
+        ≡ borrowed_elements_view names.old.items
+        ++ filter is_single (elements (tree_view parts.now))) }
 {
     for part in &parts.0 {
         push_names_in(part, names)?;
@@ -156,7 +166,9 @@ fn push_names<'a>(parts: &'a ElemChildren, names: &mut Vec<&'a Elem>) -> Result<
 /// Appends the single names in a child.
 #[cycle(names)]
 fn push_names_in<'a>(part: &'a ElemChild, names: &mut Vec<&'a Elem>) -> Result<(), AllocError>
-    ensures { OnOk result (borrowed names.new.items ≡ borrowed names.old.items ++ filter is_single (elements_in (child part.now))) }
+    ensures { OnOk result (borrowed_elements_view names.new.items
+        ≡ borrowed_elements_view names.old.items
+        ++ filter is_single (elements_in (child_view part.now))) }
 {
     match part {
         ElemChild::Elem(elem) => push_name(elem, names),
@@ -167,7 +179,9 @@ fn push_names_in<'a>(part: &'a ElemChild, names: &mut Vec<&'a Elem>) -> Result<(
 /// Appends an element that stands for a single name, and those in it.
 #[cycle(names)]
 fn push_name<'a>(elem: &'a Elem, names: &mut Vec<&'a Elem>) -> Result<(), AllocError>
-    ensures { OnOk result (borrowed names.new.items ≡ borrowed names.old.items ++ filter is_single (element elem.now ∷ elements (tree elem.now.children))) }
+    ensures { OnOk result (borrowed_elements_view names.new.items
+        ≡ borrowed_elements_view names.old.items
+        ++ filter is_single (element_view elem.now ∷ elements (tree_view elem.now.children))) }
 {
     if is_name(elem) {
         names.push(elem)?;
@@ -177,7 +191,7 @@ fn push_name<'a>(elem: &'a Elem, names: &mut Vec<&'a Elem>) -> Result<(), AllocE
 
 /// Whether an element stands for a single name.
 pub(crate) fn is_name(elem: &Elem) -> bool
-    ensures { result ≡ is_some_name (element elem.now).meta }
+    ensures { result ≡ is_some_name (element_view elem.now).meta }
 {
     matches!(elem.meta, Some(ElemMeta::Name(..)))
 }

@@ -1,12 +1,12 @@
-//! A text in place of repeated names.
+//! A text instead of repeated names.
 
 ghost use Rattle.std.specs.Prelude.{◌≡◌, IfOk, OnOk};
 ghost use Rattle.std.specs.Option.{option_map_or};
 ghost use Rattle.std.specs.Str.{chars};
 ghost use Rattle.rendering_tree.specs.Trees.{simplified};
-ghost use Rattle.rendering_tree.specs.Views.{child, element, row, tree};
+ghost use Rattle.rendering_tree.specs.Views.{child_view, element_view, children_view, tree_view};
 ghost use Rattle.driver_bibliography.specs.Substitution.{changed, changed_in, is_some_names, names_replaced, names_replaced_in, text_alone, text_for};
-ghost use Rattle.driver_bibliography.specs.Views.{Changes, as_child, children_for, repeated_seen};
+ghost use Rattle.driver_bibliography.specs.Views.{Changes, as_child, children_for, repeated_view};
 
 use crate::repeats::{Repetition, is_name};
 use rendering_taxonomy::Formatting;
@@ -21,7 +21,8 @@ pub(crate) fn substitute(
     repeated: Repetition,
     mut item: ElemChildren,
 ) -> Result<ElemChildren, AllocError>
-    ensures { IfOk result (λ t. tree t ≡ simplified (text_for (chars text.now) (repeated_seen repeated) (tree item))) }
+    ensures { IfOk result (λ t. tree_view t
+        ≡ simplified (text_for (chars text.now) (repeated_view repeated) (tree_view item))) }
 {
     match repeated {
         Repetition::Nothing => simplify_children(item),
@@ -32,7 +33,7 @@ pub(crate) fn substitute(
     }
 }
 
-/// Changes the first names in a row of children. Returns whether there are names.
+/// Changes the first names in a list of children. Returns whether there are names.
 #[cycle(changing)]
 fn change_names(
     alloc: Global,
@@ -40,7 +41,9 @@ fn change_names(
     text: &str,
     repeated: Repetition,
 ) -> Result<bool, AllocError>
-    ensures { IfOk result (λ found. Changes (changed (children_for (chars text.now) (repeated_seen repeated)) (row parts.old)) (row parts.old) (row parts.new) found) }
+    ensures { IfOk result (λ found. Changes
+        (changed (children_for (chars text.now) (repeated_view repeated)) (children_view parts.old))
+        (children_view parts.old) (children_view parts.new) found) }
 {
     for part in parts.iter_mut() {
         if change_names_in(alloc, part, text, repeated)? {
@@ -58,7 +61,9 @@ fn change_names_in(
     text: &str,
     repeated: Repetition,
 ) -> Result<bool, AllocError>
-    ensures { IfOk result (λ found. Changes (changed_in (children_for (chars text.now) (repeated_seen repeated)) (child part.old)) (child part.old) (child part.new) found) }
+    ensures { IfOk result (λ found. Changes
+        (changed_in (children_for (chars text.now) (repeated_view repeated)) (child_view part.old))
+        (child_view part.old) (child_view part.new) found) }
 {
     match part {
         ElemChild::Elem(elem) => change_names_of(alloc, elem, text, repeated),
@@ -74,7 +79,9 @@ fn change_names_of(
     text: &str,
     repeated: Repetition,
 ) -> Result<bool, AllocError>
-    ensures { IfOk result (λ found. Changes (changed_in (children_for (chars text.now) (repeated_seen repeated)) (as_child (element elem.old))) (as_child (element elem.old)) (as_child (element elem.new)) found) }
+    ensures { IfOk result (λ found. Changes (changed_in
+        (children_for (chars text.now) (repeated_view repeated)) (as_child (element_view elem.old)))
+        (as_child (element_view elem.old)) (as_child (element_view elem.new)) found) }
 {
     if is_names(elem) {
         change_children(alloc, &mut elem.children, text, repeated)?;
@@ -85,19 +92,20 @@ fn change_names_of(
 
 /// Whether an element stands for a names node.
 fn is_names(elem: &Elem) -> bool
-    ensures { result ≡ is_some_names (element elem.now).meta }
+    ensures { result ≡ is_some_names (element_view elem.now).meta }
 {
     matches!(elem.meta, Some(ElemMeta::Names(_)))
 }
 
-/// Puts a text in place of what is repeated of the children of a names node.
+/// Puts a text instead of what is repeated of the children of a names node.
 fn change_children(
     alloc: Global,
     parts: &mut ElemChildren,
     text: &str,
     repeated: Repetition,
 ) -> Result<(), AllocError>
-    ensures { OnOk result (tree parts.new ≡ children_for (chars text.now) (repeated_seen repeated) (tree parts.old)) }
+    ensures { OnOk result (tree_view parts.new
+        ≡ children_for (chars text.now) (repeated_view repeated) (tree_view parts.old)) }
 {
     match repeated {
         Repetition::Nothing => {}
@@ -109,7 +117,7 @@ fn change_children(
     Ok(())
 }
 
-/// Puts a text in place of the first single names in a row of children, so many as are wanted. Returns how many are still wanted.
+/// Puts a text instead of the first single names in a list of children, so many as are wanted. Returns how many are still wanted.
 #[cycle(singles)]
 fn change_singles(
     alloc: Global,
@@ -117,7 +125,8 @@ fn change_singles(
     text: &str,
     wanted: usize,
 ) -> Result<usize, AllocError>
-    ensures { IfOk result (λ left. (row parts.new, left) ≡ names_replaced (text_alone (chars text.now)) (row parts.old) wanted) }
+    ensures { IfOk result (λ left. (children_view parts.new, left)
+        ≡ names_replaced (text_alone (chars text.now)) (children_view parts.old) wanted) }
 {
     let mut left = wanted;
     for part in parts.iter_mut() {
@@ -126,7 +135,7 @@ fn change_singles(
     Ok(left)
 }
 
-/// Puts a text in place of the first single names in a child.
+/// Puts a text instead of the first single names in a child.
 #[cycle(singles)]
 fn change_singles_in(
     alloc: Global,
@@ -134,7 +143,8 @@ fn change_singles_in(
     text: &str,
     wanted: usize,
 ) -> Result<usize, AllocError>
-    ensures { IfOk result (λ left. (child part.new, left) ≡ names_replaced_in (text_alone (chars text.now)) (child part.old) wanted) }
+    ensures { IfOk result (λ left. (child_view part.new, left)
+        ≡ names_replaced_in (text_alone (chars text.now)) (child_view part.old) wanted) }
 {
     match part {
         ElemChild::Elem(elem) => change_single(alloc, elem, text, wanted),
@@ -142,7 +152,7 @@ fn change_singles_in(
     }
 }
 
-/// Puts a text in place of what a single name contains, or of the first single names in another element.
+/// Puts a text instead of what a single name contains, or of the first single names in another element.
 #[cycle(singles)]
 fn change_single(
     alloc: Global,
@@ -150,7 +160,8 @@ fn change_single(
     text: &str,
     wanted: usize,
 ) -> Result<usize, AllocError>
-    ensures { IfOk result (λ left. (as_child (element elem.new), left) ≡ names_replaced_in (text_alone (chars text.now)) (as_child (element elem.old)) wanted) }
+    ensures { IfOk result (λ left. (as_child (element_view elem.new), left) ≡ names_replaced_in
+        (text_alone (chars text.now)) (as_child (element_view elem.old)) wanted) }
 {
     if wanted == 0 {
         return Ok(0);
@@ -164,7 +175,7 @@ fn change_single(
 
 /// A text that looks as texts do of themselves.
 fn text_alone(alloc: Global, text: &str) -> Result<ElemChildren, AllocError>
-    ensures { IfOk result (λ t. tree t ≡ text_alone (chars text.now)) }
+    ensures { IfOk result (λ t. tree_view t ≡ text_alone (chars text.now)) }
 {
     let mut alone = ElemChildren::new(alloc);
     alone.push(ElemChild::Text(Formatted {

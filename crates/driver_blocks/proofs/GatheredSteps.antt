@@ -9,43 +9,43 @@ use Rattle.rendering_tree.specs.Trees.{Element}
 use Rattle.rendering_tree.proofs.SameDecided.{elements_are_one}
 use Rattle.driver_blocks.specs.Blocks as blocks
 use Rattle.driver_blocks.specs.Blocks.{gathered, gathered_at, is_of_block, are_same_names}
-use Rattle.driver_blocks.specs.Views.{gathered_seen, put_in}
+use Rattle.driver_blocks.specs.Views.{gathered_view, put_in}
 use Rattle.driver_blocks.specs.declared.cite.Gathered.{Gathered}
 
 module _ {Y : Type 0} (same : Y → Y → Bool) where
-  -- the group of a member where none that was seen is the same
+  -- the group of a member where none that came earlier is the same
   abbrev pub group_of : List Y → Y → List Y → List (List Y)
-  group_of seen y ys = if list_any (same y) seen then [] else (y ∷ filter (same y) ys) ∷ []
+  group_of earlier y ys = if list_any (same y) earlier then [] else (y ∷ filter (same y) ys) ∷ []
 
-  -- members gathered, where others were seen before them
-  abbrev pub after_seen : List Y → List Y → List (List Y)
-  after_seen seen [] = []
-  after_seen seen (y ∷ ys) = group_of seen y ys ++ after_seen (seen ++ y ∷ []) ys
+  -- members gathered, where others came before them
+  abbrev pub after_earlier : List Y → List Y → List (List Y)
+  after_earlier earlier [] = []
+  after_earlier earlier (y ∷ ys) = group_of earlier y ys ++ after_earlier (earlier ++ y ∷ []) ys
 
-  take_front : (xs ys : List Y) → take (length xs) (xs ++ ys) ≡ xs
-  take_front [] ys = refl
-  take_front (x ∷ xs) ys = ap (λ zs. x ∷ zs) (take_front xs ys)
+  take_leading : (xs ys : List Y) → take (length xs) (xs ++ ys) ≡ xs
+  take_leading [] ys = refl
+  take_leading (x ∷ xs) ys = ap (λ zs. x ∷ zs) (take_leading xs ys)
 
-  drop_front : (xs ys : List Y) (y : Y) → drop (length xs + 1) (xs ++ y ∷ ys) ≡ ys
-  drop_front [] ys y = refl
-  drop_front (x ∷ xs) ys y = let e : suc (length xs) + 1 ≡ suc (length xs + 1) = omega arith in rw e (drop_front xs ys y)
+  drop_leading : (xs ys : List Y) (y : Y) → drop (length xs + 1) (xs ++ y ∷ ys) ≡ ys
+  drop_leading [] ys y = refl
+  drop_leading (x ∷ xs) ys y = let e : suc (length xs) + 1 ≡ suc (length xs + 1) = omega arith in rw e (drop_leading xs ys y)
 
   long_more : (xs : List Y) (y : Y) → length (xs ++ y ∷ []) ≡ length xs + 1
   long_more [] y = refl
   long_more (x ∷ xs) y = let e : length (xs ++ y ∷ []) ≡ length xs + 1 = long_more xs y in omega (arith, e)
 
-  by_place : (seen ys : List Y) → flat_map (gathered_at same (seen ++ ys)) (enumerate_from (length seen) ys) ≡ after_seen seen ys
-  by_place seen [] = refl
-  by_place seen (y ∷ ys) =
-      let here : gathered_at same (seen ++ y ∷ ys) (length seen, y) ≡ group_of seen y ys =
-      (λ k. if list_any (same y) (take_front seen (y ∷ ys) k) then [] else (y ∷ filter (same y) (drop_front seen ys y k)) ∷ []) in
-      let all : seen ++ y ∷ ys ≡ (seen ++ y ∷ []) ++ ys = sym (append_assoc seen (y ∷ []) ys) in
-      (λ k. here k ++ flat_map (gathered_at same (all k)) (enumerate_from (sym (long_more seen y) k) ys))
-      ∙ ap (λ bs. group_of seen y ys ++ bs) (by_place (seen ++ y ∷ []) ys)
+  by_index : (earlier ys : List Y) → flat_map (gathered_at same (earlier ++ ys)) (enumerate_from (length earlier) ys) ≡ after_earlier earlier ys
+  by_index earlier [] = refl
+  by_index earlier (y ∷ ys) =
+      let here : gathered_at same (earlier ++ y ∷ ys) (length earlier, y) ≡ group_of earlier y ys =
+      (λ k. if list_any (same y) (take_leading earlier (y ∷ ys) k) then [] else (y ∷ filter (same y) (drop_leading earlier ys y k)) ∷ []) in
+      let all : earlier ++ y ∷ ys ≡ (earlier ++ y ∷ []) ++ ys = sym (append_assoc earlier (y ∷ []) ys) in
+      (λ k. here k ++ flat_map (gathered_at same (all k)) (enumerate_from (sym (long_more earlier y) k) ys))
+      ∙ ap (λ bs. group_of earlier y ys ++ bs) (by_index (earlier ++ y ∷ []) ys)
 
-  -- members gathered are those where none were seen before
-  pub gathered_as : (ys : List Y) → gathered same ys ≡ after_seen [] ys
-  gathered_as ys = by_place [] ys
+  -- members gathered are those where none came before
+  pub gathered_as : (ys : List Y) → gathered same ys ≡ after_earlier [] ys
+  gathered_as ys = by_index [] ys
 
   any-append : (p : Y → Bool) (xs ys : List Y) → list_any p (xs ++ ys) ≡ (list_any p xs || list_any p ys)
   any-append p [] ys = refl
@@ -63,28 +63,28 @@ module _ {Y : Type 0} (same : Y → Y → Bool) where
       or-false false = refl
 
   module _ (symmetric : (a b : Y) → same a b ≡ same b a) (transitive : (a b c : Y) → same a b ≡ true → same b c ≡ true → same a c ≡ true) (x : Y) where
-    apart_by : (seen : List Y) (s y : Y) → (list_any (same y) seen ≡ true → list_any (same x) seen ≡ false → same y x ≡ false) → (b c d : Bool) → same y x ≡ b → same y s ≡ c → same x s ≡ d
-        → (same y s || list_any (same y) seen) ≡ true → (same x s || list_any (same x) seen) ≡ false → same y x ≡ false
-    apart_by seen s y on false c d e f i h g = e
-    apart_by seen s y on true c true e f i h g = absurd (true≢false (sym (ap (λ t. t || list_any (same x) seen) i) ∙ g))
-    apart_by seen s y on true true false e f i h g = absurd (true≢false (sym (transitive x y s (symmetric x y ∙ e) f) ∙ i))
-    apart_by seen s y on true false false e f i h g = on (sym (ap (λ t. t || list_any (same y) seen) f) ∙ h) (sym (ap (λ t. t || list_any (same x) seen) i) ∙ g)
+    apart_by : (earlier : List Y) (s y : Y) → (list_any (same y) earlier ≡ true → list_any (same x) earlier ≡ false → same y x ≡ false) → (b c d : Bool) → same y x ≡ b → same y s ≡ c → same x s ≡ d
+        → (same y s || list_any (same y) earlier) ≡ true → (same x s || list_any (same x) earlier) ≡ false → same y x ≡ false
+    apart_by earlier s y on false c d e f i h g = e
+    apart_by earlier s y on true c true e f i h g = absurd (true≢false (sym (ap (λ t. t || list_any (same x) earlier) i) ∙ g))
+    apart_by earlier s y on true true false e f i h g = absurd (true≢false (sym (transitive x y s (symmetric x y ∙ e) f) ∙ i))
+    apart_by earlier s y on true false false e f i h g = on (sym (ap (λ t. t || list_any (same y) earlier) f) ∙ h) (sym (ap (λ t. t || list_any (same x) earlier) i) ∙ g)
 
     -- nothing is the same as what is the same as another one
-    apart_from : (seen : List Y) (y : Y) → list_any (same y) seen ≡ true → list_any (same x) seen ≡ false → same y x ≡ false
+    apart_from : (earlier : List Y) (y : Y) → list_any (same y) earlier ≡ true → list_any (same x) earlier ≡ false → same y x ≡ false
     apart_from [] y h g = absurd (true≢false (sym h))
-    apart_from (s ∷ seen) y h g = apart_by seen s y (apart_from seen y) (same y x) (same y s) (same x s) refl refl refl h g
+    apart_from (s ∷ earlier) y h g = apart_by earlier s y (apart_from earlier y) (same y x) (same y s) (same x s) refl refl refl h g
 
-    seen_by : (seen : List Y) (s y : Y) → (list_any (same x) seen ≡ true → list_any (same y) seen ≡ false → same y x ≡ false) → (b c d : Bool) → same y x ≡ b → same x s ≡ c → same y s ≡ d
-        → (same x s || list_any (same x) seen) ≡ true → (same y s || list_any (same y) seen) ≡ false → same y x ≡ false
-    seen_by seen s y on false c d e f i h g = e
-    seen_by seen s y on true c true e f i h g = absurd (true≢false (sym (ap (λ t. t || list_any (same y) seen) i) ∙ g))
-    seen_by seen s y on true true false e f i h g = absurd (true≢false (sym (transitive y x s e f) ∙ i))
-    seen_by seen s y on true false false e f i h g = on (sym (ap (λ t. t || list_any (same x) seen) f) ∙ h) (sym (ap (λ t. t || list_any (same y) seen) i) ∙ g)
+    earlier_by : (earlier : List Y) (s y : Y) → (list_any (same x) earlier ≡ true → list_any (same y) earlier ≡ false → same y x ≡ false) → (b c d : Bool) → same y x ≡ b → same x s ≡ c → same y s ≡ d
+        → (same x s || list_any (same x) earlier) ≡ true → (same y s || list_any (same y) earlier) ≡ false → same y x ≡ false
+    earlier_by earlier s y on false c d e f i h g = e
+    earlier_by earlier s y on true c true e f i h g = absurd (true≢false (sym (ap (λ t. t || list_any (same y) earlier) i) ∙ g))
+    earlier_by earlier s y on true true false e f i h g = absurd (true≢false (sym (transitive y x s e f) ∙ i))
+    earlier_by earlier s y on true false false e f i h g = on (sym (ap (λ t. t || list_any (same x) earlier) f) ∙ h) (sym (ap (λ t. t || list_any (same y) earlier) i) ∙ g)
 
-    apart_seen : (seen : List Y) (y : Y) → list_any (same x) seen ≡ true → list_any (same y) seen ≡ false → same y x ≡ false
-    apart_seen [] y h g = absurd (true≢false (sym h))
-    apart_seen (s ∷ seen) y h g = seen_by seen s y (apart_seen seen y) (same y x) (same x s) (same y s) refl refl refl h g
+    apart_earlier : (earlier : List Y) (y : Y) → list_any (same x) earlier ≡ true → list_any (same y) earlier ≡ false → same y x ≡ false
+    apart_earlier [] y h g = absurd (true≢false (sym h))
+    apart_earlier (s ∷ earlier) y h g = earlier_by earlier s y (apart_earlier earlier y) (same y x) (same x s) (same y s) refl refl refl h g
 
     one_more : (y : Y) (ys : List Y) (b : Bool) → same y x ≡ b → filter (same y) (ys ++ x ∷ []) ≡ filter (same y) ys ++ (if b then x ∷ [] else [])
     one_more y ys b e = filter-append (same y) ys (x ∷ []) ∙ ap (λ zs. filter (same y) ys ++ zs) (one_of b e)
@@ -93,49 +93,49 @@ module _ {Y : Type 0} (same : Y → Y → Bool) where
         one_of true f = ap (λ c. if c then x ∷ [] else []) f
         one_of false f = ap (λ c. if c then x ∷ [] else []) f
 
-    seen_more : (seen : List Y) (y : Y) (b c : Bool) → list_any (same x) seen ≡ b → same x y ≡ c → list_any (same x) (seen ++ y ∷ []) ≡ (b || c)
-    seen_more seen y b c e f = any-last (same x) seen y ∙ (λ k. e k || f k)
+    earlier_more : (earlier : List Y) (y : Y) (b c : Bool) → list_any (same x) earlier ≡ b → same x y ≡ c → list_any (same x) (earlier ++ y ∷ []) ≡ (b || c)
+    earlier_more earlier y b c e f = any-last (same x) earlier y ∙ (λ k. e k || f k)
 
-    same_group : (seen ys : List Y) (y : Y) → list_any (same x) seen ≡ true → (b : Bool) → list_any (same y) seen ≡ b → group_of seen y (ys ++ x ∷ []) ≡ group_of seen y ys
-    same_group seen ys y h true e = ap (λ b. if b then [] else (y ∷ filter (same y) (ys ++ x ∷ [])) ∷ []) e ∙ sym (ap (λ b. if b then [] else (y ∷ filter (same y) ys) ∷ []) e)
-    same_group seen ys y h false e = ap (λ zs. if list_any (same y) seen then [] else (y ∷ zs) ∷ []) (one_more y ys false (apart_seen seen y h e) ∙ append-nil (filter (same y) ys))
+    same_group : (earlier ys : List Y) (y : Y) → list_any (same x) earlier ≡ true → (b : Bool) → list_any (same y) earlier ≡ b → group_of earlier y (ys ++ x ∷ []) ≡ group_of earlier y ys
+    same_group earlier ys y h true e = ap (λ b. if b then [] else (y ∷ filter (same y) (ys ++ x ∷ [])) ∷ []) e ∙ sym (ap (λ b. if b then [] else (y ∷ filter (same y) ys) ∷ []) e)
+    same_group earlier ys y h false e = ap (λ zs. if list_any (same y) earlier then [] else (y ∷ zs) ∷ []) (one_more y ys false (apart_earlier earlier y h e) ∙ append-nil (filter (same y) ys))
 
-    -- where one that is the same was seen, a further member is in no group
-    unchanged : (seen ys : List Y) → list_any (same x) seen ≡ true → after_seen seen (ys ++ x ∷ []) ≡ after_seen seen ys
-    unchanged seen [] h = ap (λ b. (if b then [] else (x ∷ []) ∷ []) ++ []) h
-    unchanged seen (y ∷ ys) h =
-        (λ k. same_group seen ys y h (list_any (same y) seen) refl k ++ unchanged (seen ++ y ∷ []) ys (seen_more seen y true (same x y) h refl) k)
+    -- where one that is the same was met, a further member is in no group
+    unchanged : (earlier ys : List Y) → list_any (same x) earlier ≡ true → after_earlier earlier (ys ++ x ∷ []) ≡ after_earlier earlier ys
+    unchanged earlier [] h = ap (λ b. (if b then [] else (x ∷ []) ∷ []) ++ []) h
+    unchanged earlier (y ∷ ys) h =
+        (λ k. same_group earlier ys y h (list_any (same y) earlier) refl k ++ unchanged (earlier ++ y ∷ []) ys (earlier_more earlier y true (same x y) h refl) k)
 
-    module _ (seen ys : List Y) (y : Y) (none : list_any (same x) seen ≡ false) (on : list_any (same x) (seen ++ y ∷ []) ≡ false → after_seen (seen ++ y ∷ []) (ys ++ x ∷ []) ≡ put_in same x (after_seen (seen ++ y ∷ []) ys)) where
-      apart_on : same y x ≡ false → after_seen (seen ++ y ∷ []) (ys ++ x ∷ []) ≡ put_in same x (after_seen (seen ++ y ∷ []) ys)
-      apart_on f = on (seen_more seen y false false none (symmetric x y ∙ f))
+    module _ (earlier ys : List Y) (y : Y) (none : list_any (same x) earlier ≡ false) (on : list_any (same x) (earlier ++ y ∷ []) ≡ false → after_earlier (earlier ++ y ∷ []) (ys ++ x ∷ []) ≡ put_in same x (after_earlier (earlier ++ y ∷ []) ys)) where
+      apart_on : same y x ≡ false → after_earlier (earlier ++ y ∷ []) (ys ++ x ∷ []) ≡ put_in same x (after_earlier (earlier ++ y ∷ []) ys)
+      apart_on f = on (earlier_more earlier y false false none (symmetric x y ∙ f))
 
-      joined_on : same y x ≡ true → after_seen (seen ++ y ∷ []) (ys ++ x ∷ []) ≡ after_seen (seen ++ y ∷ []) ys
-      joined_on f = unchanged (seen ++ y ∷ []) ys (any-last (same x) seen y ∙ (λ j. none j || (symmetric x y ∙ f) j))
+      joined_on : same y x ≡ true → after_earlier (earlier ++ y ∷ []) (ys ++ x ∷ []) ≡ after_earlier (earlier ++ y ∷ []) ys
+      joined_on f = unchanged (earlier ++ y ∷ []) ys (any-last (same x) earlier y ∙ (λ j. none j || (symmetric x y ∙ f) j))
 
-      with_group : (b : Bool) → list_any (same y) seen ≡ b
-          → after_seen seen (y ∷ ys ++ x ∷ []) ≡ (if b then [] else (y ∷ filter (same y) (ys ++ x ∷ [])) ∷ []) ++ after_seen (seen ++ y ∷ []) (ys ++ x ∷ [])
-      with_group b e = ap (λ t. (if t then [] else (y ∷ filter (same y) (ys ++ x ∷ [])) ∷ []) ++ after_seen (seen ++ y ∷ []) (ys ++ x ∷ [])) e
+      with_group : (b : Bool) → list_any (same y) earlier ≡ b
+          → after_earlier earlier (y ∷ ys ++ x ∷ []) ≡ (if b then [] else (y ∷ filter (same y) (ys ++ x ∷ [])) ∷ []) ++ after_earlier (earlier ++ y ∷ []) (ys ++ x ∷ [])
+      with_group b e = ap (λ t. (if t then [] else (y ∷ filter (same y) (ys ++ x ∷ [])) ∷ []) ++ after_earlier (earlier ++ y ∷ []) (ys ++ x ∷ [])) e
 
-      put_with : (b : Bool) → list_any (same y) seen ≡ b
-          → put_in same x ((if b then [] else (y ∷ filter (same y) ys) ∷ []) ++ after_seen (seen ++ y ∷ []) ys) ≡ put_in same x (after_seen seen (y ∷ ys))
-      put_with b e = sym (ap (λ t. put_in same x ((if t then [] else (y ∷ filter (same y) ys) ∷ []) ++ after_seen (seen ++ y ∷ []) ys)) e)
+      put_with : (b : Bool) → list_any (same y) earlier ≡ b
+          → put_in same x ((if b then [] else (y ∷ filter (same y) ys) ∷ []) ++ after_earlier (earlier ++ y ∷ []) ys) ≡ put_in same x (after_earlier earlier (y ∷ ys))
+      put_with b e = sym (ap (λ t. put_in same x ((if t then [] else (y ∷ filter (same y) ys) ∷ []) ++ after_earlier (earlier ++ y ∷ []) ys)) e)
 
       put_first : (c : Bool) → same y x ≡ c
-          → (if c then ((y ∷ filter (same y) ys) ++ x ∷ []) ∷ after_seen (seen ++ y ∷ []) ys else (y ∷ filter (same y) ys) ∷ put_in same x (after_seen (seen ++ y ∷ []) ys))
-          ≡ put_in same x ((y ∷ filter (same y) ys) ∷ after_seen (seen ++ y ∷ []) ys)
+          → (if c then ((y ∷ filter (same y) ys) ++ x ∷ []) ∷ after_earlier (earlier ++ y ∷ []) ys else (y ∷ filter (same y) ys) ∷ put_in same x (after_earlier (earlier ++ y ∷ []) ys))
+          ≡ put_in same x ((y ∷ filter (same y) ys) ∷ after_earlier (earlier ++ y ∷ []) ys)
       put_first c f =
-          sym (ap (λ t. if t then ((y ∷ filter (same y) ys) ++ x ∷ []) ∷ after_seen (seen ++ y ∷ []) ys else (y ∷ filter (same y) ys) ∷ put_in same x (after_seen (seen ++ y ∷ []) ys)) f)
+          sym (ap (λ t. if t then ((y ∷ filter (same y) ys) ++ x ∷ []) ∷ after_earlier (earlier ++ y ∷ []) ys else (y ∷ filter (same y) ys) ∷ put_in same x (after_earlier (earlier ++ y ∷ []) ys)) f)
 
-      put_by : (b c : Bool) → list_any (same y) seen ≡ b → same y x ≡ c → after_seen seen (y ∷ ys ++ x ∷ []) ≡ put_in same x (after_seen seen (y ∷ ys))
-      put_by true c e f = with_group true e ∙ apart_on (apart_from seen y e none) ∙ put_with true e
+      put_by : (b c : Bool) → list_any (same y) earlier ≡ b → same y x ≡ c → after_earlier earlier (y ∷ ys ++ x ∷ []) ≡ put_in same x (after_earlier earlier (y ∷ ys))
+      put_by true c e f = with_group true e ∙ apart_on (apart_from earlier y e none) ∙ put_with true e
       put_by false true e f = with_group false e ∙ (λ k. (y ∷ one_more y ys true f k) ∷ joined_on f k) ∙ put_first true f ∙ put_with false e
       put_by false false e f = with_group false e ∙ (λ k. (y ∷ (one_more y ys false f ∙ append-nil (filter (same y) ys)) k) ∷ apart_on f k) ∙ put_first false f ∙ put_with false e
 
-    -- where none was seen, it is in the group that takes it
-    put_last : (seen ys : List Y) → list_any (same x) seen ≡ false → after_seen seen (ys ++ x ∷ []) ≡ put_in same x (after_seen seen ys)
-    put_last seen [] h = ap (λ b. (if b then [] else (x ∷ []) ∷ []) ++ []) h
-    put_last seen (y ∷ ys) h = put_by seen ys y h (put_last (seen ++ y ∷ []) ys) (list_any (same y) seen) (same y x) refl refl
+    -- where none was met, it is in the group that takes it
+    put_last : (earlier ys : List Y) → list_any (same x) earlier ≡ false → after_earlier earlier (ys ++ x ∷ []) ≡ put_in same x (after_earlier earlier ys)
+    put_last earlier [] h = ap (λ b. (if b then [] else (x ∷ []) ∷ []) ++ []) h
+    put_last earlier (y ∷ ys) h = put_by earlier ys y h (put_last (earlier ++ y ∷ []) ys) (list_any (same y) earlier) (same y x) refl refl
 
     -- a further member is put in
     pub gathered-last : (ys : List Y) → gathered same (ys ++ x ∷ []) ≡ put_in same x (gathered same ys)
@@ -171,11 +171,11 @@ pub block-last : {X : Type 0} (xs : List (blocks.Gathered X)) (x : blocks.Gather
 block-last xs x = gathered-last is_of_block (λ a b. names-symmetric a.names b.names) (λ a b c. names-transitive a.names b.names c.names) x xs
 
 -- one more cite
-pub gathered_more : (cites : List Gathered) (i : ℕ) (x : Gathered) (now new : List (List (blocks.Gathered ℕ))) → i < length cites → x ≡ get_or cites i x → now ≡ gathered is_of_block (map gathered_seen (take i cites))
-    → new ≡ put_in is_of_block (gathered_seen x) now → new ≡ gathered is_of_block (map gathered_seen (take (i + 1) cites))
+pub gathered_more : (cites : List Gathered) (i : ℕ) (x : Gathered) (now new : List (List (blocks.Gathered ℕ))) → i < length cites → x ≡ get_or cites i x → now ≡ gathered is_of_block (map gathered_view (take i cites))
+    → new ≡ put_in is_of_block (gathered_view x) now → new ≡ gathered is_of_block (map gathered_view (take (i + 1) cites))
 gathered_more cites i x now new less is h e =
     e
-    ∙ ap (put_in is_of_block (gathered_seen x)) h
-    ∙ sym (block-last (map gathered_seen (take i cites)) (gathered_seen x))
-    ∙ ap (λ y. gathered is_of_block (map gathered_seen (take i cites) ++ gathered_seen y ∷ [])) is
-    ∙ ap (gathered is_of_block) (sym (map_more gathered_seen cites i x less))
+    ∙ ap (put_in is_of_block (gathered_view x)) h
+    ∙ sym (block-last (map gathered_view (take i cites)) (gathered_view x))
+    ∙ ap (λ y. gathered is_of_block (map gathered_view (take i cites) ++ gathered_view y ∷ [])) is
+    ∙ ap (gathered is_of_block) (sym (map_more gathered_view cites i x less))

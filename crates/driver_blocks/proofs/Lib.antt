@@ -1,6 +1,6 @@
-pub mod BlocksRows
-pub mod RowsCut
-pub mod RowsSteps
+pub mod BlocksCases
+pub mod RunsCut
+pub mod RunsSteps
 pub mod GatheredSteps
 pub mod PutSteps
 pub mod IndexedSteps

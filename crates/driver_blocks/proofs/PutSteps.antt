@@ -4,10 +4,10 @@ use Rattle.std.proofs.Common.{◌≡◌, ℕ, suc, ◌+◌, ◌<◌, Bool, true,
 use Rattle.std.specs.Prelude.{if◌then◌else◌}
 use Rattle.std.proofs.lemmas.List.{get_or-map, length-map, map-append, map-set}
 use Rattle.driver_blocks.specs.Blocks.{is_of_block}
-use Rattle.driver_blocks.specs.Views.{blocks_seen, first_taking, gathered_seen, put_in, takes}
+use Rattle.driver_blocks.specs.Views.{blocks_view, first_taking, gathered_view, put_in, takes}
 use Rattle.driver_blocks.specs.declared.cite.Gathered.{Gathered}
 
--- A member is put in the group at a place, or, without one, in one of its own after all groups.
+-- A member is put in the group at an index, or, without one, in one of its own after all groups.
 abbrev pub IsPut : {Y : Type 0} → (Y → Y → Bool) → Y → List (List Y) → Option ℕ → Type 0
 IsPut same x bs None = put_in same x bs ≡ bs ++ (x ∷ []) ∷ []
 IsPut same x bs (Some i) = (i < length bs) × (put_in same x bs ≡ set bs i (get_or bs i [] ++ x ∷ []))
@@ -40,22 +40,22 @@ module _ {Y : Type 0} (same : Y → Y → Bool) (x : Y) where
   from_first : (bs : List (List Y)) (r : Option ℕ) → IsPutFrom 0 bs r → IsPut same x bs r
   from_first bs None h = h
   from_first bs (Some i) (k, is, less, put) =
-      let same_place : k ≡ i = omega (arith, is) in
-      subst (λ j. (j < length bs) × (put_in same x bs ≡ set bs j (get_or bs j [] ++ x ∷ []))) same_place (less, put)
+      let same_index : k ≡ i = omega (arith, is) in
+      subst (λ j. (j < length bs) × (put_in same x bs ≡ set bs j (get_or bs j [] ++ x ∷ []))) same_index (less, put)
 
   -- a member is put in the first group that takes it
   pub put_first : (bs : List (List Y)) (r : Option ℕ) → r ≡ first_taking same x 0 bs → IsPut same x bs r
   put_first bs r is = subst (IsPut same x bs) (sym is) (from_first bs (first_taking same x 0 bs) (put_from 0 bs))
 
--- the block at a place
-pub block_at : (bs : List (Vec Gathered Global)) (i : ℕ) (b : Vec Gathered Global) → i < length bs → b ≡ get_or bs i b → map gathered_seen b.items ≡ get_or (blocks_seen bs) i []
-block_at bs i b less is = ap (λ (v : Vec Gathered Global). map gathered_seen v.items) is ∙ sym (get_or-map (λ (v : Vec Gathered Global). map gathered_seen v.items) bs i b [] less)
+-- the block at an index
+pub block_at : (bs : List (Vec Gathered Global)) (i : ℕ) (b : Vec Gathered Global) → i < length bs → b ≡ get_or bs i b → map gathered_view b.items ≡ get_or (blocks_view bs) i []
+block_at bs i b less is = ap (λ (v : Vec Gathered Global). map gathered_view v.items) is ∙ sym (get_or-map (λ (v : Vec Gathered Global). map gathered_view v.items) bs i b [] less)
 
--- a cite is put in where the block at its place got it
-pub put_pushed : (bs : List (Vec Gathered Global)) (i : ℕ) (old new : Vec Gathered Global) (x : Gathered) → IsPut is_of_block (gathered_seen x) (blocks_seen bs) (Some i) → old ≡ get_or bs i old → new.items ≡ old.items ++ x ∷ []
-    → blocks_seen (set bs i new) ≡ put_in is_of_block (gathered_seen x) (blocks_seen bs)
+-- a cite is put in where the block at its index got it
+pub put_pushed : (bs : List (Vec Gathered Global)) (i : ℕ) (old new : Vec Gathered Global) (x : Gathered) → IsPut is_of_block (gathered_view x) (blocks_view bs) (Some i) → old ≡ get_or bs i old → new.items ≡ old.items ++ x ∷ []
+    → blocks_view (set bs i new) ≡ put_in is_of_block (gathered_view x) (blocks_view bs)
 put_pushed bs i old new x (less, put) is e =
-    let within : i < length bs = omega (arith, less, length-map bs (λ (v : Vec Gathered Global). map gathered_seen v.items)) in
-    map-set (λ (v : Vec Gathered Global). map gathered_seen v.items) bs i new
-    ∙ ap (λ b. set (blocks_seen bs) i b) (ap (map gathered_seen) e ∙ map-append gathered_seen old.items (x ∷ []) ∙ ap (λ b. b ++ gathered_seen x ∷ []) (block_at bs i old within is))
+    let within : i < length bs = omega (arith, less, length-map bs (λ (v : Vec Gathered Global). map gathered_view v.items)) in
+    map-set (λ (v : Vec Gathered Global). map gathered_view v.items) bs i new
+    ∙ ap (λ b. set (blocks_view bs) i b) (ap (map gathered_view) e ∙ map-append gathered_view old.items (x ∷ []) ∙ ap (λ b. b ++ gathered_view x ∷ []) (block_at bs i old within is))
     ∙ sym put

@@ -8,7 +8,7 @@ use Rattle.rendering_style.specs.Styles.{Citation}
 use Rattle.driver_requests.specs.Suffixes.{Suffix}
 
 -- A cite as it is gathered and collapsed: the cite; its names element and, if it prints a citation number, its number, both as printed by
--- its mark without its locator; whether it is shown, whether it has a locator, and the letters of its entry.
+-- its state without its locator; whether it is shown, whether it has a locator, and the year suffix of its entry.
 pub record Gathered (X : Type 0) : Type 0 where
   pub cite : X
   pub names : Option Element

@@ -5,7 +5,7 @@ use Rattle.std.specs.Option.{option_or, option_map_or}
 use Rattle.rendering_style.specs.Styles.{Citation}
 use Rattle.driver_requests.specs.Suffixes.{Suffix, is_origin}
 use Rattle.driver_blocks.specs.Blocks.{Gathered, blocks, inside_delimiter}
-use Rattle.driver_blocks.specs.Rows.{Arranged, rows_of, is_long, collapsed_row}
+use Rattle.driver_blocks.specs.Runs.{Arranged, runs_of, is_long, collapsed_run}
 use Rattle.rendering_taxonomy.specs.declared.cite.CollapseVerdict.{CollapseVerdict}
 use Rattle.rendering_taxonomy.specs.declared.cite.CollapseVerdict.TheVariants as verdicts
 use Rattle.rendering_taxonomy.specs.declared.style.Collapse.{Collapse}
@@ -45,20 +45,20 @@ is_next_number a b = is_next (shown_number a) (shown_number b)
 abbrev pub is_numbered : {X : Type 0} → Arranged X → Bool
 is_numbered a = is_some (shown_number a)
 
--- a row; where the row before it was collapsed and this one has numbers, the delimiter that follows what was collapsed comes before it
-abbrev pub after_row : {X : Type 0} → Citation → Bool × List (Arranged X) → List (Arranged X)
-after_row c (is_after, []) = []
-after_row c (is_after, a ∷ others) = if is_after && is_numbered a then record a { delimiter = delimiter_after_collapsed c } ∷ others else a ∷ others
+-- a run; where the run before it was collapsed and this one has numbers, the delimiter that follows what was collapsed comes before it
+abbrev pub after_run : {X : Type 0} → Citation → Bool × List (Arranged X) → List (Arranged X)
+after_run c (is_after, []) = []
+after_run c (is_after, a ∷ others) = if is_after && is_numbered a then record a { delimiter = delimiter_after_collapsed c } ∷ others else a ∷ others
 
 -- Cites whose numbers are collapsed: of three or more numbers that rise by one, those between the first and the last are hidden.
 abbrev pub numbers_collapsed : {X : Type 0} → Citation → List (Arranged X) → List (Arranged X)
-numbers_collapsed c xs = flat_map (λ r. collapsed_row (after_row c r)) (with_previous_test is_long (rows_of is_next_number xs))
+numbers_collapsed c xs = flat_map (λ r. collapsed_run (after_run c r)) (with_previous_test is_long (runs_of is_next_number xs))
 
--- whether letters are others than the first ones
+-- whether a year suffix is another one than the first
 abbrev pub is_further : Suffix → Bool
-is_further s = nat_lt 0 s.place
+is_further s = nat_lt 0 s.index
 
--- what is left of a later cite where letters are collapsed: its letters alone, if they are not the first ones, else its first date
+-- what is left of a later cite where year suffixes are collapsed: its year suffix alone, if it is not the first one, else its first date
 abbrev pub suffix_verdict : Option Suffix → CollapseVerdict
 suffix_verdict suffix = if option_map_or is_further suffix false then verdicts.YearSuffix else verdicts.First
 
@@ -91,27 +91,27 @@ year_block c mode (is_after, x ∷ xs) = uncollapsed (if is_after then delimiter
 abbrev pub has_later : {Y : Type 0} → List Y → Bool
 has_later ys = nat_le 2 (length ys)
 
--- whether letters come next after others that the same class got in the same round
+-- whether a year suffix comes next after another one that the same class got in the same round
 abbrev pub is_next_suffix : Option Suffix → Option Suffix → Bool
-is_next_suffix (Some s) (Some t) = t.place == s.place + 1 && is_origin s.origin t.origin
+is_next_suffix (Some s) (Some t) = t.index == s.index + 1 && is_origin s.origin t.origin
 is_next_suffix s t = false
 
--- the letters of a cite that is shown without a locator
+-- the year suffix of a cite that is shown without a locator
 abbrev pub shown_suffix : {X : Type 0} → Arranged X → Option Suffix
 shown_suffix a = if a.is_shown && not a.cite.has_locator then a.cite.suffix else None
 
--- whether its letters alone are left of a cite
+-- whether its year suffix alone is left of a cite
 abbrev pub is_suffix_alone : Option CollapseVerdict → Bool
 is_suffix_alone (Some verdicts.YearSuffix) = true
 is_suffix_alone v = false
 
--- whether a cite continues a row of letters: its letters alone are left, and come next after those of the cite before it
+-- whether a cite continues a run of year suffixes: its year suffix alone is left, and comes next after that of the cite before it
 abbrev pub continues : {X : Type 0} → Arranged X → Arranged X → Bool
 continues a b = is_suffix_alone b.verdict && is_next_suffix (shown_suffix a) (shown_suffix b)
 
--- a block in which rows of letters are collapsed
+-- a block in which runs of year suffixes are collapsed
 abbrev pub suffixes_collapsed : {X : Type 0} → List (Arranged X) → List (Arranged X)
-suffixes_collapsed xs = flat_map collapsed_row (rows_of continues xs)
+suffixes_collapsed xs = flat_map collapsed_run (runs_of continues xs)
 
 -- a block whose years are collapsed by the mode; no block is collapsed where numbers are
 abbrev pub block_by : {X : Type 0} → Citation → Collapse → Bool × List (Gathered X) → List (Arranged X)

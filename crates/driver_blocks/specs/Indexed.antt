@@ -20,15 +20,15 @@ block_text (x ∷ xs) = names_text x
 abbrev pub is_named : {X : Type 0} → List ℕ → List (Gathered X) → Bool
 is_named q b = option_map_or (bytes_eq q) (block_text b) false
 
--- the places of blocks whose names print and name that, where the first block has that number
-abbrev pub places_of : {X : Type 0} → List ℕ → ℕ → List (List (Gathered X)) → List ℕ
-places_of q n [] = []
-places_of q n (b ∷ bs) = if is_named q b then n ∷ places_of q (n + 1) bs else places_of q (n + 1) bs
+-- the indices of blocks whose names print and name that, where the first block has that number
+abbrev pub indices_of : {X : Type 0} → List ℕ → ℕ → List (List (Gathered X)) → List ℕ
+indices_of q n [] = []
+indices_of q n (b ∷ bs) = if is_named q b then n ∷ indices_of q (n + 1) bs else indices_of q (n + 1) bs
 
--- the places under a text
+-- the indices under a text
 abbrev pub under : {S : Type 0} → HashMap (String Global) (Vec ℕ Global) S → List ℕ → List ℕ
-under index q = option_map_or (λ (v : Vec ℕ Global). v.items) (get_by_text index q) []
+under table q = option_map_or (λ (v : Vec ℕ Global). v.items) (get_by_text table q) []
 
--- a map has of each text the places of the blocks whose names print and name it
+-- a map has of each text the indices of the blocks whose names print and name it
 abbrev pub IsIndex : {S X : Type 0} → HashMap (String Global) (Vec ℕ Global) S → List (List (Gathered X)) → Type 0
-IsIndex index bs = (q : List ℕ) → under index q ≡ places_of q 0 bs
+IsIndex table bs = (q : List ℕ) → under table q ≡ indices_of q 0 bs

@@ -1,5 +1,5 @@
 pub mod Blocks
-pub mod Rows
+pub mod Runs
 pub mod Collapsing
 pub mod Views
 pub mod Indexed

@@ -3,9 +3,9 @@
 ghost use Rattle.std.specs.Prelude.{◌≡◌, ◌++◌, IfOk, OnOk, None, if◌then◌else◌, map};
 ghost use Rattle.std.specs.List.{flat_map};
 ghost use Rattle.rendering_style.specs.Styles as styles;
-ghost use Rattle.rendering_style.specs.Views.{citation_seen};
+ghost use Rattle.rendering_style.specs.Views.{citation_layout_view};
 ghost use Rattle.driver_blocks.specs.Collapsing.{arranged, collapsed, uncollapsed, uncollapsed_block};
-ghost use Rattle.driver_blocks.specs.Views.{arranged_seen, before_seen, blocks_seen, gathered_seen};
+ghost use Rattle.driver_blocks.specs.Views.{arranged_view, before_view, blocks_view, gathered_view};
 
 use crate::blocks::blocks_of;
 use crate::cite::{Arranged, Before, Gathered, uncollapsed};
@@ -25,7 +25,8 @@ pub fn arrange<'a>(
     has_purpose: bool,
     cites: &[Gathered<'a>],
 ) -> Result<Vec<Arranged<'a>>, AllocError>
-    ensures { IfOk result (λ v. map (arranged_seen (citation_seen style.now)) v.items ≡ arranged (citation_seen style.now) has_purpose (map gathered_seen cites.now)) }
+    ensures { IfOk result (λ v. map (arranged_view (citation_layout_view style.now)) v.items
+        ≡ arranged (citation_layout_view style.now) has_purpose (map gathered_view cites.now)) }
 {
     let blocks = blocks_of(alloc, style, cites)?;
     collapse(alloc, mode(has_purpose, style.collapse), &blocks)
@@ -44,7 +45,8 @@ fn collapse<'a>(
     mode: Option<Collapse>,
     blocks: &[Vec<Gathered<'a>>],
 ) -> Result<Vec<Arranged<'a>>, AllocError>
-    ensures { IfOk result (λ v. (c : styles.Citation) → map (arranged_seen c) v.items ≡ collapsed c mode (blocks_seen blocks.now)) }
+    ensures { IfOk result (λ v. (c : styles.Citation)
+        → map (arranged_view c) v.items ≡ collapsed c mode (blocks_view blocks.now)) }
 {
     match mode {
         None => uncollapsed_blocks(alloc, blocks),
@@ -61,7 +63,8 @@ fn uncollapsed_blocks<'a>(
     alloc: Global,
     blocks: &[Vec<Gathered<'a>>],
 ) -> Result<Vec<Arranged<'a>>, AllocError>
-    ensures { IfOk result (λ v. (c : styles.Citation) → map (arranged_seen c) v.items ≡ flat_map (uncollapsed_block c) (blocks_seen blocks.now)) }
+    ensures { IfOk result (λ v. (c : styles.Citation)
+        → map (arranged_view c) v.items ≡ flat_map (uncollapsed_block c) (blocks_view blocks.now)) }
 {
     let mut all = Vec::new(alloc);
     for block in blocks {
@@ -72,7 +75,9 @@ fn uncollapsed_blocks<'a>(
 
 /// Appends a block whose cites print all.
 fn push_whole<'a>(block: &[Gathered<'a>], all: &mut Vec<Arranged<'a>>) -> Result<(), AllocError>
-    ensures { OnOk result ((c : styles.Citation) → map (arranged_seen c) all.new.items ≡ map (arranged_seen c) all.old.items ++ uncollapsed_block c (map gathered_seen block.now)) }
+    ensures { OnOk result ((c : styles.Citation)
+        → map (arranged_view c) all.new.items ≡ map (arranged_view c) all.old.items
+        ++ uncollapsed_block c (map gathered_view block.now)) }
 {
     match block.split_first() {
         Some((first, others)) => {
@@ -89,7 +94,9 @@ fn push_each<'a>(
     cites: &[Gathered<'a>],
     all: &mut Vec<Arranged<'a>>,
 ) -> Result<(), AllocError>
-    ensures { OnOk result ((c : styles.Citation) → map (arranged_seen c) all.new.items ≡ map (arranged_seen c) all.old.items ++ map (uncollapsed (before_seen c before)) (map gathered_seen cites.now)) }
+    ensures { OnOk result ((c : styles.Citation)
+        → map (arranged_view c) all.new.items ≡ map (arranged_view c) all.old.items
+        ++ map (uncollapsed (before_view c before)) (map gathered_view cites.now)) }
 {
     for cite in cites {
         all.push(uncollapsed(before, *cite))?;

@@ -2,10 +2,10 @@
 
 ghost use Rattle.std.specs.Prelude.{◌≡◌, ◌<◌, ◌∷◌, ◌++◌, ℕ, All, List, [], Some, IfOk, OnOk, bytes_eq, find, if◌then◌else◌, length, map, slice_index_or, string_bytes};
 ghost use Rattle.std.specs.Option.{option_map};
-ghost use Rattle.rendering_style.specs.Views.{citation_seen};
+ghost use Rattle.rendering_style.specs.Views.{citation_layout_view};
 ghost use Rattle.driver_blocks.specs.Blocks.{blocks, gathered, gathers, is_of_block};
 ghost use Rattle.driver_blocks.specs.Indexed.{IsIndex, names_text, under};
-ghost use Rattle.driver_blocks.specs.Views.{blocks_seen, first_taking, gathered_seen, put_in, takes};
+ghost use Rattle.driver_blocks.specs.Views.{blocks_view, first_taking, gathered_view, put_in, takes};
 
 use crate::cite::Gathered;
 use crate::key::names_key;
@@ -20,7 +20,8 @@ pub(crate) fn blocks_of<'a>(
     style: &Citation,
     cites: &[Gathered<'a>],
 ) -> Result<Vec<Vec<Gathered<'a>>>, AllocError>
-    ensures { IfOk result (λ v. blocks_seen v.items ≡ blocks (citation_seen style.now) (map gathered_seen cites.now)) }
+    ensures { IfOk result (λ v. blocks_view v.items
+        ≡ blocks (citation_layout_view style.now) (map gathered_view cites.now)) }
 {
     if gathers(style) {
         gather(alloc, cites)
@@ -31,7 +32,7 @@ pub(crate) fn blocks_of<'a>(
 
 /// Whether the cites of a style are gathered.
 fn gathers(style: &Citation) -> bool
-    ensures { result ≡ gathers (citation_seen style.now) }
+    ensures { result ≡ gathers (citation_layout_view style.now) }
 {
     style.cite_group_delimiter.is_some()
         || (style.collapse.is_some() && style.layout.delimiter.is_some())
@@ -42,7 +43,8 @@ fn each_alone<'a>(
     alloc: Global,
     cites: &[Gathered<'a>],
 ) -> Result<Vec<Vec<Gathered<'a>>>, AllocError>
-    ensures { IfOk result (λ v. blocks_seen v.items ≡ map (λ x. x ∷ []) (map gathered_seen cites.now)) }
+    ensures { IfOk result (λ v. blocks_view v.items
+        ≡ map (λ x. x ∷ []) (map gathered_view cites.now)) }
 {
     let mut blocks = Vec::with_capacity(alloc, cites.len())?;
     for cite in cites {
@@ -63,12 +65,13 @@ fn alone<'a>(alloc: Global, cite: Gathered<'a>) -> Result<Vec<Gathered<'a>>, All
 /// Cites gathered in order, those of the same names at the first of them. A cite is compared with those blocks alone whose names print
 /// the same text and name the same people.
 fn gather<'a>(alloc: Global, cites: &[Gathered<'a>]) -> Result<Vec<Vec<Gathered<'a>>>, AllocError>
-    ensures { IfOk result (λ v. blocks_seen v.items ≡ gathered is_of_block (map gathered_seen cites.now)) }
+    ensures { IfOk result (λ v. blocks_view v.items
+        ≡ gathered is_of_block (map gathered_view cites.now)) }
 {
-    let mut index = HashMap::new(alloc);
+    let mut table = HashMap::new(alloc);
     let mut blocks = Vec::new(alloc);
     for cite in cites {
-        put(alloc, *cite, &mut index, &mut blocks)?;
+        put(alloc, *cite, &mut table, &mut blocks)?;
     }
     Ok(blocks)
 }
@@ -77,15 +80,16 @@ fn gather<'a>(alloc: Global, cites: &[Gathered<'a>]) -> Result<Vec<Vec<Gathered<
 fn put<'a>(
     alloc: Global,
     cite: Gathered<'a>,
-    index: &mut HashMap<String, Vec<usize>>,
+    table: &mut HashMap<String, Vec<usize>>,
     blocks: &mut Vec<Vec<Gathered<'a>>>,
 ) -> Result<(), AllocError>
-    requires { IsIndex index.old (blocks_seen blocks.old.items) }
-    ensures blocks { OnOk result (blocks_seen blocks.new.items ≡ put_in is_of_block (gathered_seen cite.entry) (blocks_seen blocks.old.items)) }
-    ensures index { OnOk result (IsIndex index.new (blocks_seen blocks.new.items)) }
+    requires { IsIndex table.old (blocks_view blocks.old.items) }
+    ensures blocks { OnOk result (blocks_view blocks.new.items
+        ≡ put_in is_of_block (gathered_view cite.entry) (blocks_view blocks.old.items)) }
+    ensures table { OnOk result (IsIndex table.new (blocks_view blocks.new.items)) }
 {
     match names_text(alloc, &cite)? {
-        Some(text) => put_named(alloc, cite, text, index, blocks),
+        Some(text) => put_named(alloc, cite, text, table, blocks),
         None => put_alone(alloc, cite, blocks),
     }
 }
@@ -95,18 +99,19 @@ fn put_named<'a>(
     alloc: Global,
     cite: Gathered<'a>,
     text: String,
-    index: &mut HashMap<String, Vec<usize>>,
+    table: &mut HashMap<String, Vec<usize>>,
     blocks: &mut Vec<Vec<Gathered<'a>>>,
 ) -> Result<(), AllocError>
-    requires index { IsIndex index.old (blocks_seen blocks.old.items) }
-    requires text { names_text (gathered_seen cite) ≡ Some (string_bytes text) }
-    ensures blocks { OnOk result (blocks_seen blocks.new.items ≡ put_in is_of_block (gathered_seen cite.entry) (blocks_seen blocks.old.items)) }
-    ensures index { OnOk result (IsIndex index.new (blocks_seen blocks.new.items)) }
+    requires table { IsIndex table.old (blocks_view blocks.old.items) }
+    requires text { names_text (gathered_view cite) ≡ Some (string_bytes text) }
+    ensures blocks { OnOk result (blocks_view blocks.new.items
+        ≡ put_in is_of_block (gathered_view cite.entry) (blocks_view blocks.old.items)) }
+    ensures table { OnOk result (IsIndex table.new (blocks_view blocks.new.items)) }
 {
-    match block_taking(index, text.as_str(), blocks, &cite) {
-        Some(place) => blocks[place].push(cite)?,
+    match block_taking(table, text.as_str(), blocks, &cite) {
+        Some(index) => blocks[index].push(cite)?,
         None => {
-            add(index, text, blocks.len())?;
+            add(table, text, blocks.len())?;
             put_alone(alloc, cite, blocks)?;
         }
     }
@@ -119,7 +124,8 @@ fn put_alone<'a>(
     cite: Gathered<'a>,
     blocks: &mut Vec<Vec<Gathered<'a>>>,
 ) -> Result<(), AllocError>
-    ensures { OnOk result (blocks_seen blocks.new.items ≡ blocks_seen blocks.old.items ++ (gathered_seen cite.entry ∷ []) ∷ []) }
+    ensures { OnOk result (blocks_view blocks.new.items
+        ≡ blocks_view blocks.old.items ++ (gathered_view cite.entry ∷ []) ∷ []) }
 {
     blocks.push(alone(alloc, cite)?)?;
     Ok(())
@@ -127,7 +133,7 @@ fn put_alone<'a>(
 
 /// What the names of a cite print and name, if it prints names.
 fn names_text(alloc: Global, cite: &Gathered) -> Result<Option<String>, AllocError>
-    ensures { IfOk result (λ t. option_map string_bytes t ≡ names_text (gathered_seen cite.now)) }
+    ensures { IfOk result (λ t. option_map string_bytes t ≡ names_text (gathered_view cite.now)) }
 {
     match cite.names {
         Some(names) => Ok(Some(names_key(alloc, names)?)),
@@ -135,43 +141,46 @@ fn names_text(alloc: Global, cite: &Gathered) -> Result<Option<String>, AllocErr
     }
 }
 
-/// Adds the place of a block whose names print and name a text.
+/// Adds the index of a block whose names print and name a text.
 fn add(
-    index: &mut HashMap<String, Vec<usize>>,
+    table: &mut HashMap<String, Vec<usize>>,
     text: String,
-    place: usize,
+    index: usize,
 ) -> Result<(), AllocError>
-    ensures { OnOk result ((q : List ℕ) → under index.new q ≡ under index.old q ++ (if bytes_eq q (string_bytes text) then place ∷ [] else [])) }
+    ensures { OnOk result ((q : List ℕ) → under table.new q
+        ≡ under table.old q ++ (if bytes_eq q (string_bytes text) then index ∷ [] else [])) }
 {
-    index.entry(text)?.or_default().push(place)?;
+    table.entry(text)?.or_default().push(index)?;
     Ok(())
 }
 
-/// The place of the first block that takes a cite whose names print and name a text.
+/// The index of the first block that takes a cite whose names print and name a text.
 fn block_taking(
-    index: &HashMap<String, Vec<usize>>,
+    table: &HashMap<String, Vec<usize>>,
     text: &str,
     blocks: &[Vec<Gathered>],
     cite: &Gathered,
 ) -> Option<usize>
-    requires index { IsIndex index.now (blocks_seen blocks.now) }
-    requires text { names_text (gathered_seen cite.now) ≡ Some text.now }
-    ensures { result ≡ first_taking is_of_block (gathered_seen cite.now) 0 (blocks_seen blocks.now) }
+    requires table { IsIndex table.now (blocks_view blocks.now) }
+    requires text { names_text (gathered_view cite.now) ≡ Some text.now }
+    ensures { result
+        ≡ first_taking is_of_block (gathered_view cite.now) 0 (blocks_view blocks.now) }
 {
-    match index.get(text) {
-        Some(places) => taking_among(places, blocks, cite),
+    match table.get(text) {
+        Some(indices) => taking_among(indices, blocks, cite),
         None => None,
     }
 }
 
-/// The first of these places whose block takes a cite.
-fn taking_among(places: &[usize], blocks: &[Vec<Gathered>], cite: &Gathered) -> Option<usize>
-    requires { All (λ p. p < length blocks.now) places.now }
-    ensures { result ≡ find (λ p. takes is_of_block (slice_index_or (blocks_seen blocks.now) p []) (gathered_seen cite.now)) places.now }
+/// The first of these indices whose block takes a cite.
+fn taking_among(indices: &[usize], blocks: &[Vec<Gathered>], cite: &Gathered) -> Option<usize>
+    requires { All (λ p. p < length blocks.now) indices.now }
+    ensures { result ≡ find (λ p. takes is_of_block
+        (slice_index_or (blocks_view blocks.now) p []) (gathered_view cite.now)) indices.now }
 {
-    for place in places {
-        if takes(&blocks[*place], cite) {
-            return Some(*place);
+    for index in indices {
+        if takes(&blocks[*index], cite) {
+            return Some(*index);
         }
     }
     None
@@ -179,7 +188,7 @@ fn taking_among(places: &[usize], blocks: &[Vec<Gathered>], cite: &Gathered) -> 
 
 /// Whether a cite is of the block that begins with another one.
 fn takes(block: &[Gathered], cite: &Gathered) -> bool
-    ensures { result ≡ takes is_of_block (map gathered_seen block.now) (gathered_seen cite.now) }
+    ensures { result ≡ takes is_of_block (map gathered_view block.now) (gathered_view cite.now) }
 {
     match block.first() {
         Some(first) => are_of_block(first, cite),
@@ -189,7 +198,7 @@ fn takes(block: &[Gathered], cite: &Gathered) -> bool
 
 /// Whether two cites have the same names.
 fn are_of_block(first: &Gathered, cite: &Gathered) -> bool
-    ensures { result ≡ is_of_block (gathered_seen first.now) (gathered_seen cite.now) }
+    ensures { result ≡ is_of_block (gathered_view first.now) (gathered_view cite.now) }
 {
     match (first.names, cite.names) {
         (Some(names), Some(own)) => are_equal_elements(names, own),

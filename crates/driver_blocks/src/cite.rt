@@ -2,10 +2,10 @@
 
 ghost use Rattle.std.specs.Prelude.{◌≡◌, None};
 ghost use Rattle.std.specs.Option.{option_map};
-ghost use Rattle.rendering_style.specs.Views.{citation_seen};
+ghost use Rattle.rendering_style.specs.Views.{citation_layout_view};
 ghost use Rattle.laws.specs.Text.{spelled};
 ghost use Rattle.driver_blocks.specs.Blocks.{inside_delimiter};
-ghost use Rattle.driver_blocks.specs.Views.{before_seen};
+ghost use Rattle.driver_blocks.specs.Views.{before_view};
 
 use driver_requests::Suffix;
 use rendering_style::Citation;
@@ -15,14 +15,14 @@ use rendering_tree::Elem;
 /// A cite of a request as it is gathered and collapsed.
 #[derive(Clone, Copy)]
 pub struct Gathered<'a> {
-    /// Its place among the cites of its request, from zero.
+    /// Its index among the cites of its request, from zero.
     pub cite: usize,
     /// The names, and, where it prints that, the number, both of what it prints without its locator.
     pub names: Option<&'a Elem>,
     pub number: Option<usize>,
     pub is_shown: bool,
     pub has_locator: bool,
-    /// The letters of its entry.
+    /// The year suffix of its entry.
     pub suffix: Option<Suffix>,
 }
 
@@ -45,7 +45,7 @@ pub enum Before {
     Inside,
     /// What stands after what was collapsed.
     AfterCollapse,
-    /// What stands between letters.
+    /// What stands between year suffixes.
     YearSuffix,
     /// An en dash.
     Dash,
@@ -54,7 +54,7 @@ pub enum Before {
 impl Before {
     /// The text of it in a style.
     pub fn text<'s>(self, style: &'s Citation) -> Option<&'s str>
-        ensures { option_map spelled result ≡ before_seen (citation_seen style.now) self }
+        ensures { option_map spelled result ≡ before_view (citation_layout_view style.now) self }
     {
         let layout = style.layout.delimiter.as_deref();
         match self {
@@ -69,7 +69,7 @@ impl Before {
 
 /// What stands between the cites of a block.
 fn inside(style: &Citation) -> Option<&str>
-    ensures { option_map spelled result ≡ inside_delimiter (citation_seen style.now) }
+    ensures { option_map spelled result ≡ inside_delimiter (citation_layout_view style.now) }
 {
     style
         .cite_group_delimiter
@@ -79,7 +79,8 @@ fn inside(style: &Citation) -> Option<&str>
 
 /// A cite that prints all.
 pub(crate) fn uncollapsed<'a>(before: Before, cite: Gathered<'a>) -> Arranged<'a>
-    ensures { result ≡ (record { cite = cite.entry; is_shown = cite.entry.is_shown; before = before; verdict = None }) }
+    ensures { result ≡ (record
+        { cite = cite.entry; is_shown = cite.entry.is_shown; before = before; verdict = None }) }
 {
     Arranged {
         cite,

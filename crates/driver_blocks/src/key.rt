@@ -4,7 +4,7 @@ ghost use Rattle.std.specs.Prelude.{◌≡◌, ◌++◌, IfOk, OnOk, string_byte
 ghost use Rattle.std.specs.Str.{chars};
 ghost use Rattle.laws.specs.Text.{characters};
 ghost use Rattle.rendering_tree.specs.Trees.{Markup};
-ghost use Rattle.rendering_tree.specs.Views.{child, element, tree};
+ghost use Rattle.rendering_tree.specs.Views.{child_view, element_view, tree_view};
 ghost use Rattle.driver_blocks.specs.Key.{child_key, children_key, element_key, names_key};
 
 use crate::people::push_people_of;
@@ -14,7 +14,7 @@ use texts::{empty_text, push_character, push_text};
 
 /// All texts of a names element, with the names of the people before each element that stands for some.
 pub(crate) fn names_key(alloc: Global, names: &Elem) -> Result<String, AllocError>
-    ensures { IfOk result (λ s. string_bytes s ≡ names_key (element names.now)) }
+    ensures { IfOk result (λ s. string_bytes s ≡ names_key (element_view names.now)) }
 {
     let mut key = empty_text(alloc);
     push_element(&mut key, names)?;
@@ -24,7 +24,8 @@ pub(crate) fn names_key(alloc: Global, names: &Elem) -> Result<String, AllocErro
 /// Appends the people that an element stands for and the texts in it.
 #[cycle(key)]
 fn push_element(key: &mut String, elem: &Elem) -> Result<(), AllocError>
-    ensures { OnOk result (characters key.new ≡ characters key.old ++ element_key (element elem.now)) }
+    ensures { OnOk result (characters key.new
+        ≡ characters key.old ++ element_key (element_view elem.now)) }
 {
     push_people_of(key, &elem.meta)?;
     push_children(key, &elem.children)
@@ -33,7 +34,8 @@ fn push_element(key: &mut String, elem: &Elem) -> Result<(), AllocError>
 /// Appends the texts of children and the people that they name.
 #[cycle(key)]
 fn push_children(key: &mut String, parts: &ElemChildren) -> Result<(), AllocError>
-    ensures { OnOk result (characters key.new ≡ characters key.old ++ children_key (tree parts.now)) }
+    ensures { OnOk result (characters key.new
+        ≡ characters key.old ++ children_key (tree_view parts.now)) }
 {
     for part in &parts.0 {
         push_child(key, part)?;
@@ -44,7 +46,8 @@ fn push_children(key: &mut String, parts: &ElemChildren) -> Result<(), AllocErro
 /// Appends the texts of a child and the people that it names.
 #[cycle(key)]
 fn push_child(key: &mut String, part: &ElemChild) -> Result<(), AllocError>
-    ensures { OnOk result (characters key.new ≡ characters key.old ++ child_key (child part.now)) }
+    ensures { OnOk result (characters key.new
+        ≡ characters key.old ++ child_key (child_view part.now)) }
 {
     match part {
         ElemChild::Text(text) => push_text(key, text.text.as_str()),
@@ -57,7 +60,8 @@ fn push_child(key: &mut String, part: &ElemChild) -> Result<(), AllocError>
 
 /// Appends a formula between two dollar signs, by which it is not a text.
 fn push_formula(key: &mut String, formula: &str) -> Result<(), AllocError>
-    ensures { OnOk result (characters key.new ≡ characters key.old ++ child_key (Markup (chars formula.now))) }
+    ensures { OnOk result (characters key.new
+        ≡ characters key.old ++ child_key (Markup (chars formula.now))) }
 {
     push_character(key, '$')?;
     push_text(key, formula)?;
@@ -66,7 +70,8 @@ fn push_formula(key: &mut String, formula: &str) -> Result<(), AllocError>
 
 /// Appends a text and the address to which it leads.
 fn push_link(key: &mut String, text: &str, url: &str) -> Result<(), AllocError>
-    ensures { OnOk result (characters key.new ≡ characters key.old ++ chars text.now ++ chars url.now) }
+    ensures { OnOk result (characters key.new
+        ≡ characters key.old ++ chars text.now ++ chars url.now) }
 {
     push_text(key, text)?;
     push_text(key, url)

@@ -1,4 +1,4 @@
-//! How the cites of one citation are gathered in blocks and collapsed: numbers, years and letters.
+//! How the cites of one citation are gathered in blocks and collapsed: numbers, years and year suffixes.
 #![tactic(auto)]
 
 mod arranging;
@@ -7,7 +7,7 @@ mod cite;
 mod key;
 mod numbers;
 mod people;
-mod rows;
+mod runs;
 mod suffixes;
 mod years;
 

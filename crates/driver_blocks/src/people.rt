@@ -4,8 +4,8 @@ ghost use Rattle.std.specs.Prelude.{◌≡◌, ◌++◌, [], map, OnOk, unwrap_o
 ghost use Rattle.std.specs.List.{flat_map};
 ghost use Rattle.std.specs.Option.{option_map};
 ghost use Rattle.laws.specs.Text.{characters};
-ghost use Rattle.literature_values.specs.PersonViews.{person as person_seen};
-ghost use Rattle.rendering_tree.specs.Views.{answered as answered_seen, meaning};
+ghost use Rattle.literature_values.specs.PersonViews.{person_view};
+ghost use Rattle.rendering_tree.specs.Views.{answered_view, meta_view};
 ghost use Rattle.driver_blocks.specs.Key.{name_text, names_in, people_text};
 
 use literature_values::Person;
@@ -16,7 +16,8 @@ use texts::push_text;
 
 /// Appends the names of all people that an element stands for.
 pub(crate) fn push_people_of(text: &mut String, meta: &Option<ElemMeta>) -> Result<(), AllocError>
-    ensures { OnOk result (characters text.new ≡ characters text.old ++ people_text (option_map meaning meta.now)) }
+    ensures { OnOk result (characters text.new
+        ≡ characters text.old ++ people_text (option_map meta_view meta.now)) }
 {
     match meta {
         Some(ElemMeta::Names(variables)) => push_variables(text, variables),
@@ -29,7 +30,8 @@ fn push_variables(
     text: &mut String,
     variables: &[(Vec<Person>, NameVariable)],
 ) -> Result<(), AllocError>
-    ensures { OnOk result (characters text.new ≡ characters text.old ++ names_in (map answered_seen variables.now)) }
+    ensures { OnOk result (characters text.new
+        ≡ characters text.old ++ names_in (map answered_view variables.now)) }
 {
     for (people, _) in variables {
         push_people(text, people)?;
@@ -39,7 +41,8 @@ fn push_variables(
 
 /// Appends the names of people.
 fn push_people(text: &mut String, people: &[Person]) -> Result<(), AllocError>
-    ensures { OnOk result (characters text.new ≡ characters text.old ++ flat_map name_text (map person_seen people.now)) }
+    ensures { OnOk result (characters text.new
+        ≡ characters text.old ++ flat_map name_text (map person_view people.now)) }
 {
     for person in people {
         push_person(text, person)?;
@@ -49,7 +52,8 @@ fn push_people(text: &mut String, people: &[Person]) -> Result<(), AllocError>
 
 /// Appends all parts of the name of a person.
 fn push_person(text: &mut String, person: &Person) -> Result<(), AllocError>
-    ensures { OnOk result (characters text.new ≡ characters text.old ++ name_text (person_seen person.now)) }
+    ensures { OnOk result (characters text.new
+        ≡ characters text.old ++ name_text (person_view person.now)) }
 {
     push_text(text, person.name.as_str())?;
     push_part(text, &person.given_name)?;
@@ -59,7 +63,8 @@ fn push_person(text: &mut String, person: &Person) -> Result<(), AllocError>
 
 /// Appends a part of a name, if there is one.
 fn push_part(text: &mut String, part: &Option<String>) -> Result<(), AllocError>
-    ensures { OnOk result (characters text.new ≡ characters text.old ++ unwrap_or (option_map characters part.now) []) }
+    ensures { OnOk result (characters text.new
+        ≡ characters text.old ++ unwrap_or (option_map characters part.now) []) }
 {
     match part {
         Some(part) => push_text(text, part.as_str()),

@@ -3,9 +3,9 @@
 ghost use Rattle.std.specs.Prelude.{◌≡◌, ◌++◌, false, if◌then◌else◌, IfOk, OnOk, map};
 ghost use Rattle.std.specs.Option.{option_map, option_map_or};
 ghost use Rattle.rendering_style.specs.Styles.{Citation};
-ghost use Rattle.driver_requests.specs.SuffixViews.{suffix_by};
+ghost use Rattle.driver_requests.specs.SuffixViews.{suffix_view};
 ghost use Rattle.driver_blocks.specs.Collapsing.{delimiter_after_collapsed, block_by, is_further, later, verdict_delimiter, verdict_in, uncollapsed, year_block, years_collapsed};
-ghost use Rattle.driver_blocks.specs.Views.{arranged_seen, before_seen, blocks_seen, gathered_seen};
+ghost use Rattle.driver_blocks.specs.Views.{arranged_view, before_view, blocks_view, gathered_view};
 
 use crate::cite::{Arranged, Before, Gathered, uncollapsed};
 use crate::suffixes::push_suffixes;
@@ -19,7 +19,8 @@ pub(crate) fn collapse_years<'a>(
     mode: Collapse,
     blocks: &[Vec<Gathered<'a>>],
 ) -> Result<Vec<Arranged<'a>>, AllocError>
-    ensures { IfOk result (λ v. (c : Citation) → map (arranged_seen c) v.items ≡ years_collapsed c mode (blocks_seen blocks.now)) }
+    ensures { IfOk result (λ v. (c : Citation)
+        → map (arranged_view c) v.items ≡ years_collapsed c mode (blocks_view blocks.now)) }
 {
     let mut all = Vec::new(alloc);
     let mut is_after = false;
@@ -38,7 +39,9 @@ fn push_block<'a>(
     block: &[Gathered<'a>],
     all: &mut Vec<Arranged<'a>>,
 ) -> Result<(), AllocError>
-    ensures { OnOk result ((c : Citation) → map (arranged_seen c) all.new.items ≡ map (arranged_seen c) all.old.items ++ block_by c mode (is_after, map gathered_seen block.now)) }
+    ensures { OnOk result ((c : Citation)
+        → map (arranged_view c) all.new.items ≡ map (arranged_view c) all.old.items
+        ++ block_by c mode (is_after, map gathered_view block.now)) }
 {
     match mode {
         Collapse::YearSuffixRanged => {
@@ -57,7 +60,9 @@ fn push_year_block<'a>(
     block: &[Gathered<'a>],
     all: &mut Vec<Arranged<'a>>,
 ) -> Result<(), AllocError>
-    ensures { OnOk result ((c : Citation) → map (arranged_seen c) all.new.items ≡ map (arranged_seen c) all.old.items ++ year_block c mode (is_after, map gathered_seen block.now)) }
+    ensures { OnOk result ((c : Citation)
+        → map (arranged_view c) all.new.items ≡ map (arranged_view c) all.old.items
+        ++ year_block c mode (is_after, map gathered_view block.now)) }
 {
     match block.split_first() {
         Some((first, others)) => {
@@ -70,7 +75,9 @@ fn push_year_block<'a>(
 
 /// The first cite of a block.
 fn first_of_block<'a>(is_after: bool, cite: Gathered<'a>) -> Arranged<'a>
-    ensures { (c : Citation) → arranged_seen c result ≡ uncollapsed (if is_after then delimiter_after_collapsed c else c.layout.delimiter) (gathered_seen cite.entry) }
+    ensures { (c : Citation) → arranged_view c result
+        ≡ uncollapsed (if is_after then delimiter_after_collapsed c else c.layout.delimiter)
+        (gathered_view cite.entry) }
 {
     if is_after {
         uncollapsed(Before::AfterCollapse, cite)
@@ -85,7 +92,8 @@ fn push_later<'a>(
     cites: &[Gathered<'a>],
     all: &mut Vec<Arranged<'a>>,
 ) -> Result<(), AllocError>
-    ensures { OnOk result ((c : Citation) → map (arranged_seen c) all.new.items ≡ map (arranged_seen c) all.old.items ++ map (later c mode) (map gathered_seen cites.now)) }
+    ensures { OnOk result ((c : Citation) → map (arranged_view c) all.new.items
+        ≡ map (arranged_view c) all.old.items ++ map (later c mode) (map gathered_view cites.now)) }
 {
     for cite in cites {
         all.push(later(mode, *cite))?;
@@ -95,7 +103,7 @@ fn push_later<'a>(
 
 /// A later cite of a block.
 fn later<'a>(mode: Collapse, cite: Gathered<'a>) -> Arranged<'a>
-    ensures { (c : Citation) → arranged_seen c result ≡ later c mode (gathered_seen cite.entry) }
+    ensures { (c : Citation) → arranged_view c result ≡ later c mode (gathered_view cite.entry) }
 {
     let verdict = verdict_in(mode, cite.suffix);
     Arranged {
@@ -106,9 +114,9 @@ fn later<'a>(mode: Collapse, cite: Gathered<'a>) -> Arranged<'a>
     }
 }
 
-/// What is left of a later cite of a block: its first date, or in some modes its letters alone, if they are not the first ones.
+/// What is left of a later cite of a block: its first date, or in some modes its year suffix alone, if it is not the first one.
 fn verdict_in(mode: Collapse, suffix: Option<Suffix>) -> CollapseVerdict
-    ensures { result ≡ verdict_in mode (option_map suffix_by suffix) }
+    ensures { result ≡ verdict_in mode (option_map suffix_view suffix) }
 {
     match mode {
         Collapse::CitationNumber | Collapse::Year => CollapseVerdict::First,
@@ -122,19 +130,19 @@ fn verdict_in(mode: Collapse, suffix: Option<Suffix>) -> CollapseVerdict
     }
 }
 
-/// Whether there are letters other than the first ones.
+/// Whether there is a year suffix other than the first one.
 fn is_further(suffix: Option<Suffix>) -> bool
-    ensures { result ≡ option_map_or is_further (option_map suffix_by suffix) false }
+    ensures { result ≡ option_map_or is_further (option_map suffix_view suffix) false }
 {
     match suffix {
-        Some(suffix) => suffix.place > 0,
+        Some(suffix) => suffix.index > 0,
         None => false,
     }
 }
 
 /// What stands before what is left.
 fn before_left(verdict: CollapseVerdict) -> Before
-    ensures { (c : Citation) → before_seen c result ≡ verdict_delimiter c verdict }
+    ensures { (c : Citation) → before_view c result ≡ verdict_delimiter c verdict }
 {
     match verdict {
         CollapseVerdict::First => Before::Inside,

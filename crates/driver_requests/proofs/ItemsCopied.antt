@@ -6,10 +6,10 @@ use Rattle.rendering_context.specs.declared.locator.LocatorPayload.{LocatorPaylo
 use Rattle.rendering_context.specs.declared.locator.LocatorPayload.TheVariants as payloads
 use Rattle.driver_requests.specs.Copies.{IsPayloadCopy, IsLocatorCopy, IsItemCopy}
 use Rattle.driver_requests.specs.Requests.{Payload, written, own, SpecificLocator}
-use Rattle.driver_requests.specs.Views.{Parts, payload_by}
+use Rattle.driver_requests.specs.Views.{Parts, request_payload_view}
 
 -- a copy of a payload
-pub payload_copied : {P : Type 0} (is_clone : P → P → Type 0) (a b : LocatorPayload P) → is_copy is_clone a b → IsPayloadCopy is_clone (payload_by a) (payload_by b)
+pub payload_copied : {P : Type 0} (is_clone : P → P → Type 0) (a b : LocatorPayload P) → is_copy is_clone a b → IsPayloadCopy is_clone (request_payload_view a) (request_payload_view b)
 payload_copied is_clone (payloads.Str s) (payloads.Str t) h = ap chars (sym h)
 payload_copied is_clone (payloads.Str s) (payloads.Transparent q) h = h
 payload_copied is_clone (payloads.Transparent p) (payloads.Str t) h = h

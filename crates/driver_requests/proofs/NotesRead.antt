@@ -5,56 +5,56 @@ use Rattle.std.specs.Prelude.{zip}
 use Rattle.std.proofs.lemmas.List.{at_drop_more, at_drop_all, get_or-map, map-append, length-map}
 use Rattle.std.proofs.lemmas.List.Elements.{All-get_or}
 use Rattle.std.proofs.lemmas.Slice.Zip.{get_or-zip, length-zip}
-use Rattle.driver_requests.specs.Notes.{note_by, notes_by}
-use Rattle.driver_requests.specs.Places.{rows}
-use Rattle.driver_requests.specs.Standing.{Standing, Note, Facts, facts_in, facts_after, facts_of_all, stood}
-use Rattle.driver_requests.specs.StandingViews as views
+use Rattle.driver_requests.specs.Notes.{note_view, notes_view}
+use Rattle.driver_requests.specs.Indices.{runs}
+use Rattle.driver_requests.specs.History.{History, Note, Facts, facts_in, facts_after, facts_of_all, after_request}
+use Rattle.driver_requests.specs.HistoryViews as views
 use Rattle.driver_requests.specs.declared.request.CitationRequest.{CitationRequest}
-use Rattle.driver_requests.specs.declared.standing.Standing as declared
+use Rattle.driver_requests.specs.declared.history.History as declared
 
--- one more row of what is known
-pub facts_more : {Row : Type 0} (view : Row → List Facts) (notes : List Note) (i : ℕ) (n : Note) → i < length notes → n ≡ get_or notes i n
-    → (old new : ℕ → Standing) → ((q : ℕ) → new q ≡ stood i n q (old q))
-    → (known more : List Row) (row : Row) → more ≡ known ++ row ∷ [] → view row ≡ facts_in i n old
+-- one more run of what is known
+pub facts_more : {Run : Type 0} (view : Run → List Facts) (notes : List Note) (i : ℕ) (n : Note) → i < length notes → n ≡ get_or notes i n
+    → (old new : ℕ → History) → ((q : ℕ) → new q ≡ after_request i n q (old q))
+    → (known more : List Run) (run : Run) → more ≡ known ++ run ∷ [] → view run ≡ facts_in i n old
     → (all : List (List Facts)) → map view known ++ facts_after i old (drop i notes) ≡ all
     → map view more ++ facts_after (i + 1) new (drop (i + 1) notes) ≡ all
-facts_more view notes i n here at old new stands known more row pushed is all before =
-    ap₂ (λ fs (s : ℕ → Standing). fs ++ facts_after (i + 1) s (drop (i + 1) notes)) (ap (map view) pushed ∙ map-append view known (row ∷ []) ∙ ap (λ f. map view known ++ f ∷ []) is) (fun_ext stands)
-    ∙ append_assoc (map view known) (facts_in i n old ∷ []) (facts_after (i + 1) (λ q. stood i n q (old q)) (drop (i + 1) notes))
+facts_more view notes i n here at old new stands known more run pushed is all before =
+    ap₂ (λ fs (s : ℕ → History). fs ++ facts_after (i + 1) s (drop (i + 1) notes)) (ap (map view) pushed ∙ map-append view known (run ∷ []) ∙ ap (λ f. map view known ++ f ∷ []) is) (fun_ext stands)
+    ∙ append_assoc (map view known) (facts_in i n old ∷ []) (facts_after (i + 1) (λ q. after_request i n q (old q)) (drop (i + 1) notes))
     ∙ ap (λ fs. map view known ++ fs) (sym (at_drop_more (facts_after i old) notes i n here ∙ ap (λ m. facts_after i old (m ∷ drop (i + 1) notes)) (sym at)))
     ∙ before
 
--- all rows of what is known
-pub facts_end : {Row : Type 0} (view : Row → List Facts) (notes : List Note) (i : ℕ) (standings : ℕ → Standing) → length notes ≤ i
-    → (known : List Row) (all : List (List Facts)) → map view known ++ facts_after i standings (drop i notes) ≡ all → map view known ≡ all
-facts_end view notes i standings over known all before =
-    sym (append-nil (map view known)) ∙ ap (λ fs. map view known ++ fs) (sym (at_drop_all (facts_after i standings) notes i over)) ∙ before
+-- all runs of what is known
+pub facts_end : {Run : Type 0} (view : Run → List Facts) (notes : List Note) (i : ℕ) (histories : ℕ → History) → length notes ≤ i
+    → (known : List Run) (all : List (List Facts)) → map view known ++ facts_after i histories (drop i notes) ≡ all → map view known ≡ all
+facts_end view notes i histories over known all before =
+    sym (append-nil (map view known)) ∙ ap (λ fs. map view known ++ fs) (sym (at_drop_all (facts_after i histories) notes i over)) ∙ before
 
--- requests and rows of places are as many
-pub note_count : {T P A : Type 0} (rs : List (CitationRequest T P)) (vs : List (Vec ℕ A)) → length vs ≡ length rs → length (notes_by rs (rows vs)) ≡ length rs
+-- requests and runs of indices are as many
+pub note_count : {T P A : Type 0} (rs : List (CitationRequest T P)) (vs : List (Vec ℕ A)) → length vs ≡ length rs → length (notes_view rs (runs vs)) ≡ length rs
 note_count {T} {P} {A} rs vs same =
-    let many : length (rows vs) ≡ length rs = length-map vs (λ (w : Vec ℕ A). w.items) ∙ same in
-    length-map (zip rs (rows vs)) (λ (p : CitationRequest T P × List ℕ). note_by p.0 p.1) ∙ length-zip rs (rows vs) ∙ omega (arith, many)
+    let many : length (runs vs) ≡ length rs = length-map vs (λ (w : Vec ℕ A). w.items) ∙ same in
+    length-map (zip rs (runs vs)) (λ (p : CitationRequest T P × List ℕ). note_view p.0 p.1) ∙ length-zip rs (runs vs) ∙ omega (arith, many)
 
--- the note of a request with its row of places
+-- the note of a request with its run of indices
 pub note_at : {T P A : Type 0} (rs : List (CitationRequest T P)) (vs : List (Vec ℕ A)) (i : ℕ) (r : CitationRequest T P) (v : Vec ℕ A) (ps : List ℕ) → length vs ≡ length rs → i < length rs
     → r ≡ get_or rs i r → v ≡ get_or vs i v → ps ≡ v.items
-    → note_by r ps ≡ get_or (notes_by rs (rows vs)) i (note_by r ps)
+    → note_view r ps ≡ get_or (notes_view rs (runs vs)) i (note_view r ps)
 note_at {T} {P} {A} rs vs i r v ps same here at_r at_v is =
     let there : i < length vs = subst (λ n. i < n) (sym same) here in
-    let long : i < length (rows vs) = subst (λ n. i < n) (sym (length-map vs (λ (w : Vec ℕ A). w.items))) there in
-    let row : ps ≡ get_or (rows vs) i ps = is ∙ ap (λ (w : Vec ℕ A). w.items) at_v ∙ sym (get_or-map (λ (w : Vec ℕ A). w.items) vs i v ps there) in
-    let short : i < length (zip rs (rows vs)) = subst (λ n. i < n) (sym (length-zip rs (rows vs))) (omega (arith, here, long)) in
-    ap₂ (λ (x : CitationRequest T P) (qs : List ℕ). note_by x qs) at_r row
-    ∙ sym (get_or-map (λ (p : CitationRequest T P × List ℕ). note_by p.0 p.1) (zip rs (rows vs)) i (r, ps) (note_by r ps) short ∙ ap (λ (p : CitationRequest T P × List ℕ). note_by p.0 p.1) (get_or-zip rs (rows vs) i (r, ps) here long))
+    let long : i < length (runs vs) = subst (λ n. i < n) (sym (length-map vs (λ (w : Vec ℕ A). w.items))) there in
+    let run : ps ≡ get_or (runs vs) i ps = is ∙ ap (λ (w : Vec ℕ A). w.items) at_v ∙ sym (get_or-map (λ (w : Vec ℕ A). w.items) vs i v ps there) in
+    let short : i < length (zip rs (runs vs)) = subst (λ n. i < n) (sym (length-zip rs (runs vs))) (omega (arith, here, long)) in
+    ap₂ (λ (x : CitationRequest T P) (qs : List ℕ). note_view x qs) at_r run
+    ∙ sym (get_or-map (λ (p : CitationRequest T P × List ℕ). note_view p.0 p.1) (zip rs (runs vs)) i (r, ps) (note_view r ps) short ∙ ap (λ (p : CitationRequest T P × List ℕ). note_view p.0 p.1) (get_or-zip rs (runs vs) i (r, ps) here long))
 
--- the places in a row are below what all are
-pub row_within : {A : Type 0} (vs : List (Vec ℕ A)) (count n i : ℕ) (v : Vec ℕ A) (ps : List ℕ) → i < length vs → v ≡ get_or vs i v → ps ≡ v.items → n ≡ count
-    → All (All (λ p. p < count)) (rows vs) → All (λ p. p < n) ps
-row_within {A} vs count n i v ps here at is same within =
-    let long : i < length (rows vs) = subst (λ m. i < m) (sym (length-map vs (λ (w : Vec ℕ A). w.items))) here in
-    let row : get_or (rows vs) i [] ≡ ps = get_or-map (λ (w : Vec ℕ A). w.items) vs i v [] here ∙ sym (ap (λ (w : Vec ℕ A). w.items) at) ∙ sym is in
-    subst₂ (λ (m : ℕ) (qs : List ℕ). All (λ p. p < m) qs) (sym same) row (All-get_or (All (λ p. p < count)) (rows vs) i [] long within)
+-- the indices one after the other are below what all are
+pub run_within : {A : Type 0} (vs : List (Vec ℕ A)) (count n i : ℕ) (v : Vec ℕ A) (ps : List ℕ) → i < length vs → v ≡ get_or vs i v → ps ≡ v.items → n ≡ count
+    → All (All (λ p. p < count)) (runs vs) → All (λ p. p < n) ps
+run_within {A} vs count n i v ps here at is same within =
+    let long : i < length (runs vs) = subst (λ m. i < m) (sym (length-map vs (λ (w : Vec ℕ A). w.items))) here in
+    let run : get_or (runs vs) i [] ≡ ps = get_or-map (λ (w : Vec ℕ A). w.items) vs i v [] here ∙ sym (ap (λ (w : Vec ℕ A). w.items) at) ∙ sym is in
+    subst₂ (λ (m : ℕ) (qs : List ℕ). All (λ p. p < m) qs) (sym same) run (All-get_or (All (λ p. p < count)) (runs vs) i [] long within)
 
 everywhere : {X : Type 0} (n q : ℕ) (a : X) → get_or (replicate n a) q a ≡ a
 everywhere zero q a = refl
@@ -62,6 +62,6 @@ everywhere (suc n) zero a = refl
 everywhere (suc n) (suc q) a = everywhere n q a
 
 -- before all requests
-pub none_cited : (count : ℕ) (standings : List declared.Standing) (notes : List Note) → standings ≡ replicate count views.nothing_cited
-    → facts_after 0 (views.standing_at standings) notes ≡ facts_of_all notes
-none_cited count standings notes is = ap (λ s. facts_after 0 s notes) (fun_ext (λ q. ap (λ xs. views.standing_at xs q) is ∙ ap views.standing_by (everywhere count q views.nothing_cited)))
+pub none_cited : (count : ℕ) (histories : List declared.History) (notes : List Note) → histories ≡ replicate count views.nothing_cited
+    → facts_after 0 (views.history_at histories) notes ≡ facts_of_all notes
+none_cited count histories notes is = ap (λ s. facts_after 0 s notes) (fun_ext (λ q. ap (λ xs. views.history_at xs q) is ∙ ap views.history_view (everywhere count q views.nothing_cited)))

@@ -14,7 +14,7 @@ written_cases numbers offset i q p rest h before (inl e) =
 written_cases numbers offset i q p rest h before (inr ne) =
     get_or-set_other numbers p q (offset + i) 0 ne ∙ before ∙ rw (ne_eqb q p ne) (omega arith)
 
--- the number at a place is written
+-- the number at an index is written
 pub number_written : (order numbers : List ℕ) (offset i q : ℕ) → i < length order → q < length numbers
     → get_or numbers q 0 ≡ offset + (i + 1) + position_or_len (nat_eq q) (drop (i + 1) order)
     → get_or (set numbers (get_or order i 0) (offset + i)) q 0 ≡ offset + i + position_or_len (nat_eq q) (drop i order)

@@ -6,7 +6,7 @@ use Rattle.std.specs.List.{list_any}
 use Rattle.std.proofs.lemmas.List.{append-nil, append_assoc}
 use Rattle.std.proofs.lemmas.List.Elements.{filter-append}
 use Rattle.driver_requests.specs.CitedEntries.{once}
-use Rattle.driver_requests.specs.Places.{pushed, grown}
+use Rattle.driver_requests.specs.Indices.{pushed, grown}
 
 none : (b : Bool) → false ≡ (not b && false)
 none true = refl
@@ -20,9 +20,9 @@ left : (b e a : Bool) → (e ≡ true → b ≡ false) → (e || (not b && a)) �
 left b true a h = rw (h refl) refl
 left b false a h = refl
 
-seen : (e b a : Bool) → b ≡ e → (e || (not b && a)) ≡ (e || a)
-seen true b a h = refl
-seen false b a h = rw h refl
+viewed : (e b a : Bool) → b ≡ e → (e || (not b && a)) ≡ (e || a)
+viewed true b a h = refl
+viewed false b a h = rw h refl
 
 others_step : {K : Type 0} {eq : K → K → Bool} (laws : IsEquivalence eq) (x q y : K) (ys : List K)
     → list_any (eq q) (filter (λ z. not (eq x z)) ys) ≡ (not (eq x q) && list_any (eq q) ys)
@@ -43,7 +43,7 @@ pub once-any : {K : Type 0} {eq : K → K → Bool} (laws : IsEquivalence eq) (q
 once-any laws q [] = refl
 once-any {eq = eq} laws q (x ∷ xs) =
     ap (λ a. eq q x || a) (any_others laws x q (once eq xs) ∙ ap (λ a. not (eq x q) && a) (once-any laws q xs))
-    ∙ seen (eq q x) (eq x q) (list_any (eq q) xs) (laws.symm x q)
+    ∙ viewed (eq q x) (eq x q) (list_any (eq q) xs) (laws.symm x q)
 
 -- a last member that is filtered
 last_filtered : {K : Type 0} (p : K → Bool) (y : K) (t b : Bool) → p y ≡ not t → filter p (cond b [] (y ∷ [])) ≡ cond (t || b) [] (y ∷ [])

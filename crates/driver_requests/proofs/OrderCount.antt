@@ -1,4 +1,4 @@
--- An order of so many places has each of them once.
+-- An order of so many indices has each of them once.
 use Rattle.std.proofs.Common.{◌≡◌, ℕ, zero, suc, ◌<◌, Bool, true, false, not, cond, ◌&&◌, ◌||◌, nat_eq, List, [], ◌∷◌, ◌++◌, All, length, refl, sym, ap, ap₂, subst, ◌∙◌, arith, add-one, le-ltb, ltb-true}
 use Rattle.std.specs.Prelude.{filter}
 use Rattle.std.specs.Cmp.{nat_eq_equiv}
@@ -11,7 +11,7 @@ use Rattle.std.proofs.lemmas.Map.Keys.{IsDistinct-cons, IsDistinct-head, IsDisti
 use Rattle.std.proofs.lemmas.Map.Made.{length-from_same_keys}
 use Rattle.std.proofs.lemmas.Map.Views.{All-from_any, any-filter_same}
 use Rattle.driver_requests.specs.CitedEntries.{once}
-use Rattle.driver_requests.specs.Order.{is_place_in}
+use Rattle.driver_requests.specs.Order.{is_index_in}
 use Rattle.driver_requests.proofs.Once.{once-any, once_more}
 use Rattle.driver_requests.proofs.OrderPut.{range_has, range_more}
 
@@ -49,7 +49,7 @@ distinct_once e (x ∷ xs) =
     IsDistinct-cons e x others (all_apart e x others (recursion_from_All (λ y. not (e x y) ≡ true) others (filter_passes (λ y. not (e x y)) (once e xs))))
     (distinct_filtered e (λ y. not (e x y)) (once e xs) (distinct_once e xs))
 
--- all of so many places are there once
+-- all of so many indices are there once
 once_range : (n : ℕ) → once nat_eq (range_with_len 0 n) ≡ range_with_len 0 n
 once_range zero = refl
 once_range (suc n) =
@@ -67,27 +67,27 @@ absorbed true true = refl
 absorbed true false = refl
 absorbed false a = refl
 
-wanted_among : (places ws : List ℕ) (q : ℕ) → list_any (nat_eq q) (filter (is_place_in places) ws ++ places) ≡ list_any (nat_eq q) places
-wanted_among places ws q =
-    let b = list_any (nat_eq q) places in
-    list_any-append (nat_eq q) (filter (is_place_in places) ws) places
-    ∙ ap (λ a. a || b) (any-filter_same (nat_eq q) (is_place_in places) b (λ k h. ap (λ p. list_any (nat_eq p) places) (sym (eqb-true q k h))) ws)
+wanted_among : (indices ws : List ℕ) (q : ℕ) → list_any (nat_eq q) (filter (is_index_in indices) ws ++ indices) ≡ list_any (nat_eq q) indices
+wanted_among indices ws q =
+    let b = list_any (nat_eq q) indices in
+    list_any-append (nat_eq q) (filter (is_index_in indices) ws) indices
+    ∙ ap (λ a. a || b) (any-filter_same (nat_eq q) (is_index_in indices) b (λ k h. ap (λ p. list_any (nat_eq p) indices) (sym (eqb-true q k h))) ws)
     ∙ absorbed b (list_any (nat_eq q) ws)
 
-wanted_has : (ws : List ℕ) (n q : ℕ) → list_any (nat_eq q) (once nat_eq (filter (is_place_in (range_with_len 0 n)) ws ++ range_with_len 0 n)) ≡ list_any (nat_eq q) (range_with_len 0 n)
-wanted_has ws n q = once-any nat_eq_equiv q (filter (is_place_in (range_with_len 0 n)) ws ++ range_with_len 0 n) ∙ wanted_among (range_with_len 0 n) ws q
+wanted_has : (ws : List ℕ) (n q : ℕ) → list_any (nat_eq q) (once nat_eq (filter (is_index_in (range_with_len 0 n)) ws ++ range_with_len 0 n)) ≡ list_any (nat_eq q) (range_with_len 0 n)
+wanted_has ws n q = once-any nat_eq_equiv q (filter (is_index_in (range_with_len 0 n)) ws ++ range_with_len 0 n) ∙ wanted_among (range_with_len 0 n) ws q
 
 -- with the wanted ones first there are as many
-pub wanted_length : (ws : List ℕ) (n : ℕ) → length (once nat_eq (filter (is_place_in (range_with_len 0 n)) ws ++ range_with_len 0 n)) ≡ n
+pub wanted_length : (ws : List ℕ) (n : ℕ) → length (once nat_eq (filter (is_index_in (range_with_len 0 n)) ws ++ range_with_len 0 n)) ≡ n
 wanted_length ws n =
-    let places = filter (is_place_in (range_with_len 0 n)) ws ++ range_with_len 0 n in
-    length-from_same_keys nat_eq_equiv (once nat_eq places) (range_with_len 0 n) (distinct_once nat_eq places) (distinct_range n) (wanted_has ws n) ∙ length-range_with_len 0 n
+    let indices = filter (is_index_in (range_with_len 0 n)) ws ++ range_with_len 0 n in
+    length-from_same_keys nat_eq_equiv (once nat_eq indices) (range_with_len 0 n) (distinct_once nat_eq indices) (distinct_range n) (wanted_has ws n) ∙ length-range_with_len 0 n
 
 -- and no others
-pub wanted_within : (ws : List ℕ) (n : ℕ) → All (λ p. p < n) (once nat_eq (filter (is_place_in (range_with_len 0 n)) ws ++ range_with_len 0 n))
+pub wanted_within : (ws : List ℕ) (n : ℕ) → All (λ p. p < n) (once nat_eq (filter (is_index_in (range_with_len 0 n)) ws ++ range_with_len 0 n))
 wanted_within ws n =
-    All-from_any nat_eq_equiv (λ p. p < n) (once nat_eq (filter (is_place_in (range_with_len 0 n)) ws ++ range_with_len 0 n)) (λ q h. ltb-true q n (sym (range_has q n) ∙ sym (wanted_has ws n q) ∙ h))
+    All-from_any nat_eq_equiv (λ p. p < n) (once nat_eq (filter (is_index_in (range_with_len 0 n)) ws ++ range_with_len 0 n)) (λ q h. ltb-true q n (sym (range_has q n) ∙ sym (wanted_has ws n q) ∙ h))
 
--- all places are below their number
+-- all indices are below their number
 pub range_within : (n : ℕ) → All (λ p. p < n) (range_with_len 0 n)
 range_within n = All-from_any nat_eq_equiv (λ p. p < n) (range_with_len 0 n) (λ q h. ltb-true q n (sym (range_has q n) ∙ h))

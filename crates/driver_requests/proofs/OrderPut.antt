@@ -1,4 +1,4 @@
--- The order of entries, while places are put last one after the other.
+-- The order of entries, while indices are put last one after the other.
 use Rattle.std.proofs.Common.{◌≡◌, ◌⊎◌, ℕ, zero, suc, ◌+◌, ◌<◌, ◌≤◌, Bool, true, false, cond, ◌||◌, nat_eq, nat_lt, List, [], ◌∷◌, ◌++◌, length, get_or, set, take, replicate, refl, sym, ap, ap₂, subst, ◌∙◌, inl, inr, arith, add-one, zero-add, le_refl, map-id, not-suc-le-zero, eq-eqb, ne_eqb, ltb-true, ltb-false, lt-ltb, le-ltb}
 use Rattle.std.specs.Prelude.{filter, fold}
 use Rattle.std.specs.Cmp.{nat_eq_equiv}
@@ -11,8 +11,8 @@ use Rattle.std.proofs.lemmas.List.Folds.{list_any-append}
 use Rattle.std.proofs.lemmas.List.FromFn.{map-range_with_len_more}
 use Rattle.std.proofs.Math.Path.{fun_ext}
 use Rattle.driver_requests.specs.CitedEntries.{once}
-use Rattle.driver_requests.specs.Places.{AreMarked, pushed, grown, put_last}
-use Rattle.driver_requests.specs.Order.{is_place_in}
+use Rattle.driver_requests.specs.Indices.{AreMarked, pushed, grown, put_last}
+use Rattle.driver_requests.specs.Order.{is_index_in}
 use Rattle.driver_requests.proofs.Once.{grown_all}
 
 put_step : (count : ℕ) (es : List ℕ) (w : ℕ) (ws : List ℕ) (t : Bool)
@@ -22,7 +22,7 @@ put_step : (count : ℕ) (es : List ℕ) (w : ℕ) (ws : List ℕ) (t : Bool)
 put_step count es w ws true new old = new
 put_step count es w ws false new old = old
 
--- putting each last that is one of so many places
+-- putting each last that is one of so many indices
 pub puts_filtered : (count : ℕ) (ws es : List ℕ) → fold (put_last count) es ws ≡ grown nat_eq es (filter (λ p. nat_lt p count) ws)
 puts_filtered count [] es = refl
 puts_filtered count (w ∷ ws) es = put_step count es w ws (nat_lt w count) (puts_filtered count ws (pushed nat_eq es w)) (puts_filtered count ws es)
@@ -35,7 +35,7 @@ one_more : (q n : ℕ) → (q ≡ n) ⊎ (q ≡ n → ⊥) → (nat_lt q n || (n
 one_more q n (inl e) = ap₂ (λ a b. a || (b || false)) (le-ltb q n (omega (arith, e))) (eq-eqb q n e) ∙ sym (lt-ltb q (n + 1) (omega (arith, e)))
 one_more q n (inr ne) = one_other q n ne (nat_lt q n) refl
 
--- one more place
+-- one more index
 pub range_more : (n : ℕ) → range_with_len 0 (n + 1) ≡ range_with_len 0 n ++ n ∷ []
 range_more n = sym (map-id (range_with_len 0 (n + 1))) ∙ map-range_with_len_more (λ i. i) 0 n n (zero-add n) ∙ ap (λ xs. xs ++ n ∷ []) (map-id (range_with_len 0 n))
 
@@ -47,7 +47,7 @@ range_step q n ih =
     ∙ one_more q n (cases_eq q n)
     ∙ ap (nat_lt q) (add-one n)
 
--- which places there are
+-- which indices there are
 pub range_has : (q n : ℕ) → list_any (nat_eq q) (range_with_len 0 n) ≡ nat_lt q n
 range_has q zero = sym (le-ltb q 0 (omega arith))
 range_has q (suc n) = range_step q n (range_has q n)
@@ -61,9 +61,9 @@ range_kept n (suc m) h =
     ∙ ap₂ (λ xs b. xs ++ cond b (m ∷ []) []) (range_kept n m (omega (arith, h))) (lt-ltb m n (omega (arith, h)))
     ∙ sym snoc
 
--- The wanted places first, then all.
+-- The wanted indices first, then all.
 pub wanted_then_all : (count : ℕ) (ws : List ℕ)
-    → fold (put_last count) (fold (put_last count) [] ws) (range_with_len 0 count) ≡ once nat_eq (filter (is_place_in (range_with_len 0 count)) ws ++ range_with_len 0 count)
+    → fold (put_last count) (fold (put_last count) [] ws) (range_with_len 0 count) ≡ once nat_eq (filter (is_index_in (range_with_len 0 count)) ws ++ range_with_len 0 count)
 wanted_then_all count ws =
     puts_filtered count (range_with_len 0 count) (fold (put_last count) [] ws)
     ∙ ap (grown nat_eq (fold (put_last count) [] ws)) (range_kept count count (le_refl count))
@@ -80,7 +80,7 @@ or_false : (b : Bool) → (b || false) ≡ b
 or_false true = refl
 or_false false = refl
 
--- one more place is put last
+-- one more index is put last
 pub put_more : (m n : ℕ) (start ws es new : List ℕ) (i : ℕ) → i < length ws → m ≡ n → new ≡ put_last m es (get_or ws i 0) → es ≡ fold (put_last n) start (take i ws) → new ≡ fold (put_last n) start (take (i + 1) ws)
 put_more m n start ws es new i h same one before =
     one ∙ ap₂ (λ k fs. put_last k fs (get_or ws i 0)) same before ∙ sym (fold_more (put_last n) start ws i 0 h)
@@ -98,7 +98,7 @@ marked_step stands es p q before there (inl e) h =
 marked_step stands es p q before there (inr ne) h =
     get_or-set_other stands p q true true ne ∙ before q h ∙ sym (list_any-append (nat_eq q) es (p ∷ []) ∙ ap (λ b. list_any (nat_eq q) es || (b || false)) (ne_eqb q p ne) ∙ or_false (list_any (nat_eq q) es))
 
--- a place that is put last is marked
+-- an index that is put last is marked
 pub marked_more : (stands : List Bool) (es : List ℕ) (p : ℕ) → AreMarked stands es → p < length stands → AreMarked (set stands p true) (es ++ p ∷ [])
 marked_more stands es p before there = λ q h. marked_step stands es p q before there (cases_eq q p) (rw (sym (length-set stands p true)) h)
 

@@ -3,7 +3,7 @@ use Rattle.std.specs.Prelude.{Option, Some, None}
 use Rattle.driver_requests.specs.declared.error.DriverError.{DriverError}
 use Rattle.driver_requests.specs.declared.error.DriverError.TheVariants as errors
 
--- a number or letters have no place
+-- a number or year suffixes are beyond the last
 pub data Overflow : Type 0 where
   overflow : Overflow
 

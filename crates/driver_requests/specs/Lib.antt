@@ -6,9 +6,9 @@ pub mod Order
 pub mod Suffixes
 pub mod Errors
 pub mod Notes
-pub mod Places
-pub mod Standing
-pub mod StandingViews
+pub mod Indices
+pub mod History
+pub mod HistoryViews
 pub mod Views
 pub mod SuffixViews
 pub mod Copies

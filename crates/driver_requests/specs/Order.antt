@@ -7,20 +7,20 @@ use Rattle.driver_requests.specs.Requests.{Request}
 
 -- all entries that requests cite, by first cite
 abbrev pub cited : {P : Type 0} → List (Request P) → List ℕ
-cited rs = once nat_eq (flat_map (λ r. map (λ i. i.entry.place) r.items) rs)
+cited rs = once nat_eq (flat_map (λ r. map (λ i. i.entry.index) r.items) rs)
 
--- whether a place is among some
-abbrev pub is_place_in : List ℕ → ℕ → Bool
-is_place_in places place = list_any (nat_eq place) places
+-- whether an index is among some
+abbrev pub is_index_in : List ℕ → ℕ → Bool
+is_index_in indices index = list_any (nat_eq index) indices
 
 -- The order: in a style with a bibliography the wanted entries first, so far as they are cited; then the others by first cite.
 abbrev pub ordered : Option Bibliography → List ℕ → List ℕ → List ℕ
-ordered None wanted places = places
-ordered (Some b) wanted places = once nat_eq (filter (is_place_in places) wanted ++ places)
+ordered None wanted indices = indices
+ordered (Some b) wanted indices = once nat_eq (filter (is_index_in indices) wanted ++ indices)
 
--- the number of an entry, from zero: its place in the order, after an offset
+-- the number of an entry, from zero: its index in the order, after an offset
 abbrev pub number_in : ℕ → List ℕ → ℕ → ℕ
-number_in offset order place = offset + position_or_len (nat_eq place) order
+number_in offset order index = offset + position_or_len (nat_eq index) order
 
 -- whether the offset and the number of entries are together above the greatest number that is printed
 abbrev pub numbers_overflow : ℕ → List ℕ → Bool

@@ -13,18 +13,18 @@ ibid_of_same_entry same last i =
 
 -- an item after another one: different where they are of two entries
 abbrev pub ibid_after_item : {P : Type 0} → (P → P → Bool) → Item P → Item P → IbidState
-ibid_after_item same last i = if last.entry.place == i.entry.place then ibid_of_same_entry same last i else ibids.Different
+ibid_after_item same last i = if last.entry.index == i.entry.index then ibid_of_same_entry same last i else ibids.Different
 
 -- an item after the one before it: different where there is none, or one that does not count
 abbrev pub ibid_after : {P : Type 0} → (P → P → Bool) → (Item P → Bool) → Option (Item P) → Item P → IbidState
 ibid_after same counts None i = ibids.Different
 ibid_after same counts (Some last) i = if counts last then ibid_after_item same last i else ibids.Different
 
--- before marks are given, hidden items do not count
+-- before cites are disambiguated, hidden items do not count
 abbrev pub counts_at_first : {P : Type 0} → Item P → Bool
 counts_at_first i = not i.is_hidden
 
--- Each member of lists in a row with the one before it, in its list or in the last list before that is not empty.
+-- Each member of lists one after the other with the one before it, in its list or in the last list before that is not empty.
 abbrev pub with_previous : {X : Type 0} → Option X → List (List X) → List (List (Option X × X))
 with_previous last [] = []
 with_previous last (xs ∷ xss) = zip (last ∷ map (λ x. Some x) xs) xs ∷ with_previous (last_or last xs) xss

@@ -47,9 +47,9 @@ pub record Item (P : Type 0) : Type 0 where
   pub is_hidden : Bool
   pub purpose : Option CitePurpose
 
--- whether an item cites the entry at a place
+-- whether an item cites the entry at an index
 abbrev pub cites_entry : {P : Type 0} → ℕ → Item P → Bool
-cites_entry place i = i.entry.place == place
+cites_entry entry i = i.entry.index == entry
 
 -- whether two items have equal locators, or none
 abbrev pub same_locator : {P : Type 0} → (P → P → Bool) → Item P → Item P → Bool

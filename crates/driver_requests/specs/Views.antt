@@ -4,9 +4,9 @@ use Rattle.std.specs.List.{flat_map}
 use Rattle.std.specs.Option.{option_map}
 use Rattle.std.specs.Str.{chars}
 use Rattle.std.specs.Borrow.{Bor}
-use Rattle.rendering_locale.specs.CodeViews.{code_seen}
-use Rattle.rendering_locale.specs.Views.{locale_seen}
-use Rattle.rendering_style.specs.StyleViews.{style_seen}
+use Rattle.rendering_locale.specs.CodeViews.{code_view}
+use Rattle.rendering_locale.specs.Views.{locale_view}
+use Rattle.rendering_style.specs.StyleViews.{style_view}
 use Rattle.rendering_entries.specs.Answers.{Answers}
 use Rattle.rendering_context.specs.declared.locator.LocatorPayload.{LocatorPayload}
 use Rattle.rendering_context.specs.declared.locator.LocatorPayload.TheVariants as payloads
@@ -19,13 +19,13 @@ use Rattle.driver_requests.specs.declared.item.CitationItem.{CitationItem}
 use Rattle.driver_requests.specs.declared.request.CitationRequest.{CitationRequest}
 
 -- a text, or what the caller prints by itself
-abbrev pub payload_by : {P : Type 0} → LocatorPayload P → requests.Payload P
-payload_by (payloads.Str s) = requests.written (chars s.now)
-payload_by (payloads.Transparent t) = requests.own t.payload
+abbrev pub request_payload_view : {P : Type 0} → LocatorPayload P → requests.Payload P
+request_payload_view (payloads.Str s) = requests.written (chars s.now)
+request_payload_view (payloads.Transparent t) = requests.own t.payload
 
 -- the part of a work that is cited
-abbrev pub locator_by : {P : Type 0} → SpecificLocator P → requests.SpecificLocator P
-locator_by l = record { label = l.label; payload = payload_by l.payload }
+abbrev pub request_locator_view : {P : Type 0} → SpecificLocator P → requests.SpecificLocator P
+request_locator_view l = record { label = l.label; payload = request_payload_view l.payload }
 
 -- An item: the entry, the part of it, the language of its terms, whether it is hidden, and what it is for.
 pub record Parts (T P : Type 0) : Type 0 where
@@ -39,32 +39,32 @@ pub record Parts (T P : Type 0) : Type 0 where
 abbrev pub parts_of : {T P : Type 0} → CitationItem T P → Parts T P
 parts_of i = record {
   entry = i.entry.now;
-  locator = option_map locator_by i.locator;
-  locale = option_map code_seen i.locale;
+  locator = option_map request_locator_view i.locator;
+  locale = option_map code_view i.locale;
   is_hidden = i.hidden;
   purpose = i.purpose;
 }
 
--- the item that it is, where each entry has a place and answers
+-- the item that it is, where each entry has an index and answers
 abbrev pub item_from : {T P : Type 0} → (T → ℕ) → (T → Answers) → Parts T P → Item P
-item_from place answers i = record {
-  entry = record { place = place i.entry; answers = answers i.entry };
+item_from index answers i = record {
+  entry = record { index = index i.entry; answers = answers i.entry };
   locator = i.locator;
   is_hidden = i.is_hidden;
   purpose = i.purpose;
 }
 
--- an item, where each entry has a place and answers
-abbrev pub item_by : {T P : Type 0} → (T → ℕ) → (T → Answers) → CitationItem T P → Item P
-item_by place answers i = item_from place answers (parts_of i)
+-- an item, where each entry has an index and answers
+abbrev pub item_view : {T P : Type 0} → (T → ℕ) → (T → Answers) → CitationItem T P → Item P
+item_view index answers i = item_from index answers (parts_of i)
 
 -- the style of a request with the language that is asked for, and the files with locales
 abbrev pub context_of : {T P : Type 0} → CitationRequest T P → StyleContext
-context_of r = record { style = style_seen r.style.now; locale = option_map code_seen r.locale; locale_files = map locale_seen r.locale_files.now }
+context_of r = record { style = style_view r.style.now; locale = option_map code_view r.locale; locale_files = map locale_view r.locale_files.now }
 
--- a request, where each entry has a place and answers
-abbrev pub request_by : {T P : Type 0} → (T → ℕ) → (T → Answers) → CitationRequest T P → Request P
-request_by place answers r = record { context = context_of r; note_number = r.note_number; items = map (item_by place answers) r.items.items }
+-- a request, where each entry has an index and answers
+abbrev pub request_view : {T P : Type 0} → (T → ℕ) → (T → Answers) → CitationRequest T P → Request P
+request_view index answers r = record { context = context_of r; note_number = r.note_number; items = map (item_view index answers) r.items.items }
 
 -- the entry of an item
 abbrev pub entry_of_item : {T P : Type 0} → CitationItem T P → T

@@ -15,7 +15,7 @@ pub struct BibliographyRequest<'a, T> {
 
 impl<'a, T> BibliographyRequest<'a, T> {
     ghost use Rattle.std.specs.Prelude.{◌≡◌, []};
-    ghost use Rattle.rendering_style.specs.StyleViews.{style_seen};
+    ghost use Rattle.rendering_style.specs.StyleViews.{style_view};
     ghost use Rattle.driver_requests.specs.Views.{lent};
 
     /// A bibliography in the order of first cites.
@@ -24,7 +24,7 @@ impl<'a, T> BibliographyRequest<'a, T> {
         locale: Option<LocaleCode>,
         locale_files: &'a [Locale],
     ) -> BibliographyRequest<'a, T>
-        ensures style { style_seen result.style.now ≡ style_seen style.now }
+        ensures style { style_view result.style.now ≡ style_view style.now }
         ensures locale { result.locale ≡ locale }
         ensures files { result.locale_files.now ≡ locale_files.now }
         ensures order { result.order.now ≡ [] }
@@ -39,7 +39,7 @@ impl<'a, T> BibliographyRequest<'a, T> {
 
     /// The same with these entries first, so far as they are cited.
     pub fn with_order(self, order: &'a [&'a T]) -> BibliographyRequest<'a, T>
-        ensures style { style_seen result.style.now ≡ style_seen self.entry.style.now }
+        ensures style { style_view result.style.now ≡ style_view self.entry.style.now }
         ensures locale { result.locale ≡ self.entry.locale }
         ensures files { result.locale_files.now ≡ self.entry.locale_files.now }
         ensures order { lent result.order.now ≡ lent order.now }

@@ -12,7 +12,7 @@ pub enum DriverError {
     /// A request for memory was refused.
     #[error("out of memory")]
     Memory,
-    /// A number or letters have no place.
+    /// A number or a year suffix is beyond the last.
     #[error("a number or letters have no place")]
     Overflow,
 }

@@ -1,19 +1,19 @@
-//! What is known of cites from their places.
+//! What is known of cites from their indices.
 
 ghost use Rattle.std.specs.Prelude.{◌≡◌, ◌<◌, ℕ, List, All, length, map, IfOk, OnOk};
 ghost use Rattle.rendering_entries.specs.Answers.{Answers};
 ghost use Rattle.driver_requests.specs.Cites.{cites_of};
-ghost use Rattle.driver_requests.specs.Notes.{facts_of, note_by, notes_by};
-ghost use Rattle.driver_requests.specs.Places.{rows};
-ghost use Rattle.driver_requests.specs.Standing.{facts_after, facts_in, facts_of_all, stood};
-ghost use Rattle.driver_requests.specs.StandingViews.{fact_rows, facts_by, standing_at};
-ghost use Rattle.driver_requests.specs.Views.{entries_of, request_by};
+ghost use Rattle.driver_requests.specs.Notes.{facts_of, note_view, notes_view};
+ghost use Rattle.driver_requests.specs.Indices.{runs};
+ghost use Rattle.driver_requests.specs.History.{facts_after, facts_in, facts_of_all, after_request};
+ghost use Rattle.driver_requests.specs.HistoryViews.{fact_runs_view, facts_view, history_at};
+ghost use Rattle.driver_requests.specs.Views.{entries_of, request_view};
 
+use crate::history::{CiteFacts, History, RequestNote, UNCITED, facts_in};
 use crate::request::CitationRequest;
-use crate::standing::{CiteFacts, NotePlace, Standing, UNCITED, facts_in};
 use std::alloc::{AllocError, Global};
 
-/// What is known from their places of the cites of requests, whose items' entries have these places among so many. The cost grows
+/// What is known from their indices of the cites of requests, whose items' entries have these indices among so many. The cost grows
 /// with the items and the entries.
 ///
 /// # Errors
@@ -21,53 +21,59 @@ use std::alloc::{AllocError, Global};
 pub fn cites<'a, T, P>(
     alloc: Global,
     requests: &[CitationRequest<'a, T, P>],
-    places: &[Vec<usize>],
+    indices: &[Vec<usize>],
     count: usize,
 ) -> Result<Vec<Vec<CiteFacts>>, AllocError>
-    requires rows { length places.now ≡ length requests.now }
-    requires within { All (All (λ p. p < count)) (rows places.now) }
-    ensures facts { IfOk result (λ c. fact_rows c.items ≡ facts_of_all (notes_by requests.now (rows places.now))) }
-    ensures cites { IfOk result (λ c. (place : T → ℕ) (answers : T → Answers) → rows places.now ≡ map (λ r. map place (entries_of r)) requests.now → fact_rows c.items ≡ map (map facts_of) (cites_of (map (request_by place answers) requests.now))) }
+    requires runs { length indices.now ≡ length requests.now }
+    requires within { All (All (λ p. p < count)) (runs indices.now) }
+    ensures facts { IfOk result (λ c. fact_runs_view c.items
+        ≡ facts_of_all (notes_view requests.now (runs indices.now))) }
+    ensures cites { IfOk result (λ c. (index : T → ℕ) (answers : T → Answers) → runs indices.now
+        ≡ map (λ r. map index (entries_of r)) requests.now → fact_runs_view c.items
+        ≡ map (map facts_of) (cites_of (map (request_view index answers) requests.now))) }
 {
-    let mut standings = vec![in alloc; UNCITED; count]?;
-    facts_of_each(alloc, &mut standings, requests, places)
+    let mut histories = vec![in alloc; UNCITED; count]?;
+    facts_of_each(alloc, &mut histories, requests, indices)
 }
 
-/// What is known of the cites of requests, whose items' entries have these places, from how entries stand before them.
+/// What is known of the cites of requests, whose items' entries have these indices, from how entries stand before them.
 fn facts_of_each<'a, T, P>(
     alloc: Global,
-    standings: &mut [Standing],
+    histories: &mut [History],
     requests: &[CitationRequest<'a, T, P>],
-    places: &[Vec<usize>],
+    indices: &[Vec<usize>],
 ) -> Result<Vec<Vec<CiteFacts>>, AllocError>
-    requires rows { length places.now ≡ length requests.now }
-    requires within { All (All (λ p. p < length standings.old)) (rows places.now) }
-    ensures { IfOk result (λ c. fact_rows c.items ≡ facts_after 0 (standing_at standings.old) (notes_by requests.now (rows places.now))) }
+    requires runs { length indices.now ≡ length requests.now }
+    requires within { All (All (λ p. p < length histories.old)) (runs indices.now) }
+    ensures { IfOk result (λ c. fact_runs_view c.items
+        ≡ facts_after 0 (history_at histories.old) (notes_view requests.now (runs indices.now))) }
 {
     let mut facts = Vec::with_capacity(alloc, requests.len())?;
     for (index, request) in requests.iter().enumerate() {
-        let row = facts_of(alloc, standings, request, index, places[index].as_slice())?;
-        facts.push(row)?;
+        let run = facts_of(alloc, histories, request, index, indices[index].as_slice())?;
+        facts.push(run)?;
     }
     Ok(facts)
 }
 
-/// What is known of the cites of a request at a place among them all, and how entries stand after it.
+/// What is known of the cites of a request at an index among them all, and how entries stand after it.
 fn facts_of<'a, T, P>(
     alloc: Global,
-    standings: &mut [Standing],
+    histories: &mut [History],
     request: &CitationRequest<'a, T, P>,
     index: usize,
-    places: &[usize],
+    indices: &[usize],
 ) -> Result<Vec<CiteFacts>, AllocError>
-    requires { All (λ p. p < length standings.old) places.now }
-    ensures facts { IfOk result (λ f. map facts_by f.items ≡ facts_in index (note_by request.now places.now) (standing_at standings.old)) }
-    ensures stood { OnOk result ((q : ℕ) → standing_at standings.new q ≡ stood index (note_by request.now places.now) q (standing_at standings.old q)) }
+    requires { All (λ p. p < length histories.old) indices.now }
+    ensures facts { IfOk result (λ f. map facts_view f.items
+        ≡ facts_in index (note_view request.now indices.now) (history_at histories.old)) }
+    ensures after_request { OnOk result ((q : ℕ) → history_at histories.new q
+        ≡ after_request index (note_view request.now indices.now) q (history_at histories.old q)) }
 {
-    let note = NotePlace {
+    let note = RequestNote {
         index,
         number: request.note_number(),
         distance: request.style().parts().citation.near_note_distance as usize,
     };
-    facts_in(alloc, standings, places, note)
+    facts_in(alloc, histories, indices, note)
 }

@@ -2,9 +2,9 @@
 
 ghost use Rattle.std.specs.Prelude.{◌≡◌, IfOk};
 ghost use Rattle.std.specs.Option.{option_map};
-ghost use Rattle.rendering_locale.specs.CodeViews.{code_seen};
+ghost use Rattle.rendering_locale.specs.CodeViews.{code_view};
 ghost use Rattle.driver_requests.specs.Copies.{IsItemCopy, IsLocatorCopy};
-ghost use Rattle.driver_requests.specs.Views.{locator_by, parts_of};
+ghost use Rattle.driver_requests.specs.Views.{request_locator_view, parts_of};
 
 use rendering_context::SpecificLocator;
 use rendering_locale::LocaleCode;
@@ -25,8 +25,8 @@ pub struct CitationItem<'a, T, P> {
 impl<'a, T, P> CitationItem<'a, T, P> {
     ghost use Rattle.std.specs.Prelude.{◌≡◌, false, None, Some};
     ghost use Rattle.std.specs.Option.{option_map};
-    ghost use Rattle.rendering_locale.specs.CodeViews.{code_seen};
-    ghost use Rattle.driver_requests.specs.Views.{locator_by, parts_of};
+    ghost use Rattle.rendering_locale.specs.CodeViews.{code_view};
+    ghost use Rattle.driver_requests.specs.Views.{request_locator_view, parts_of};
 
     /// The whole of an entry.
     pub fn with_entry(entry: &'a T) -> CitationItem<'a, T, P>
@@ -40,12 +40,12 @@ impl<'a, T, P> CitationItem<'a, T, P> {
         entry: &'a T,
         locator: Option<SpecificLocator<'a, P>>,
     ) -> CitationItem<'a, T, P>
-        ensures { parts_of result ≡ record { entry = entry.now; locator = option_map locator_by locator.entry; locale = None; is_hidden = false; purpose = None } }
+        ensures { parts_of result ≡ record { entry = entry.now; locator = option_map request_locator_view locator.entry; locale = None; is_hidden = false; purpose = None } }
     {
         CitationItem::new(entry, locator, None, false, None)
     }
 
-    /// An entry with all that can be said of a cite.
+    /// An entry with all that can be asked of a cite.
     pub fn new(
         entry: &'a T,
         locator: Option<SpecificLocator<'a, P>>,
@@ -53,7 +53,7 @@ impl<'a, T, P> CitationItem<'a, T, P> {
         hidden: bool,
         purpose: Option<CitePurpose>,
     ) -> CitationItem<'a, T, P>
-        ensures { parts_of result ≡ record { entry = entry.now; locator = option_map locator_by locator.entry; locale = option_map code_seen locale; is_hidden = hidden; purpose = purpose } }
+        ensures { parts_of result ≡ record { entry = entry.now; locator = option_map request_locator_view locator.entry; locale = option_map code_view locale; is_hidden = hidden; purpose = purpose } }
     {
         CitationItem {
             entry,
@@ -86,7 +86,8 @@ impl<'a, T, P: Clone + PartialEq> CitationItem<'a, T, P> {
     /// Out of memory.
     pub fn clone(&self) -> Result<CitationItem<'a, T, P>, AllocError>
         ensures copy { IfOk result (λ i. IsItemCopy P.is_clone (parts_of self.now) (parts_of i)) }
-        ensures same { ((p q : P) → P.is_clone p q → q ≡ p) → IfOk result (λ i. parts_of i ≡ parts_of self.now) }
+        ensures same { ((p q : P) → P.is_clone p q → q ≡ p)
+            → IfOk result (λ i. parts_of i ≡ parts_of self.now) }
     {
         let locator = copied_locator(&self.locator)?;
         let locale = copied_locale(&self.locale)?;
@@ -104,7 +105,8 @@ impl<'a, T, P: Clone + PartialEq> CitationItem<'a, T, P> {
 fn copied_locator<'a, P: Clone + PartialEq>(
     locator: &Option<SpecificLocator<'a, P>>,
 ) -> Result<Option<SpecificLocator<'a, P>>, AllocError>
-    ensures { IfOk result (λ l. IsLocatorCopy P.is_clone (option_map locator_by locator.now) (option_map locator_by l)) }
+    ensures { IfOk result (λ l. IsLocatorCopy P.is_clone
+        (option_map request_locator_view locator.now) (option_map request_locator_view l)) }
 {
     match locator {
         Some(locator) => Ok(Some(locator.clone()?)),
@@ -114,7 +116,7 @@ fn copied_locator<'a, P: Clone + PartialEq>(
 
 /// A copy of a code, where there is one.
 fn copied_locale(locale: &Option<LocaleCode>) -> Result<Option<LocaleCode>, AllocError>
-    ensures { IfOk result (λ l. option_map code_seen l ≡ option_map code_seen locale.now) }
+    ensures { IfOk result (λ l. option_map code_view l ≡ option_map code_view locale.now) }
 {
     match locale {
         Some(locale) => Ok(Some(LocaleCode(locale.0.clone()?))),

@@ -3,11 +3,11 @@
 ghost use Rattle.std.specs.Prelude.{◌≡◌, ◌+◌, ◌++◌, ◌^◌, ◌<◌, All, Ok, Err, filter, fold, map, nat_eq, length, if◌then◌else◌, IfOk, OnOk};
 ghost use Rattle.std.specs.List.{range_with_len};
 ghost use Rattle.laws.specs.Results.{Gives};
-ghost use Rattle.rendering_style.specs.StyleViews.{style_seen};
+ghost use Rattle.rendering_style.specs.StyleViews.{style_view};
 ghost use Rattle.driver_requests.specs.CitedEntries.{once};
 ghost use Rattle.driver_requests.specs.Errors.{overflow, overflow_of};
-ghost use Rattle.driver_requests.specs.Order.{is_place_in, number_in, numbers_overflow, ordered};
-ghost use Rattle.driver_requests.specs.Places.{AreMarked, put_last};
+ghost use Rattle.driver_requests.specs.Order.{is_index_in, number_in, numbers_overflow, ordered};
+ghost use Rattle.driver_requests.specs.Indices.{AreMarked, put_last};
 
 use crate::error::DriverError;
 use rendering_style::Style;
@@ -16,7 +16,7 @@ use std::alloc::{AllocError, Global};
 /// The greatest number that is printed.
 const GREATEST_NUMBER: usize = 2_147_483_647;
 
-/// The order of so many cited entries, by their places: in a style with a bibliography the wanted ones come first.
+/// The order of so many cited entries, by their indices: in a style with a bibliography the wanted ones come first.
 ///
 /// # Errors
 /// Out of memory.
@@ -26,23 +26,26 @@ pub fn ordered(
     wanted: &[usize],
     count: usize,
 ) -> Result<Vec<usize>, AllocError>
-    ensures order { IfOk result (λ v. v.items ≡ ordered (style_seen style.now).bibliography wanted.now (range_with_len 0 count)) }
+    ensures order { IfOk result (λ v. v.items
+        ≡ ordered (style_view style.now).bibliography wanted.now (range_with_len 0 count)) }
     ensures length { IfOk result (λ v. length v.items ≡ count) }
     ensures within { IfOk result (λ v. All (λ p. p < count) v.items) }
 {
     match &style.parts().bibliography {
         Some(_) => wanted_first(alloc, wanted, count),
-        None => all_places(alloc, count),
+        None => all_indices(alloc, count),
     }
 }
 
-/// The numbers of entries, from zero, by their places. They follow the order after an offset.
+/// The numbers of entries, from zero, by their indices. They follow the order after an offset.
 ///
 /// # Errors
 /// `Overflow` where the last number, as it is printed, is too large; `Memory` where a request for memory was refused.
 pub fn numbers(alloc: Global, offset: usize, order: &[usize]) -> Result<Vec<usize>, DriverError>
     requires { All (λ p. p < length order.now) order.now }
-    ensures { Gives overflow_of (λ v. v.items) result (if numbers_overflow offset order.now then Err overflow else Ok (map (number_in offset order.now) (range_with_len 0 (length order.now)))) }
+    ensures { Gives overflow_of (λ v. v.items) result (if numbers_overflow offset order.now
+        then Err overflow
+        else Ok (map (number_in offset order.now) (range_with_len 0 (length order.now)))) }
 {
     let count = order.len();
     if count > GREATEST_NUMBER || offset > GREATEST_NUMBER - count {
@@ -54,8 +57,9 @@ pub fn numbers(alloc: Global, offset: usize, order: &[usize]) -> Result<Vec<usiz
 /// The numbers of entries, where they are not too large.
 fn numbered(alloc: Global, offset: usize, order: &[usize]) -> Result<Vec<usize>, AllocError>
     requires small { offset + length order.now < 2 ^ 31 }
-    requires places { All (λ p. p < length order.now) order.now }
-    ensures { IfOk result (λ v. v.items ≡ map (number_in offset order.now) (range_with_len 0 (length order.now))) }
+    requires indices { All (λ p. p < length order.now) order.now }
+    ensures { IfOk result (λ v. v.items
+        ≡ map (number_in offset order.now) (range_with_len 0 (length order.now))) }
 {
     let mut numbers = vec![in alloc; offset + order.len(); order.len()]?;
     for i in (0..order.len()).rev() {
@@ -64,20 +68,21 @@ fn numbered(alloc: Global, offset: usize, order: &[usize]) -> Result<Vec<usize>,
     Ok(numbers)
 }
 
-/// So many places in order.
-fn all_places(alloc: Global, count: usize) -> Result<Vec<usize>, AllocError>
+/// So many indices in order.
+fn all_indices(alloc: Global, count: usize) -> Result<Vec<usize>, AllocError>
     ensures { IfOk result (λ v. v.items ≡ range_with_len 0 count) }
 {
-    let mut places = Vec::with_capacity(alloc, count)?;
-    for place in 0..count {
-        places.push(place)?;
+    let mut indices = Vec::with_capacity(alloc, count)?;
+    for index in 0..count {
+        indices.push(index)?;
     }
-    Ok(places)
+    Ok(indices)
 }
 
-/// The wanted ones of so many places, then the others, each once.
+/// The wanted ones of so many indices, then the others, each once.
 fn wanted_first(alloc: Global, wanted: &[usize], count: usize) -> Result<Vec<usize>, AllocError>
-    ensures { IfOk result (λ v. v.items ≡ once nat_eq (filter (is_place_in (range_with_len 0 count)) wanted.now ++ range_with_len 0 count)) }
+    ensures { IfOk result (λ v. v.items ≡ once nat_eq
+        (filter (is_index_in (range_with_len 0 count)) wanted.now ++ range_with_len 0 count)) }
 {
     let mut stands = vec![in alloc; false; count]?;
     let mut order = Vec::with_capacity(alloc, count)?;
@@ -86,39 +91,46 @@ fn wanted_first(alloc: Global, wanted: &[usize], count: usize) -> Result<Vec<usi
     Ok(order)
 }
 
-/// Puts places last that are of so many, each once.
-fn put_each(order: &mut Vec<usize>, stands: &mut [bool], places: &[usize]) -> Result<(), AllocError>
+/// Puts indices last that are of so many, each once.
+fn put_each(
+    order: &mut Vec<usize>,
+    stands: &mut [bool],
+    indices: &[usize],
+) -> Result<(), AllocError>
     requires { AreMarked stands.old order.old.items }
     ensures stands { OnOk result (AreMarked stands.new order.new.items) }
-    ensures order { OnOk result (order.new.items ≡ fold (put_last (length stands.old)) order.old.items places.now) }
+    ensures order { OnOk result (order.new.items
+        ≡ fold (put_last (length stands.old)) order.old.items indices.now) }
 {
-    for place in places {
-        put_last(order, stands, *place)?;
+    for index in indices {
+        put_last(order, stands, *index)?;
     }
     Ok(())
 }
 
-/// Puts all of so many places last, each once.
+/// Puts all of so many indices last, each once.
 fn put_rest(order: &mut Vec<usize>, stands: &mut [bool]) -> Result<(), AllocError>
     requires { AreMarked stands.old order.old.items }
-    ensures { OnOk result (order.new.items ≡ fold (put_last (length stands.old)) order.old.items (range_with_len 0 (length stands.old))) }
+    ensures { OnOk result (order.new.items ≡ fold (put_last (length stands.old)) order.old.items
+        (range_with_len 0 (length stands.old))) }
 {
-    for place in 0..stands.len() {
-        put_last(order, stands, place)?;
+    for index in 0..stands.len() {
+        put_last(order, stands, index)?;
     }
     Ok(())
 }
 
-/// Puts a place last where it is one of so many, unless it stands already.
-fn put_last(order: &mut Vec<usize>, stands: &mut [bool], place: usize) -> Result<(), AllocError>
+/// Puts an index last where it is one of so many, unless it stands already.
+fn put_last(order: &mut Vec<usize>, stands: &mut [bool], index: usize) -> Result<(), AllocError>
     requires { AreMarked stands.old order.old.items }
     ensures stands { OnOk result (AreMarked stands.new order.new.items) }
-    ensures order { OnOk result (order.new.items ≡ put_last (length stands.old) order.old.items place) }
+    ensures order { OnOk result (order.new.items
+        ≡ put_last (length stands.old) order.old.items index) }
     ensures len { length stands.new ≡ length stands.old }
 {
-    if place < stands.len() && !stands[place] {
-        stands[place] = true;
-        order.push(place)?;
+    if index < stands.len() && !stands[index] {
+        stands[index] = true;
+        order.push(index)?;
     }
     Ok(())
 }

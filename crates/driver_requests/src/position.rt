@@ -6,7 +6,7 @@ ghost use Rattle.rendering_entries.specs.Answers.{Answers};
 ghost use Rattle.rendering_taxonomy.specs.Kinds as kinds;
 ghost use Rattle.driver_requests.specs.Positions.{ibid_of_same_entry, ibid_after};
 ghost use Rattle.driver_requests.specs.Requests.{Item, is_payload, is_specific_locator};
-ghost use Rattle.driver_requests.specs.Views.{item_by, locator_by, payload_by};
+ghost use Rattle.driver_requests.specs.Views.{item_view, request_locator_view, request_payload_view};
 
 use crate::item::CitationItem;
 use rendering_context::{LocatorPayload, SpecificLocator};
@@ -19,7 +19,11 @@ pub fn ibid_after<T, P: PartialEq>(
     counts: bool,
     item: &CitationItem<'_, T, P>,
 ) -> IbidState
-    ensures { (place : T → ℕ) (answers : T → Answers) (counting : Item P → Bool) → IfSome last.entry (λ l. (counts ≡ counting (item_by place answers l.now)) × (is_same_entry ≡ (place l.now.entry.now == place item.now.entry.now))) → result ≡ ibid_after P.eq counting (option_map (λ l. item_by place answers l.now) last.entry) (item_by place answers item.now) }
+    ensures { (index : T → ℕ) (answers : T → Answers) (counting : Item P → Bool)
+        → IfSome last.entry (λ l. (counts ≡ counting (item_view index answers l.now))
+        × (is_same_entry ≡ (index l.now.entry.now == index item.now.entry.now))) → result
+        ≡ ibid_after P.eq counting (option_map (λ l. item_view index answers l.now) last.entry)
+        (item_view index answers item.now) }
 {
     match last {
         Some(last) => {
@@ -38,7 +42,8 @@ fn ibid_of_same_entry<T, P: PartialEq>(
     last: &CitationItem<'_, T, P>,
     item: &CitationItem<'_, T, P>,
 ) -> IbidState
-    ensures { (place : T → ℕ) (answers : T → Answers) → result ≡ ibid_of_same_entry P.eq (item_by place answers last.now) (item_by place answers item.now) }
+    ensures { (index : T → ℕ) (answers : T → Answers) → result ≡ ibid_of_same_entry P.eq
+        (item_view index answers last.now) (item_view index answers item.now) }
 {
     if is_same_locator(&last.locator, &item.locator) {
         IbidState::Ibid
@@ -54,7 +59,8 @@ fn is_same_locator<P: PartialEq>(
     last: &Option<SpecificLocator<'_, P>>,
     locator: &Option<SpecificLocator<'_, P>>,
 ) -> bool
-    ensures { result ≡ option_eq (is_specific_locator P.eq) (option_map locator_by last.now) (option_map locator_by locator.now) }
+    ensures { result ≡ option_eq (is_specific_locator P.eq)
+        (option_map request_locator_view last.now) (option_map request_locator_view locator.now) }
 {
     match (last, locator) {
         (Some(last), Some(locator)) => is_specific_locator(last, locator),
@@ -68,7 +74,8 @@ fn is_specific_locator<P: PartialEq>(
     last: &SpecificLocator<'_, P>,
     locator: &SpecificLocator<'_, P>,
 ) -> bool
-    ensures { result ≡ is_specific_locator P.eq (locator_by last.now) (locator_by locator.now) }
+    ensures { result ≡ is_specific_locator P.eq
+        (request_locator_view last.now) (request_locator_view locator.now) }
 {
     is_locator(last.label, locator.label) && is_payload(&last.payload, &locator.payload)
 }
@@ -82,7 +89,8 @@ fn is_locator(label: Locator, other: Locator) -> bool
 
 /// Whether two payloads are one. The caller decides of its own.
 fn is_payload<P: PartialEq>(last: &LocatorPayload<'_, P>, payload: &LocatorPayload<'_, P>) -> bool
-    ensures { result ≡ is_payload P.eq (payload_by last.now) (payload_by payload.now) }
+    ensures { result
+        ≡ is_payload P.eq (request_payload_view last.now) (request_payload_view payload.now) }
 {
     match (last, payload) {
         (LocatorPayload::Str(last), LocatorPayload::Str(text)) => is_text(last, text),

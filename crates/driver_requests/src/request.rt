@@ -34,7 +34,7 @@ impl<'a, T: 'a, P: 'a> fmt::Debug for CitationRequest<'a, T, P> {
 
 impl<'a, T: 'a, P: 'a> CitationRequest<'a, T, P> {
     ghost use Rattle.std.specs.Prelude.{None};
-    ghost use Rattle.rendering_style.specs.StyleViews.{style_seen};
+    ghost use Rattle.rendering_style.specs.StyleViews.{style_view};
 
     /// A request. Its note number counts in a style of notes alone.
     pub fn new(
@@ -45,10 +45,11 @@ impl<'a, T: 'a, P: 'a> CitationRequest<'a, T, P> {
         note_number: Option<usize>,
     ) -> CitationRequest<'a, T, P>
         ensures items { result.items ≡ items.entry }
-        ensures style { style_seen result.style.now ≡ style_seen style.now }
+        ensures style { style_view result.style.now ≡ style_view style.now }
         ensures locale { result.locale ≡ locale }
         ensures files { result.locale_files.now ≡ locale_files.now }
-        ensures note { result.note_number ≡ note_number_in (style_seen style.now).class note_number }
+        ensures note { result.note_number
+            ≡ note_number_in (style_view style.now).class note_number }
     {
         CitationRequest {
             items,
@@ -66,7 +67,7 @@ impl<'a, T: 'a, P: 'a> CitationRequest<'a, T, P> {
         locale_files: &'a [Locale],
     ) -> CitationRequest<'a, T, P>
         ensures items { result.items ≡ items.entry }
-        ensures style { style_seen result.style.now ≡ style_seen style.now }
+        ensures style { style_view result.style.now ≡ style_view style.now }
         ensures locale { result.locale ≡ None }
         ensures files { result.locale_files.now ≡ locale_files.now }
         ensures note { result.note_number ≡ None }
@@ -82,7 +83,7 @@ impl<'a, T: 'a, P: 'a> CitationRequest<'a, T, P> {
 
     /// The style that the items are printed in.
     pub fn style(&self) -> &'a Style
-        ensures { style_seen result.now ≡ style_seen self.now.style.now }
+        ensures { style_view result.now ≡ style_view self.now.style.now }
     {
         self.style
     }

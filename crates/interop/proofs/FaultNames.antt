@@ -12,7 +12,7 @@ use Rattle.interop.specs.declared.error.DateField.{DateField}
 use Rattle.interop.specs.declared.error.DateField.TheVariants as dates
 use Rattle.interop.specs.DateFields.{field_name}
 use Rattle.interop.specs.Bridge.{Fault, fault_in, faults_of, unless_faulty}
-use Rattle.interop.specs.Shelf.{is_xdata, works_in, all_faults, all_works, put_after, library_of}
+use Rattle.interop.specs.Library.{is_xdata, works_in, all_faults, all_works, put_after, library_of}
 
 -- what holds of a fault of any kind of a date under this key
 abbrev pub HoldsOfFaults : (Fault → Type 0) → List ℕ → Type 0

@@ -14,9 +14,9 @@ use Rattle.interop_values.specs.Readings.{format_of}
 use Rattle.interop.specs.Bridge.{parent, titled, conference_of}
 
 -- a work of a title that was borrowed
-pub seen_title : (t : EntryType) (r : Option (Bor (List (Spanned Chunk)))) (x : Option (List Member)) → option_map (λ v. styled v.now) r ≡ x → option_to_list (option_map (λ v. titled t (styled v.now)) r) ≡ option_to_list (option_map (titled t) x)
-seen_title t None x e = ap (λ (y : Option (List Member)). option_to_list (option_map (titled t) y)) e
-seen_title t (Some v) x e = ap (λ (y : Option (List Member)). option_to_list (option_map (titled t) y)) e
+pub view_title : (t : EntryType) (r : Option (Bor (List (Spanned Chunk)))) (x : Option (List Member)) → option_map (λ v. styled v.now) r ≡ x → option_to_list (option_map (λ v. titled t (styled v.now)) r) ≡ option_to_list (option_map (titled t) x)
+view_title t None x e = ap (λ (y : Option (List Member)). option_to_list (option_map (titled t) y)) e
+view_title t (Some v) x e = ap (λ (y : Option (List Member)). option_to_list (option_map (titled t) y)) e
 
 -- neither a title nor a date
 pub no_conference : (r : Option (Bor (List (Spanned Chunk)))) (date : Option Date) → (is_some r || is_some date) ≡ false → conference_of (option_map (λ v. styled v.now) r) date ≡ []

@@ -1,10 +1,10 @@
-pub mod ShelfFaults
+pub mod LibraryFaults
 pub mod ViewsEntries
 pub mod FieldsSet
-pub mod ShelfLists
+pub mod LibraryLists
 pub mod KindsTitled
-pub mod ShelfWorks
-pub mod ShelfKeys
+pub mod LibraryWorks
+pub mod LibraryKeys
 pub mod BridgeDates
 pub mod FaultNames
 pub mod SameFilesAlike

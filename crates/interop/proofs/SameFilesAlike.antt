@@ -2,7 +2,7 @@
 use Rattle.std.proofs.Common.{List, [], ◌∷◌}
 use Rattle.biblatex_entries.specs.Entries.{Source}
 use Rattle.interop_values.proofs.WrittenValues.{values_alike}
-use Rattle.interop.specs.Shelf.{IsAlike, AreAlike}
+use Rattle.interop.specs.Library.{IsAlike, AreAlike}
 use Rattle.interop.specs.SameFiles.{SaysTheSameAs, SayTheSame}
 
 entry_alike : (e f : Source) → SaysTheSameAs e f → IsAlike e f

@@ -18,7 +18,7 @@ entry key type_name fields = record { key = key; entry_type = known type_name; f
 
 -- a value of a text, wherever its chunks stand
 abbrev spelling : List Member → Value
-spelling text = record { text = text; places = []; is_joined = true }
+spelling text = record { text = text; spans = []; is_joined = true }
 
 -- an entry says the same as itself, unless two of its fields are written under one name
 pub itself : (e : Source) → AreWrittenApart e.fields → SaysTheSameAs e e

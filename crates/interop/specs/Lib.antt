@@ -2,6 +2,6 @@ pub mod Kinds
 pub mod Fields
 pub mod Bridge
 pub mod DateFields
-pub mod Shelf
+pub mod Library
 pub mod Views
 pub mod SameFiles

@@ -2,7 +2,7 @@
 use Rattle.std.specs.Prelude.{◌≡◌, List, map, Option, Some, None, codes, string_bytes}
 use Rattle.std.specs.Borrow.{Bor}
 use Rattle.std.specs.Option.{option_map}
-use Rattle.biblatex_entries.specs.Entries.{Source, source}
+use Rattle.biblatex_entries.specs.Entries.{Source, source_view}
 use Rattle.biblatex_entries.specs.declared.entry.Entry.{Entry}
 use Rattle.interop.specs.Kinds.{Container, Row}
 use Rattle.interop.specs.Bridge.{Fault}
@@ -11,7 +11,7 @@ use Rattle.interop.specs.declared.kinds.Container.{Container as CodeContainer}
 use Rattle.interop.specs.declared.kinds.Row.{Row as CodeRow}
 use Rattle.literature.specs.Entries.{entries}
 use Rattle.literature.specs.declared.library.Library.{Library}
-use Rattle.literature_entries.specs.Wholes.{Whole, whole}
+use Rattle.literature_entries.specs.Wholes.{Whole, entry_view}
 use Rattle.literature_entries.specs.Fields.{Fields}
 use Rattle.interop_values.specs.Values.{Values}
 use Rattle.interop_values.specs.Readings.{own_date, date_under, date_if_read}
@@ -21,26 +21,26 @@ use Rattle.interop.specs.declared.error.BridgeError.{BridgeError}
 use Rattle.interop.specs.declared.error.BridgeError.TheVariants as errors
 
 -- borrowed entries of a file
-abbrev pub lent_sources : List (Bor Entry) → List Source
-lent_sources es = map (λ (e : Bor Entry). source e.now) es
+abbrev pub lent_sources_view : List (Bor Entry) → List Source
+lent_sources_view es = map (λ (e : Bor Entry). source_view e.now) es
 
-abbrev pub container : CodeContainer → Container
-container c = record { entry_type = c.entry_type; title = c.title.now }
+abbrev pub container_view : CodeContainer → Container
+container_view c = record { entry_type = c.entry_type; title = c.title.now }
 
-abbrev pub row : CodeRow → Row
-row r = record { entry_type = r.entry_type; container = option_map container r.container }
+abbrev pub row_view : CodeRow → Row
+row_view r = record { entry_type = r.entry_type; container = option_map container_view r.container }
 
-abbrev pub fault : FieldFault → Fault
-fault f = record { key = string_bytes f.key; field = field_name f.field; kind = f.kind }
+abbrev pub fault_view : FieldFault → Fault
+fault_view f = record { key = string_bytes f.key; field = field_name f.field; kind = f.kind }
 
 -- the works of a library
-abbrev pub shelf : Library → List Whole
-shelf l = map whole (entries l)
+abbrev pub library_view : Library → List Whole
+library_view l = map entry_view (entries l)
 
 -- the faults that an error tells of; out of memory tells of none
 abbrev pub refusal_of : BridgeError → Option (List Fault)
 refusal_of errors.Memory = None
-refusal_of (errors.Fields fs) = Some (map fault fs.items)
+refusal_of (errors.Fields fs) = Some (map fault_view fs.items)
 
 -- the dates of an entry as a library keeps them
 abbrev pub dates_of : Values → Dates
@@ -51,7 +51,7 @@ dates_of v = record {
   visited = date_if_read (date_under (codes "urldate") v);
 }
 
--- Nothing has been said yet that a container says.
+-- Nothing is set yet of what a container says.
 pub record IsBare (fs : Fields) : Type 0 where
   pub editor : fs.editor ≡ None
   pub publisher : fs.publisher ≡ None

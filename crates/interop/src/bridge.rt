@@ -2,7 +2,7 @@
 
 ghost use Rattle.std.specs.Prelude.{◌≡◌, ◌++◌, ◌∷◌, [], List, map, IfOk, OnOk, string_bytes, codes};
 ghost use Rattle.std.specs.Option.{option_map};
-ghost use Rattle.biblatex_entries.specs.Entries.{Source, source, sources};
+ghost use Rattle.biblatex_entries.specs.Entries.{Source, source_view, sources_view};
 ghost use Rattle.biblatex_entries.specs.TypeNames.{type_name, written_type};
 ghost use Rattle.biblatex_content.specs.Views.{styled};
 ghost use Rattle.literature.specs.Keys.{AreDistinct};
@@ -10,11 +10,11 @@ ghost use Rattle.literature_entries.specs.Views as views;
 ghost use Rattle.interop_values.specs.Values.{values};
 ghost use Rattle.interop.specs.Kinds.{row_of};
 ghost use Rattle.literature_values.specs.declared.entry_type.EntryType.TheVariants as works;
-ghost use Rattle.literature_entries.specs.Wholes.{Holding, wholes, whole};
+ghost use Rattle.literature_entries.specs.Wholes.{Holding, wholes, entry_view};
 ghost use Rattle.interop.specs.Fields.{container_fields};
 ghost use Rattle.interop.specs.Bridge.{bridged, unless_faulty, work_of, container_of, further, titled_under};
-ghost use Rattle.interop.specs.Shelf.{is_xdata, all_faults, all_works, put_after, library_of, IsPut, AreAlike};
-ghost use Rattle.interop.specs.Views.{container, dates_of, shelf, fault, row, IsBare, lent_sources, refusal_of};
+ghost use Rattle.interop.specs.Library.{is_xdata, all_faults, all_works, put_after, library_of, IsPut, AreAlike};
+ghost use Rattle.interop.specs.Views.{container_view, dates_of, library_view, fault_view, row_view, IsBare, lent_sources_view, refusal_of};
 ghost use Rattle.laws.specs.Results.{Gives};
 
 use crate::dates::{Dates, read_dates};
@@ -40,7 +40,7 @@ use texts::owned;
 /// `Fields` with all dates that cannot be read, in the order `date`, `eventdate`, `origdate`, `urldate`; `Memory` where a
 /// request for memory was refused.
 pub fn entry(alloc: Global, read: &SourceEntry) -> Result<Entry, BridgeError>
-    ensures { Gives refusal_of whole result (bridged (source read.now)) }
+    ensures { Gives refusal_of entry_view result (bridged (source_view read.now)) }
 {
     let dates = read_dates(alloc, read.key.as_str(), &read.fields)?;
     Ok(work(alloc, read, dates)?)
@@ -49,7 +49,8 @@ pub fn entry(alloc: Global, read: &SourceEntry) -> Result<Entry, BridgeError>
 /// The entry of a library, whose dates have been read.
 fn work(alloc: Global, read: &SourceEntry, dates: Dates) -> Result<Entry, AllocError>
     requires { dates ≡ dates_of (values read.now.fields) }
-    ensures { IfOk result (λ e. whole e ≡ work_of (string_bytes read.now.key) (written_type (type_name read.now.entry_type)) (values read.now.fields)) }
+    ensures { IfOk result (λ e. entry_view e ≡ work_of (string_bytes read.now.key)
+        (written_type (type_name read.now.entry_type)) (values read.now.fields)) }
 {
     let fields = &read.fields;
     let row = row_of(&read.entry_type);
@@ -73,7 +74,8 @@ fn within(
     dates: Dates,
 ) -> Result<Entry, AllocError>
     requires { dates ≡ dates_of (values fields.now) }
-    ensures { IfOk result (λ e. whole e ≡ Holding (views.key entry) (views.fields entry) (wholes (whole outer ∷ further [] (values fields.now)))) }
+    ensures { IfOk result (λ e. entry_view e ≡ Holding (views.key_view entry)
+        (views.fields_view entry) (wholes (entry_view outer ∷ further [] (values fields.now)))) }
 {
     let mut parents = Vec::new(alloc);
     parents.push(outer)?;
@@ -89,9 +91,11 @@ fn by_itself(
     fields: &Fields,
     dates: Dates,
 ) -> Result<Entry, AllocError>
-    requires bare { IsBare (views.fields entry) }
+    requires bare { IsBare (views.fields_view entry) }
     requires dates { dates ≡ dates_of (values fields.now) }
-    ensures { IfOk result (λ e. whole e ≡ Holding (views.key entry) (container_fields (values fields.now) (views.fields entry)) (wholes (further (titled_under works.Anthology (codes "series") (values fields.now)) (values fields.now)))) }
+    ensures { IfOk result (λ e. entry_view e ≡ Holding (views.key_view entry)
+        (container_fields (values fields.now) (views.fields_view entry)) (wholes (further
+        (titled_under works.Anthology (codes "series") (values fields.now)) (values fields.now)))) }
 {
     set_container_fields(alloc, &mut entry, fields)?;
     let parents = series_and_further(alloc, fields, dates)?;
@@ -106,7 +110,8 @@ fn series_and_further(
     dates: Dates,
 ) -> Result<Vec<Entry>, AllocError>
     requires { dates ≡ dates_of (values fields.now) }
-    ensures { IfOk result (λ es. map whole es.items ≡ further (titled_under works.Anthology (codes "series") (values fields.now)) (values fields.now)) }
+    ensures { IfOk result (λ es. map entry_view es.items ≡ further
+        (titled_under works.Anthology (codes "series") (values fields.now)) (values fields.now)) }
 {
     let mut parents = Vec::new(alloc);
     push_further(alloc, &mut parents, fields, value(fields, "series"), dates)?;
@@ -118,23 +123,25 @@ fn container_of<'f>(
     wanted: Option<Container>,
     fields: &'f Fields,
 ) -> Option<(EntryType, &'f [Spanned<Chunk>])>
-    ensures { option_map (λ c. (c.0, styled c.1.now)) result ≡ container_of (option_map container wanted) (values fields.now) }
+    ensures { option_map (λ c. (c.0, styled c.1.now)) result
+        ≡ container_of (option_map container_view wanted) (values fields.now) }
 {
     let container = wanted?;
     let title = value(fields, container.title)?;
     Some((container.entry_type, title))
 }
 
-/// The library of a file: its entries in order, of equal keys the last at the first's place. Entries of type `xdata`, which only
+/// The library of a file: its entries in order, of equal keys the last at the first's index. Entries of type `xdata`, which only
 /// lend their fields, are passed over with their faults.
 ///
 /// # Errors
 /// `Fields` with all dates that cannot be read, in the order of the file; `Memory` where a request for memory was refused.
 pub fn from_biblatex(alloc: Global, bibliography: &Bibliography) -> Result<Library, BridgeError>
     // The library of the entries, or all faults of works.
-    ensures library { Gives refusal_of shelf result (library_of bibliography.now.entries) }
+    ensures library { Gives refusal_of library_view result (library_of bibliography.now.entries) }
     // The same as of any entries with equal keys, written types and contents under written names.
-    ensures alike { (es : List Source) → AreAlike es bibliography.now.entries → Gives refusal_of shelf result (library_of es) }
+    ensures alike { (es : List Source) → AreAlike es bibliography.now.entries
+        → Gives refusal_of library_view result (library_of es) }
 {
     let mut library = Library::with_capacity(alloc, bibliography.len())?;
     let mut faults = Vec::new(alloc);
@@ -147,7 +154,7 @@ pub fn from_biblatex(alloc: Global, bibliography: &Bibliography) -> Result<Libra
 /// # Errors
 /// Those of `from_biblatex`, of these entries.
 pub fn from_entries(alloc: Global, entries: &[&SourceEntry]) -> Result<Library, BridgeError>
-    ensures { Gives refusal_of shelf result (library_of (lent_sources entries.now)) }
+    ensures { Gives refusal_of library_view result (library_of (lent_sources_view entries.now)) }
 {
     let mut library = Library::with_capacity(alloc, entries.len())?;
     let mut faults = Vec::new(alloc);
@@ -157,7 +164,8 @@ pub fn from_entries(alloc: Global, entries: &[&SourceEntry]) -> Result<Library, 
 
 /// The library, unless there are faults.
 fn finished(library: Library, faults: Vec<FieldFault>) -> Result<Library, BridgeError>
-    ensures { Gives refusal_of shelf result (unless_faulty (map fault faults.items) (shelf library)) }
+    ensures { Gives refusal_of library_view result
+        (unless_faulty (map fault_view faults.items) (library_view library)) }
 {
     if faults.is_empty() {
         return Ok(library);
@@ -172,7 +180,10 @@ fn put_all(
     faults: &mut Vec<FieldFault>,
     entries: &[SourceEntry],
 ) -> Result<(), AllocError>
-    ensures { OnOk result (unless_faulty (map fault faults.new.items) (shelf library.new) ≡ unless_faulty (map fault faults.old.items ++ all_faults (sources entries.now)) (put_after (shelf library.old) (all_works (sources entries.now)))) }
+    ensures { OnOk result
+        (unless_faulty (map fault_view faults.new.items) (library_view library.new)
+        ≡ unless_faulty (map fault_view faults.old.items ++ all_faults (sources_view entries.now))
+        (put_after (library_view library.old) (all_works (sources_view entries.now)))) }
 {
     for read in entries {
         put_work(alloc, library, faults, read)?;
@@ -187,7 +198,10 @@ fn put_each(
     faults: &mut Vec<FieldFault>,
     entries: &[&SourceEntry],
 ) -> Result<(), AllocError>
-    ensures { OnOk result (unless_faulty (map fault faults.new.items) (shelf library.new) ≡ unless_faulty (map fault faults.old.items ++ all_faults (lent_sources entries.now)) (put_after (shelf library.old) (all_works (lent_sources entries.now)))) }
+    ensures { OnOk result
+        (unless_faulty (map fault_view faults.new.items) (library_view library.new) ≡ unless_faulty
+        (map fault_view faults.old.items ++ all_faults (lent_sources_view entries.now))
+        (put_after (library_view library.old) (all_works (lent_sources_view entries.now)))) }
 {
     for read in entries {
         put_work(alloc, library, faults, read)?;
@@ -203,7 +217,11 @@ fn put_work(
     read: &SourceEntry,
 ) -> Result<(), AllocError>
     // The entries after it make of the library and the faults what it makes of them with those after it.
-    ensures { OnOk result ((rest : List Source) → unless_faulty (map fault faults.new.items ++ all_faults rest) (put_after (shelf library.new) (all_works rest)) ≡ unless_faulty (map fault faults.old.items ++ all_faults (source read.now ∷ rest)) (put_after (shelf library.old) (all_works (source read.now ∷ rest)))) }
+    ensures { OnOk result ((rest : List Source)
+        → unless_faulty (map fault_view faults.new.items ++ all_faults rest)
+        (put_after (library_view library.new) (all_works rest)) ≡ unless_faulty
+        (map fault_view faults.old.items ++ all_faults (source_view read.now ∷ rest))
+        (put_after (library_view library.old) (all_works (source_view read.now ∷ rest)))) }
 {
     if is_xdata(&read.entry_type) {
         return Ok(());
@@ -225,7 +243,8 @@ fn put(
     faults: &mut Vec<FieldFault>,
     read: &SourceEntry,
 ) -> Result<(), AllocError>
-    ensures { OnOk result (IsPut (shelf library.old) (map fault faults.old.items) (source read.now) (shelf library.new) (map fault faults.new.items)) }
+    ensures { OnOk result (IsPut (library_view library.old) (map fault_view faults.old.items)
+        (source_view read.now) (library_view library.new) (map fault_view faults.new.items)) }
 {
     match entry(alloc, read) {
         Ok(work) => library.push(work),
@@ -239,7 +258,8 @@ pub(crate) fn push_all(
     faults: &mut Vec<FieldFault>,
     found: Vec<FieldFault>,
 ) -> Result<(), AllocError>
-    ensures { OnOk result (map fault faults.new.items ≡ map fault faults.old.items ++ map fault found.items) }
+    ensures { OnOk result (map fault_view faults.new.items
+        ≡ map fault_view faults.old.items ++ map fault_view found.items) }
 {
     for fault in found {
         faults.push(fault)?;

@@ -1,11 +1,11 @@
 //! The dates of a file that cannot be read.
 
 ghost use Rattle.std.specs.Prelude.{◌≡◌, ◌++◌, ◌∷◌, [], List, map, IfOk, OnOk, string_bytes};
-ghost use Rattle.biblatex_entries.specs.Entries.{Source, source, sources};
+ghost use Rattle.biblatex_entries.specs.Entries.{Source, source_view, sources_view};
 ghost use Rattle.interop_values.specs.Values.{values};
 ghost use Rattle.interop.specs.Bridge.{faults_of};
-ghost use Rattle.interop.specs.Shelf.{all_faults, all_works, put_after, library_of};
-ghost use Rattle.interop.specs.Views.{fault, refusal_of};
+ghost use Rattle.interop.specs.Library.{all_faults, all_works, put_after, library_of};
+ghost use Rattle.interop.specs.Views.{fault_view, refusal_of};
 ghost use Rattle.laws.specs.Results.{Gives};
 
 use crate::bridge::{is_xdata, push_all};
@@ -20,7 +20,8 @@ use std::alloc::{AllocError, Global};
 /// # Errors
 /// Those of `from_biblatex`.
 pub fn check_dates(alloc: Global, bibliography: &Bibliography) -> Result<(), BridgeError>
-    ensures { Gives refusal_of (λ _. put_after [] (all_works bibliography.now.entries)) result (library_of bibliography.now.entries) }
+    ensures { Gives refusal_of (λ _. put_after [] (all_works bibliography.now.entries)) result
+        (library_of bibliography.now.entries) }
 {
     let faults = date_faults(alloc, bibliography.entries())?;
     if faults.is_empty() {
@@ -31,7 +32,7 @@ pub fn check_dates(alloc: Global, bibliography: &Bibliography) -> Result<(), Bri
 
 /// The faults of the dates of works, in order.
 fn date_faults(alloc: Global, entries: &[SourceEntry]) -> Result<Vec<FieldFault>, AllocError>
-    ensures { IfOk result (λ v. map fault v.items ≡ all_faults (sources entries.now)) }
+    ensures { IfOk result (λ v. map fault_view v.items ≡ all_faults (sources_view entries.now)) }
 {
     let mut faults = Vec::new(alloc);
     for read in entries {
@@ -47,7 +48,8 @@ fn push_work_faults(
     read: &SourceEntry,
 ) -> Result<(), AllocError>
     // The faults of the entries after it stand after its own.
-    ensures { OnOk result ((rest : List Source) → map fault faults.new.items ++ all_faults rest ≡ map fault faults.old.items ++ all_faults (source read.now ∷ rest)) }
+    ensures { OnOk result ((rest : List Source) → map fault_view faults.new.items ++ all_faults rest
+        ≡ map fault_view faults.old.items ++ all_faults (source_view read.now ∷ rest)) }
 {
     if is_xdata(&read.entry_type) {
         return Ok(());
@@ -61,7 +63,8 @@ fn push_date_faults(
     faults: &mut Vec<FieldFault>,
     read: &SourceEntry,
 ) -> Result<(), AllocError>
-    ensures { OnOk result (map fault faults.new.items ≡ map fault faults.old.items ++ faults_of (string_bytes read.now.key) (values read.now.fields)) }
+    ensures { OnOk result (map fault_view faults.new.items ≡ map fault_view faults.old.items
+        ++ faults_of (string_bytes read.now.key) (values read.now.fields)) }
 {
     match read_dates(alloc, read.key.as_str(), &read.fields) {
         Ok(_) => Ok(()),

@@ -7,7 +7,7 @@ ghost use Rattle.interop_values.specs.Values.{values};
 ghost use Rattle.interop_values.specs.Readings.{date_if_read};
 ghost use Rattle.interop.specs.DateFields.{field_name};
 ghost use Rattle.interop.specs.Bridge.{faults_of, fault_in, unless_faulty};
-ghost use Rattle.interop.specs.Views.{fault, dates_of, refusal_of};
+ghost use Rattle.interop.specs.Views.{fault_view, dates_of, refusal_of};
 ghost use Rattle.laws.specs.Results.{Gives};
 
 use crate::error::{BridgeError, DateField, FieldFault};
@@ -29,7 +29,8 @@ pub(crate) struct Dates {
 
 /// Reads the dates of an entry, or all their faults.
 pub(crate) fn read_dates(alloc: Global, key: &str, fields: &Fields) -> Result<Dates, BridgeError>
-    ensures { Gives refusal_of (λ d. d) result (unless_faulty (faults_of key.now (values fields.now)) (dates_of (values fields.now))) }
+    ensures { Gives refusal_of (λ d. d) result
+        (unless_faulty (faults_of key.now (values fields.now)) (dates_of (values fields.now))) }
 {
     let mut faults = Vec::new(alloc);
     let own = date_or_fault(&mut faults, key, DateField::Date, own_date(alloc, fields)?)?;
@@ -70,7 +71,8 @@ fn date_or_fault(
     read: Option<Result<SourceDate, TypeErrorKind>>,
 ) -> Result<Option<Date>, AllocError>
     ensures date { IfOk result (λ d. d ≡ date_if_read read) }
-    ensures faults { OnOk result (map fault faults.new.items ≡ map fault faults.old.items ++ fault_in key.now (field_name field) read) }
+    ensures faults { OnOk result (map fault_view faults.new.items
+        ≡ map fault_view faults.old.items ++ fault_in key.now (field_name field) read) }
 {
     match read {
         None => Ok(None),

@@ -3,8 +3,8 @@
 ghost use Rattle.std.specs.Prelude.{◌≡◌, [], IfOk, OnOk, string_bytes};
 ghost use Rattle.std.specs.Option.{option_map};
 ghost use Rattle.literature_entries.specs.Views as views;
-ghost use Rattle.literature_numbers.specs.Views.{numeral};
-ghost use Rattle.literature_values.specs.TypedViews.{value_or_text};
+ghost use Rattle.literature_numbers.specs.Views.{numeral_view};
+ghost use Rattle.literature_values.specs.TypedViews.{typed_view};
 ghost use Rattle.interop_values.specs.Values.{values};
 ghost use Rattle.interop.specs.Fields.{own_fields, is_periodical, issue_of, series_number, container_fields};
 ghost use Rattle.interop.specs.Views.{dates_of, IsBare};
@@ -33,8 +33,9 @@ pub(crate) fn own_entry(
     dates: Dates,
 ) -> Result<Entry, AllocError>
     requires { dates ≡ dates_of (values fields.now) }
-    ensures key { IfOk result (λ e. views.key e ≡ string_bytes key) }
-    ensures fields { IfOk result (λ e. views.fields e ≡ own_fields (values fields.now) entry_type) }
+    ensures key { IfOk result (λ e. views.key_view e ≡ string_bytes key) }
+    ensures fields { IfOk result (λ e. views.fields_view e
+        ≡ own_fields (values fields.now) entry_type) }
     ensures parents { IfOk result (λ e. views.parents e ≡ []) }
 {
     let mut entry = Entry::new(key, entry_type);
@@ -58,8 +59,9 @@ pub(crate) fn set_container_fields(
     entry: &mut Entry,
     fields: &Fields,
 ) -> Result<(), AllocError>
-    requires { IsBare (views.fields entry.old) }
-    ensures { OnOk result (views.Sets entry.old (container_fields (values fields.now) (views.fields entry.old)) entry.new) }
+    requires { IsBare (views.fields_view entry.old) }
+    ensures { OnOk result (views.Sets entry.old
+        (container_fields (values fields.now) (views.fields_view entry.old)) entry.new) }
 {
     let is_periodical = is_periodical(*entry.entry_type());
     set_editor(entry, people_under(alloc, fields, "editor")?);
@@ -93,7 +95,8 @@ fn issue(
     fields: &Fields,
     is_periodical: bool,
 ) -> Result<Option<MaybeTyped<Numeric>>, AllocError>
-    ensures { IfOk result (λ n. option_map (value_or_text numeral) n ≡ issue_of is_periodical (values fields.now)) }
+    ensures { IfOk result (λ n. option_map (typed_view numeral_view) n
+        ≡ issue_of is_periodical (values fields.now)) }
 {
     if !is_periodical {
         return Ok(None);
@@ -110,7 +113,8 @@ fn series_number(
     fields: &Fields,
     is_periodical: bool,
 ) -> Result<Option<String>, AllocError>
-    ensures { IfOk result (λ s. option_map string_bytes s ≡ series_number is_periodical (values fields.now)) }
+    ensures { IfOk result (λ s. option_map string_bytes s
+        ≡ series_number is_periodical (values fields.now)) }
 {
     if is_periodical {
         return Ok(None);

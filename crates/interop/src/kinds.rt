@@ -3,7 +3,7 @@
 ghost use Rattle.std.specs.Prelude.{◌≡◌};
 ghost use Rattle.biblatex_entries.specs.TypeNames.{type_name, written_type};
 ghost use Rattle.interop.specs.Kinds.{alone, part_of, row_of};
-ghost use Rattle.interop.specs.Views.{row};
+ghost use Rattle.interop.specs.Views.{row_view};
 
 use biblatex_entries::EntryType as SourceType;
 use literature_values::EntryType;
@@ -24,7 +24,7 @@ pub(crate) struct Row {
 
 /// The row of a type.
 pub(crate) fn row_of(entry_type: &SourceType) -> Row
-    ensures { row result ≡ row_of (written_type (type_name entry_type.now)) }
+    ensures { row_view result ≡ row_of (written_type (type_name entry_type.now)) }
 {
     match entry_type {
         SourceType::Article | SourceType::SuppPeriodical => {
@@ -61,7 +61,7 @@ pub(crate) fn row_of(entry_type: &SourceType) -> Row
 
 /// A type without a container.
 fn alone(entry_type: EntryType) -> Row
-    ensures { row result ≡ alone entry_type }
+    ensures { row_view result ≡ alone entry_type }
 {
     Row {
         entry_type,
@@ -71,7 +71,7 @@ fn alone(entry_type: EntryType) -> Row
 
 /// A type with a container whose title stands in a field.
 fn part_of(container: EntryType, title: &'static str, entry_type: EntryType) -> Row
-    ensures { row result ≡ part_of container title.now entry_type }
+    ensures { row_view result ≡ part_of container title.now entry_type }
 {
     Row {
         entry_type,

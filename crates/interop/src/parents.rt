@@ -5,7 +5,7 @@ ghost use Rattle.std.specs.Option.{option_map, is_some};
 ghost use Rattle.biblatex_content.specs.Views.{styled};
 ghost use Rattle.literature_values.specs.declared.entry_type.EntryType.TheVariants as works;
 ghost use Rattle.interop_values.specs.Values.{values};
-ghost use Rattle.literature_entries.specs.Wholes.{whole};
+ghost use Rattle.literature_entries.specs.Wholes.{entry_view};
 ghost use Rattle.interop.specs.Bridge.{titled, titled_under, container_entry, conference_of, original_of, further};
 ghost use Rattle.interop.specs.Views.{dates_of};
 
@@ -27,7 +27,8 @@ pub(crate) fn container_entry(
     entry_type: EntryType,
     title: &[Spanned<Chunk>],
 ) -> Result<Entry, AllocError>
-    ensures { IfOk result (λ e. whole e ≡ container_entry (values fields.now) entry_type (styled title.now)) }
+    ensures { IfOk result (λ e. entry_view e
+        ≡ container_entry (values fields.now) entry_type (styled title.now)) }
 {
     let title = format(alloc, title)?;
     let author = people_under(alloc, fields, "bookauthor")?;
@@ -55,7 +56,10 @@ pub(crate) fn push_further(
     dates: Dates,
 ) -> Result<(), AllocError>
     requires { dates ≡ dates_of (values fields.now) }
-    ensures { OnOk result (map whole parents.new.items ≡ map whole parents.old.items ++ further (option_to_list (option_map (λ v. titled works.Anthology (styled v.now)) series.entry)) (values fields.now)) }
+    ensures { OnOk result (map entry_view parents.new.items
+        ≡ map entry_view parents.old.items ++ further
+        (option_to_list (option_map (λ v. titled works.Anthology (styled v.now)) series.entry))
+        (values fields.now)) }
 {
     push_titled(alloc, parents, EntryType::Book, value(fields, "maintitle"))?;
     push_titled(alloc, parents, EntryType::Anthology, series)?;
@@ -70,7 +74,8 @@ fn push_titled(
     entry_type: EntryType,
     title: Option<&[Spanned<Chunk>]>,
 ) -> Result<(), AllocError>
-    ensures { OnOk result (map whole parents.new.items ≡ map whole parents.old.items ++ option_to_list (option_map (λ v. titled entry_type (styled v.now)) title.entry)) }
+    ensures { OnOk result (map entry_view parents.new.items ≡ map entry_view parents.old.items
+        ++ option_to_list (option_map (λ v. titled entry_type (styled v.now)) title.entry)) }
 {
     match title {
         Some(title) => push_work(alloc, parents, entry_type, title),
@@ -85,7 +90,8 @@ fn push_work(
     entry_type: EntryType,
     title: &[Spanned<Chunk>],
 ) -> Result<(), AllocError>
-    ensures { OnOk result (map whole parents.new.items ≡ map whole parents.old.items ++ titled entry_type (styled title.now) ∷ []) }
+    ensures { OnOk result (map entry_view parents.new.items
+        ≡ map entry_view parents.old.items ++ titled entry_type (styled title.now) ∷ []) }
 {
     let title = format(alloc, title)?;
     let mut work = Entry::new(empty_text(alloc), entry_type);
@@ -101,7 +107,8 @@ fn push_conference(
     title: Option<&[Spanned<Chunk>]>,
     date: Option<Date>,
 ) -> Result<(), AllocError>
-    ensures { OnOk result (map whole parents.new.items ≡ map whole parents.old.items ++ conference_of (option_map (λ v. styled v.now) title.entry) date) }
+    ensures { OnOk result (map entry_view parents.new.items ≡ map entry_view parents.old.items
+        ++ conference_of (option_map (λ v. styled v.now) title.entry) date) }
 {
     if !has_conference(title, date) {
         return Ok(());
@@ -126,7 +133,8 @@ fn push_original(
     parents: &mut Vec<Entry>,
     date: Option<Date>,
 ) -> Result<(), AllocError>
-    ensures { OnOk result (map whole parents.new.items ≡ map whole parents.old.items ++ original_of date) }
+    ensures { OnOk result (map entry_view parents.new.items
+        ≡ map entry_view parents.old.items ++ original_of date) }
 {
     let Some(date) = date else {
         return Ok(());

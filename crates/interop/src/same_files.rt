@@ -2,7 +2,7 @@
 
 ghost use Rattle.std.specs.Prelude.{◌≡◌, List};
 ghost use Rattle.biblatex_entries.specs.Entries.{Source};
-ghost use Rattle.interop.specs.Shelf.{AreAlike, library_of};
+ghost use Rattle.interop.specs.Library.{AreAlike, library_of};
 ghost use Rattle.interop.specs.SameFiles.{SayTheSame};
 
 /// Files that say the same have one library, or the same faults. The order of the fields in an entry makes no difference, nor an

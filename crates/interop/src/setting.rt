@@ -2,12 +2,12 @@
 
 ghost use Rattle.std.specs.Prelude.{◌≡◌, OnOk, string_bytes};
 ghost use Rattle.std.specs.Option.{option_map};
-ghost use Rattle.literature_numbers.specs.PageViews.{pages};
-ghost use Rattle.literature_numbers.specs.Views.{numeral};
-ghost use Rattle.literature_values.specs.TextViews.{format, publishing};
-ghost use Rattle.literature_entries.specs.Views.{people, fields, Sets};
-ghost use Rattle.literature_values.specs.OtherViews.{address};
-ghost use Rattle.literature_values.specs.TypedViews.{value_or_text};
+ghost use Rattle.literature_numbers.specs.PageViews.{pages_view};
+ghost use Rattle.literature_numbers.specs.Views.{numeral_view};
+ghost use Rattle.literature_values.specs.TextViews.{format_view, publishing_view};
+ghost use Rattle.literature_entries.specs.Views.{people_view, fields_view, Sets};
+ghost use Rattle.literature_values.specs.OtherViews.{address_view};
+ghost use Rattle.literature_values.specs.TypedViews.{typed_view};
 ghost use Rattle.interop_values.specs.Values.{first_or};
 ghost use Rattle.interop.specs.Fields.{also};
 
@@ -18,7 +18,9 @@ use literature_values::{
 use std::alloc::AllocError;
 
 pub(crate) fn set_title(entry: &mut Entry, title: Option<FormatString>)
-    ensures { Sets entry.old (record (fields entry.old) { title = first_or (option_map format title) (fields entry.old).title }) entry.new }
+    ensures { Sets entry.old (record (fields_view entry.old)
+        { title = first_or (option_map format_view title) (fields_view entry.old).title })
+        entry.new }
 {
     if let Some(title) = title {
         entry.set_title(title);
@@ -26,7 +28,7 @@ pub(crate) fn set_title(entry: &mut Entry, title: Option<FormatString>)
 }
 
 pub(crate) fn set_author(entry: &mut Entry, author: Option<Vec<Person>>)
-    ensures { Sets entry.old (record (fields entry.old) { author = first_or (option_map (λ v. people v.items) author) (fields entry.old).author }) entry.new }
+    ensures { Sets entry.old (record (fields_view entry.old) { author = first_or (option_map (λ v. people_view v.items) author) (fields_view entry.old).author }) entry.new }
 {
     if let Some(author) = author {
         entry.set_author(author);
@@ -34,7 +36,7 @@ pub(crate) fn set_author(entry: &mut Entry, author: Option<Vec<Person>>)
 }
 
 pub(crate) fn set_editor(entry: &mut Entry, editor: Option<Vec<Person>>)
-    ensures { Sets entry.old (record (fields entry.old) { editor = first_or (option_map (λ v. people v.items) editor) (fields entry.old).editor }) entry.new }
+    ensures { Sets entry.old (record (fields_view entry.old) { editor = first_or (option_map (λ v. people_view v.items) editor) (fields_view entry.old).editor }) entry.new }
 {
     if let Some(editor) = editor {
         entry.set_editor(editor);
@@ -42,7 +44,7 @@ pub(crate) fn set_editor(entry: &mut Entry, editor: Option<Vec<Person>>)
 }
 
 pub(crate) fn set_translator(entry: &mut Entry, translator: Option<Vec<Person>>)
-    ensures { Sets entry.old (record (fields entry.old) { translator = first_or (option_map (λ v. people v.items) translator) (fields entry.old).translator }) entry.new }
+    ensures { Sets entry.old (record (fields_view entry.old) { translator = first_or (option_map (λ v. people_view v.items) translator) (fields_view entry.old).translator }) entry.new }
 {
     if let Some(translator) = translator {
         entry.set_translator(translator);
@@ -50,7 +52,9 @@ pub(crate) fn set_translator(entry: &mut Entry, translator: Option<Vec<Person>>)
 }
 
 pub(crate) fn set_date(entry: &mut Entry, date: Option<Date>)
-    ensures { Sets entry.old (record (fields entry.old) { date = first_or (date) (fields entry.old).date }) entry.new }
+    ensures { Sets entry.old
+        (record (fields_view entry.old) { date = first_or (date) (fields_view entry.old).date })
+        entry.new }
 {
     if let Some(date) = date {
         entry.set_date(date);
@@ -58,7 +62,7 @@ pub(crate) fn set_date(entry: &mut Entry, date: Option<Date>)
 }
 
 pub(crate) fn set_publisher(entry: &mut Entry, publisher: Option<Publisher>)
-    ensures { Sets entry.old (record (fields entry.old) { publisher = first_or (option_map publishing publisher) (fields entry.old).publisher }) entry.new }
+    ensures { Sets entry.old (record (fields_view entry.old) { publisher = first_or (option_map publishing_view publisher) (fields_view entry.old).publisher }) entry.new }
 {
     if let Some(publisher) = publisher {
         entry.set_publisher(publisher);
@@ -66,7 +70,7 @@ pub(crate) fn set_publisher(entry: &mut Entry, publisher: Option<Publisher>)
 }
 
 pub(crate) fn set_volume(entry: &mut Entry, volume: Option<MaybeTyped<Numeric>>)
-    ensures { Sets entry.old (record (fields entry.old) { volume = first_or (option_map (value_or_text numeral) volume) (fields entry.old).volume }) entry.new }
+    ensures { Sets entry.old (record (fields_view entry.old) { volume = first_or (option_map (typed_view numeral_view) volume) (fields_view entry.old).volume }) entry.new }
 {
     if let Some(volume) = volume {
         entry.set_volume(volume);
@@ -74,7 +78,7 @@ pub(crate) fn set_volume(entry: &mut Entry, volume: Option<MaybeTyped<Numeric>>)
 }
 
 pub(crate) fn set_volume_total(entry: &mut Entry, volume_total: Option<MaybeTyped<Numeric>>)
-    ensures { Sets entry.old (record (fields entry.old) { volume_total = first_or (option_map (value_or_text numeral) volume_total) (fields entry.old).volume_total }) entry.new }
+    ensures { Sets entry.old (record (fields_view entry.old) { volume_total = first_or (option_map (typed_view numeral_view) volume_total) (fields_view entry.old).volume_total }) entry.new }
 {
     if let Some(volume_total) = volume_total {
         entry.set_volume_total(volume_total);
@@ -82,7 +86,7 @@ pub(crate) fn set_volume_total(entry: &mut Entry, volume_total: Option<MaybeType
 }
 
 pub(crate) fn set_issue(entry: &mut Entry, issue: Option<MaybeTyped<Numeric>>)
-    ensures { Sets entry.old (record (fields entry.old) { issue = first_or (option_map (value_or_text numeral) issue) (fields entry.old).issue }) entry.new }
+    ensures { Sets entry.old (record (fields_view entry.old) { issue = first_or (option_map (typed_view numeral_view) issue) (fields_view entry.old).issue }) entry.new }
 {
     if let Some(issue) = issue {
         entry.set_issue(issue);
@@ -90,7 +94,7 @@ pub(crate) fn set_issue(entry: &mut Entry, issue: Option<MaybeTyped<Numeric>>)
 }
 
 pub(crate) fn set_chapter(entry: &mut Entry, chapter: Option<MaybeTyped<Numeric>>)
-    ensures { Sets entry.old (record (fields entry.old) { chapter = first_or (option_map (value_or_text numeral) chapter) (fields entry.old).chapter }) entry.new }
+    ensures { Sets entry.old (record (fields_view entry.old) { chapter = first_or (option_map (typed_view numeral_view) chapter) (fields_view entry.old).chapter }) entry.new }
 {
     if let Some(chapter) = chapter {
         entry.set_chapter(chapter);
@@ -98,7 +102,7 @@ pub(crate) fn set_chapter(entry: &mut Entry, chapter: Option<MaybeTyped<Numeric>
 }
 
 pub(crate) fn set_edition(entry: &mut Entry, edition: Option<MaybeTyped<Numeric>>)
-    ensures { Sets entry.old (record (fields entry.old) { edition = first_or (option_map (value_or_text numeral) edition) (fields entry.old).edition }) entry.new }
+    ensures { Sets entry.old (record (fields_view entry.old) { edition = first_or (option_map (typed_view numeral_view) edition) (fields_view entry.old).edition }) entry.new }
 {
     if let Some(edition) = edition {
         entry.set_edition(edition);
@@ -106,7 +110,7 @@ pub(crate) fn set_edition(entry: &mut Entry, edition: Option<MaybeTyped<Numeric>
 }
 
 pub(crate) fn set_page_range(entry: &mut Entry, page_range: Option<MaybeTyped<PageRanges>>)
-    ensures { Sets entry.old (record (fields entry.old) { page_range = first_or (option_map (value_or_text pages) page_range) (fields entry.old).page_range }) entry.new }
+    ensures { Sets entry.old (record (fields_view entry.old) { page_range = first_or (option_map (typed_view pages_view) page_range) (fields_view entry.old).page_range }) entry.new }
 {
     if let Some(page_range) = page_range {
         entry.set_page_range(page_range);
@@ -114,7 +118,7 @@ pub(crate) fn set_page_range(entry: &mut Entry, page_range: Option<MaybeTyped<Pa
 }
 
 pub(crate) fn set_page_total(entry: &mut Entry, page_total: Option<MaybeTyped<Numeric>>)
-    ensures { Sets entry.old (record (fields entry.old) { page_total = first_or (option_map (value_or_text numeral) page_total) (fields entry.old).page_total }) entry.new }
+    ensures { Sets entry.old (record (fields_view entry.old) { page_total = first_or (option_map (typed_view numeral_view) page_total) (fields_view entry.old).page_total }) entry.new }
 {
     if let Some(page_total) = page_total {
         entry.set_page_total(page_total);
@@ -122,7 +126,8 @@ pub(crate) fn set_page_total(entry: &mut Entry, page_total: Option<MaybeTyped<Nu
 }
 
 pub(crate) fn set_url(entry: &mut Entry, url: Option<QualifiedUrl>)
-    ensures { Sets entry.old (record (fields entry.old) { url = first_or (option_map address url) (fields entry.old).url }) entry.new }
+    ensures { Sets entry.old (record (fields_view entry.old)
+        { url = first_or (option_map address_view url) (fields_view entry.old).url }) entry.new }
 {
     if let Some(url) = url {
         entry.set_url(url);
@@ -130,7 +135,8 @@ pub(crate) fn set_url(entry: &mut Entry, url: Option<QualifiedUrl>)
 }
 
 pub(crate) fn set_note(entry: &mut Entry, note: Option<FormatString>)
-    ensures { Sets entry.old (record (fields entry.old) { note = first_or (option_map format note) (fields entry.old).note }) entry.new }
+    ensures { Sets entry.old (record (fields_view entry.old)
+        { note = first_or (option_map format_view note) (fields_view entry.old).note }) entry.new }
 {
     if let Some(note) = note {
         entry.set_note(note);
@@ -138,7 +144,9 @@ pub(crate) fn set_note(entry: &mut Entry, note: Option<FormatString>)
 }
 
 pub(crate) fn set_language(entry: &mut Entry, language: Option<String>)
-    ensures { Sets entry.old (record (fields entry.old) { language = first_or (option_map string_bytes language) (fields entry.old).language }) entry.new }
+    ensures { Sets entry.old (record (fields_view entry.old)
+        { language = first_or (option_map string_bytes language) (fields_view entry.old).language })
+        entry.new }
 {
     if let Some(language) = language {
         entry.set_language(language);
@@ -151,7 +159,7 @@ pub(crate) fn set_number(
     scheme: &str,
     number: Option<String>,
 ) -> Result<(), AllocError>
-    ensures { OnOk result (Sets entry.old (record (fields entry.old) { serial_number = also scheme.now (option_map string_bytes number) (fields entry.old).serial_number }) entry.new) }
+    ensures { OnOk result (Sets entry.old (record (fields_view entry.old) { serial_number = also scheme.now (option_map string_bytes number) (fields_view entry.old).serial_number }) entry.new) }
 {
     match number {
         Some(number) => entry.set_keyed_serial_number(scheme, number),

@@ -9,17 +9,17 @@ use Rattle.biblatex_content.specs.Styled.{Member, Letter, Math, letters}
 use Rattle.laws.specs.Text.{characters, is_filled}
 use Rattle.literature_values.specs.declared.text.ChunkKind.TheVariants as pieces
 use Rattle.literature_values.specs.declared.text.StringChunk.{StringChunk}
-use Rattle.literature_values.specs.TextViews.{Chunk, chunk}
+use Rattle.literature_values.specs.TextViews.{Chunk, chunk_view}
 use Rattle.interop_values.specs.Pieces.{piece_kind, is_of, pieces_of}
 use Rattle.interop_values.specs.Readings.{with_subtitle}
 use Rattle.interop_values.specs.Views.{kind_of}
 use Rattle.interop_values.proofs.PiecesParting.{first_is, first_before, parted, no_formula, one_piece}
 
 -- a text that is ended is a piece
-pub ended : (ps : List StringChunk) (s : StringChunk) (k : Kind) (cs : List ℕ) → characters s.value ≡ cs → s.kind ≡ piece_kind k → is_filled cs ≡ true → map chunk (ps ++ s ∷ []) ≡ map chunk ps ++ pieces_of (letters k cs)
+pub ended : (ps : List StringChunk) (s : StringChunk) (k : Kind) (cs : List ℕ) → characters s.value ≡ cs → s.kind ≡ piece_kind k → is_filled cs ≡ true → map chunk_view (ps ++ s ∷ []) ≡ map chunk_view ps ++ pieces_of (letters k cs)
 ended ps s k cs same kind filled =
-    map-append chunk ps (s ∷ [])
-    ∙ ap (λ (qs : List Chunk). map chunk ps ++ qs) ((λ i. record { value = same i; kind = kind i } ∷ []) ∙ sym (one_piece k cs filled))
+    map-append chunk_view ps (s ∷ [])
+    ∙ ap (λ (qs : List Chunk). map chunk_view ps ++ qs) ((λ i. record { value = same i; kind = kind i } ∷ []) ∙ sym (one_piece k cs filled))
 
 -- a text that goes on
 pub goes_on : (ps : List Chunk) (k : Kind) (run cs : List ℕ) (rest : List Member) → ps ++ pieces_of (letters k (run ++ cs) ++ rest) ≡ ps ++ pieces_of (letters k run ++ (letters k cs ++ rest))
@@ -30,10 +30,10 @@ pub follows : (ps : List Chunk) (k : Kind) (run : List ℕ) (rest : List Member)
 follows ps k run rest e = append_assoc ps (pieces_of (letters k run)) (pieces_of rest) ∙ ap (λ (qs : List Chunk). ps ++ qs) (sym (parted k run rest e))
 
 -- a formula after a text that has been ended
-pub formula : (done : List StringChunk) (s : StringChunk) (ps : List Chunk) (k : Kind) (run cs : List ℕ) (rest : List Member) → map chunk done ≡ ps ++ pieces_of (letters k run) → characters s.value ≡ cs → s.kind ≡ pieces.Math → map chunk (done ++ s ∷ []) ++ pieces_of rest ≡ ps ++ pieces_of (letters k run ++ (Math cs ∷ rest))
+pub formula : (done : List StringChunk) (s : StringChunk) (ps : List Chunk) (k : Kind) (run cs : List ℕ) (rest : List Member) → map chunk_view done ≡ ps ++ pieces_of (letters k run) → characters s.value ≡ cs → s.kind ≡ pieces.Math → map chunk_view (done ++ s ∷ []) ++ pieces_of rest ≡ ps ++ pieces_of (letters k run ++ (Math cs ∷ rest))
 formula done s ps k run cs rest before same kind =
-    ap (λ (qs : List Chunk). qs ++ pieces_of rest) (map-append chunk done (s ∷ []))
-    ∙ (append_assoc (map chunk done) (chunk s ∷ []) (pieces_of rest)
+    ap (λ (qs : List Chunk). qs ++ pieces_of rest) (map-append chunk_view done (s ∷ []))
+    ∙ (append_assoc (map chunk_view done) (chunk_view s ∷ []) (pieces_of rest)
     ∙ ((λ i. before i ++ (record { value = same i; kind = kind i } ∷ pieces_of rest))
     ∙ follows ps k run (Math cs ∷ rest) (no_formula k)))
 

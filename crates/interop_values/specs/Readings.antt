@@ -97,7 +97,7 @@ bytes_of ms = text (plain ms)
 abbrev pub bytes_under : List ℕ → Values → Option (List ℕ)
 bytes_under name v = option_map bytes_of (v name)
 
--- a publisher by name and place, where one of them is there
+-- a publisher by name and location, where one of them is there
 abbrev pub publishing_of : Option (List Member) → Option (List Member) → Option Publishing
 publishing_of None None = None
 publishing_of name location = Some (record { name = option_map format_of name; location = option_map format_of location })
@@ -106,7 +106,7 @@ publishing_of name location = Some (record { name = option_map format_of name; l
 abbrev pub publisher_of : Values → Option Publishing
 publisher_of v = publishing_of (first_or (v (codes "publisher")) (first_or (v (codes "institution")) (v (codes "organization")))) (v (codes "location"))
 
--- the point that a date of a library begins with: the first of a range, the end of one without a beginning
+-- the point that a date of a library begins with: the first of a range, the end of one without a start
 abbrev pub point_of : DateValue → Datetime
 point_of (At d) = d
 point_of (After d) = d

@@ -4,7 +4,7 @@ use Rattle.biblatex_content.specs.declared.chunk.Kind.{Kind}
 use Rattle.biblatex_content.specs.declared.chunk.Kind.TheVariants as kinds
 use Rattle.biblatex_content.specs.Styled.{Member, letters}
 use Rattle.laws.specs.Text.{characters}
-use Rattle.literature_values.specs.TextViews.{Chunk, chunk}
+use Rattle.literature_values.specs.TextViews.{Chunk, chunk_view}
 use Rattle.interop_values.specs.Pieces.{pieces_of}
 use Rattle.interop_values.specs.declared.pieces.Pieces.{Pieces}
 
@@ -15,7 +15,7 @@ kind_of true = kinds.Verbatim
 
 -- the pieces that are finished
 abbrev pub chunks_in : Pieces → List Chunk
-chunks_in p = map chunk p.done.items
+chunks_in p = map chunk_view p.done.items
 
 -- the text that has been begun
 abbrev pub run_of : Pieces → List Member

@@ -53,7 +53,7 @@ fn date_by_parts(alloc: Global, fields: &Fields) -> Result<Option<SourceDate>, A
     Ok(SourceDate::from_parts(year.as_str(), Some(month.as_str()), Some(day.as_str())))
 }
 
-/// A date as a library has it, without its times: of a range both sides, of one without a beginning the end alone;
+/// A date as a library has it, without its times: of a range both sides, of one without a start the end alone;
 /// approximate where one of its sides is uncertain or approximate.
 pub fn library_date(date: SourceDate) -> Date
     ensures { result ≡ library_date date }

@@ -5,7 +5,7 @@ ghost use Rattle.std.specs.Str.{chars};
 ghost use Rattle.biblatex_content.specs.Styled.{Member, Letter, Math, letters};
 ghost use Rattle.biblatex_content.specs.Views.{styled, members};
 ghost use Rattle.laws.specs.Text.{characters};
-ghost use Rattle.literature_values.specs.TextViews.{chunk, chunks};
+ghost use Rattle.literature_values.specs.TextViews.{chunk_view, chunks_view};
 ghost use Rattle.interop_values.specs.Pieces.{pieces_of, piece_kind};
 ghost use Rattle.interop_values.specs.Views.{kind_of, chunks_in, run_of, with_pieces, Grows};
 
@@ -60,7 +60,8 @@ impl Pieces {
 
     /// Appends a text of a kind.
     pub(crate) fn push_text(&mut self, is_verbatim: bool, text: &str) -> Result<(), AllocError>
-        ensures { OnOk result (Grows self.old self.new (letters (kind_of is_verbatim) (chars text.now))) }
+        ensures { OnOk result
+            (Grows self.old self.new (letters (kind_of is_verbatim) (chars text.now))) }
     {
         if !has_text(text) {
             return Ok(());
@@ -73,7 +74,9 @@ impl Pieces {
     fn turn(&mut self, is_verbatim: bool) -> Result<(), AllocError>
         ensures kind { OnOk result (self.new.is_verbatim ≡ is_verbatim) }
         // Text of the kind stands where it would have stood.
-        ensures pieces { OnOk result ((c : ℕ) (rest : List Member) → with_pieces self.new (Letter (kind_of is_verbatim) c ∷ rest) ≡ with_pieces self.old (Letter (kind_of is_verbatim) c ∷ rest)) }
+        ensures pieces { OnOk result ((c : ℕ) (rest : List Member)
+            → with_pieces self.new (Letter (kind_of is_verbatim) c ∷ rest)
+            ≡ with_pieces self.old (Letter (kind_of is_verbatim) c ∷ rest)) }
     {
         if self.is_verbatim == is_verbatim {
             return Ok(());
@@ -101,7 +104,8 @@ impl Pieces {
     fn end_run(&mut self) -> Result<(), AllocError>
         ensures kind { self.new.is_verbatim ≡ self.old.is_verbatim }
         ensures run { OnOk result (characters self.new.run ≡ []) }
-        ensures done { OnOk result (chunks_in self.new ≡ chunks_in self.old ++ pieces_of (run_of self.old)) }
+        ensures done { OnOk result (chunks_in self.new
+            ≡ chunks_in self.old ++ pieces_of (run_of self.old)) }
     {
         if !has_text(self.run.as_str()) {
             return Ok(());
@@ -113,7 +117,7 @@ impl Pieces {
 
     /// The text in pieces.
     pub(crate) fn finish(mut self) -> Result<ChunkedString, AllocError>
-        ensures { IfOk result (λ s. chunks s ≡ with_pieces self []) }
+        ensures { IfOk result (λ s. chunks_view s ≡ with_pieces self []) }
     {
         self.end_run()?;
         Ok(ChunkedString(self.done))

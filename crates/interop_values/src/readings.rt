@@ -6,15 +6,15 @@ ghost use Rattle.url.specs.Parser.{parse_url};
 ghost use Rattle.url.specs.Parts.{serialize};
 ghost use Rattle.biblatex_content.specs.Styled.{letters};
 ghost use Rattle.biblatex_content.specs.Views.{styled};
-ghost use Rattle.biblatex_people.specs.Views.{named};
-ghost use Rattle.literature_numbers.specs.PageViews.{pages};
-ghost use Rattle.literature_numbers.specs.Views.{numeral};
+ghost use Rattle.biblatex_people.specs.Views.{named_view};
+ghost use Rattle.literature_numbers.specs.PageViews.{pages_view};
+ghost use Rattle.literature_numbers.specs.Views.{numeral_view};
 ghost use Rattle.laws.specs.Text.{characters};
-ghost use Rattle.literature_values.specs.PersonViews.{person};
-ghost use Rattle.literature_values.specs.TextViews.{chunks, format, publishing};
-ghost use Rattle.literature_entries.specs.Views.{people};
-ghost use Rattle.literature_values.specs.OtherViews.{address};
-ghost use Rattle.literature_values.specs.TypedViews.{value_or_text};
+ghost use Rattle.literature_values.specs.PersonViews.{person_view};
+ghost use Rattle.literature_values.specs.TextViews.{chunks_view, format_view, publishing_view};
+ghost use Rattle.literature_entries.specs.Views.{people_view};
+ghost use Rattle.literature_values.specs.OtherViews.{address_view};
+ghost use Rattle.literature_values.specs.TypedViews.{typed_view};
 ghost use Rattle.interop_values.specs.Values.{values, first_or};
 ghost use Rattle.interop_values.specs.Pieces.{pieces_of};
 ghost use Rattle.interop_values.specs.Views.{Grows};
@@ -36,7 +36,7 @@ use url::{ParseError, Url};
 
 /// The content in pieces.
 fn pieces(alloc: Global, value: &[Spanned<Chunk>]) -> Result<ChunkedString, AllocError>
-    ensures { IfOk result (λ s. chunks s ≡ pieces_of (styled value.now)) }
+    ensures { IfOk result (λ s. chunks_view s ≡ pieces_of (styled value.now)) }
 {
     let mut pieces = Pieces::new(alloc);
     pieces.push_chunks(value)?;
@@ -48,7 +48,8 @@ fn pieces_if(
     alloc: Global,
     value: Option<&[Spanned<Chunk>]>,
 ) -> Result<Option<ChunkedString>, AllocError>
-    ensures { IfOk result (λ s. option_map chunks s ≡ option_map (λ v. pieces_of (styled v.now)) value.entry) }
+    ensures { IfOk result (λ s. option_map chunks_view s
+        ≡ option_map (λ v. pieces_of (styled v.now)) value.entry) }
 {
     match value {
         Some(value) => Ok(Some(pieces(alloc, value)?)),
@@ -58,7 +59,7 @@ fn pieces_if(
 
 /// A text without a short form.
 pub fn format(alloc: Global, value: &[Spanned<Chunk>]) -> Result<FormatString, AllocError>
-    ensures { IfOk result (λ f. format f ≡ format_of (styled value.now)) }
+    ensures { IfOk result (λ f. format_view f ≡ format_of (styled value.now)) }
 {
     Ok(FormatString {
         value: pieces(alloc, value)?,
@@ -71,7 +72,8 @@ pub fn format_if(
     alloc: Global,
     value: Option<&[Spanned<Chunk>]>,
 ) -> Result<Option<FormatString>, AllocError>
-    ensures { IfOk result (λ f. option_map format f ≡ option_map (λ v. format_of (styled v.now)) value.entry) }
+    ensures { IfOk result (λ f. option_map format_view f
+        ≡ option_map (λ v. format_of (styled v.now)) value.entry) }
 {
     match value {
         Some(value) => Ok(Some(format(alloc, value)?)),
@@ -86,14 +88,15 @@ pub fn format_under(
     fields: &Fields,
     name: &str,
 ) -> Result<Option<FormatString>, AllocError>
-    ensures { IfOk result (λ f. option_map format f ≡ format_under name.now (values fields.now)) }
+    ensures { IfOk result (λ f. option_map format_view f
+        ≡ format_under name.now (values fields.now)) }
 {
     format_if(alloc, value(fields, name))
 }
 
 /// The title of an entry, with its subtitle and its short form.
 pub fn title(alloc: Global, fields: &Fields) -> Result<Option<FormatString>, AllocError>
-    ensures { IfOk result (λ f. option_map format f ≡ title_of (values fields.now)) }
+    ensures { IfOk result (λ f. option_map format_view f ≡ title_of (values fields.now)) }
 {
     match value(fields, "title") {
         Some(title) => Ok(Some(FormatString {
@@ -110,7 +113,8 @@ fn with_subtitle(
     title: &[Spanned<Chunk>],
     subtitle: Option<&[Spanned<Chunk>]>,
 ) -> Result<ChunkedString, AllocError>
-    ensures { IfOk result (λ s. chunks s ≡ pieces_of (with_subtitle (styled title.now) (option_map (λ v. styled v.now) subtitle.entry))) }
+    ensures { IfOk result (λ s. chunks_view s ≡ pieces_of
+        (with_subtitle (styled title.now) (option_map (λ v. styled v.now) subtitle.entry))) }
 {
     let mut pieces = Pieces::new(alloc);
     pieces.push_chunks(title)?;
@@ -120,7 +124,8 @@ fn with_subtitle(
 
 /// Appends a colon, a space and the subtitle.
 fn push_subtitle(pieces: &mut Pieces, subtitle: Option<&[Spanned<Chunk>]>) -> Result<(), AllocError>
-    ensures { OnOk result (Grows pieces.old pieces.new (with_subtitle [] (option_map (λ v. styled v.now) subtitle.entry))) }
+    ensures { OnOk result (Grows pieces.old pieces.new
+        (with_subtitle [] (option_map (λ v. styled v.now) subtitle.entry))) }
 {
     let Some(subtitle) = subtitle else {
         return Ok(());
@@ -136,7 +141,8 @@ pub fn people_under(
     fields: &Fields,
     name: &str,
 ) -> Result<Option<Vec<Person>>, AllocError>
-    ensures { IfOk result (λ p. option_map (λ v. people v.items) p ≡ people_under name.now (values fields.now)) }
+    ensures { IfOk result (λ p. option_map (λ v. people_view v.items) p
+        ≡ people_under name.now (values fields.now)) }
 {
     match value(fields, name) {
         Some(value) => people_in(alloc, value),
@@ -147,7 +153,8 @@ pub fn people_under(
 /// The people that a content names, if there are any.
 #[inline(never)]
 fn people_in(alloc: Global, value: &[Spanned<Chunk>]) -> Result<Option<Vec<Person>>, AllocError>
-    ensures { IfOk result (λ p. option_map (λ v. people v.items) p ≡ people_of (Some (styled value.now))) }
+    ensures { IfOk result (λ p. option_map (λ v. people_view v.items) p
+        ≡ people_of (Some (styled value.now))) }
 {
     let people = read_people(alloc, value)?;
     if people.is_empty() {
@@ -158,7 +165,7 @@ fn people_in(alloc: Global, value: &[Spanned<Chunk>]) -> Result<Option<Vec<Perso
 
 /// People as a library holds them.
 fn people_of(alloc: Global, read: Vec<SourcePerson>) -> Result<Vec<Person>, AllocError>
-    ensures { IfOk result (λ v. people v.items ≡ map person_of (map named read.items)) }
+    ensures { IfOk result (λ v. people_view v.items ≡ map person_of (map named_view read.items)) }
 {
     let mut all = Vec::with_capacity(alloc, read.len())?;
     for person in read {
@@ -169,7 +176,7 @@ fn people_of(alloc: Global, read: Vec<SourcePerson>) -> Result<Vec<Person>, Allo
 
 /// A person as a library holds one.
 fn person_of(read: SourcePerson) -> Person
-    ensures { person result ≡ person_of (named read) }
+    ensures { person_view result ≡ person_of (named_view read) }
 {
     Person {
         name: read.name,
@@ -196,7 +203,8 @@ pub fn number_under(
     fields: &Fields,
     name: &str,
 ) -> Result<Option<MaybeTyped<Numeric>>, AllocError>
-    ensures { IfOk result (λ n. option_map (value_or_text numeral) n ≡ number_under name.now (values fields.now)) }
+    ensures { IfOk result (λ n. option_map (typed_view numeral_view) n
+        ≡ number_under name.now (values fields.now)) }
 {
     match value(fields, name) {
         Some(value) => Ok(Some(number_of(alloc, value)?)),
@@ -207,7 +215,7 @@ pub fn number_under(
 /// The numbers that a content spells, or its text.
 #[inline(never)]
 fn number_of(alloc: Global, value: &[Spanned<Chunk>]) -> Result<MaybeTyped<Numeric>, AllocError>
-    ensures { IfOk result (λ n. value_or_text numeral n ≡ number_of (styled value.now)) }
+    ensures { IfOk result (λ n. typed_view numeral_view n ≡ number_of (styled value.now)) }
 {
     let text = plain_text(alloc, value)?;
     MaybeTyped::<Numeric>::read(alloc, text.as_str())
@@ -219,7 +227,8 @@ pub fn pages_under(
     fields: &Fields,
     name: &str,
 ) -> Result<Option<MaybeTyped<PageRanges>>, AllocError>
-    ensures { IfOk result (λ p. option_map (value_or_text pages) p ≡ pages_under name.now (values fields.now)) }
+    ensures { IfOk result (λ p. option_map (typed_view pages_view) p
+        ≡ pages_under name.now (values fields.now)) }
 {
     match value(fields, name) {
         Some(value) => {
@@ -233,7 +242,8 @@ pub fn pages_under(
 /// The characters under a name.
 #[inline(always)]
 pub fn text_under(alloc: Global, fields: &Fields, name: &str) -> Result<Option<String>, AllocError>
-    ensures { IfOk result (λ s. option_map string_bytes s ≡ bytes_under name.now (values fields.now)) }
+    ensures { IfOk result (λ s. option_map string_bytes s
+        ≡ bytes_under name.now (values fields.now)) }
 {
     match value(fields, name) {
         Some(value) => Ok(Some(plain_text(alloc, value)?)),
@@ -241,9 +251,9 @@ pub fn text_under(alloc: Global, fields: &Fields, name: &str) -> Result<Option<S
     }
 }
 
-/// The publisher by name and place, where one of them is there.
+/// The publisher by name and location, where one of them is there.
 pub fn publisher(alloc: Global, fields: &Fields) -> Result<Option<Publisher>, AllocError>
-    ensures { IfOk result (λ p. option_map publishing p ≡ publisher_of (values fields.now)) }
+    ensures { IfOk result (λ p. option_map publishing_view p ≡ publisher_of (values fields.now)) }
 {
     let name = publisher_name(fields);
     let location = value(fields, "location");
@@ -258,7 +268,9 @@ pub fn publisher(alloc: Global, fields: &Fields) -> Result<Option<Publisher>, Al
 
 /// The name of the publisher, else of the institution, else of the organization.
 fn publisher_name(fields: &Fields) -> Option<&[Spanned<Chunk>]>
-    ensures { option_map (λ v. styled v.now) result ≡ first_or (values fields.now (codes "publisher")) (first_or (values fields.now (codes "institution")) (values fields.now (codes "organization"))) }
+    ensures { option_map (λ v. styled v.now) result
+        ≡ first_or (values fields.now (codes "publisher")) (first_or
+        (values fields.now (codes "institution")) (values fields.now (codes "organization"))) }
 {
     if let Some(publisher) = value(fields, "publisher") {
         return Some(publisher);
@@ -275,7 +287,8 @@ pub fn address(
     fields: &Fields,
     visit_date: Option<Date>,
 ) -> Result<Option<QualifiedUrl>, AllocError>
-    ensures { IfOk result (λ u. option_map address u ≡ address_of visit_date (values fields.now)) }
+    ensures { IfOk result (λ u. option_map address_view u
+        ≡ address_of visit_date (values fields.now)) }
 {
     match value(fields, "url") {
         Some(value) => Ok(Some(QualifiedUrl {
@@ -288,7 +301,8 @@ pub fn address(
 
 /// The address that a text is, or the text.
 fn url_or_text(alloc: Global, text: String) -> Result<MaybeTyped<Url>, AllocError>
-    ensures { IfOk result (λ u. value_or_text serialize u ≡ url_or (characters text) (parse_url None (string_bytes text))) }
+    ensures { IfOk result (λ u. typed_view serialize u
+        ≡ url_or (characters text) (parse_url None (string_bytes text))) }
 {
     match Url::parse(alloc, text.as_str()) {
         Ok(url) => Ok(MaybeTyped::Typed(url)),

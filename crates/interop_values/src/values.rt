@@ -7,7 +7,7 @@ ghost use Rattle.std.specs.Str.{bytes_eq};
 ghost use Rattle.laws.specs.Text.{text as text_of, characters, is_filled};
 ghost use Rattle.biblatex_content.specs.Views.{styled, members};
 ghost use Rattle.biblatex_fields.specs.Fields.{text_named};
-ghost use Rattle.biblatex_fields.specs.Value.{value_seen};
+ghost use Rattle.biblatex_fields.specs.Value.{field_value_view};
 ghost use Rattle.interop_values.specs.Values.{filled, first_or, is_never_written, other_names, by_other_name, values, text_under};
 
 use biblatex_content::{Chunk, Chunks, Spanned};
@@ -32,7 +32,8 @@ pub fn value<'f>(fields: &'f Fields, name: &str) -> Option<&'f [Spanned<Chunk>]>
 /// The content of a field by its name, else by its other name.
 #[inline(always)]
 fn by_either_name<'f>(fields: &'f Fields, name: &str) -> Option<&'f [Spanned<Chunk>]>
-    ensures { option_map (λ v. styled v.now) result ≡ first_or (filled (text_named name.now fields.now)) (by_other_name name.now fields.now) }
+    ensures { option_map (λ v. styled v.now) result
+        ≡ first_or (filled (text_named name.now fields.now)) (by_other_name name.now fields.now) }
 {
     match by_name(fields, name) {
         Some(value) => Some(value),
@@ -70,7 +71,8 @@ fn by_other_name<'f>(fields: &'f Fields, name: &str) -> Option<&'f [Spanned<Chun
 
 /// The content, unless it is empty.
 fn filled(value: Option<&Chunks>) -> Option<&[Spanned<Chunk>]>
-    ensures { option_map (λ v. styled v.now) result ≡ filled (option_map (λ v. v.text) (option_map (λ v. value_seen v.now.items) value.entry)) }
+    ensures { option_map (λ v. styled v.now) result ≡ filled
+        (option_map (λ v. v.text) (option_map (λ v. field_value_view v.now.items) value.entry)) }
 {
     match value {
         Some(value) if has_members(value.as_slice()) => Some(value.as_slice()),

@@ -4,16 +4,16 @@ use Rattle.std.specs.Prelude.{encode_utf8}
 use Rattle.std.specs.Str.{chars, IsUtf8, all_scalars}
 use Rattle.std.proofs.lemmas.Str.{chars_past_char, chars-append, chars-nil, IsUtf8-past_char, IsUtf8-append, IsUtf8-nil, cons_from_encodes}
 use Rattle.std.proofs.lemmas.List.{length-append, append-nil, nil_from_length, take_at, drop_at}
-use Rattle.laws.specs.Runs.{front_of, after}
+use Rattle.laws.specs.Runs.{prefix_of, after}
 
--- the front of a length that has passed, and the rest of the text
+-- the prefix of a length that has passed, and the rest of the text
 pub record Runs (test : ℕ → Bool) (whole rest : List ℕ) (end : ℕ) : Type 0 where
-  pub front_text : List ℕ
-  pub parts : whole ≡ front_text ++ rest
-  pub long : length front_text ≡ end
+  pub prefix_text : List ℕ
+  pub parts : whole ≡ prefix_text ++ rest
+  pub long : length prefix_text ≡ end
   pub rest_utf8 : IsUtf8 rest
-  pub front_utf8 : IsUtf8 front_text
-  pub front : front_of test (chars whole) ≡ chars front_text ++ front_of test (chars rest)
+  pub prefix_utf8 : IsUtf8 prefix_text
+  pub prefix : prefix_of test (chars whole) ≡ chars prefix_text ++ prefix_of test (chars rest)
   pub rest_is : after test (chars whole) ≡ after test (chars rest)
 
 first_true : (a b : Bool) → a && b ≡ true → a ≡ true
@@ -31,7 +31,7 @@ IsUtf8-first whole rest c u e =
     (c ∷ [], (and_true _ (first_true _ _ all), append-nil (encode_utf8 c)))
 
 pub runs_none : (test : ℕ → Bool) (whole : List ℕ) → IsUtf8 whole → Runs test whole whole 0
-runs_none test whole u = record { front_text = []; parts = refl; long = refl; rest_utf8 = u; front_utf8 = IsUtf8-nil; front = rw chars-nil refl; rest_is = refl }
+runs_none test whole u = record { prefix_text = []; parts = refl; long = refl; rest_utf8 = u; prefix_utf8 = IsUtf8-nil; prefix = rw chars-nil refl; rest_is = refl }
 
 -- one more character passes
 pub runs_more : (test : ℕ → Bool) (whole rest more : List ℕ) (end c : ℕ) → Runs test whole rest end → rest ≡ encode_utf8 c ++ more → test c ≡ true
@@ -41,33 +41,33 @@ runs_more test whole rest more end c r e passes =
     let long = r.long in
     let next : chars rest ≡ c ∷ chars more = chars_past_char rest more c r.rest_utf8 e in
     let single : chars (encode_utf8 c) ≡ c ∷ [] = chars_past_char (encode_utf8 c) [] c one (sym (append-nil (encode_utf8 c))) ∙ rw chars-nil refl in
-    let longer : chars (r.front_text ++ encode_utf8 c) ≡ chars r.front_text ++ c ∷ [] = chars-append r.front_text (encode_utf8 c) r.front_utf8 ∙ rw single refl in
-    let begins : front_of test (chars rest) ≡ c ∷ front_of test (chars more) = ap (front_of test) next ∙ rw passes refl in
+    let longer : chars (r.prefix_text ++ encode_utf8 c) ≡ chars r.prefix_text ++ c ∷ [] = chars-append r.prefix_text (encode_utf8 c) r.prefix_utf8 ∙ rw single refl in
+    let begins : prefix_of test (chars rest) ≡ c ∷ prefix_of test (chars more) = ap (prefix_of test) next ∙ rw passes refl in
     let ends : after test (chars rest) ≡ after test (chars more) = ap (after test) next ∙ rw passes refl in
     record {
-      front_text = r.front_text ++ encode_utf8 c;
-      parts = r.parts ∙ rw e (sym (append_assoc r.front_text (encode_utf8 c) more));
-      long = omega (arith, length-append r.front_text (encode_utf8 c));
+      prefix_text = r.prefix_text ++ encode_utf8 c;
+      parts = r.parts ∙ rw e (sym (append_assoc r.prefix_text (encode_utf8 c) more));
+      long = omega (arith, length-append r.prefix_text (encode_utf8 c));
       rest_utf8 = IsUtf8-past_char rest more c r.rest_utf8 e;
-      front_utf8 = IsUtf8-append r.front_text (encode_utf8 c) r.front_utf8 one;
-      front = r.front ∙ rw (begins, longer) (sym (append_assoc (chars r.front_text) (c ∷ []) (front_of test (chars more))));
+      prefix_utf8 = IsUtf8-append r.prefix_text (encode_utf8 c) r.prefix_utf8 one;
+      prefix = r.prefix ∙ rw (begins, longer) (sym (append_assoc (chars r.prefix_text) (c ∷ []) (prefix_of test (chars more))));
       rest_is = r.rest_is ∙ ends;
     }
 
 -- where a text is cut at the end of its run
-pub record CutsRun (test : ℕ → Bool) (whole front back : List ℕ) : Type 0 where
-  pub parts : whole ≡ front ++ back
-  pub front_is : chars front ≡ front_of test (chars whole)
+pub record CutsRun (test : ℕ → Bool) (whole prefix back : List ℕ) : Type 0 where
+  pub parts : whole ≡ prefix ++ back
+  pub prefix_is : chars prefix ≡ prefix_of test (chars whole)
   pub back_is : chars back ≡ after test (chars whole)
 
-cut_at : (test : ℕ → Bool) (whole rest : List ℕ) (end : ℕ) → Runs test whole rest end → front_of test (chars rest) ≡ [] → after test (chars rest) ≡ chars rest
+cut_at : (test : ℕ → Bool) (whole rest : List ℕ) (end : ℕ) → Runs test whole rest end → prefix_of test (chars rest) ≡ [] → after test (chars rest) ≡ chars rest
     → CutsRun test whole (take end whole) (drop end whole)
 cut_at test whole rest end r none all =
-    let front : take end whole ≡ r.front_text = rw r.parts (take_at r.front_text rest end r.long) in
-    let back : drop end whole ≡ rest = rw r.parts (drop_at r.front_text rest end r.long) in
+    let prefix : take end whole ≡ r.prefix_text = rw r.parts (take_at r.prefix_text rest end r.long) in
+    let back : drop end whole ≡ rest = rw r.parts (drop_at r.prefix_text rest end r.long) in
     record {
-      parts = rw (front, back) r.parts;
-      front_is = rw front (sym (r.front ∙ rw none (append-nil (chars r.front_text))));
+      parts = rw (prefix, back) r.parts;
+      prefix_is = rw prefix (sym (r.prefix ∙ rw none (append-nil (chars r.prefix_text))));
       back_is = rw back (sym (r.rest_is ∙ all));
     }
 
@@ -76,12 +76,12 @@ pub stops_before : (test : ℕ → Bool) (whole rest more : List ℕ) (end c : �
     → CutsRun test whole (take end whole) (drop end whole)
 stops_before test whole rest more end c r e fails =
     let next : chars rest ≡ c ∷ chars more = chars_past_char rest more c r.rest_utf8 e in
-    cut_at test whole rest end r (ap (front_of test) next ∙ rw fails refl) (ap (after test) next ∙ (let same : after test (c ∷ chars more) ≡ c ∷ chars more = rw fails refl in same ∙ sym next))
+    cut_at test whole rest end r (ap (prefix_of test) next ∙ rw fails refl) (ap (after test) next ∙ (let same : after test (c ∷ chars more) ≡ c ∷ chars more = rw fails refl in same ∙ sym next))
 
 -- the text is at its end
 pub stops_at_end : (test : ℕ → Bool) (whole rest : List ℕ) (end : ℕ) → Runs test whole rest end → length rest ≡ 0 → CutsRun test whole (take (length whole) whole) (drop (length whole) whole)
 stops_at_end test whole rest end r none =
-    let all : end ≡ length whole = omega (arith, r.long, ap length r.parts, length-append r.front_text rest) in
+    let all : end ≡ length whole = omega (arith, r.long, ap length r.parts, length-append r.prefix_text rest) in
     let empty : rest ≡ [] = nil_from_length rest none in
     let nothing : chars rest ≡ [] = ap chars empty ∙ chars-nil in
-    subst (λ n. CutsRun test whole (take n whole) (drop n whole)) all (cut_at test whole rest end r (ap (front_of test) nothing) (ap (after test) nothing ∙ sym nothing))
+    subst (λ n. CutsRun test whole (take n whole) (drop n whole)) all (cut_at test whole rest end r (ap (prefix_of test) nothing) (ap (after test) nothing ∙ sym nothing))

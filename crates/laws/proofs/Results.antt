@@ -1,4 +1,4 @@
--- What steps in a row give.
+-- What steps one after the other give.
 use Rattle.std.proofs.Common.{◌≡◌, Bool, true, false, cond, List, ℕ, Option, Some, None, Result, Ok, Err, refl, sym}
 use Rattle.std.specs.Prelude.{IfOk, IsOk, is_some}
 use Rattle.laws.specs.Results.{◌>>=◌, Reads, EndsWith, Gives, GivesBack, BothRefuse, GivesOrRefuses}
@@ -8,7 +8,7 @@ pub bind_ok : {F A B : Type 0} (r : Result A F) (f : A → Result B F) (y : B) �
 bind_ok (Ok x) f y e = (x, refl, e)
 bind_ok (Err d) f y e = absurd cc
 
--- steps in a row may be grouped
+-- steps one after the other may be grouped
 pub bind_bind : {F A B C : Type 0} (r : Result A F) (f : A → Result B F) (g : B → Result C F) → ((r >>= f) >>= g) ≡ (r >>= λ x. f x >>= g)
 bind_bind (Ok x) f g = refl
 bind_bind (Err d) f g = refl
@@ -34,7 +34,7 @@ done F x = Ok x
 pub ok_is : {F A : Type 0} (x y : A) → done F x ≡ done F y → x ≡ y
 ok_is x y e = cc
 
--- what holds of the value of steps in a row
+-- what holds of the value of steps one after the other
 pub bind_if_ok : {F A B : Type 0} (P : A → Type 0) (Q : B → Type 0) (r : Result A F) (f : A → Result B F) → IfOk r P → ((x : A) → P x → IfOk (f x) Q) → IfOk (r >>= f) Q
 bind_if_ok P Q (Ok x) f p more = more x p
 bind_if_ok P Q (Err d) f p more = tt
@@ -66,7 +66,7 @@ no_refusal : {F Y : Type 0} (refusal : Option F) (y : Y) → EndsWith refusal (d
 no_refusal None y h = refl
 no_refusal (Some f) y h = absurd cc
 
--- where a definition gives a value, the call gives it back, seen by view
+-- where a definition gives a value, the call gives it back, under the view
 pub gives_back : {E F V X : Type 0} (refusal : E → Option F) (view : X → V) (r : Result X E) (v : V) → Gives refusal view r (done F v) → GivesBack refusal view r v
 gives_back {E} {F} refusal view (Ok x) v same = ok_is {F = F} _ _ (sym same)
 gives_back refusal view (Err e) v same = no_refusal (refusal e) v same

@@ -6,7 +6,7 @@ use Rattle.laws.specs.Results.{◌>>=◌}
 use Rattle.laws.specs.Steps.{Step, go_on, each_below, each}
 use Rattle.laws.proofs.Results.{bind_if_ok}
 
--- what holds of the value of steps in a row, and what of their refusal
+-- what holds of the value of steps one after the other, and what of their refusal
 pub bind_match : {F A B : Type 0} (P : A → Type 0) (R : B → Type 0) (Q : F → Type 0) (r : Result A F) (f : A → Result B F) → MatchResult r P Q → ((x : A) → P x → MatchResult (f x) R Q) → MatchResult (r >>= f) R Q
 bind_match P R Q (Ok x) f is more = more x is
 bind_match P R Q (Err d) f is more = is

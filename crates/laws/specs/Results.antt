@@ -7,7 +7,7 @@ abbrev pub ◌>>=◌ : {F A B : Type 0} → Result A F → (A → Result B F) �
 (Ok x) >>= f = f x
 (Err e) >>= f = Err e
 
--- What a function returned, seen by view, and what it left to read are what reading gives.
+-- What a function returned, under the view, and what it left to read are what reading gives.
 abbrev pub Reads : {F X Y : Type 0} → (X → Y) → Result X F → List ℕ → Result (Y × List ℕ) F → Type 0
 Reads view (Ok x) rest read = read ≡ Ok (view x, rest)
 Reads view (Err f) rest read = read ≡ Err f
@@ -17,11 +17,11 @@ abbrev pub Passes : {F X : Type 0} → Result X F → List ℕ → Result (List 
 Passes (Ok x) rest read = read ≡ Ok rest
 Passes (Err f) rest read = read ≡ Err f
 
--- A definition ends with that refusal; where there is none, nothing is said of it.
+-- A definition ends with that refusal; where there is none, nothing is promised of it.
 abbrev pub EndsWith : {F Y : Type 0} → Option F → Result Y F → Type 0
 EndsWith refusal read = IfSome refusal (λ f. read ≡ Err f)
 
--- What a call made, seen by view, is what a definition gives, or the call's error is its refusal. An error that is no refusal, as out of
+-- What a call made, under the view, is what a definition gives, or the call's error is its refusal. An error that is no refusal, as out of
 -- memory is none, says nothing.
 abbrev pub Gives : {E F X Y : Type 0} → (E → Option F) → (X → Y) → Result X E → Result Y F → Type 0
 Gives refusal view (Ok x) read = read ≡ Ok (view x)
@@ -37,12 +37,12 @@ abbrev pub Leaves : {E F S X : Type 0} → (E → Option F) → Result X E → S
 Leaves refusal (Ok x) new read = read ≡ Ok new
 Leaves refusal (Err e) new read = EndsWith (refusal e) read
 
--- What a call made, seen by view, or the refusal that its error is, has a property.
+-- What a call made, under the view, or the refusal that its error is, has a property.
 abbrev pub Answers : {E F X Y : Type 0} → (E → Option F) → (X → Y) → Result X E → (Result Y F → Type 0) → Type 0
 Answers refusal view (Ok x) P = P (Ok (view x))
 Answers refusal view (Err e) P = IfSome (refusal e) (λ f. P (Err f))
 
--- What a call made, seen by view, is the value; its error is no refusal.
+-- What a call made, under the view, is the value; its error is no refusal.
 abbrev pub GivesBack : {E F V X : Type 0} → (E → Option F) → (X → V) → Result X E → V → Type 0
 GivesBack refusal view (Ok x) v = view x ≡ v
 GivesBack refusal view (Err e) v = refusal e ≡ None
@@ -52,7 +52,7 @@ abbrev pub BothRefuse : {F Y : Type 0} → Bool → Result Y F → Type 0
 BothRefuse {F} true read = (f : F) × (read ≡ Err f)
 BothRefuse {F} false read = Unit {0}
 
--- What a call made, seen by view, is what a definition gives, or both refuse.
+-- What a call made, under the view, is what a definition gives, or both refuse.
 abbrev pub GivesOrRefuses : {E F G X Y : Type 0} → (E → Option G) → (X → Y) → Result X E → Result Y F → Type 0
 GivesOrRefuses refusal view (Ok x) read = read ≡ Ok (view x)
 GivesOrRefuses refusal view (Err e) read = BothRefuse (is_some (refusal e)) read

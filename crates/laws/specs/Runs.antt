@@ -1,10 +1,10 @@
--- The longest front of a text whose characters all pass a test.
+-- The longest prefix of a text whose characters all pass a test.
 use Rattle.std.specs.Prelude.{◌≡◌, ℕ, Bool, true, false, List, [], ◌∷◌, if◌then◌else◌}
 
--- the characters from the front on that pass
-abbrev pub front_of : (ℕ → Bool) → List ℕ → List ℕ
-front_of test [] = []
-front_of test (c ∷ cs) = if test c then c ∷ front_of test cs else []
+-- the characters from the start on that pass
+abbrev pub prefix_of : (ℕ → Bool) → List ℕ → List ℕ
+prefix_of test [] = []
+prefix_of test (c ∷ cs) = if test c then c ∷ prefix_of test cs else []
 
 -- what follows them
 abbrev pub after : (ℕ → Bool) → List ℕ → List ℕ

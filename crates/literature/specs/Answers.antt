@@ -3,7 +3,7 @@ use Rattle.std.specs.Prelude.{List, [], ◌∷◌, if◌then◌else◌, Result, 
 use Rattle.literature_entries.specs.declared.entry.Entry.{Entry}
 use Rattle.literature_selectors.specs.Bindings.{Bound, bindings, settled}
 use Rattle.literature_selectors.specs.Holding.{holds}
-use Rattle.literature_selectors.specs.Pairs.{pairs}
+use Rattle.literature_selectors.specs.Pairs.{bindings_view}
 use Rattle.literature_selectors.specs.Reading.{Fault}
 use Rattle.literature_selectors.specs.Trees.{Tree}
 use Rattle.literature.specs.declared.query.Selected.{Selected}
@@ -20,4 +20,4 @@ answered (Err f) es = Err f
 
 -- one of them, as the code holds it
 abbrev pub shown : Selected → Entry × Bound
-shown s = (s.entry.now, pairs s.bindings)
+shown s = (s.entry.now, bindings_view s.bindings)

@@ -7,7 +7,7 @@ use Rattle.std.specs.Str.{bytes_eq}
 abbrev pub with_key : {X : Type 0} → (X → List ℕ) → List ℕ → List X → Option X
 with_key key name xs = find (λ x. bytes_eq name (key x)) xs
 
--- the list with x, in the place of the first that has its key, else at the end
+-- the list with x, instead of the first that has its key, else at the end
 abbrev pub put : {X : Type 0} → (X → List ℕ) → List X → X → List X
 put key [] x = x ∷ []
 put key (y ∷ ys) x = if bytes_eq (key x) (key y) then x ∷ ys else y ∷ put key ys x

@@ -17,7 +17,7 @@ use std::alloc::{AllocError, Global};
 pub struct Library {
     entries: IndexMap<String, Entry>,
     ghost in_step: { AreInStep entries.entries },
-    ghost distinct: { AreDistinct views.key (values_of entries.entries) },
+    ghost distinct: { AreDistinct views.key_view (values_of entries.entries) },
 }
 
 impl Library {
@@ -60,12 +60,12 @@ impl Library {
 
     /// The entry of that key.
     pub fn get(&self, key: &str) -> Option<&Entry>
-        ensures { option_copied result ≡ with_key views.key key.now (entries self.now) }
+        ensures { option_copied result ≡ with_key views.key_view key.now (entries self.now) }
     {
         self.entries.get(key)
     }
 
-    /// The entry at a place, from zero.
+    /// The entry at an index, from zero.
     pub fn nth(&self, n: usize) -> Option<&Entry>
         ensures { option_copied result ≡ slice_get (entries self.now) n }
     {
@@ -75,15 +75,15 @@ impl Library {
         }
     }
 
-    /// Puts an entry in the place of the one that has its key, else at the end.
+    /// Puts an entry instead of the one that has its key, else at the end.
     ///
     /// # Errors
     /// Out of memory; the library is as it was, and the entry is dropped.
     #[tactic(auto, using(crate::proofs::KeysStored::entry_put, crate::proofs::KeysStored::put_in_step, crate::proofs::KeysStored::unique_keys))]
     pub fn push(&mut self, entry: Entry) -> Result<(), AllocError>
-        ensures ok { OnOk result (entries self.new ≡ put views.key (entries self.old) entry) }
+        ensures ok { OnOk result (entries self.new ≡ put views.key_view (entries self.old) entry) }
         ensures err { OnErr result (entries self.new ≡ entries self.old) }
-        ensures distinct { AreDistinct views.key (entries self.new) }
+        ensures distinct { AreDistinct views.key_view (entries self.new) }
     {
         let key = String::from_str(*self.entries.allocator(), entry.key())?;
         self.entries.insert(key, entry)?;
@@ -93,9 +93,9 @@ impl Library {
     /// Takes the entry of that key out. Those after it move up.
     #[tactic(auto, using(crate::proofs::KeysStored::removed_in_step, crate::proofs::KeysStored::unique_keys))]
     pub fn remove(&mut self, key: &str) -> Option<Entry>
-        ensures removed { result ≡ with_key views.key key.now (entries self.old) }
-        ensures entries { entries self.new ≡ without_key views.key key.now (entries self.old) }
-        ensures distinct { AreDistinct views.key (entries self.new) }
+        ensures removed { result ≡ with_key views.key_view key.now (entries self.old) }
+        ensures entries { entries self.new ≡ without_key views.key_view key.now (entries self.old) }
+        ensures distinct { AreDistinct views.key_view (entries self.new) }
     {
         self.entries.shift_remove(key)
     }
@@ -103,15 +103,15 @@ impl Library {
     /// The entries in order.
     pub fn iter(&self) -> Values<'_, String, Entry>
         ensures order { result ≡ entries self.now }
-        ensures distinct { AreDistinct views.key (entries self.now) }
+        ensures distinct { AreDistinct views.key_view (entries self.now) }
     {
         self.entries.values()
     }
 
     /// The keys in order.
     pub fn keys(&self) -> Keys<'_, String, Entry>
-        ensures order { map string_bytes result ≡ map views.key (entries self.now) }
-        ensures distinct { AreDistinct views.key (entries self.now) }
+        ensures order { map string_bytes result ≡ map views.key_view (entries self.now) }
+        ensures distinct { AreDistinct views.key_view (entries self.now) }
     {
         self.entries.keys()
     }
@@ -125,7 +125,7 @@ impl IntoIterator for Library {
     type IntoIter = IntoValues<String, Entry, Global>;
 
     // The entries in order, of which no two have the same key.
-    ghost into_iter_gives = { λ l r. (r ≡ entries l) × AreDistinct views.key r };
+    ghost into_iter_gives = { λ l r. (r ≡ entries l) × AreDistinct views.key_view r };
 
     fn into_iter(self) -> IntoValues<String, Entry, Global> {
         self.entries.into_values()
@@ -140,7 +140,7 @@ impl<'a> IntoIterator for &'a Library {
     type IntoIter = Values<'a, String, Entry>;
 
     // The entries in order, of which no two have the same key.
-    ghost into_iter_gives = { λ l r. (r ≡ entries l.now) × AreDistinct views.key r };
+    ghost into_iter_gives = { λ l r. (r ≡ entries l.now) × AreDistinct views.key_view r };
 
     fn into_iter(self) -> Values<'a, String, Entry> {
         self.iter()

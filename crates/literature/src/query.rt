@@ -3,7 +3,7 @@
 ghost use Rattle.std.specs.Prelude.{◌≡◌, ◌++◌, ◌∷◌, [], map, IfOk, OnOk};
 ghost use Rattle.std.specs.Str.{chars};
 ghost use Rattle.literature_selectors.specs.Reading.{selector_of};
-ghost use Rattle.literature_selectors.specs.Views.{meant, fault};
+ghost use Rattle.literature_selectors.specs.Views.{selector_view, fault};
 ghost use Rattle.laws.specs.Results.{Gives};
 ghost use Rattle.literature.specs.Answers.{answers, answered, shown};
 ghost use Rattle.literature.specs.Entries.{entries};
@@ -26,7 +26,8 @@ impl Library {
     /// # Errors
     /// Those of `Selector::parse`.
     pub fn query(&self, alloc: Global, text: &str) -> Result<Vec<Selected<'_>>, SelectorError>
-        ensures { Gives fault (λ v. map shown v.items) result (answered (selector_of (chars text.now)) (entries self.now)) }
+        ensures { Gives fault (λ v. map shown v.items) result
+            (answered (selector_of (chars text.now)) (entries self.now)) }
     {
         let selector = Selector::parse(alloc, text)?;
         Ok(self.selected(alloc, &selector)?)
@@ -34,7 +35,8 @@ impl Library {
 
     /// The entries at which the selector holds.
     fn selected(&self, alloc: Global, selector: &Selector) -> Result<Vec<Selected<'_>>, AllocError>
-        ensures { IfOk result (λ v. map shown v.items ≡ answers (meant selector.now) (entries self.now)) }
+        ensures { IfOk result (λ v. map shown v.items
+            ≡ answers (selector_view selector.now) (entries self.now)) }
     {
         let mut found = Vec::new(alloc);
         for entry in self.iter() {
@@ -51,7 +53,8 @@ fn select<'l>(
     entry: &'l Entry,
     found: &mut Vec<Selected<'l>>,
 ) -> Result<(), AllocError>
-    ensures { OnOk result (map shown found.new.items ≡ map shown found.old.items ++ answers (meant selector.now) (entry.now ∷ [])) }
+    ensures { OnOk result (map shown found.new.items
+        ≡ map shown found.old.items ++ answers (selector_view selector.now) (entry.now ∷ [])) }
 {
     if let Some(bindings) = selector.apply(alloc, entry)? {
         found.push(Selected { entry, bindings })?;

@@ -1,8 +1,8 @@
--- Levels of ancestors, and questions to entries in a row.
+-- Levels of ancestors, and questions to entries one after the other.
 use Rattle.std.proofs.Common.{◌≡◌, ℕ, suc, ◌+◌, ◌<◌, ◌≤◌, max, List, [], ◌∷◌, ◌++◌, length, drop, get_or, drop-cons, add-one, refl, sym, ap, subst, ◌∙◌, Option, Some, None, Result, Ok, Err, IfOk, Bor, arith, rules}
 use Rattle.std.specs.List.{flat_map}
 use Rattle.literature_entries.specs.Ancestors.{height, levels, level_by_level, upwards, Ends, Asks, AsksFrom, borrowed, first_or, first_of}
-use Rattle.literature_entries.specs.Views.{parents, seen_in}
+use Rattle.literature_entries.specs.Views.{parents, view_in}
 use Rattle.literature_entries.specs.declared.entry.Entry.{Entry, the_lemmas}
 
 -- an entry is one level above its parents
@@ -112,20 +112,20 @@ module _ {F T : Type 0} (step : F → Bor Entry → Option T → F → Type 0) w
 
 module _ {F X V : Type 0} (step : F → Bor Entry → Option (Bor X) → F → Type 0) (view : X → V) (look : Entry → Option V) where
   found_or : (o answer : Option (Bor X)) (g last : F) (es : List Entry) → Ends o g (Asks step g es) answer last
-      → (Asks step g es answer last → seen_in view answer ≡ first_of look es) → seen_in view answer ≡ first_or (seen_in view o) (first_of look es)
+      → (Asks step g es answer last → view_in view answer ≡ first_of look es) → view_in view answer ≡ first_or (view_in view o) (first_of look es)
   found_or None answer g last es e more = more e
-  found_or (Some x) answer g last es e more = ap (seen_in view) e.0
+  found_or (Some x) answer g last es e more = ap (view_in view) e.0
 
   -- where each answer is a look at the entry, the first answer is what the look finds first
-  pub first_found : ((f g : F) (b : Bor Entry) (o : Option (Bor X)) → step f b o g → seen_in view o ≡ look b.now)
-      → (f last : F) (es : List Entry) (answer : Option (Bor X)) → Asks step f es answer last → seen_in view answer ≡ first_of look es
-  first_found says f last [] answer a = ap (seen_in view) a.0
+  pub first_found : ((f g : F) (b : Bor Entry) (o : Option (Bor X)) → step f b o g → view_in view o ≡ look b.now)
+      → (f last : F) (es : List Entry) (answer : Option (Bor X)) → Asks step f es answer last → view_in view answer ≡ first_of look es
+  first_found says f last [] answer a = ap (view_in view) a.0
   first_found says f last (e ∷ es) answer a =
       found_or a.1 answer a.2 last es a.5 (λ rest. first_found says a.2 last es answer rest)
       ∙ ap (λ o. first_or o (first_of look es)) (says f a.2 a.0 a.1 a.4 ∙ ap look a.3)
 
   -- the same of what a call returned
   pub found_ok : {E : Type 0} → (f : F) (es : List Entry) (r : Result (Option (Bor X)) E) → IfOk r (AsksFrom step f es)
-      → ((f g : F) (b : Bor Entry) (o : Option (Bor X)) → step f b o g → seen_in view o ≡ look b.now) → IfOk r (λ answer. seen_in view answer ≡ first_of look es)
+      → ((f g : F) (b : Bor Entry) (o : Option (Bor X)) → step f b o g → view_in view o ≡ look b.now) → IfOk r (λ answer. view_in view answer ≡ first_of look es)
   found_ok f es (Ok answer) a says = first_found says f a.last es answer a.asked
   found_ok f es (Err x) a says = tt

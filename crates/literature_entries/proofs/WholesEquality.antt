@@ -1,4 +1,4 @@
--- Entries are equal exactly where what is seen of them is one.
+-- Entries are equal exactly where the view of them is one.
 use Rattle.std.specs.Global.{Global}
 use Rattle.std.proofs.Common.{◌≡◌, ℕ, zero, suc, ◌≤◌, Bool, true, false, List, [], ◌∷◌, map, Vec, ◌&&◌, refl, sym, ap, ◌∙◌, string_bytes, string_eq, true≢false, arith, rules}
 use Rattle.std.specs.Bool.{Decides}
@@ -10,18 +10,18 @@ use Rattle.laws.specs.Equality.{Shows}
 use Rattle.laws.proofs.Equality.{Decides-moved, Decides-never, Shows-options, Shows-options_themselves, Shows-lists, Shows-pairs}
 use Rattle.literature_values.specs.contracts.entry_type.EntryType.{the_type}
 use Rattle.literature_values.specs.contracts.entry_type.EntryTypePartialEq.TheImpl as types
-use Rattle.literature_numbers.specs.PageViews.{pages}
-use Rattle.literature_numbers.specs.Views.{numeral}
+use Rattle.literature_numbers.specs.PageViews.{pages_view}
+use Rattle.literature_numbers.specs.Views.{numeral_view}
 use Rattle.literature_numbers.specs.contracts.numeric.Numeric.{the_row as numeric_row}
 use Rattle.literature_numbers.specs.contracts.numeric.NumericPartialEq.TheImpl as numeric
 use Rattle.literature_numbers.specs.contracts.page_ranges.PageRanges.{the_row as pages_row}
 use Rattle.literature_numbers.specs.contracts.page_ranges.PageRangesPartialEq.TheImpl as page_ranges
 use Rattle.literature_values.specs.contracts.date.DatePartialEq.TheImpl as date
 use Rattle.literature_values.proofs.DatesEquality.{Shows-Date}
-use Rattle.literature_values.specs.OtherViews.{address}
-use Rattle.literature_values.specs.PersonViews.{person}
-use Rattle.literature_values.specs.TextViews.{format as text, publishing}
-use Rattle.literature_values.specs.TypedViews.{value_or_text}
+use Rattle.literature_values.specs.OtherViews.{address_view}
+use Rattle.literature_values.specs.PersonViews.{person_view}
+use Rattle.literature_values.specs.TextViews.{format_view as text, publishing_view}
+use Rattle.literature_values.specs.TypedViews.{typed_view}
 use Rattle.literature_values.specs.contracts.maybe_typed.MaybeTypedPartialEq.TheImpl as maybe_typed
 use Rattle.literature_values.specs.contracts.person.PersonPartialEq.TheImpl as one_person
 use Rattle.literature_values.specs.contracts.publisher.PublisherPartialEq.TheImpl as publisher
@@ -32,8 +32,8 @@ use Rattle.literature_values.specs.declared.person.Person.{Person}
 use Rattle.literature_values.proofs.Equality.{Shows-FormatString, Shows-Publisher, Shows-Person, Shows-QualifiedUrl, Shows-MaybeTyped-Numeric, Shows-MaybeTyped-PageRanges}
 use Rattle.literature_entries.specs.Ancestors.{height, levels}
 use Rattle.literature_entries.specs.Fields.{Fields}
-use Rattle.literature_entries.specs.Views.{people, serials, details, key, fields, parents}
-use Rattle.literature_entries.specs.Wholes.{Whole, Wholes, Holding, nothing, before, wholes, whole}
+use Rattle.literature_entries.specs.Views.{people_view, serials_view, details_view, key_view, fields_view, parents}
+use Rattle.literature_entries.specs.Wholes.{Whole, Wholes, Holding, nothing, before, wholes, entry_view}
 use Rattle.literature_entries.specs.contracts.entry.EntryPartialEq.TheImpl as entry
 use Rattle.literature_entries.specs.contracts.entry.EntryPartialEq.TheImpl.Laws.{is as eq_is}
 use Rattle.literature_entries.specs.declared.entry.Entry.{Entry, out-Entry, the_lemmas}
@@ -47,20 +47,20 @@ Shows-Type t u = (same_true the_type (search rules) t u, true_same the_type t u)
 titles : Shows (option_eq format.ghosts.eq) (option_map text)
 titles = Shows-options format.ghosts.eq text Shows-FormatString
 
-publishers : Shows (option_eq publisher.ghosts.eq) (option_map publishing)
-publishers = Shows-options publisher.ghosts.eq publishing Shows-Publisher
+publishers : Shows (option_eq publisher.ghosts.eq) (option_map publishing_view)
+publishers = Shows-options publisher.ghosts.eq publishing_view Shows-Publisher
 
 dates : Shows (option_eq date.ghosts.eq) (λ d. d)
 dates = Shows-options_themselves date.ghosts.eq Shows-Date
 
-numbers_or_texts : Shows (option_eq (maybe_typed.ghosts numeric_row numeric.ghosts numeric.dict).eq) (option_map (value_or_text numeral))
-numbers_or_texts = Shows-options (maybe_typed.ghosts numeric_row numeric.ghosts numeric.dict).eq (value_or_text numeral) Shows-MaybeTyped-Numeric
+numbers_or_texts : Shows (option_eq (maybe_typed.ghosts numeric_row numeric.ghosts numeric.dict).eq) (option_map (typed_view numeral_view))
+numbers_or_texts = Shows-options (maybe_typed.ghosts numeric_row numeric.ghosts numeric.dict).eq (typed_view numeral_view) Shows-MaybeTyped-Numeric
 
-pages_or_texts : Shows (option_eq (maybe_typed.ghosts pages_row page_ranges.ghosts page_ranges.dict).eq) (option_map (value_or_text pages))
-pages_or_texts = Shows-options (maybe_typed.ghosts pages_row page_ranges.ghosts page_ranges.dict).eq (value_or_text pages) Shows-MaybeTyped-PageRanges
+pages_or_texts : Shows (option_eq (maybe_typed.ghosts pages_row page_ranges.ghosts page_ranges.dict).eq) (option_map (typed_view pages_view))
+pages_or_texts = Shows-options (maybe_typed.ghosts pages_row page_ranges.ghosts page_ranges.dict).eq (typed_view pages_view) Shows-MaybeTyped-PageRanges
 
-addresses : Shows (option_eq url.ghosts.eq) (option_map address)
-addresses = Shows-options url.ghosts.eq address Shows-QualifiedUrl
+addresses : Shows (option_eq url.ghosts.eq) (option_map address_view)
+addresses = Shows-options url.ghosts.eq address_view Shows-QualifiedUrl
 
 Shows-bytes : Shows (string_eq {Z = Global}) string_bytes
 Shows-bytes s t = bytes_decides (string_bytes s) (string_bytes t)
@@ -68,28 +68,28 @@ Shows-bytes s t = bytes_decides (string_bytes s) (string_bytes t)
 languages : Shows (option_eq (string_eq {Z = Global})) (option_map string_bytes)
 languages = Shows-options string_eq string_bytes Shows-bytes
 
-Shows-serials : Shows serial_number.ghosts.eq serials
+Shows-serials : Shows serial_number.ghosts.eq serials_view
 Shows-serials s t =
     Shows-lists (λ p q. string_eq p.0 q.0 && string_eq p.1 q.1) (λ p. (string_bytes p.0, string_bytes p.1))
     (Shows-pairs string_eq string_bytes string_eq string_bytes Shows-bytes Shows-bytes) s.0.entries t.0.entries
 
-serial_numbers : Shows (option_eq serial_number.ghosts.eq) (option_map serials)
-serial_numbers = Shows-options serial_number.ghosts.eq serials Shows-serials
+serial_numbers : Shows (option_eq serial_number.ghosts.eq) (option_map serials_view)
+serial_numbers = Shows-options serial_number.ghosts.eq serials_view Shows-serials
 
 abbrev same_people : Vec Person Global → Vec Person Global → Bool
 same_people v w = pointwise one_person.ghosts.eq v.items w.items
 
-Shows-people : Shows same_people (λ v. people v.items)
-Shows-people v w = Shows-lists one_person.ghosts.eq person Shows-Person v.items w.items
+Shows-people : Shows same_people (λ v. people_view v.items)
+Shows-people v w = Shows-lists one_person.ghosts.eq person_view Shows-Person v.items w.items
 
-lists : Shows (option_eq same_people) (option_map (λ v. people v.items))
-lists = Shows-options same_people (λ v. people v.items) Shows-people
+lists : Shows (option_eq same_people) (option_map (λ v. people_view v.items))
+lists = Shows-options same_people (λ v. people_view v.items) Shows-people
 
 -- one fact and another
 both : {b c : Bool} {P R : Type 0} → Decides b P → Decides c R → Decides (b && c) (P × R)
 both {b} {c} d e = Decides-and b c d e
 
-pub Shows-Details : Shows own.ghosts.eq details
+pub Shows-Details : Shows own.ghosts.eq details_view
 Shows-Details a b =
     Decides-moved (own.ghosts.eq a b)
     (both (Shows-Type a.entry_type b.entry_type)
@@ -133,7 +133,7 @@ Shows-Details a b =
     (λ e. (ap (λ f. f.entry_type) e, (ap (λ f. f.title) e, (ap (λ f. f.author) e, (ap (λ f. f.editor) e, (ap (λ f. f.translator) e, (ap (λ f. f.date) e, (ap (λ f. f.publisher) e, (ap (λ f. f.volume) e, (ap (λ f. f.volume_total) e, (ap (λ f. f.issue) e, (ap (λ f. f.chapter) e, (ap (λ f. f.edition) e, (ap (λ f. f.page_range) e, (ap (λ f. f.page_total) e, (ap (λ f. f.url) e, (ap (λ f. f.serial_number) e, (ap (λ f. f.note) e, (ap (λ f. f.language) e)))))))))))))))))))
 
 -- one level of what an entry holds
-whole_is : (e : Entry) → whole e ≡ Holding (key e) (fields e) (wholes (map whole (parents e)))
+whole_is : (e : Entry) → entry_view e ≡ Holding (key_view e) (fields_view e) (wholes (map entry_view (parents e)))
 whole_is e = search (rules, the_lemmas)
 
 -- one level of what `==` asks
@@ -166,17 +166,17 @@ others nothing = nothing
 others (before v vs) = vs
 
 -- what is decided of each entry is decided of lists of them
-decided_each : (n : ℕ) → ((e y : Entry) → height e ≤ n → Decides (entry.ghosts.eq e y) (whole e ≡ whole y))
-    → (es ys : List Entry) → levels es ≤ n → Decides (pointwise entry.ghosts.eq es ys) (wholes (map whole es) ≡ wholes (map whole ys))
+decided_each : (n : ℕ) → ((e y : Entry) → height e ≤ n → Decides (entry.ghosts.eq e y) (entry_view e ≡ entry_view y))
+    → (es ys : List Entry) → levels es ≤ n → Decides (pointwise entry.ghosts.eq es ys) (wholes (map entry_view es) ≡ wholes (map entry_view ys))
 decided_each n one [] [] h = (λ e. refl, λ e. refl)
 decided_each n one [] (y ∷ ys) h = Decides-never (λ e. true≢false (sym (ap is_some e)))
 decided_each n one (e ∷ es) [] h = Decides-never (λ e. true≢false (ap is_some e))
 decided_each n one (e ∷ es) (y ∷ ys) h =
     Decides-moved (entry.ghosts.eq e y && pointwise entry.ghosts.eq es ys) (both (one e y (omega (arith, h))) (decided_each n one es ys (omega (arith, h))))
-    (λ p i. before (p.0 i) (p.1 i)) (λ p. (ap (first_or (whole e)) p, ap others p))
+    (λ p i. before (p.0 i) (p.1 i)) (λ p. (ap (first_or (entry_view e)) p, ap others p))
 
 -- of entries with so many levels
-decided : (n : ℕ) (e y : Entry) → height e ≤ n → Decides (entry.ghosts.eq e y) (whole e ≡ whole y)
+decided : (n : ℕ) (e y : Entry) → height e ≤ n → Decides (entry.ghosts.eq e y) (entry_view e ≡ entry_view y)
 decided zero e y h = let own = height_is e in absurd (omega (arith, own, h))
 decided (suc n) e y h =
     let up = height_is e in
@@ -186,5 +186,5 @@ decided (suc n) e y h =
     (λ p. let q = sym (whole_is e) ∙ p ∙ whole_is y in (ap key_of q, (ap fields_of q, ap parents_of q))))
 
 -- of all entries
-pub Shows-Entry : Shows entry.ghosts.eq whole
+pub Shows-Entry : Shows entry.ghosts.eq entry_view
 Shows-Entry e y = decided (height e) e y (omega arith)

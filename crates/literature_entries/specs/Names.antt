@@ -17,7 +17,7 @@ number_under scheme (Some numbers) = lookup (bytes_eq scheme) numbers
 abbrev pub serial : List ℕ → Fields → Option (List ℕ)
 serial scheme fs = number_under scheme fs.serial_number
 
--- A number under a scheme's name, in the place of the one that was there, or at its place in the order of the names.
+-- A number under a scheme's name, instead of the one that was there, or at its index in the order of the names.
 abbrev pub with_number : List ℕ → List ℕ → Option Serials → Serials
 with_number scheme number None = (scheme, number) ∷ []
 with_number scheme number (Some numbers) = insert_entry (slice_cmp nat_cmp) numbers scheme number
@@ -52,7 +52,7 @@ of_part name fs = lookup (bytes_eq name) (
     (codes "page-range", is_some fs.page_range) ∷
     (codes "page-total", is_some fs.page_total) ∷ [])
 
--- of where it is found, and of parents, which are told apart;
+-- of where it is found, and of parents, which are distinguished;
 unfoldable pub of_address : List ℕ → Fields → Bool → Option Bool
 of_address name fs has_parents = lookup (bytes_eq name) (
     (codes "url", is_some fs.url) ∷

@@ -1,7 +1,7 @@
 -- All that entries hold: the key, the type and the fields, and the same of each parent.
 use Rattle.std.specs.Prelude.{ℕ, List, [], ◌∷◌, string_bytes}
 use Rattle.literature_entries.specs.Fields.{Fields}
-use Rattle.literature_entries.specs.Views.{details}
+use Rattle.literature_entries.specs.Views.{details_view}
 use Rattle.literature_entries.specs.declared.entry.Entry.{Entry, fold-Entry}
 
 mutual
@@ -20,5 +20,5 @@ wholes [] = nothing
 wholes (w ∷ ws) = before w (wholes ws)
 
 -- all that an entry holds
-abbrev pub whole : Entry → Whole
-whole = fold-Entry Whole (λ e. Holding (string_bytes e.key) (details e.details) (wholes e.parents.items))
+abbrev pub entry_view : Entry → Whole
+entry_view = fold-Entry Whole (λ e. Holding (string_bytes e.key) (details_view e.details) (wholes e.parents.items))

@@ -3,8 +3,8 @@
 ghost use Rattle.std.specs.Prelude.{◌≡◌, ◌∷◌, ◌++◌, IfOk, OnOk};
 ghost use Rattle.std.specs.List.{flat_map};
 ghost use Rattle.literature_entries.specs.Ancestors.{ancestors, Asks, AsksFrom, borrowed, first_of};
-ghost use Rattle.literature_entries.specs.Views.{parents, fields, seen_in};
-ghost use Rattle.literature_values.specs.OtherViews.{address};
+ghost use Rattle.literature_entries.specs.Views.{parents, fields_view, view_in};
+ghost use Rattle.literature_values.specs.OtherViews.{address_view};
 
 use crate::entry::Entry;
 use literature_values::{Date, QualifiedUrl};
@@ -59,7 +59,8 @@ impl Entry {
     /// # Errors
     /// Out of memory.
     pub fn date_any(&self) -> Result<Option<&Date>, AllocError>
-        ensures { IfOk result (λ d. seen_in (λ d. d) d ≡ first_of (λ e. (fields e).date) (self.now ∷ ancestors self.now)) }
+        ensures { IfOk result (λ d. view_in (λ d. d) d
+            ≡ first_of (λ e. (fields_view e).date) (self.now ∷ ancestors self.now)) }
     {
         self.map(|entry| entry.date())
     }
@@ -69,7 +70,8 @@ impl Entry {
     /// # Errors
     /// Out of memory.
     pub fn url_any(&self) -> Result<Option<&QualifiedUrl>, AllocError>
-        ensures { IfOk result (λ u. seen_in address u ≡ first_of (λ e. (fields e).url) (self.now ∷ ancestors self.now)) }
+        ensures { IfOk result (λ u. view_in address_view u
+            ≡ first_of (λ e. (fields_view e).url) (self.now ∷ ancestors self.now)) }
     {
         self.map(|entry| entry.url())
     }

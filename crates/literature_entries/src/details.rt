@@ -2,7 +2,7 @@
 
 ghost use Rattle.std.specs.Prelude.{◌≡◌};
 ghost use Rattle.literature_entries.specs.Fields.{nothing_but};
-ghost use Rattle.literature_entries.specs.Views.{details};
+ghost use Rattle.literature_entries.specs.Views.{details_view};
 
 use literature_values::{
     Date, EntryType, FormatString, MaybeTyped, Numeric, PageRanges, Person, Publisher,
@@ -35,7 +35,7 @@ pub(crate) struct Details {
 impl Details {
     /// A type without fields.
     pub(crate) fn new(entry_type: EntryType) -> Details
-        ensures { details result ≡ nothing_but entry_type }
+        ensures { details_view result ≡ nothing_but entry_type }
     {
         Details {
             entry_type,

@@ -23,8 +23,8 @@ pub struct Entry {
 impl Entry {
     /// An entry of that key and type, without fields and parents.
     pub fn new(key: String, entry_type: EntryType) -> Entry
-        ensures key { views.key result ≡ string_bytes key }
-        ensures fields { views.fields result ≡ nothing_but entry_type }
+        ensures key { views.key_view result ≡ string_bytes key }
+        ensures fields { views.fields_view result ≡ nothing_but entry_type }
         ensures parents { views.parents result ≡ [] }
     {
         let parents = Vec::new(*key.allocator());
@@ -37,14 +37,14 @@ impl Entry {
 
     /// The key.
     pub fn key(&self) -> &str
-        ensures { result.now ≡ views.key self.now }
+        ensures { result.now ≡ views.key_view self.now }
     {
         self.key.as_str()
     }
 
     /// What the entry is.
     pub fn entry_type(&self) -> &EntryType
-        ensures { result.now ≡ (views.fields self.now).entry_type }
+        ensures { result.now ≡ (views.fields_view self.now).entry_type }
     {
         &self.details.entry_type
     }
@@ -58,8 +58,8 @@ impl Entry {
 
     /// Sets the works that the entry is part of.
     pub fn set_parents(&mut self, parents: Vec<Entry>)
-        ensures key { views.key self.new ≡ views.key self.old }
-        ensures fields { views.fields self.new ≡ views.fields self.old }
+        ensures key { views.key_view self.new ≡ views.key_view self.old }
+        ensures fields { views.fields_view self.new ≡ views.fields_view self.old }
         ensures parents { views.parents self.new ≡ parents.items }
     {
         self.parents = parents;
@@ -68,7 +68,8 @@ impl Entry {
     /// Whether a field is set, by its name as in `page-range`, a serial number by that of its scheme, which is `doi`,
     /// `isbn`, `issn`, `pmid`, `pmcid` or `arxiv`, or parents by `parent`. No other name is a field's.
     pub fn has(&self, name: &str) -> bool
-        ensures { result ≡ has name.now (views.fields self.now) (are_some (views.parents self.now)) }
+        ensures { result
+            ≡ has name.now (views.fields_view self.now) (are_some (views.parents self.now)) }
     {
         self.has_of_work(name)
             .or(self.has_of_part(name))
@@ -80,7 +81,7 @@ impl Entry {
     /// Whether a field is set that says what the work is and who made it; none where no such field has the name.
     #[tactic(auto, unfolding(crate::specs::Names::of_work))]
     fn has_of_work(&self, name: &str) -> Option<bool>
-        ensures { result ≡ of_work name.now (views.fields self.now) }
+        ensures { result ≡ of_work name.now (views.fields_view self.now) }
     {
         let details = &self.details;
         match name {
@@ -97,7 +98,7 @@ impl Entry {
     /// The same of a field that says what part of others the work is.
     #[tactic(auto, unfolding(crate::specs::Names::of_part))]
     fn has_of_part(&self, name: &str) -> Option<bool>
-        ensures { result ≡ of_part name.now (views.fields self.now) }
+        ensures { result ≡ of_part name.now (views.fields_view self.now) }
     {
         let details = &self.details;
         match name {
@@ -115,7 +116,8 @@ impl Entry {
     /// The same of a field that says where the work is found, and of parents.
     #[tactic(auto, unfolding(crate::specs::Names::of_address))]
     fn has_of_address(&self, name: &str) -> Option<bool>
-        ensures { result ≡ of_address name.now (views.fields self.now) (are_some (views.parents self.now)) }
+        ensures { result
+            ≡ of_address name.now (views.fields_view self.now) (are_some (views.parents self.now)) }
     {
         let details = &self.details;
         match name {
@@ -131,7 +133,7 @@ impl Entry {
     /// The same of a serial number by the name of its scheme.
     #[tactic(auto, unfolding(crate::specs::Names::of_scheme))]
     fn has_of_scheme(&self, name: &str) -> Option<bool>
-        ensures { result ≡ of_scheme name.now (views.fields self.now) }
+        ensures { result ≡ of_scheme name.now (views.fields_view self.now) }
     {
         match name {
             "doi" => Some(self.doi().is_some()),

@@ -3,7 +3,7 @@
 ghost use Rattle.std.specs.Prelude.{◌≡◌, Some, codes, OnOk, OnErr, string_bytes};
 ghost use Rattle.std.specs.Option.{option_map};
 ghost use Rattle.literature_entries.specs.Names.{serial, with_serial, number_under, with_number};
-ghost use Rattle.literature_entries.specs.Views.{serials, fields, seen_in, Sets};
+ghost use Rattle.literature_entries.specs.Views.{serials_view, fields_view, view_in, Sets};
 
 use crate::entry::Entry;
 use literature_values::SerialNumber;
@@ -17,105 +17,112 @@ use std::collections::BTreeMap;
 impl Entry {
     /// The number under the name of a scheme, as `serial`.
     pub fn keyed_serial_number(&self, key: &str) -> Option<&str>
-        ensures { seen_in (λ s. s) result ≡ serial key.now (fields self.now) }
+        ensures { view_in (λ s. s) result ≡ serial key.now (fields_view self.now) }
     {
         number_under(&self.details.serial_number, key)
     }
 
     /// Sets the number under the name of a scheme.
     pub fn set_keyed_serial_number(&mut self, key: &str, number: String) -> Result<(), AllocError>
-        ensures ok { OnOk result (Sets self.old (with_serial key.now (string_bytes number) (fields self.old)) self.new) }
-        ensures err { OnErr result (Sets self.old (fields self.old) self.new) }
+        ensures ok { OnOk result (Sets self.old
+            (with_serial key.now (string_bytes number) (fields_view self.old)) self.new) }
+        ensures err { OnErr result (Sets self.old (fields_view self.old) self.new) }
     {
         put_number(&mut self.details.serial_number, key, number)
     }
 
     /// The digital object identifier.
     pub fn doi(&self) -> Option<&str>
-        ensures { seen_in (λ s. s) result ≡ serial (codes "doi") (fields self.now) }
+        ensures { view_in (λ s. s) result ≡ serial (codes "doi") (fields_view self.now) }
     {
         self.keyed_serial_number("doi")
     }
 
     /// Sets the digital object identifier.
     pub fn set_doi(&mut self, doi: String) -> Result<(), AllocError>
-        ensures ok { OnOk result (Sets self.old (with_serial (codes "doi") (string_bytes doi) (fields self.old)) self.new) }
-        ensures err { OnErr result (Sets self.old (fields self.old) self.new) }
+        ensures ok { OnOk result (Sets self.old
+            (with_serial (codes "doi") (string_bytes doi) (fields_view self.old)) self.new) }
+        ensures err { OnErr result (Sets self.old (fields_view self.old) self.new) }
     {
         self.set_keyed_serial_number("doi", doi)
     }
 
     /// The International Standard Book Number.
     pub fn isbn(&self) -> Option<&str>
-        ensures { seen_in (λ s. s) result ≡ serial (codes "isbn") (fields self.now) }
+        ensures { view_in (λ s. s) result ≡ serial (codes "isbn") (fields_view self.now) }
     {
         self.keyed_serial_number("isbn")
     }
 
     /// Sets the International Standard Book Number.
     pub fn set_isbn(&mut self, isbn: String) -> Result<(), AllocError>
-        ensures ok { OnOk result (Sets self.old (with_serial (codes "isbn") (string_bytes isbn) (fields self.old)) self.new) }
-        ensures err { OnErr result (Sets self.old (fields self.old) self.new) }
+        ensures ok { OnOk result (Sets self.old
+            (with_serial (codes "isbn") (string_bytes isbn) (fields_view self.old)) self.new) }
+        ensures err { OnErr result (Sets self.old (fields_view self.old) self.new) }
     {
         self.set_keyed_serial_number("isbn", isbn)
     }
 
     /// The International Standard Serial Number.
     pub fn issn(&self) -> Option<&str>
-        ensures { seen_in (λ s. s) result ≡ serial (codes "issn") (fields self.now) }
+        ensures { view_in (λ s. s) result ≡ serial (codes "issn") (fields_view self.now) }
     {
         self.keyed_serial_number("issn")
     }
 
     /// Sets the International Standard Serial Number.
     pub fn set_issn(&mut self, issn: String) -> Result<(), AllocError>
-        ensures ok { OnOk result (Sets self.old (with_serial (codes "issn") (string_bytes issn) (fields self.old)) self.new) }
-        ensures err { OnErr result (Sets self.old (fields self.old) self.new) }
+        ensures ok { OnOk result (Sets self.old
+            (with_serial (codes "issn") (string_bytes issn) (fields_view self.old)) self.new) }
+        ensures err { OnErr result (Sets self.old (fields_view self.old) self.new) }
     {
         self.set_keyed_serial_number("issn", issn)
     }
 
     /// The PubMed identifier.
     pub fn pmid(&self) -> Option<&str>
-        ensures { seen_in (λ s. s) result ≡ serial (codes "pmid") (fields self.now) }
+        ensures { view_in (λ s. s) result ≡ serial (codes "pmid") (fields_view self.now) }
     {
         self.keyed_serial_number("pmid")
     }
 
     /// Sets the PubMed identifier.
     pub fn set_pmid(&mut self, pmid: String) -> Result<(), AllocError>
-        ensures ok { OnOk result (Sets self.old (with_serial (codes "pmid") (string_bytes pmid) (fields self.old)) self.new) }
-        ensures err { OnErr result (Sets self.old (fields self.old) self.new) }
+        ensures ok { OnOk result (Sets self.old
+            (with_serial (codes "pmid") (string_bytes pmid) (fields_view self.old)) self.new) }
+        ensures err { OnErr result (Sets self.old (fields_view self.old) self.new) }
     {
         self.set_keyed_serial_number("pmid", pmid)
     }
 
     /// The PubMed Central identifier.
     pub fn pmcid(&self) -> Option<&str>
-        ensures { seen_in (λ s. s) result ≡ serial (codes "pmcid") (fields self.now) }
+        ensures { view_in (λ s. s) result ≡ serial (codes "pmcid") (fields_view self.now) }
     {
         self.keyed_serial_number("pmcid")
     }
 
     /// Sets the PubMed Central identifier.
     pub fn set_pmcid(&mut self, pmcid: String) -> Result<(), AllocError>
-        ensures ok { OnOk result (Sets self.old (with_serial (codes "pmcid") (string_bytes pmcid) (fields self.old)) self.new) }
-        ensures err { OnErr result (Sets self.old (fields self.old) self.new) }
+        ensures ok { OnOk result (Sets self.old
+            (with_serial (codes "pmcid") (string_bytes pmcid) (fields_view self.old)) self.new) }
+        ensures err { OnErr result (Sets self.old (fields_view self.old) self.new) }
     {
         self.set_keyed_serial_number("pmcid", pmcid)
     }
 
     /// The arXiv identifier.
     pub fn arxiv(&self) -> Option<&str>
-        ensures { seen_in (λ s. s) result ≡ serial (codes "arxiv") (fields self.now) }
+        ensures { view_in (λ s. s) result ≡ serial (codes "arxiv") (fields_view self.now) }
     {
         self.keyed_serial_number("arxiv")
     }
 
     /// Sets the arXiv identifier.
     pub fn set_arxiv(&mut self, arxiv: String) -> Result<(), AllocError>
-        ensures ok { OnOk result (Sets self.old (with_serial (codes "arxiv") (string_bytes arxiv) (fields self.old)) self.new) }
-        ensures err { OnErr result (Sets self.old (fields self.old) self.new) }
+        ensures ok { OnOk result (Sets self.old
+            (with_serial (codes "arxiv") (string_bytes arxiv) (fields_view self.old)) self.new) }
+        ensures err { OnErr result (Sets self.old (fields_view self.old) self.new) }
     {
         self.set_keyed_serial_number("arxiv", arxiv)
     }
@@ -124,7 +131,8 @@ impl Entry {
 /// The number under the name of a scheme.
 #[tactic(auto, using(crate::proofs::NamesSerials::number_found))]
 fn number_under<'n>(numbers: &'n Option<SerialNumber>, scheme: &str) -> Option<&'n str>
-    ensures { seen_in (λ s. s) result ≡ number_under scheme.now (option_map serials numbers.now) }
+    ensures { view_in (λ s. s) result
+        ≡ number_under scheme.now (option_map serials_view numbers.now) }
 {
     match numbers {
         Some(numbers) => match numbers.0.get(scheme) {
@@ -142,8 +150,10 @@ fn put_number(
     scheme: &str,
     number: String,
 ) -> Result<(), AllocError>
-    ensures ok { OnOk result (option_map serials numbers.new ≡ Some (with_number scheme.now (string_bytes number) (option_map serials numbers.old))) }
-    ensures err { OnErr result (option_map serials numbers.new ≡ option_map serials numbers.old) }
+    ensures ok { OnOk result (option_map serials_view numbers.new ≡ Some
+        (with_number scheme.now (string_bytes number) (option_map serials_view numbers.old))) }
+    ensures err { OnErr result (option_map serials_view numbers.new
+        ≡ option_map serials_view numbers.old) }
 {
     let alloc = *number.allocator();
     let scheme = String::from_str(alloc, scheme)?;

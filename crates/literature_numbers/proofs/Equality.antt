@@ -1,4 +1,4 @@
--- Values are equal exactly where what is seen of them is one.
+-- Values are equal exactly where the view of them is one.
 use Rattle.std.proofs.Common.{◌≡◌, ℕ, Bool, true, false, ◌&&◌, [], Option, ℤ, pos, int_eq, string_eq, refl, sym, ap, rules, arith}
 use Rattle.std.specs.Bool.{Decides}
 use denote.Enum.Bare.{same_true, true_same}
@@ -10,13 +10,13 @@ use Rattle.std.specs.Cmp.Lexicographic.{pointwise}
 use Rattle.laws.specs.Equality.{Shows}
 use Rattle.laws.proofs.Equality.{Decides-moved, Decides-never, Shows-strings, Shows-options, Shows-options_themselves, Shows-lists, Shows-pairs}
 use Rattle.literature_numbers.specs.Numerics.{Value, Number, Set, Numbers, Numeral, plain}
-use Rattle.literature_numbers.specs.Views.{value, numeral}
+use Rattle.literature_numbers.specs.Views.{numeric_value_view, numeral_view}
 use Rattle.laws.specs.Text.{characters}
 use Rattle.literature_numbers.specs.declared.numeric.NumericValue.TheVariants as values
 use Rattle.literature_numbers.specs.declared.separator.NumericDelimiter.{NumericDelimiter}
 use Rattle.literature_numbers.specs.contracts.separator.NumericDelimiter.{the_type}
 use Rattle.literature_numbers.specs.Pages.{Part, AmpersandPart, CommaPart, SinglePage, Range}
-use Rattle.literature_numbers.specs.PageViews.{part, pages}
+use Rattle.literature_numbers.specs.PageViews.{page_part_view, pages_view}
 use Rattle.literature_numbers.specs.declared.page_ranges.PageRangesPart.TheVariants as parts
 use Rattle.literature_numbers.specs.contracts.page_ranges.PageRangesPartPartialEq.TheImpl as page_ranges_part
 use Rattle.literature_numbers.specs.contracts.page_ranges.PageRangesPartialEq.TheImpl as page_ranges
@@ -46,7 +46,7 @@ same_linked : (m n : ℤ × Option NumericDelimiter) → Decides (int_eq m.0 n.0
 same_linked m n =
     Shows-pairs int_eq (λ z. z) (option_eq delimiter.ghosts.eq) (λ o. o) Decides-int_eq (Shows-options_themselves delimiter.ghosts.eq Shows-NumericDelimiter) m n
 
-pub Shows-NumericValue : Shows numeric_value.ghosts.eq value
+pub Shows-NumericValue : Shows numeric_value.ghosts.eq numeric_value_view
 Shows-NumericValue (values.Number m) (values.Number n) = Decides-moved (int_eq m n) (Decides-int_eq m n) (ap Number) (ap number_of)
 Shows-NumericValue (values.Number m) (values.Set w) = Decides-never (λ e. true≢false (sym (ap is_set e)))
 Shows-NumericValue (values.Set v) (values.Number n) = Decides-never (λ e. true≢false (ap is_set e))
@@ -54,7 +54,7 @@ Shows-NumericValue (values.Set v) (values.Set w) =
     Decides-moved (pointwise (λ (m n : ℤ × Option NumericDelimiter). int_eq m.0 n.0 && option_eq delimiter.ghosts.eq m.1 n.1) v.items w.items)
     (slice_eq-Decides same_linked v.items w.items _ refl) (ap Set) (ap numbers_of)
 
-pub Shows-Numeric : Shows numeric.ghosts.eq numeral
+pub Shows-Numeric : Shows numeric.ghosts.eq numeral_view
 Shows-Numeric m n =
     let affixes = Decides-and (option_eq string_eq m.prefix n.prefix) (option_eq string_eq m.suffix n.suffix)
     (Shows-options string_eq characters Shows-strings m.prefix n.prefix) (Shows-options string_eq characters Shows-strings m.suffix n.suffix) in
@@ -82,7 +82,7 @@ kind_of CommaPart = 1
 kind_of (SinglePage n) = 2
 kind_of (Range m n) = 3
 
-pub Shows-PageRangesPart : Shows page_ranges_part.ghosts.eq part
+pub Shows-PageRangesPart : Shows page_ranges_part.ghosts.eq page_part_view
 Shows-PageRangesPart parts.Ampersand parts.Ampersand = (λ h. refl, λ e. refl)
 Shows-PageRangesPart parts.Comma parts.Comma = (λ h. refl, λ e. refl)
 Shows-PageRangesPart (parts.SinglePage m) (parts.SinglePage n) =
@@ -92,5 +92,5 @@ Shows-PageRangesPart (parts.Range k l) (parts.Range m n) =
     (λ p i. Range (p.0 i) (p.1 i)) (λ e. (ap start_of e, ap end_of e))
 Shows-PageRangesPart p q = Decides-never (λ e. omega (arith, ap kind_of e))
 
-pub Shows-PageRanges : Shows page_ranges.ghosts.eq pages
-Shows-PageRanges p q = Shows-lists page_ranges_part.ghosts.eq part Shows-PageRangesPart p.ranges.items q.ranges.items
+pub Shows-PageRanges : Shows page_ranges.ghosts.eq pages_view
+Shows-PageRanges p q = Shows-lists page_ranges_part.ghosts.eq page_part_view Shows-PageRangesPart p.ranges.items q.ranges.items

@@ -1,6 +1,6 @@
 -- Numbers with letters before and after that were written are read back.
 use Rattle.std.proofs.Common.{◌≡◌, ℕ, List, [], ◌∷◌, ◌++◌, Option, Some, None, Result, Ok, Err, refl, sym, ap, ◌∙◌, arith, append-nil}
-use Rattle.laws.specs.Runs.{front_of, after, AllPassTest}
+use Rattle.laws.specs.Runs.{prefix_of, after, AllPassTest}
 use Rattle.laws.specs.Results.{GivesBack, GivesOrRefuses}
 use Rattle.laws.proofs.Results.{gives_back_or_refuses}
 use Rattle.laws.proofs.Runs.{cuts}
@@ -8,7 +8,7 @@ use Rattle.texts.specs.Character.{passes}
 use Rattle.literature_numbers.specs.Numerics.{Numeral, affix, numeral_of}
 use Rattle.literature_numbers.specs.NumericText.{value_text, affix_text, numeral_text, IsAffix, IsReadable}
 use Rattle.texts.specs.declared.character.Class.TheVariants.{Letter}
-use Rattle.literature_numbers.specs.Views.{numeral, refusal_of}
+use Rattle.literature_numbers.specs.Views.{numeral_view, refusal_of}
 use Rattle.literature_numbers.specs.declared.numeric.Numeric.{Numeric}
 use Rattle.literature_numbers.specs.declared.numeric.NumericError.{NumericError}
 use Rattle.texts.specs.declared.reader.Unreadable.{Unreadable}
@@ -36,14 +36,14 @@ numeral_again n is =
     let first = cuts (passes Letter) (affix_text n.prefix) middle (affix_letters n.prefix is.prefix) (digit_bars middle (value_starts n.value following is.value)).0 in
     let value = value_again n.value following is.value letters in
     let last = cuts (passes Letter) following [] letters tt in
-    let last_front : front_of (passes Letter) following ≡ following = ap (front_of (passes Letter)) (sym (append-nil following)) ∙ last.front in
+    let last_leading : prefix_of (passes Letter) following ≡ following = ap (prefix_of (passes Letter)) (sym (append-nil following)) ∙ last.prefix in
     let last_after : after (passes Letter) following ≡ [] = ap (after (passes Letter)) (sym (append-nil following)) ∙ last.after in
     let prefix = affix_again n.prefix is.prefix in
     let suffix = affix_again n.suffix is.suffix in
     let read = value.1 in
     let is_value = value.2 in
-    rw (first.after, first.front, read, last_after, last_front, is_value, prefix, suffix) refl
+    rw (first.after, first.prefix, read, last_after, last_leading, is_value, prefix, suffix) refl
 
 -- so what means what was written is what was written
-pub read_back : (r : Result Numeric NumericError) (cs : List ℕ) → GivesOrRefuses refusal_of numeral r (numeral_of cs) → (n : Numeral) → IsReadable n → cs ≡ numeral_text n → GivesBack refusal_of numeral r n
-read_back r cs means n is e = gives_back_or_refuses Unreadable refusal_of numeral r n (rw (ap numeral_of e ∙ numeral_again n is) at means)
+pub read_back : (r : Result Numeric NumericError) (cs : List ℕ) → GivesOrRefuses refusal_of numeral_view r (numeral_of cs) → (n : Numeral) → IsReadable n → cs ≡ numeral_text n → GivesBack refusal_of numeral_view r n
+read_back r cs means n is e = gives_back_or_refuses Unreadable refusal_of numeral_view r n (rw (ap numeral_of e ∙ numeral_again n is) at means)

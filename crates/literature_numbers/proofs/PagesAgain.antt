@@ -7,7 +7,7 @@ use Rattle.laws.proofs.Results.{gives_back_or_refuses}
 use Rattle.literature_numbers.specs.Numerics.{Numbers, Numeral, plain, numbers_at}
 use Rattle.literature_numbers.specs.NumericText.{delimiter_text, separator_text, linked_text, IsCount, AreLinked}
 use Rattle.literature_numbers.specs.Pages.{Part, AmpersandPart, CommaPart, SinglePage, Range, page, pages_from, pages_of, part_text, pages_text, IsPage, IsSeparator, AreReadable}
-use Rattle.literature_numbers.specs.PageViews.{pages, refusal_of_pages}
+use Rattle.literature_numbers.specs.PageViews.{pages_view, refusal_of_pages}
 use Rattle.literature_numbers.specs.declared.separator.NumericDelimiter.{NumericDelimiter}
 use Rattle.literature_numbers.specs.declared.separator.NumericDelimiter.TheVariants.{Comma, Ampersand, Hyphen}
 use Rattle.literature_numbers.specs.declared.page_ranges.PageRanges.{PageRanges}
@@ -87,5 +87,5 @@ pages_again ps are =
     rw (read, grouped) refl
 
 -- so what means what was written is what was written
-pub read_back_pages : (r : Result PageRanges PageRangesError) (cs : List ℕ) → GivesOrRefuses refusal_of_pages pages r (pages_of cs) → (ps : List Part) → AreReadable ps → cs ≡ pages_text ps → GivesBack refusal_of_pages pages r ps
-read_back_pages r cs means ps are e = gives_back_or_refuses Unreadable refusal_of_pages pages r ps (rw (ap pages_of e ∙ pages_again ps are) at means)
+pub read_back_pages : (r : Result PageRanges PageRangesError) (cs : List ℕ) → GivesOrRefuses refusal_of_pages pages_view r (pages_of cs) → (ps : List Part) → AreReadable ps → cs ≡ pages_text ps → GivesBack refusal_of_pages pages_view r ps
+read_back_pages r cs means ps are e = gives_back_or_refuses Unreadable refusal_of_pages pages_view r ps (rw (ap pages_of e ∙ pages_again ps are) at means)

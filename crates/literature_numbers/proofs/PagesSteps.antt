@@ -10,7 +10,7 @@ use Rattle.texts.specs.declared.reader.Unreadable.{Unreadable}
 abbrev pub pages_onto : List Part → Option ℤ → Numbers → Result (List Part) Unreadable
 pages_onto ps first ns = pages_from first ns >>= λ qs. Ok (ps ++ qs)
 
--- at the beginning there are no parts
+-- at the start there are no parts
 pub pages_onto-none : (first : Option ℤ) (ns : Numbers) → pages_onto [] first ns ≡ pages_from first ns
 pages_onto-none first ns = same (pages_from first ns)
   where

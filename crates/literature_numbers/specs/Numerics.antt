@@ -2,7 +2,7 @@
 use Rattle.std.specs.Prelude.{ℕ, List, [], ◌∷◌, map, Option, Some, None, Result, Ok, ℤ}
 use Rattle.laws.specs.Results.{◌>>=◌}
 use Rattle.laws.specs.Steps.{each}
-use Rattle.laws.specs.Runs.{front_of, after}
+use Rattle.laws.specs.Runs.{prefix_of, after}
 use Rattle.texts.specs.Character.{passes}
 use Rattle.texts.specs.Reading.{number_at, end_at}
 use Rattle.literature_numbers.specs.Numbers.{separator_at}
@@ -10,7 +10,7 @@ use Rattle.texts.specs.declared.character.Class.TheVariants.{Letter}
 use Rattle.literature_numbers.specs.declared.separator.NumericDelimiter.{NumericDelimiter}
 use Rattle.texts.specs.declared.reader.Unreadable.{Unreadable}
 
--- numbers in a row, each with the separator after it
+-- numbers one after the other, each with the separator after it
 abbrev pub Numbers : Type 0
 Numbers = List (ℤ × Option NumericDelimiter)
 
@@ -77,4 +77,4 @@ unfoldable pub numeral_of : List ℕ → Result Numeral Unreadable
 numeral_of cs = do
   numbers ← numbers_at (after (passes Letter) cs)
   rest ← end_at (after (passes Letter) numbers.1)
-  Ok (record { value = value_of numbers.0; prefix = affix (front_of (passes Letter) cs); suffix = affix (front_of (passes Letter) numbers.1) })
+  Ok (record { value = value_of numbers.0; prefix = affix (prefix_of (passes Letter) cs); suffix = affix (prefix_of (passes Letter) numbers.1) })

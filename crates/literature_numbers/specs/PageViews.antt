@@ -1,7 +1,7 @@
 -- Page ranges of the code as callers see them.
 use Rattle.std.specs.Prelude.{◌≡◌, List, map, Option, Some, None, Result, Ok, Err, ℤ}
 use Rattle.literature_numbers.specs.Pages.{Part, AmpersandPart, CommaPart, SinglePage, Range}
-use Rattle.literature_numbers.specs.Views.{numeral}
+use Rattle.literature_numbers.specs.Views.{numeral_view}
 use Rattle.literature_numbers.specs.declared.numeric.NumericError.{NumericError}
 use Rattle.literature_numbers.specs.declared.numeric.NumericError.TheVariants as numeric_errors
 use Rattle.literature_numbers.specs.declared.page_ranges.PageRanges.{PageRanges}
@@ -12,16 +12,16 @@ use Rattle.literature_numbers.specs.declared.page_ranges.PageRangesError.TheVari
 use Rattle.texts.specs.declared.reader.Unreadable.{Unreadable}
 use Rattle.texts.specs.declared.reader.Unreadable.TheVariants.{NotThere}
 
--- a part, its numbers seen by value
-abbrev pub part : PageRangesPart → Part
-part parts.Ampersand = AmpersandPart
-part parts.Comma = CommaPart
-part (parts.SinglePage n) = SinglePage (numeral n)
-part (parts.Range m n) = Range (numeral m) (numeral n)
+-- a part, its numbers viewed by value
+abbrev pub page_part_view : PageRangesPart → Part
+page_part_view parts.Ampersand = AmpersandPart
+page_part_view parts.Comma = CommaPart
+page_part_view (parts.SinglePage n) = SinglePage (numeral_view n)
+page_part_view (parts.Range m n) = Range (numeral_view m) (numeral_view n)
 
 -- the parts in order
-abbrev pub pages : PageRanges → List Part
-pages p = map part p.ranges.items
+abbrev pub pages_view : PageRanges → List Part
+pages_view p = map page_part_view p.ranges.items
 
 -- the refusal of pages for that of numbers
 abbrev pub pages_refusal : NumericError → PageRangesError

@@ -46,7 +46,7 @@ abbrev pub all_closed : Option ℤ → Result (List Part) Unreadable
 all_closed None = Ok []
 all_closed (Some first) = Err NotThere
 
--- numbers in a row as pages and ranges, where a first page may have opened a range
+-- numbers one after the other as pages and ranges, where a first page may have opened a range
 abbrev pub pages_from : Option ℤ → Numbers → Result (List Part) Unreadable
 pages_from first [] = all_closed first
 pages_from first (n ∷ ns) = if is_hyphen n.1 then (opened first n.0 >>= λ f. pages_from f ns) else (pages_from None ns >>= λ ps. Ok (closed first n ++ ps))
@@ -69,13 +69,13 @@ part_text (Range m n) = numeral_text m ++ (delimiter_text Hyphen ++ numeral_text
 abbrev pub pages_text : List Part → List ℕ
 pages_text ps = flat_map part_text ps
 
--- more than one number: a range, or two pages, of which one may have been seen, or a page of several numbers
+-- more than one number: a range, or two pages, of which one may have come, or a page of several numbers
 abbrev pub has_more : Bool → List Part → Bool
-has_more seen [] = false
-has_more seen (AmpersandPart ∷ ps) = has_more seen ps
-has_more seen (CommaPart ∷ ps) = has_more seen ps
-has_more seen (SinglePage n ∷ ps) = seen || (is_plural n.value || has_more true ps)
-has_more seen (Range m n ∷ ps) = true
+has_more viewed [] = false
+has_more viewed (AmpersandPart ∷ ps) = has_more viewed ps
+has_more viewed (CommaPart ∷ ps) = has_more viewed ps
+has_more viewed (SinglePage n ∷ ps) = viewed || (is_plural n.value || has_more true ps)
+has_more viewed (Range m n ∷ ps) = true
 
 -- the first number that stands there
 abbrev pub first_number : List Part → Option Numeral

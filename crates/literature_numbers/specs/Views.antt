@@ -12,13 +12,13 @@ use Rattle.literature_numbers.specs.declared.numeric.NumericError.{NumericError}
 use Rattle.literature_numbers.specs.declared.numeric.NumericError.TheVariants as errors
 
 -- a number, or the numbers of a set
-abbrev pub value : NumericValue → Value
-value (values.Number n) = Number n
-value (values.Set v) = Set v.items
+abbrev pub numeric_value_view : NumericValue → Value
+numeric_value_view (values.Number n) = Number n
+numeric_value_view (values.Set v) = Set v.items
 
 -- the value, and the characters of the letters before and after
-abbrev pub numeral : Numeric → Numeral
-numeral n = record { value = value n.value; prefix = option_map characters n.prefix; suffix = option_map characters n.suffix }
+abbrev pub numeral_view : Numeric → Numeral
+numeral_view n = record { value = numeric_value_view n.value; prefix = option_map characters n.prefix; suffix = option_map characters n.suffix }
 
 -- the refusal that an error is; out of memory is none
 abbrev pub refusal_of : NumericError → Option Unreadable

@@ -10,7 +10,7 @@ ghost use Rattle.laws.specs.Text.{text as text_of, characters};
 ghost use Rattle.laws.specs.Results.{GivesBack, GivesOrRefuses, GivesRestOrRefuses};
 ghost use Rattle.literature_numbers.specs.NumericText.{delimiter_text, linked_text, value_text, affix_text, numeral_text, is_plural, IsReadable};
 ghost use Rattle.texts.specs.Views.{left};
-ghost use Rattle.literature_numbers.specs.Views.{value, numeral, refusal_of};
+ghost use Rattle.literature_numbers.specs.Views.{numeric_value_view, numeral_view, refusal_of};
 ghost use Rattle.literature_numbers.specs.declared.numeric.NumericError.TheVariants.{Memory, Malformed};
 
 use crate::separator::{NumericDelimiter, next_number};
@@ -48,7 +48,7 @@ pub enum NumericError {
 impl Numeric {
     /// One number, with no letters.
     pub fn new(number: i32) -> Numeric
-        ensures { numeral result ≡ plain number }
+        ensures { numeral_view result ≡ plain number }
     {
         Numeric {
             value: NumericValue::Number(number),
@@ -59,14 +59,14 @@ impl Numeric {
 
     /// Whether there is more than one number.
     pub fn is_plural(&self) -> bool
-        ensures { result ≡ is_plural (numeral self.now).value }
+        ensures { result ≡ is_plural (numeral_view self.now).value }
     {
         self.value.is_plural()
     }
 
     /// The number, where there is just one; letters before and after it do not count.
     pub fn single_number(&self) -> Option<i32>
-        ensures { result ≡ only_one (numbers_in (numeral self.now).value) }
+        ensures { result ≡ only_one (numbers_in (numeral_view self.now).value) }
     {
         match &self.value {
             NumericValue::Number(number) => Some(*number),
@@ -75,14 +75,14 @@ impl Numeric {
         }
     }
 
-    /// The number at the place, where there are so many. Places count from zero; letters before and after do not count.
-    pub fn nth(&self, place: usize) -> Option<i32>
-        ensures { result ≡ slice_get (numbers_in (numeral self.now).value) place }
+    /// The number at the index, where there are so many. Indices count from zero; letters before and after do not count.
+    pub fn nth(&self, index: usize) -> Option<i32>
+        ensures { result ≡ slice_get (numbers_in (numeral_view self.now).value) index }
     {
         match &self.value {
-            NumericValue::Number(number) if place == 0 => Some(*number),
+            NumericValue::Number(number) if index == 0 => Some(*number),
             NumericValue::Number(_) => None,
-            NumericValue::Set(numbers) => Some(numbers.get(place)?.0),
+            NumericValue::Set(numbers) => Some(numbers.get(index)?.0),
         }
     }
 
@@ -93,9 +93,11 @@ impl Numeric {
     /// `Malformed` for every other text; `Memory` where a request for memory was refused.
     pub fn read(alloc: Global, text: &str) -> Result<Numeric, NumericError>
         // The numbers that the text spells, or the refusal of a text that spells none.
-        ensures reading { GivesOrRefuses refusal_of numeral result (numeral_of (chars text.now)) }
+        ensures reading { GivesOrRefuses refusal_of numeral_view result
+            (numeral_of (chars text.now)) }
         // What was printed of counts, with letters or none, is read back.
-        ensures back { (n : Numeral) → IsReadable n → chars text.now ≡ numeral_text n → GivesBack refusal_of numeral result n }
+        ensures back { (n : Numeral) → IsReadable n → chars text.now ≡ numeral_text n
+            → GivesBack refusal_of numeral_view result n }
     {
         read_numeric(alloc, text)
     }
@@ -104,7 +106,7 @@ impl Numeric {
 impl NumericValue {
     /// Whether there is more than one number.
     pub fn is_plural(&self) -> bool
-        ensures { result ≡ is_plural (value self.now) }
+        ensures { result ≡ is_plural (numeric_value_view self.now) }
     {
         match self {
             NumericValue::Number(_) => false,
@@ -116,7 +118,7 @@ impl NumericValue {
 /// The numbers that the text spells, with the letters before and after them.
 #[tactic(auto, unfolding(crate::specs::Numerics::numeral_of))]
 fn read_numeric(alloc: Global, text: &str) -> Result<Numeric, NumericError>
-    ensures { GivesOrRefuses refusal_of numeral result (numeral_of (chars text.now)) }
+    ensures { GivesOrRefuses refusal_of numeral_view result (numeral_of (chars text.now)) }
 {
     let mut reader = Reader::new(text);
     let prefix = reader.run(Class::Letter);
@@ -135,7 +137,8 @@ pub(crate) fn read_numbers(
     alloc: Global,
     reader: &mut Reader,
 ) -> Result<Vec<(i32, Option<NumericDelimiter>)>, NumericError>
-    ensures { GivesRestOrRefuses refusal_of (λ v. v.items) result (left reader.new) (numbers_at (left reader.old)) }
+    ensures { GivesRestOrRefuses refusal_of (λ v. v.items) result
+        (left reader.new) (numbers_at (left reader.old)) }
 {
     let mut number = reader.number()?;
     let mut numbers = Vec::new(alloc);
@@ -149,7 +152,7 @@ pub(crate) fn read_numbers(
 
 /// One number alone, or a set.
 fn value_of(numbers: Vec<(i32, Option<NumericDelimiter>)>) -> NumericValue
-    ensures { value result ≡ value_of numbers.items }
+    ensures { numeric_value_view result ≡ value_of numbers.items }
 {
     if numbers.len() == 1 {
         return NumericValue::Number(numbers[0].0);
@@ -168,7 +171,7 @@ fn owned_affix(alloc: Global, letters: &str) -> Result<Option<String>, AllocErro
 }
 
 impl Clone for NumericValue {
-    ghost is_clone = { λ v w. value w ≡ value v };
+    ghost is_clone = { λ v w. numeric_value_view w ≡ numeric_value_view v };
 
     fn clone(&self) -> Result<NumericValue, AllocError> {
         match self {
@@ -182,7 +185,7 @@ impl Clone for NumericValue {
 }
 
 impl Clone for Numeric {
-    ghost is_clone = { λ n m. numeral m ≡ numeral n };
+    ghost is_clone = { λ n m. numeral_view m ≡ numeral_view n };
 
     fn clone(&self) -> Result<Numeric, AllocError> {
         Ok(Numeric {
@@ -219,7 +222,7 @@ impl<T: Drop> From<AllocFailed<T>> for NumericError {
 
 /// Each number, followed by its delimiter.
 impl fmt::Display for NumericValue {
-    ghost output = { λ v. Some (text_of (value_text (value v))) };
+    ghost output = { λ v. Some (text_of (value_text (numeric_value_view v))) };
 
     fn fmt<W: fmt::Write>(&self, f: &mut fmt::Formatter<W>) -> fmt::Result {
         match self {
@@ -231,7 +234,7 @@ impl fmt::Display for NumericValue {
 
 /// The letters before, the numbers, the letters after.
 impl fmt::Display for Numeric {
-    ghost output = { λ n. Some (text_of (numeral_text (numeral n))) };
+    ghost output = { λ n. Some (text_of (numeral_text (numeral_view n))) };
 
     fn fmt<W: fmt::Write>(&self, f: &mut fmt::Formatter<W>) -> fmt::Result {
         write_affix(&self.prefix, f)?;
@@ -242,7 +245,8 @@ impl fmt::Display for Numeric {
 
 /// Writes a number in digits.
 fn write_number<W: fmt::Write>(number: i32, f: &mut fmt::Formatter<W>) -> fmt::Result
-    ensures { DisplaysOnOk W.write_str_gives f.old result (Some (text_of (signed_decimal number))) f.new }
+    ensures { DisplaysOnOk W.write_str_gives f.old result
+        (Some (text_of (signed_decimal number))) f.new }
 {
     write!(f, "{number}")
 }
@@ -252,7 +256,8 @@ fn write_linked<W: fmt::Write>(
     linked: (i32, Option<NumericDelimiter>),
     f: &mut fmt::Formatter<W>,
 ) -> fmt::Result
-    ensures { DisplaysOnOk W.write_str_gives f.old result (Some (text_of (linked_text linked))) f.new }
+    ensures { DisplaysOnOk W.write_str_gives f.old result
+        (Some (text_of (linked_text linked))) f.new }
 {
     write_number(linked.0, f)?;
     match linked.1 {
@@ -266,7 +271,8 @@ fn write_numbers<W: fmt::Write>(
     numbers: &[(i32, Option<NumericDelimiter>)],
     f: &mut fmt::Formatter<W>,
 ) -> fmt::Result
-    ensures { DisplaysOnOk W.write_str_gives f.old result (Some (text_of (flat_map linked_text numbers.now))) f.new }
+    ensures { DisplaysOnOk W.write_str_gives f.old result
+        (Some (text_of (flat_map linked_text numbers.now))) f.new }
 {
     for linked in numbers {
         write_linked(*linked, f)?;
@@ -276,7 +282,8 @@ fn write_numbers<W: fmt::Write>(
 
 /// Writes the letters, where there are any.
 fn write_affix<W: fmt::Write>(letters: &Option<String>, f: &mut fmt::Formatter<W>) -> fmt::Result
-    ensures { DisplaysOnOk W.write_str_gives f.old result (Some (text_of (affix_text (option_map characters letters.now)))) f.new }
+    ensures { DisplaysOnOk W.write_str_gives f.old result
+        (Some (text_of (affix_text (option_map characters letters.now)))) f.new }
 {
     match letters {
         Some(letters) => f.write_str(letters.as_str()),

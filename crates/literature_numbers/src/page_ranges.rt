@@ -7,8 +7,8 @@ ghost use Rattle.std.specs.Str.{chars};
 ghost use Rattle.laws.specs.Text.{text as text_of};
 ghost use Rattle.laws.specs.Results.{GivesBack, GivesOrRefuses};
 ghost use Rattle.literature_numbers.specs.Pages.{pages_of, pages_from, page, opened, closed, is_hyphen, part_text, pages_text, has_more, first_number, Part, Range, AreReadable};
-ghost use Rattle.literature_numbers.specs.Views.{numeral};
-ghost use Rattle.literature_numbers.specs.PageViews.{part, pages, OpensRange, pages_refusal, refusal_of_pages};
+ghost use Rattle.literature_numbers.specs.Views.{numeral_view};
+ghost use Rattle.literature_numbers.specs.PageViews.{page_part_view, pages_view, OpensRange, pages_refusal, refusal_of_pages};
 ghost use Rattle.literature_numbers.specs.declared.page_ranges.PageRangesError.TheVariants.{Memory, Malformed};
 
 use crate::numeric::{Numeric, NumericError, read_numbers};
@@ -52,16 +52,18 @@ impl PageRanges {
     /// `Malformed` for every other text; `Memory` where a request for memory was refused.
     pub fn read(alloc: Global, text: &str) -> Result<PageRanges, PageRangesError>
         // The parts that the text spells, or the refusal of a text that spells none.
-        ensures reading { GivesOrRefuses refusal_of_pages pages result (pages_of (chars text.now)) }
+        ensures reading { GivesOrRefuses refusal_of_pages pages_view result
+            (pages_of (chars text.now)) }
         // What was printed of pages and ranges of counts is read back.
-        ensures back { (ps : List Part) → AreReadable ps → chars text.now ≡ pages_text ps → GivesBack refusal_of_pages pages result ps }
+        ensures back { (ps : List Part) → AreReadable ps → chars text.now ≡ pages_text ps
+            → GivesBack refusal_of_pages pages_view result ps }
     {
         read_pages(alloc, text)
     }
 
     /// The first number: the first page, or the one that the first range begins with. Separators are passed over.
     pub fn first(&self) -> Option<&Numeric>
-        ensures { option_map (λ n. numeral n.now) result ≡ first_number (pages self.now) }
+        ensures { option_map (λ n. numeral_view n.now) result ≡ first_number (pages_view self.now) }
     {
         for part in &self.ranges {
             match part {
@@ -76,14 +78,14 @@ impl PageRanges {
 
     /// Whether there is more than one number: a range, or two pages.
     pub fn is_plural(&self) -> bool
-        ensures { result ≡ has_more false (pages self.now) }
+        ensures { result ≡ has_more false (pages_view self.now) }
     {
-        let mut is_seen = false;
+        let mut is_later = false;
         for part in &self.ranges {
             match part {
                 PageRangesPart::Ampersand | PageRangesPart::Comma => {}
-                PageRangesPart::SinglePage(number) if is_seen || number.is_plural() => return true,
-                PageRangesPart::SinglePage(_) => is_seen = true,
+                PageRangesPart::SinglePage(number) if is_later || number.is_plural() => return true,
+                PageRangesPart::SinglePage(_) => is_later = true,
                 PageRangesPart::Range(_, _) => return true,
             }
         }
@@ -94,7 +96,7 @@ impl PageRanges {
 /// The pages and ranges that the text spells.
 #[tactic(auto, unfolding(crate::specs::Pages::pages_of))]
 fn read_pages(alloc: Global, text: &str) -> Result<PageRanges, PageRangesError>
-    ensures { GivesOrRefuses refusal_of_pages pages result (pages_of (chars text.now)) }
+    ensures { GivesOrRefuses refusal_of_pages pages_view result (pages_of (chars text.now)) }
 {
     let mut reader = Reader::new(text);
     let numbers = read_numbers(alloc, &mut reader)?;
@@ -107,7 +109,7 @@ fn group(
     alloc: Global,
     numbers: &[(i32, Option<NumericDelimiter>)],
 ) -> Result<PageRanges, PageRangesError>
-    ensures { GivesOrRefuses refusal_of_pages pages result (pages_from None numbers.now) }
+    ensures { GivesOrRefuses refusal_of_pages pages_view result (pages_from None numbers.now) }
 {
     let mut ranges = Vec::new(alloc);
     let mut first = None;
@@ -148,7 +150,8 @@ fn push_closed(
     first: Option<i32>,
     linked: (i32, Option<NumericDelimiter>),
 ) -> Result<(), AllocFailed<PageRangesPart>>
-    ensures { OnOk result (map part ranges.new.items ≡ map part ranges.old.items ++ closed first linked) }
+    ensures { OnOk result (map page_part_view ranges.new.items
+        ≡ map page_part_view ranges.old.items ++ closed first linked) }
 {
     ranges.push(page(first, linked.0))?;
     match linked.1 {
@@ -160,7 +163,7 @@ fn push_closed(
 
 /// A page, or the range that the first number opened.
 fn page(first: Option<i32>, number: i32) -> PageRangesPart
-    ensures { part result ≡ page first number }
+    ensures { page_part_view result ≡ page first number }
 {
     match first {
         None => PageRangesPart::SinglePage(Numeric::new(number)),
@@ -169,7 +172,7 @@ fn page(first: Option<i32>, number: i32) -> PageRangesPart
 }
 
 impl Clone for PageRangesPart {
-    ghost is_clone = { λ p q. part q ≡ part p };
+    ghost is_clone = { λ p q. page_part_view q ≡ page_part_view p };
 
     fn clone(&self) -> Result<PageRangesPart, AllocError> {
         match self {
@@ -185,7 +188,7 @@ impl Clone for PageRangesPart {
 }
 
 impl Clone for PageRanges {
-    ghost is_clone = { λ p q. pages q ≡ pages p };
+    ghost is_clone = { λ p q. pages_view q ≡ pages_view p };
 
     fn clone(&self) -> Result<PageRanges, AllocError> {
         let mut ranges = Vec::with_capacity(*self.ranges.allocator(), self.ranges.len())?;
@@ -233,7 +236,7 @@ impl<T: Drop> From<AllocFailed<T>> for PageRangesError {
 
 /// A separator as numbers have it, a page, or a range with an en dash.
 impl fmt::Display for PageRangesPart {
-    ghost output = { λ p. Some (text_of (part_text (part p))) };
+    ghost output = { λ p. Some (text_of (part_text (page_part_view p))) };
 
     fn fmt<W: fmt::Write>(&self, f: &mut fmt::Formatter<W>) -> fmt::Result {
         match self {
@@ -251,7 +254,9 @@ fn write_range<W: fmt::Write>(
     last: &Numeric,
     f: &mut fmt::Formatter<W>,
 ) -> fmt::Result
-    ensures { DisplaysOnOk W.write_str_gives f.old result (Some (text_of (part_text (Range (numeral first.now) (numeral last.now))))) f.new }
+    ensures { DisplaysOnOk W.write_str_gives f.old result
+        (Some (text_of (part_text (Range (numeral_view first.now) (numeral_view last.now)))))
+        f.new }
 {
     fmt::Display::fmt(first, f)?;
     fmt::Display::fmt(&NumericDelimiter::Hyphen, f)?;
@@ -260,7 +265,7 @@ fn write_range<W: fmt::Write>(
 
 /// All parts, one after the other.
 impl fmt::Display for PageRanges {
-    ghost output = { λ p. Some (text_of (pages_text (pages p))) };
+    ghost output = { λ p. Some (text_of (pages_text (pages_view p))) };
 
     fn fmt<W: fmt::Write>(&self, f: &mut fmt::Formatter<W>) -> fmt::Result {
         for part in &self.ranges {

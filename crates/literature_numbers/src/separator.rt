@@ -60,7 +60,8 @@ fn separator(reader: &mut Reader) -> Option<NumericDelimiter>
 
 /// The comma, the ampersand or the dashes that stand first, and what follows.
 fn split_delimiter(text: &str) -> Option<(NumericDelimiter, &str)>
-    ensures { MatchOption result (delimiter_at (chars text.now) ≡ None) (λ x. delimiter_at (chars text.now) ≡ Some (x.0, chars x.1.now)) }
+    ensures { MatchOption result (delimiter_at (chars text.now) ≡ None) (λ x.
+        delimiter_at (chars text.now) ≡ Some (x.0, chars x.1.now)) }
 {
     match split_first(text)? {
         (',', rest) => Some((NumericDelimiter::Comma, rest)),

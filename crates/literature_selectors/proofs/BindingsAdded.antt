@@ -12,8 +12,8 @@ use Rattle.literature_selectors.specs.Trees.{trees_of}
 use Rattle.literature_selectors.specs.Trees as trees
 use Rattle.literature_selectors.specs.Holding.{meaning, each_takes}
 use Rattle.literature_selectors.specs.Bindings.{Bound, binds, sides, of_first, each_binds}
-use Rattle.literature_selectors.specs.Found.{Adds, all_named, named, side}
-use Rattle.literature_selectors.specs.Views.{tree}
+use Rattle.literature_selectors.specs.Found.{Adds, all_named, named, side_view}
+use Rattle.literature_selectors.specs.Views.{tree_view}
 use Rattle.literature_selectors.specs.declared.node.Node.{Node, Binding, Alternatives, Multi}
 use Rattle.literature_selectors.specs.declared.binding.Named.{Named}
 use Rattle.literature_selectors.proofs.Views.{view_binding, view_alternatives, view_multi}
@@ -72,65 +72,65 @@ module _ {X : Type 0} (test : X → Bool) (bound : X → Bound) where
       let none : list_any test xs ≡ false = sym h.says ∙ at_drop_all (list_any test) xs i end in
       record { answered = sym none; added = h.same ∙ sym (append-nil (all_named old)) ∙ ap (λ b. all_named old ++ cond b (of_first test bound xs) []) (sym none) }
 
-binds_at : (ns : List Node) (e : Entry) → of_first (λ s. s.means.at e) (λ s. s.binds.at e) (sides (trees_of (map tree ns))) ≡ of_first (λ n. (meaning (tree n)).at e) (λ n. (binds (tree n)).at e) ns
+binds_at : (ns : List Node) (e : Entry) → of_first (λ s. s.means.at e) (λ s. s.binds.at e) (sides (trees_of (map tree_view ns))) ≡ of_first (λ n. (meaning (tree_view n)).at e) (λ n. (binds (tree_view n)).at e) ns
 binds_at [] e = refl
 binds_at (n ∷ ns) e = rw (binds_at ns e) refl
 
 binds_above : (ns : List Node) (ps : List Entry)
-    → of_first (λ s. s.means.above ps) (λ s. s.binds.above ps) (sides (trees_of (map tree ns))) ≡ of_first (λ n. (meaning (tree n)).above ps) (λ n. (binds (tree n)).above ps) ns
+    → of_first (λ s. s.means.above ps) (λ s. s.binds.above ps) (sides (trees_of (map tree_view ns))) ≡ of_first (λ n. (meaning (tree_view n)).above ps) (λ n. (binds (tree_view n)).above ps) ns
 binds_above [] ps = refl
 binds_above (n ∷ ns) ps = rw (binds_above ns ps) refl
 
-each_side : (ns : List Node) → sides (trees_of (map tree ns)) ≡ map side ns
+each_side : (ns : List Node) → sides (trees_of (map tree_view ns)) ≡ map side_view ns
 each_side [] = refl
-each_side (n ∷ ns) = ap (λ ss. side n ∷ ss) (each_side ns)
+each_side (n ∷ ns) = ap (λ ss. side_view n ∷ ss) (each_side ns)
 
 -- what a choice binds at an entry
-pub bound_at : (n : Node) (xs : Vec Node Global) (e : Entry) → n ≡ Alternatives xs → (binds (tree n)).at e ≡ of_first (λ m. (meaning (tree m)).at e) (λ m. (binds (tree m)).at e) xs.items
-bound_at n xs e is = ap (λ m. (binds (tree m)).at e) is ∙ ap (λ x. (binds x).at e) (view_alternatives xs) ∙ binds_at xs.items e
+pub bound_at : (n : Node) (xs : Vec Node Global) (e : Entry) → n ≡ Alternatives xs → (binds (tree_view n)).at e ≡ of_first (λ m. (meaning (tree_view m)).at e) (λ m. (binds (tree_view m)).at e) xs.items
+bound_at n xs e is = ap (λ m. (binds (tree_view m)).at e) is ∙ ap (λ x. (binds x).at e) (view_alternatives xs) ∙ binds_at xs.items e
 
 -- the same of parents
 pub bound_above : (n : Node) (xs : Vec Node Global) (ps : List Entry) → n ≡ Alternatives xs
-    → (binds (tree n)).above ps ≡ of_first (λ m. (meaning (tree m)).above ps) (λ m. (binds (tree m)).above ps) xs.items
-bound_above n xs ps is = ap (λ m. (binds (tree m)).above ps) is ∙ ap (λ x. (binds x).above ps) (view_alternatives xs) ∙ binds_above xs.items ps
+    → (binds (tree_view n)).above ps ≡ of_first (λ m. (meaning (tree_view m)).above ps) (λ m. (binds (tree_view m)).above ps) xs.items
+bound_above n xs ps is = ap (λ m. (binds (tree_view m)).above ps) is ∙ ap (λ x. (binds x).above ps) (view_alternatives xs) ∙ binds_above xs.items ps
 
 -- what more than one at once bind
-pub bound_each : (n : Node) (xs : Vec Node Global) (ps : List Entry) → n ≡ Multi xs → (binds (tree n)).above ps ≡ each_binds (map side xs.items) ps
-bound_each n xs ps is = ap (λ m. (binds (tree m)).above ps) is ∙ ap (λ x. (binds x).above ps) (view_multi xs) ∙ ap (λ ss. each_binds ss ps) (each_side xs.items)
+pub bound_each : (n : Node) (xs : Vec Node Global) (ps : List Entry) → n ≡ Multi xs → (binds (tree_view n)).above ps ≡ each_binds (map side_view xs.items) ps
+bound_each n xs ps is = ap (λ m. (binds (tree_view m)).above ps) is ∙ ap (λ x. (binds x).above ps) (view_multi xs) ∙ ap (λ ss. each_binds ss ps) (each_side xs.items)
 
 -- what a choice adds is what its sides add
 pub choice_adds : {F : Type 0} (n : Node) (xs : Vec Node Global) (e : Entry) (ns : List Node) (r : Result Bool F) (old new : List Named) → n ≡ Alternatives xs → ns ≡ xs.items
-    → IfOk r (Adds (list_any (λ m. (meaning (tree m)).at e) ns) (of_first (λ m. (meaning (tree m)).at e) (λ m. (binds (tree m)).at e) ns) old new)
-    → IfOk r (Adds ((meaning (tree n)).at e) ((binds (tree n)).at e) old new)
+    → IfOk r (Adds (list_any (λ m. (meaning (tree_view m)).at e) ns) (of_first (λ m. (meaning (tree_view m)).at e) (λ m. (binds (tree_view m)).at e) ns) old new)
+    → IfOk r (Adds ((meaning (tree_view n)).at e) ((binds (tree_view n)).at e) old new)
 choice_adds n xs e ns r old new is same h =
-    let here = subst (λ ms. IfOk r (Adds (list_any (λ m. (meaning (tree m)).at e) ms) (of_first (λ m. (meaning (tree m)).at e) (λ m. (binds (tree m)).at e) ms) old new)) same h in
-    let said = subst (λ b. IfOk r (Adds b (of_first (λ m. (meaning (tree m)).at e) (λ m. (binds (tree m)).at e) xs.items) old new)) (sym (at_alternatives n xs e is)) here in
-    subst (λ b. IfOk r (Adds ((meaning (tree n)).at e) b old new)) (sym (bound_at n xs e is)) said
+    let here = subst (λ ms. IfOk r (Adds (list_any (λ m. (meaning (tree_view m)).at e) ms) (of_first (λ m. (meaning (tree_view m)).at e) (λ m. (binds (tree_view m)).at e) ms) old new)) same h in
+    let same_fields = subst (λ b. IfOk r (Adds b (of_first (λ m. (meaning (tree_view m)).at e) (λ m. (binds (tree_view m)).at e) xs.items) old new)) (sym (at_alternatives n xs e is)) here in
+    subst (λ b. IfOk r (Adds ((meaning (tree_view n)).at e) b old new)) (sym (bound_at n xs e is)) same_fields
 
 -- the same of parents
 pub choice_adds_above : {F : Type 0} (n : Node) (xs : Vec Node Global) (ps : List Entry) (ns : List Node) (r : Result Bool F) (old new : List Named) → n ≡ Alternatives xs → ns ≡ xs.items
-    → IfOk r (Adds (list_any (λ m. (meaning (tree m)).above ps) ns) (of_first (λ m. (meaning (tree m)).above ps) (λ m. (binds (tree m)).above ps) ns) old new)
-    → IfOk r (Adds ((meaning (tree n)).above ps) ((binds (tree n)).above ps) old new)
+    → IfOk r (Adds (list_any (λ m. (meaning (tree_view m)).above ps) ns) (of_first (λ m. (meaning (tree_view m)).above ps) (λ m. (binds (tree_view m)).above ps) ns) old new)
+    → IfOk r (Adds ((meaning (tree_view n)).above ps) ((binds (tree_view n)).above ps) old new)
 choice_adds_above n xs ps ns r old new is same h =
-    let here = subst (λ ms. IfOk r (Adds (list_any (λ m. (meaning (tree m)).above ps) ms) (of_first (λ m. (meaning (tree m)).above ps) (λ m. (binds (tree m)).above ps) ms) old new)) same h in
-    let said = subst (λ b. IfOk r (Adds b (of_first (λ m. (meaning (tree m)).above ps) (λ m. (binds (tree m)).above ps) xs.items) old new)) (sym (above_alternatives n xs ps is)) here in
-    subst (λ b. IfOk r (Adds ((meaning (tree n)).above ps) b old new)) (sym (bound_above n xs ps is)) said
+    let here = subst (λ ms. IfOk r (Adds (list_any (λ m. (meaning (tree_view m)).above ps) ms) (of_first (λ m. (meaning (tree_view m)).above ps) (λ m. (binds (tree_view m)).above ps) ms) old new)) same h in
+    let same_fields = subst (λ b. IfOk r (Adds b (of_first (λ m. (meaning (tree_view m)).above ps) (λ m. (binds (tree_view m)).above ps) xs.items) old new)) (sym (above_alternatives n xs ps is)) here in
+    subst (λ b. IfOk r (Adds ((meaning (tree_view n)).above ps) b old new)) (sym (bound_above n xs ps is)) same_fields
 
 -- what more than one at once add
 pub members_add : {F : Type 0} (n : Node) (xs : Vec Node Global) (ps : List Entry) (ns : List Node) (r : Result Bool F) (old new : List Named) → n ≡ Multi xs → ns ≡ xs.items
-    → IfOk r (Adds (each_takes (map (λ m. (meaning (tree m)).at) ns) ps) (each_binds (map side ns) ps) old new) → IfOk r (Adds ((meaning (tree n)).above ps) ((binds (tree n)).above ps) old new)
+    → IfOk r (Adds (each_takes (map (λ m. (meaning (tree_view m)).at) ns) ps) (each_binds (map side_view ns) ps) old new) → IfOk r (Adds ((meaning (tree_view n)).above ps) ((binds (tree_view n)).above ps) old new)
 members_add n xs ps ns r old new is same h =
-    let here = subst (λ ms. IfOk r (Adds (each_takes (map (λ m. (meaning (tree m)).at) ms) ps) (each_binds (map side ms) ps) old new)) same h in
-    let said = subst (λ b. IfOk r (Adds b (each_binds (map side xs.items) ps) old new)) (sym (above_members n xs ps is)) here in
-    subst (λ b. IfOk r (Adds ((meaning (tree n)).above ps) b old new)) (sym (bound_each n xs ps is)) said
+    let here = subst (λ ms. IfOk r (Adds (each_takes (map (λ m. (meaning (tree_view m)).at) ms) ps) (each_binds (map side_view ms) ps) old new)) same h in
+    let same_fields = subst (λ b. IfOk r (Adds b (each_binds (map side_view xs.items) ps) old new)) (sym (above_members n xs ps is)) here in
+    subst (λ b. IfOk r (Adds ((meaning (tree_view n)).above ps) b old new)) (sym (bound_each n xs ps is)) same_fields
 
 -- what a name and what stands after it add
 pub name_adds : {F : Type 0} (n : Node) (s : String Global) (x : Box Node Global) (body : Node) (e : Entry) (name : List ℕ) (r : Result Bool F) (old new : List Named) → n ≡ Binding s x → body ≡ x.value → name ≡ string_bytes s
-    → IfOk r (Adds ((meaning (tree body)).at e) ((name, e) ∷ (binds (tree body)).at e) old new) → IfOk r (Adds ((meaning (tree n)).at e) ((binds (tree n)).at e) old new)
+    → IfOk r (Adds ((meaning (tree_view body)).at e) ((name, e) ∷ (binds (tree_view body)).at e) old new) → IfOk r (Adds ((meaning (tree_view n)).at e) ((binds (tree_view n)).at e) old new)
 name_adds n s x body e name r old new is same_body same h =
     let written : name ≡ text (characters s) = same ∙ sym (text_of_chars (string_bytes s) (IsUtf8-string_bytes s)) in
-    let whole : trees.Binding (characters s) (tree body) ≡ tree n = ap (λ b. trees.Binding (characters s) (tree b)) same_body ∙ sym (view_binding s x) ∙ ap tree (sym is) in
-    let here = subst (λ m. IfOk r (Adds ((meaning (tree body)).at e) ((m, e) ∷ (binds (tree body)).at e) old new)) written h in
+    let whole : trees.Binding (characters s) (tree_view body) ≡ tree_view n = ap (λ b. trees.Binding (characters s) (tree_view b)) same_body ∙ sym (view_binding s x) ∙ ap tree_view (sym is) in
+    let here = subst (λ m. IfOk r (Adds ((meaning (tree_view body)).at e) ((m, e) ∷ (binds (tree_view body)).at e) old new)) written h in
     subst (λ t. IfOk r (Adds ((meaning t).at e) ((binds t).at e) old new)) whole here
 
 taken_back : (old now : List Named) (more : Bound) → all_named now ≡ all_named old ++ more → all_named (take (length old) now) ≡ all_named old

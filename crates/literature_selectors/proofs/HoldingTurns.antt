@@ -5,8 +5,8 @@ use Rattle.std.proofs.lemmas.List.{take_more, at_drop_more, at_drop_all, append_
 use Rattle.literature_entries.specs.declared.entry.Entry.{Entry}
 use Rattle.literature_selectors.specs.Holding.{meaning, take_first, following, and_others, each_takes}
 use Rattle.literature_selectors.specs.Bindings.{Bound, binds, taken_binds, each_binds}
-use Rattle.literature_selectors.specs.Found.{Adds, all_named, side, borrowed}
-use Rattle.literature_selectors.specs.Views.{tree}
+use Rattle.literature_selectors.specs.Found.{Adds, all_named, side_view, borrowed}
+use Rattle.literature_selectors.specs.Views.{tree_view}
 use Rattle.literature_selectors.proofs.BindingsAdded.{withdrawn, added_on}
 use Rattle.literature_selectors.specs.declared.node.Node.{Node}
 use Rattle.literature_selectors.specs.declared.binding.Named.{Named}
@@ -27,9 +27,9 @@ one_binds_after : (bound : Entry → Bound) (x : Entry) (o : Option (Entry × Li
 one_binds_after bound x None = refl
 one_binds_after bound x (Some p) = refl
 
-front_on : {X : Type 0} (xs : List X) (x : X) (o : Option (List X)) → option_map (λ ys. xs ++ ys) (option_map (λ ys. x ∷ ys) o) ≡ option_map (λ ys. (xs ++ x ∷ []) ++ ys) o
-front_on xs x None = refl
-front_on xs x (Some ys) = ap Some (sym (append_assoc xs (x ∷ []) ys))
+prepended_on : {X : Type 0} (xs : List X) (x : X) (o : Option (List X)) → option_map (λ ys. xs ++ ys) (option_map (λ ys. x ∷ ys) o) ≡ option_map (λ ys. (xs ++ x ∷ []) ++ ys) o
+prepended_on xs x None = refl
+prepended_on xs x (Some ys) = ap Some (sym (append_assoc xs (x ∷ []) ys))
 
 module _ (test : Entry → Bool) (bound : Entry → Bound) where
   -- None of the first i entries passes, and nothing was added: what is taken of the others is what is taken of all.
@@ -79,7 +79,7 @@ module _ (test : Entry → Bool) (bound : Entry → Bound) where
       let later = take_first test (drop (i + 1) es) in
       record {
         rest = h.rest ∙ ap (λ o. option_map (λ ys. take i es ++ ys) (others o)) f ∙ ap (option_map (λ ys. take i es ++ ys)) (others_after (get_or es i e) later)
-            ∙ front_on (take i es) (get_or es i e) (others later) ∙ ap (λ xs. option_map (λ ys. xs ++ ys) (others later)) (sym (take_more es i e less));
+            ∙ prepended_on (take i es) (get_or es i e) (others later) ∙ ap (λ xs. option_map (λ ys. xs ++ ys) (others later)) (sym (take_more es i e less));
         binds = h.binds ∙ ap (one_binds bound) f ∙ one_binds_after bound (get_or es i e) later;
         same = adds.added ∙ ap (λ b. all_named now ++ cond b (bound e) []) fails ∙ append-nil (all_named now) ∙ h.same;
       }
@@ -128,80 +128,80 @@ none_binds bound (Some p) e = absurd cc
 
 -- the tests of nodes
 abbrev pub tests : List Node → List (Entry → Bool)
-tests ms = map (λ m. (meaning (tree m)).at) ms
+tests ms = map (λ m. (meaning (tree_view m)).at) ms
 
 -- The first i members each took a parent: what the others make of those that are left is what all make of all.
 pub record IsInTurn (ms : List Node) (i : ℕ) (ps left : List Entry) (old now : List Named) : Type 0 where
   pub says : each_takes (tests (drop i ms)) left ≡ each_takes (tests ms) ps
-  pub binds : all_named now ++ each_binds (map side (drop i ms)) left ≡ all_named old ++ each_binds (map side ms) ps
+  pub binds : all_named now ++ each_binds (map side_view (drop i ms)) left ≡ all_named old ++ each_binds (map side_view ms) ps
   pub more : Bound
   pub since : all_named now ≡ all_named old ++ more
 
 pub turns_begin : (ms : List Node) (ps left : List Entry) (old : List Named) → left ≡ ps → IsInTurn ms 0 ps left old old
 turns_begin ms ps left old e =
-    record { says = ap (each_takes (tests ms)) e; binds = ap (λ es. all_named old ++ each_binds (map side ms) es) e; more = []; since = sym (append-nil (all_named old)) }
+    record { says = ap (each_takes (tests ms)) e; binds = ap (λ es. all_named old ++ each_binds (map side_view ms) es) e; more = []; since = sym (append-nil (all_named old)) }
 
 -- a member takes one
 pub turns_go_on : (ms : List Node) (i : ℕ) (m : Node) (ps left next : List Entry) (old now new : List Named) → IsInTurn ms i ps left old now → i < length ms → m ≡ get_or ms i m
-    → others (take_first (meaning (tree m)).at left) ≡ Some next → all_named new ≡ all_named now ++ one_binds (binds (tree m)).at (take_first (meaning (tree m)).at left)
+    → others (take_first (meaning (tree_view m)).at left) ≡ Some next → all_named new ≡ all_named now ++ one_binds (binds (tree_view m)).at (take_first (meaning (tree_view m)).at left)
     → IsInTurn ms (i + 1) ps next old new
 turns_go_on ms i m ps left next old now new h less is taken added =
-    let o = take_first (meaning (tree m)).at left in
+    let o = take_first (meaning (tree_view m)).at left in
     let later = drop (i + 1) ms in
     let cut : each_takes (tests (drop i ms)) left ≡ each_takes (tests (m ∷ later)) left = at_drop_more (λ ns. each_takes (tests ns) left) ms i m less ∙ ap (λ n. each_takes (tests (n ∷ later)) left) (sym is) in
-    let cut_bound : each_binds (map side (drop i ms)) left ≡ each_binds (map side (m ∷ later)) left = at_drop_more (λ ns. each_binds (map side ns) left) ms i m less ∙ ap (λ n. each_binds (map side (n ∷ later)) left) (sym is) in
-    let here : each_binds (map side (m ∷ later)) left ≡ one_binds (binds (tree m)).at o ++ each_binds (map side later) next = others_bind (binds (tree m)).at (each_binds (map side later)) o next taken in
+    let cut_bound : each_binds (map side_view (drop i ms)) left ≡ each_binds (map side_view (m ∷ later)) left = at_drop_more (λ ns. each_binds (map side_view ns) left) ms i m less ∙ ap (λ n. each_binds (map side_view (n ∷ later)) left) (sym is) in
+    let here : each_binds (map side_view (m ∷ later)) left ≡ one_binds (binds (tree_view m)).at o ++ each_binds (map side_view later) next = others_bind (binds (tree_view m)).at (each_binds (map side_view later)) o next taken in
     record {
       says = sym (others_say (each_takes (tests later)) o next taken) ∙ sym cut ∙ h.says;
-      binds = ap (λ b. b ++ each_binds (map side later) next) added ∙ append_assoc (all_named now) (one_binds (binds (tree m)).at o) (each_binds (map side later) next)
+      binds = ap (λ b. b ++ each_binds (map side_view later) next) added ∙ append_assoc (all_named now) (one_binds (binds (tree_view m)).at o) (each_binds (map side_view later) next)
           ∙ ap (λ b. all_named now ++ b) (sym (cut_bound ∙ here)) ∙ h.binds;
-      more = h.more ++ one_binds (binds (tree m)).at o;
-      since = added ∙ ap (λ b. b ++ one_binds (binds (tree m)).at o) h.since ∙ append_assoc (all_named old) h.more (one_binds (binds (tree m)).at o);
+      more = h.more ++ one_binds (binds (tree_view m)).at o;
+      since = added ∙ ap (λ b. b ++ one_binds (binds (tree_view m)).at o) h.since ∙ append_assoc (all_named old) h.more (one_binds (binds (tree_view m)).at o);
     }
 
 -- a member finds none
 pub turns_fail : (ms : List Node) (i : ℕ) (m : Node) (ps left : List Entry) (old now : List Named) → IsInTurn ms i ps left old now → i < length ms → m ≡ get_or ms i m
-    → others (take_first (meaning (tree m)).at left) ≡ None → each_takes (tests ms) ps ≡ false
+    → others (take_first (meaning (tree_view m)).at left) ≡ None → each_takes (tests ms) ps ≡ false
 turns_fail ms i m ps left old now h less is none =
     let later = drop (i + 1) ms in
     let cut : each_takes (tests (drop i ms)) left ≡ each_takes (tests (m ∷ later)) left = at_drop_more (λ ns. each_takes (tests ns) left) ms i m less ∙ ap (λ n. each_takes (tests (n ∷ later)) left) (sym is) in
-    sym h.says ∙ cut ∙ none_says (each_takes (tests later)) (take_first (meaning (tree m)).at left) none
+    sym h.says ∙ cut ∙ none_says (each_takes (tests later)) (take_first (meaning (tree_view m)).at left) none
 
 -- and adds nothing
-pub turns_fail_same : (m : Node) (left : List Entry) (now new : List Named) → others (take_first (meaning (tree m)).at left) ≡ None
-    → all_named new ≡ all_named now ++ one_binds (binds (tree m)).at (take_first (meaning (tree m)).at left) → all_named new ≡ all_named now ++ []
-turns_fail_same m left now new none added = added ∙ ap (λ b. all_named now ++ b) (none_binds (binds (tree m)).at _ none)
+pub turns_fail_same : (m : Node) (left : List Entry) (now new : List Named) → others (take_first (meaning (tree_view m)).at left) ≡ None
+    → all_named new ≡ all_named now ++ one_binds (binds (tree_view m)).at (take_first (meaning (tree_view m)).at left) → all_named new ≡ all_named now ++ []
+turns_fail_same m left now new none added = added ∙ ap (λ b. all_named now ++ b) (none_binds (binds (tree_view m)).at _ none)
 
 -- all took one
 pub turns_end : (ms : List Node) (i : ℕ) (ps left : List Entry) (old now : List Named) → IsInTurn ms i ps left old now → length ms ≤ i
-    → Adds (each_takes (tests ms) ps) (each_binds (map side ms) ps) old now true
+    → Adds (each_takes (tests ms) ps) (each_binds (map side_view ms) ps) old now true
 turns_end ms i ps left old now h end =
     let whole : each_takes (tests ms) ps ≡ true = sym h.says ∙ at_drop_all (λ ns. each_takes (tests ns) left) ms i end in
-    let nothing : each_binds (map side (drop i ms)) left ≡ [] = at_drop_all (λ ns. each_binds (map side ns) left) ms i end in
+    let nothing : each_binds (map side_view (drop i ms)) left ≡ [] = at_drop_all (λ ns. each_binds (map side_view ns) left) ms i end in
     record {
       answered = sym whole;
-      added = sym (append-nil (all_named now)) ∙ ap (λ b. all_named now ++ b) (sym nothing) ∙ h.binds ∙ ap (λ b. all_named old ++ cond b (each_binds (map side ms) ps) []) (sym whole);
+      added = sym (append-nil (all_named now)) ∙ ap (λ b. all_named now ++ b) (sym nothing) ∙ h.binds ∙ ap (λ b. all_named old ++ cond b (each_binds (map side_view ms) ps) []) (sym whole);
     }
 
 -- a member finds none among what was borrowed: what was bound is taken back
 pub turns_withdrawn : (ms : List Node) (i : ℕ) (m : Node) (ps : List Entry) (lent left : List (Bor Entry)) (o : Option ℕ) (old now new last : List Named) (n : ℕ) → IsInTurn ms i ps (borrowed left) old now → i < length ms → m ≡ get_or ms i m
-    → lent ≡ left → others (take_first (meaning (tree m)).at (borrowed lent)) ≡ option_map (remove (borrowed lent)) o → o ≡ None
-    → all_named new ≡ all_named now ++ one_binds (binds (tree m)).at (take_first (meaning (tree m)).at (borrowed lent)) → n ≡ length old → last ≡ take n new
-    → Adds (each_takes (tests ms) ps) (each_binds (map side ms) ps) old last false
+    → lent ≡ left → others (take_first (meaning (tree_view m)).at (borrowed lent)) ≡ option_map (remove (borrowed lent)) o → o ≡ None
+    → all_named new ≡ all_named now ++ one_binds (binds (tree_view m)).at (take_first (meaning (tree_view m)).at (borrowed lent)) → n ≡ length old → last ≡ take n new
+    → Adds (each_takes (tests ms) ps) (each_binds (map side_view ms) ps) old last false
 turns_withdrawn ms i m ps lent left o old now new last n h less is same taken none added count cut =
-    let nothing : others (take_first (meaning (tree m)).at (borrowed lent)) ≡ None = taken ∙ ap (option_map (remove (borrowed lent))) none in
-    let nothing_left : others (take_first (meaning (tree m)).at (borrowed left)) ≡ None = subst (λ bs. others (take_first (meaning (tree m)).at (borrowed bs)) ≡ None) same nothing in
+    let nothing : others (take_first (meaning (tree_view m)).at (borrowed lent)) ≡ None = taken ∙ ap (option_map (remove (borrowed lent))) none in
+    let nothing_left : others (take_first (meaning (tree_view m)).at (borrowed left)) ≡ None = subst (λ bs. others (take_first (meaning (tree_view m)).at (borrowed bs)) ≡ None) same nothing in
     let fails = turns_fail ms i m ps (borrowed left) old now h less is nothing_left in
     let unchanged = turns_fail_same m (borrowed lent) now new nothing added in
-    withdrawn (each_takes (tests ms) ps) (each_binds (map side ms) ps) old new last _ n false count (added_on old now new h.more [] h.since unchanged) cut (sym fails) refl
+    withdrawn (each_takes (tests ms) ps) (each_binds (map side_view ms) ps) old new last _ n false count (added_on old now new h.more [] h.since unchanged) cut (sym fails) refl
 
 -- a member takes one of what was borrowed
-pub turns_taken : (ms : List Node) (i : ℕ) (m : Node) (ps : List Entry) (lent left next : List (Bor Entry)) (o : Option ℕ) (place : ℕ) (old now new : List Named) → IsInTurn ms i ps (borrowed left) old now → i < length ms → m ≡ get_or ms i m
-    → lent ≡ left → others (take_first (meaning (tree m)).at (borrowed lent)) ≡ option_map (remove (borrowed lent)) o → o ≡ Some place
-    → all_named new ≡ all_named now ++ one_binds (binds (tree m)).at (take_first (meaning (tree m)).at (borrowed lent)) → next ≡ remove left place
+pub turns_taken : (ms : List Node) (i : ℕ) (m : Node) (ps : List Entry) (lent left next : List (Bor Entry)) (o : Option ℕ) (index : ℕ) (old now new : List Named) → IsInTurn ms i ps (borrowed left) old now → i < length ms → m ≡ get_or ms i m
+    → lent ≡ left → others (take_first (meaning (tree_view m)).at (borrowed lent)) ≡ option_map (remove (borrowed lent)) o → o ≡ Some index
+    → all_named new ≡ all_named now ++ one_binds (binds (tree_view m)).at (take_first (meaning (tree_view m)).at (borrowed lent)) → next ≡ remove left index
     → IsInTurn ms (i + 1) ps (borrowed next) old new
-turns_taken ms i m ps lent left next o place old now new h less is same taken some added cut =
-    let without : others (take_first (meaning (tree m)).at (borrowed lent)) ≡ Some (borrowed (remove lent place)) = taken ∙ ap (option_map (remove (borrowed lent))) some ∙ ap Some (sym (borrowed_without lent place)) in
-    let left_without : others (take_first (meaning (tree m)).at (borrowed left)) ≡ Some (borrowed (remove left place)) = subst (λ bs. others (take_first (meaning (tree m)).at (borrowed bs)) ≡ Some (borrowed (remove bs place))) same without in
-    let left_added = subst (λ bs. all_named new ≡ all_named now ++ one_binds (binds (tree m)).at (take_first (meaning (tree m)).at (borrowed bs))) same added in
+turns_taken ms i m ps lent left next o index old now new h less is same taken some added cut =
+    let without : others (take_first (meaning (tree_view m)).at (borrowed lent)) ≡ Some (borrowed (remove lent index)) = taken ∙ ap (option_map (remove (borrowed lent))) some ∙ ap Some (sym (borrowed_without lent index)) in
+    let left_without : others (take_first (meaning (tree_view m)).at (borrowed left)) ≡ Some (borrowed (remove left index)) = subst (λ bs. others (take_first (meaning (tree_view m)).at (borrowed bs)) ≡ Some (borrowed (remove bs index))) same without in
+    let left_added = subst (λ bs. all_named new ≡ all_named now ++ one_binds (binds (tree_view m)).at (take_first (meaning (tree_view m)).at (borrowed bs))) same added in
     turns_go_on ms i m ps (borrowed left) (borrowed next) old now new h less is (left_without ∙ ap (λ bs. Some (borrowed bs)) (sym cut)) left_added

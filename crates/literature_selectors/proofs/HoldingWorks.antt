@@ -5,52 +5,52 @@ use Rattle.std.specs.Option.{option_map}
 use Rattle.laws.specs.Text.{text}
 use Rattle.literature_values.specs.declared.entry_type.EntryType.{EntryType}
 use Rattle.literature_entries.specs.Names.{has, are_some}
-use Rattle.literature_entries.specs.Views.{key, fields, parents}
-use Rattle.literature_entries.specs.Wholes.{Whole, Holding, wholes, whole}
+use Rattle.literature_entries.specs.Views.{key_view, fields_view, parents}
+use Rattle.literature_entries.specs.Wholes.{Whole, Holding, wholes, entry_view}
 use Rattle.literature_entries.specs.declared.entry.Entry.{Entry, the_lemmas}
-use Rattle.literature_selectors.specs.Holding.{Meaning, and_others, at_one, each_takes, following, has_each, holds, holds_at, is_of, is_type_of, is_work_of, listed, meaning, meaning_by, meanings, meanings_by, outer_works, said_of, take_first, work_has_each}
+use Rattle.literature_selectors.specs.Holding.{Meaning, and_others, at_one, each_takes, following, has_each, holds, holds_at, is_of, is_type_of, is_work_of, listed, meaning, meaning_by, meanings, meanings_by, outer_works, fields_of_work, take_first, work_has_each}
 use Rattle.literature_selectors.specs.Trees.{Tree, Trees, nothing, before}
 use Rattle.literature_selectors.specs.Trees as trees
 
-whole_is : (e : Entry) → whole e ≡ Holding (key e) (fields e) (wholes (map whole (parents e)))
+whole_is : (e : Entry) → entry_view e ≡ Holding (key_view e) (fields_view e) (wholes (map entry_view (parents e)))
 whole_is e = search (rules, the_lemmas)
 
-listed_is : (es : List Entry) → listed (wholes (map whole es)) ≡ map whole es
+listed_is : (es : List Entry) → listed (wholes (map entry_view es)) ≡ map entry_view es
 listed_is [] = refl
-listed_is (e ∷ es) = ap (λ (ws : List Whole). whole e ∷ ws) (listed_is es)
+listed_is (e ∷ es) = ap (λ (ws : List Whole). entry_view e ∷ ws) (listed_is es)
 
-said_is : (e : Entry) → said_of (whole e) ≡ fields e
-said_is e = ap said_of (whole_is e)
+fields_of_work_is : (e : Entry) → fields_of_work (entry_view e) ≡ fields_view e
+fields_of_work_is e = ap fields_of_work (whole_is e)
 
-outer_is : (e : Entry) → outer_works (whole e) ≡ map whole (parents e)
+outer_is : (e : Entry) → outer_works (entry_view e) ≡ map entry_view (parents e)
 outer_is e = ap outer_works (whole_is e) ∙ listed_is (parents e)
 
-some_is : (es : List Entry) → are_some (map whole es) ≡ are_some es
+some_is : (es : List Entry) → are_some (map entry_view es) ≡ are_some es
 some_is [] = refl
 some_is (e ∷ es) = refl
 
-type_is : (t : EntryType) (e : Entry) → is_of t e ≡ is_work_of t (whole e)
-type_is t e = ap (is_type_of t) (sym (said_is e))
+type_is : (t : EntryType) (e : Entry) → is_of t e ≡ is_work_of t (entry_view e)
+type_is t e = ap (is_type_of t) (sym (fields_of_work_is e))
 
-has_is : (names : List (List ℕ)) (e : Entry) → has_each names e ≡ work_has_each names (whole e)
-has_is names e = λ i. list_all (λ n. has (text n) (said i) (some i)) names
+has_is : (names : List (List ℕ)) (e : Entry) → has_each names e ≡ work_has_each names (entry_view e)
+has_is names e = λ i. list_all (λ n. has (text n) (same_fields i) (some i)) names
   where
-    said : fields e ≡ said_of (whole e)
-    said = sym (said_is e)
+    same_fields : fields_view e ≡ fields_of_work (entry_view e)
+    same_fields = sym (fields_of_work_is e)
 
-    some : are_some (parents e) ≡ are_some (outer_works (whole e))
+    some : are_some (parents e) ≡ are_some (outer_works (entry_view e))
     some = sym (ap are_some (outer_is e) ∙ some_is (parents e))
 
 -- one meaning of entries, and one of works
 record IsSame (m : Meaning Entry) (n : Meaning Whole) : Type 0 where
-  at : (e : Entry) → m.at e ≡ n.at (whole e)
-  above : (es : List Entry) → m.above es ≡ n.above (map whole es)
+  at : (e : Entry) → m.at e ≡ n.at (entry_view e)
+  above : (es : List Entry) → m.above es ≡ n.above (map entry_view es)
 
-any_is : (f : Entry → Bool) (g : Whole → Bool) → ((e : Entry) → f e ≡ g (whole e)) → (es : List Entry) → list_any f es ≡ list_any g (map whole es)
+any_is : (f : Entry → Bool) (g : Whole → Bool) → ((e : Entry) → f e ≡ g (entry_view e)) → (es : List Entry) → list_any f es ≡ list_any g (map entry_view es)
 any_is f g h [] = refl
 any_is f g h (e ∷ es) = λ i. h e i || any_is f g h es i
 
-at_one_is : (f : Entry → Bool) (g : Whole → Bool) → ((e : Entry) → f e ≡ g (whole e)) → IsSame (at_one f) (at_one g)
+at_one_is : (f : Entry → Bool) (g : Whole → Bool) → ((e : Entry) → f e ≡ g (entry_view e)) → IsSame (at_one f) (at_one g)
 at_one_is f g h = record { at = h; above = any_is f g h }
 
 -- the same of each
@@ -60,13 +60,13 @@ AreSame [] (n ∷ ns) = ⊥
 AreSame (m ∷ ms) [] = ⊥
 AreSame (m ∷ ms) (n ∷ ns) = IsSame m n × AreSame ms ns
 
-any_at : (ms : List (Meaning Entry)) (ns : List (Meaning Whole)) → AreSame ms ns → (e : Entry) → list_any (λ m. m.at e) ms ≡ list_any (λ n. n.at (whole e)) ns
+any_at : (ms : List (Meaning Entry)) (ns : List (Meaning Whole)) → AreSame ms ns → (e : Entry) → list_any (λ m. m.at e) ms ≡ list_any (λ n. n.at (entry_view e)) ns
 any_at [] [] h e = refl
 any_at [] (n ∷ ns) h e = absurd h
 any_at (m ∷ ms) [] h e = absurd h
 any_at (m ∷ ms) (n ∷ ns) h e = λ i. h.0.at e i || any_at ms ns h.1 e i
 
-any_above : (ms : List (Meaning Entry)) (ns : List (Meaning Whole)) → AreSame ms ns → (es : List Entry) → list_any (λ m. m.above es) ms ≡ list_any (λ n. n.above (map whole es)) ns
+any_above : (ms : List (Meaning Entry)) (ns : List (Meaning Whole)) → AreSame ms ns → (es : List Entry) → list_any (λ m. m.above es) ms ≡ list_any (λ n. n.above (map entry_view es)) ns
 any_above [] [] h es = refl
 any_above [] (n ∷ ns) h es = absurd h
 any_above (m ∷ ms) [] h es = absurd h
@@ -74,12 +74,12 @@ any_above (m ∷ ms) (n ∷ ns) h es = λ i. h.0.above es i || any_above ms ns h
 
 -- those that are left, as works
 abbrev entries_left : Option (Entry × List Entry) → Option (List Whole)
-entries_left o = option_map (λ p. map whole p.1) o
+entries_left o = option_map (λ p. map entry_view p.1) o
 
 abbrev works_left : Option (Whole × List Whole) → Option (List Whole)
 works_left o = option_map (λ p. p.1) o
 
-entries_after : (e : Entry) (o : Option (Entry × List Entry)) → entries_left (option_map (following e) o) ≡ option_map (λ ws. whole e ∷ ws) (entries_left o)
+entries_after : (e : Entry) (o : Option (Entry × List Entry)) → entries_left (option_map (following e) o) ≡ option_map (λ ws. entry_view e ∷ ws) (entries_left o)
 entries_after e None = refl
 entries_after e (Some p) = refl
 
@@ -87,16 +87,16 @@ works_after : (w : Whole) (o : Option (Whole × List Whole)) → works_left (opt
 works_after w None = refl
 works_after w (Some p) = refl
 
-left_by : (f : Entry → Bool) (g : Whole → Bool) (e : Entry) (es : List Entry) → entries_left (take_first f es) ≡ works_left (take_first g (map whole es)) → (b : Bool)
-    → entries_left (cond b (Some (e, es)) (option_map (following e) (take_first f es))) ≡ works_left (cond b (Some (whole e, map whole es)) (option_map (following (whole e)) (take_first g (map whole es))))
+left_by : (f : Entry → Bool) (g : Whole → Bool) (e : Entry) (es : List Entry) → entries_left (take_first f es) ≡ works_left (take_first g (map entry_view es)) → (b : Bool)
+    → entries_left (cond b (Some (e, es)) (option_map (following e) (take_first f es))) ≡ works_left (cond b (Some (entry_view e, map entry_view es)) (option_map (following (entry_view e)) (take_first g (map entry_view es))))
 left_by f g e es h true = refl
-left_by f g e es h false = entries_after e (take_first f es) ∙ ap (option_map (λ (ws : List Whole). whole e ∷ ws)) h ∙ sym (works_after (whole e) (take_first g (map whole es)))
+left_by f g e es h false = entries_after e (take_first f es) ∙ ap (option_map (λ (ws : List Whole). entry_view e ∷ ws)) h ∙ sym (works_after (entry_view e) (take_first g (map entry_view es)))
 
-left_is : (f : Entry → Bool) (g : Whole → Bool) → ((e : Entry) → f e ≡ g (whole e)) → (es : List Entry) → entries_left (take_first f es) ≡ works_left (take_first g (map whole es))
+left_is : (f : Entry → Bool) (g : Whole → Bool) → ((e : Entry) → f e ≡ g (entry_view e)) → (es : List Entry) → entries_left (take_first f es) ≡ works_left (take_first g (map entry_view es))
 left_is f g h [] = refl
 left_is f g h (e ∷ es) =
     left_by f g e es (left_is f g h es) (f e)
-    ∙ ap (λ (b : Bool). works_left (cond b (Some (whole e, map whole es)) (option_map (following (whole e)) (take_first g (map whole es))))) (h e)
+    ∙ ap (λ (b : Bool). works_left (cond b (Some (entry_view e, map entry_view es)) (option_map (following (entry_view e)) (take_first g (map entry_view es))))) (h e)
 
 -- whether some are left and pass
 abbrev pass_left : (List Whole → Bool) → Option (List Whole) → Bool
@@ -107,18 +107,18 @@ works_pass : (pass : List Whole → Bool) (o : Option (Whole × List Whole)) →
 works_pass pass None = refl
 works_pass pass (Some p) = refl
 
-entries_pass : (pass : List Entry → Bool) (own : List Whole → Bool) → ((es : List Entry) → pass es ≡ own (map whole es)) → (o : Option (Entry × List Entry)) → and_others pass o ≡ pass_left own (entries_left o)
+entries_pass : (pass : List Entry → Bool) (own : List Whole → Bool) → ((es : List Entry) → pass es ≡ own (map entry_view es)) → (o : Option (Entry × List Entry)) → and_others pass o ≡ pass_left own (entries_left o)
 entries_pass pass own h None = refl
 entries_pass pass own h (Some p) = h p.1
 
-takes_is : (ms : List (Meaning Entry)) (ns : List (Meaning Whole)) → AreSame ms ns → (es : List Entry) → each_takes (map (λ m. m.at) ms) es ≡ each_takes (map (λ n. n.at) ns) (map whole es)
+takes_is : (ms : List (Meaning Entry)) (ns : List (Meaning Whole)) → AreSame ms ns → (es : List Entry) → each_takes (map (λ m. m.at) ms) es ≡ each_takes (map (λ n. n.at) ns) (map entry_view es)
 takes_is [] [] h es = refl
 takes_is [] (n ∷ ns) h es = absurd h
 takes_is (m ∷ ms) [] h es = absurd h
 takes_is (m ∷ ms) (n ∷ ns) h es =
     entries_pass (each_takes (map (λ m. m.at) ms)) (each_takes (map (λ n. n.at) ns)) (takes_is ms ns h.1) (take_first m.at es)
     ∙ ap (pass_left (each_takes (map (λ n. n.at) ns))) (left_is m.at n.at h.0.at es)
-    ∙ sym (works_pass (each_takes (map (λ n. n.at) ns)) (take_first n.at (map whole es)))
+    ∙ sym (works_pass (each_takes (map (λ n. n.at) ns)) (take_first n.at (map entry_view es)))
 
 -- a selector, and selectors, as they are asked of works
 abbrev at_works : Tree → Meaning Whole
@@ -146,5 +146,5 @@ mutual
   all_say (before x xs) = (says x, all_say xs)
 
 -- whether a selector holds
-pub holds_is : (x : Tree) (e : Entry) → holds x e ≡ holds_at x (whole e)
+pub holds_is : (x : Tree) (e : Entry) → holds x e ≡ holds_at x (entry_view e)
 holds_is x e = (says x).at e

@@ -8,7 +8,7 @@ pub mod GrammarOutcome
 pub mod HoldingMembers
 pub mod HoldingWorks
 pub mod TreesWeights
-pub mod LeftPlaces
+pub mod LeftIndices
 pub mod BindingsAdded
 pub mod HoldingTurns
 pub mod BindingsNames

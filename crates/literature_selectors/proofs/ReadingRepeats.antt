@@ -95,23 +95,23 @@ each_fails sign read ts rest None is h = tt
 each_fails sign read ts rest (Some f) is h = rw (is, h) refl
 
 -- what was there, before what was read
-abbrev pub with_front : {X : Type 0} → List X → Result (List X × List Token) Fault → Result (List X × List Token) Fault
-with_front before read = read >>= λ p. Ok (before ++ p.0, p.1)
+abbrev pub prepended : {X : Type 0} → List X → Result (List X × List Token) Fault → Result (List X × List Token) Fault
+prepended before read = read >>= λ p. Ok (before ++ p.0, p.1)
 
-moved : {X : Type 0} (before : List X) (x : X) (r : Result (List X × List Token) Fault) → with_front before (r >>= λ p. Ok (x ∷ p.0, p.1)) ≡ with_front (before ++ x ∷ []) r
+moved : {X : Type 0} (before : List X) (x : X) (r : Result (List X × List Token) Fault) → prepended before (r >>= λ p. Ok (x ∷ p.0, p.1)) ≡ prepended (before ++ x ∷ []) r
 moved before x (Ok p) = ap (λ (xs : List _). Ok (xs, p.1)) (sym (append_assoc before (x ∷ []) p.0))
 moved before x (Err f) = refl
 
-pub front_goes_on : {X : Type 0} (sign : ℕ) (read : Reading X) → Leaves read → (before : List X) (ts rest more : List Token) (x : X) → taken sign ts ≡ (true, rest) → read rest ≡ Ok (x, more)
-    → with_front before (each_after sign read ts) ≡ with_front (before ++ x ∷ []) (each_after sign read more)
-front_goes_on sign read fine before ts rest more x is reads = ap (with_front before) (each_goes_on sign read fine ts rest more x is reads) ∙ moved before x (each_after sign read more)
+pub prepended_goes_on : {X : Type 0} (sign : ℕ) (read : Reading X) → Leaves read → (before : List X) (ts rest more : List Token) (x : X) → taken sign ts ≡ (true, rest) → read rest ≡ Ok (x, more)
+    → prepended before (each_after sign read ts) ≡ prepended (before ++ x ∷ []) (each_after sign read more)
+prepended_goes_on sign read fine before ts rest more x is reads = ap (prepended before) (each_goes_on sign read fine ts rest more x is reads) ∙ moved before x (each_after sign read more)
 
-pub front_stops : {X : Type 0} (sign : ℕ) (read : Reading X) (before : List X) (ts rest : List Token) → taken sign ts ≡ (false, rest) → with_front before (each_after sign read ts) ≡ Ok (before, rest)
-front_stops sign read before ts rest is = ap (with_front before) (each_stops sign read ts rest is) ∙ ap (λ (xs : List _). Ok (xs, rest)) (append-nil before)
+pub prepended_stops : {X : Type 0} (sign : ℕ) (read : Reading X) (before : List X) (ts rest : List Token) → taken sign ts ≡ (false, rest) → prepended before (each_after sign read ts) ≡ Ok (before, rest)
+prepended_stops sign read before ts rest is = ap (prepended before) (each_stops sign read ts rest is) ∙ ap (λ (xs : List _). Ok (xs, rest)) (append-nil before)
 
-pub front_fails : {X : Type 0} (sign : ℕ) (read : Reading X) (before : List X) (ts rest : List Token) (o : Option Fault) → taken sign ts ≡ (true, rest) → EndsWith o (read rest)
-    → EndsWith o (with_front before (each_after sign read ts))
-front_fails sign read before ts rest o is h = ends_bind o (each_after sign read ts) (λ p. Ok (before ++ p.0, p.1)) (each_fails sign read ts rest o is h)
+pub prepended_fails : {X : Type 0} (sign : ℕ) (read : Reading X) (before : List X) (ts rest : List Token) (o : Option Fault) → taken sign ts ≡ (true, rest) → EndsWith o (read rest)
+    → EndsWith o (prepended before (each_after sign read ts))
+prepended_fails sign read before ts rest o is h = ends_bind o (each_after sign read ts) (λ p. Ok (before ++ p.0, p.1)) (each_fails sign read ts rest o is h)
 
 -- one and what stands after the signs
 pub parted_ends : (sign : ℕ) (join : Tree → List Tree → Tree) (read : Reading Tree) (ts rest more : List Token) (x : Tree) (xs : List Tree) → read ts ≡ Ok (x, rest) → each_after sign read rest ≡ Ok (xs, more)
@@ -130,7 +130,7 @@ parted_fails_later sign join read ts rest x o first h = rw first (ends_bind o (e
 
 -- the names that were read, and further ones up to the bracket
 abbrev pub names_onto : List (List ℕ) → List Token → Result (List (List ℕ) × List Token) Fault
-names_onto before ts = with_front before (each_after 44 name_at ts) >>= λ p. list_end (taken 93 p.1) >>= λ rest. Ok (p.0, rest)
+names_onto before ts = prepended before (each_after 44 name_at ts) >>= λ p. list_end (taken 93 p.1) >>= λ rest. Ok (p.0, rest)
 
 pub names_begin : (ts rest : List Token) (x : List ℕ) → name_at ts ≡ Ok (x, rest) → names_onto (x ∷ []) rest ≡ names_at ts
 unfolding names_at
@@ -146,14 +146,14 @@ name_leaves (Name n ∷ ts) = omega arith
 name_leaves (Sign c ∷ ts) = tt
 
 pub names_go_on : (before : List (List ℕ)) (ts rest more : List Token) (x : List ℕ) → taken 44 ts ≡ (true, rest) → name_at rest ≡ Ok (x, more) → names_onto before ts ≡ names_onto (before ++ x ∷ []) more
-names_go_on before ts rest more x is reads = ap (λ r. r >>= λ p. list_end (taken 93 p.1) >>= λ end. Ok (p.0, end)) (front_goes_on 44 name_at name_leaves before ts rest more x is reads)
+names_go_on before ts rest more x is reads = ap (λ r. r >>= λ p. list_end (taken 93 p.1) >>= λ end. Ok (p.0, end)) (prepended_goes_on 44 name_at name_leaves before ts rest more x is reads)
 
 pub names_fail_later : (before : List (List ℕ)) (ts rest : List Token) (o : Option Fault) → taken 44 ts ≡ (true, rest) → EndsWith o (name_at rest) → EndsWith o (names_onto before ts)
 names_fail_later before ts rest o is h =
-    ends_bind o (with_front before (each_after 44 name_at ts)) (λ p. list_end (taken 93 p.1) >>= λ end. Ok (p.0, end)) (front_fails 44 name_at before ts rest o is h)
+    ends_bind o (prepended before (each_after 44 name_at ts)) (λ p. list_end (taken 93 p.1) >>= λ end. Ok (p.0, end)) (prepended_fails 44 name_at before ts rest o is h)
 
 pub names_end : (before : List (List ℕ)) (ts rest more : List Token) → taken 44 ts ≡ (false, rest) → taken 93 rest ≡ (true, more) → names_onto before ts ≡ Ok (before, more)
-names_end before ts rest more is end = ap (λ r. r >>= λ p. list_end (taken 93 p.1) >>= λ e. Ok (p.0, e)) (front_stops 44 name_at before ts rest is) ∙ rw end refl
+names_end before ts rest more is end = ap (λ r. r >>= λ p. list_end (taken 93 p.1) >>= λ e. Ok (p.0, e)) (prepended_stops 44 name_at before ts rest is) ∙ rw end refl
 
 pub names_stay_open : (before : List (List ℕ)) (ts rest more : List Token) → taken 44 ts ≡ (false, rest) → taken 93 rest ≡ (false, more) → names_onto before ts ≡ Err MissingComma
-names_stay_open before ts rest more is end = ap (λ r. r >>= λ p. list_end (taken 93 p.1) >>= λ e. Ok (p.0, e)) (front_stops 44 name_at before ts rest is) ∙ rw end refl
+names_stay_open before ts rest more is end = ap (λ r. r >>= λ p. list_end (taken 93 p.1) >>= λ e. Ok (p.0, e)) (prepended_stops 44 name_at before ts rest is) ∙ rw end refl

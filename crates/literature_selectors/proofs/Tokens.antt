@@ -1,7 +1,7 @@
 -- The tokens of a text, one after the other.
 use Rattle.std.proofs.Common.{◌≡◌, ℕ, zero, suc, ◌<◌, Bool, true, false, cond, List, [], ◌∷◌, length, Option, Some, None, refl, ap, subst, arith}
 use Rattle.std.specs.Option.{option_map_or}
-use Rattle.laws.specs.Runs.{front_of, after}
+use Rattle.laws.specs.Runs.{prefix_of, after}
 use Rattle.laws.proofs.Runs.{length-after}
 use Rattle.texts.specs.Character.{passes}
 use Rattle.texts.specs.declared.character.Class.TheVariants.{Blank}
@@ -17,7 +17,7 @@ here_shorter [] = tt
 here_shorter (c ∷ cs) = by_tests (is_name_character c) refl (is_sign c)
   where
     by_tests : (b : Bool) → is_name_character c ≡ b → (d : Bool)
-        → Leaves (length (c ∷ cs)) (cond b (Some (Name (front_of is_name_character (c ∷ cs)), after is_name_character (c ∷ cs))) (cond d (Some (Sign c, cs)) None))
+        → Leaves (length (c ∷ cs)) (cond b (Some (Name (prefix_of is_name_character (c ∷ cs)), after is_name_character (c ∷ cs))) (cond d (Some (Sign c, cs)) None))
     by_tests true is d =
         let same : after is_name_character (c ∷ cs) ≡ after is_name_character cs = rw is refl in
         omega (arith, ap length same, length-after is_name_character cs)

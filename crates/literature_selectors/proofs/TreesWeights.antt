@@ -3,7 +3,7 @@ use Rattle.std.proofs.Common.{◌≡◌, ℕ, zero, suc, ◌+◌, ◌<◌, ◌�
 use Rattle.std.specs.Global.{Global}
 use Rattle.literature_selectors.specs.Trees.{Tree, Trees, nothing, before, trees_of}
 use Rattle.literature_selectors.specs.Trees as trees
-use Rattle.literature_selectors.specs.Views.{tree}
+use Rattle.literature_selectors.specs.Views.{tree_view}
 use Rattle.literature_selectors.specs.declared.node.Node.{Node, Not, Binding, Attributes, Alternatives, Multi, Ancestry}
 use Rattle.literature_selectors.proofs.Views as views
 
@@ -24,10 +24,10 @@ abbrev mutual
 
 -- of a node, and of several
 abbrev pub heft : Node → ℕ
-heft n = weight (tree n)
+heft n = weight (tree_view n)
 
 abbrev pub hefts : List Node → ℕ
-hefts ns = weights (trees_of (map tree ns))
+hefts ns = weights (trees_of (map tree_view ns))
 
 some : (x : Tree) → 0 < weight x
 some trees.Any = omega arith
@@ -68,4 +68,4 @@ heft_first ns n others is = sym (ap hefts is)
 
 -- a node weighs something
 pub heft_some : (n : Node) → 0 < heft n
-heft_some n = some (tree n)
+heft_some n = some (tree_view n)

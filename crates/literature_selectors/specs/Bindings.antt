@@ -81,7 +81,7 @@ last_bound name (b ∷ bs) = later_or (if bytes_eq name b.0 then Some b.1 else N
 abbrev pub bound_to : Tree → Entry → List ℕ → Option Entry
 bound_to x e name = if holds x e then last_bound name (bindings x e) else None
 
--- a binding in the place of an earlier one of its name, else at the end
+-- a binding instead of an earlier one of its name, else at the end
 abbrev pub set : List ℕ × Entry → Bound → Bound
 set b [] = b ∷ []
 set b (c ∷ cs) = if bytes_eq b.0 c.0 then (c.0, b.1) ∷ cs else c ∷ set b cs
@@ -91,6 +91,6 @@ abbrev pub settle : Bound → Bound → Bound
 settle done [] = done
 settle done (b ∷ bs) = settle (set b done) bs
 
--- each name once, at its first place, with its last entry
+-- each name once, at its first index, with its last entry
 abbrev pub settled : Bound → Bound
 settled bs = settle [] bs

@@ -4,7 +4,7 @@ use Rattle.std.specs.Borrow.{Bor}
 use Rattle.literature_entries.specs.declared.entry.Entry.{Entry}
 use Rattle.literature_selectors.specs.Holding.{meaning}
 use Rattle.literature_selectors.specs.Bindings.{Bound, Side, binds}
-use Rattle.literature_selectors.specs.Views.{tree}
+use Rattle.literature_selectors.specs.Views.{tree_view}
 use Rattle.literature_selectors.specs.declared.node.Node.{Node}
 use Rattle.literature_selectors.specs.declared.binding.Named.{Named}
 
@@ -16,8 +16,8 @@ abbrev pub all_named : List Named → Bound
 all_named bs = map named bs
 
 -- a node with its meaning and what it binds
-abbrev pub side : Node → Side
-side n = record { means = meaning (tree n); binds = binds (tree n) }
+abbrev pub side_view : Node → Side
+side_view n = record { means = meaning (tree_view n); binds = binds (tree_view n) }
 
 -- borrowed entries
 abbrev pub borrowed : List (Bor Entry) → List Entry

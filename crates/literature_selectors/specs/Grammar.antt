@@ -102,6 +102,6 @@ within (suc n) = record { IsUnary = IsUnaryWith (within n); IsAncestry = IsAnces
 abbrev pub IsExpression : Spells Tree
 IsExpression = AreParted 124 one_or_alternatives (within 129).IsAncestry
 
--- the longest expression at the text's beginning
+-- the longest expression at the text's start
 abbrev pub IsSelector : List ℕ → Tree → Type 0
 IsSelector cs x = (rest : List Token) × IsExpression (tokens cs) x rest

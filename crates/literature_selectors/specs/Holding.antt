@@ -9,7 +9,7 @@ use Rattle.literature_values.specs.declared.entry_type.EntryType.{EntryType}
 use Rattle.literature_entries.specs.declared.entry.Entry.{Entry}
 use Rattle.literature_entries.specs.Fields.{Fields}
 use Rattle.literature_entries.specs.Names.{has, are_some}
-use Rattle.literature_entries.specs.Views.{fields, parents}
+use Rattle.literature_entries.specs.Views.{fields_view, parents}
 use Rattle.literature_entries.specs.Wholes as wholes
 use Rattle.literature_entries.specs.Wholes.{Whole, Wholes, Holding}
 use Rattle.literature_selectors.specs.Trees.{Tree, Trees, nothing, before}
@@ -65,17 +65,17 @@ abbrev mutual
   meanings_by is has ps nothing = []
   meanings_by is has ps (before x xs) = meaning_by is has ps x ∷ meanings_by is has ps xs
 
--- whether what is said is of the type, by the names of both
+-- whether what is specified is of the type, by the names of both
 abbrev pub is_type_of : EntryType → Fields → Bool
 is_type_of t fs = bytes_eq (type_name t) (type_name fs.entry_type)
 
 -- whether an entry of the code is of the type
 abbrev pub is_of : EntryType → Entry → Bool
-is_of t e = is_type_of t (fields e)
+is_of t e = is_type_of t (fields_view e)
 
 -- whether it has each of the named fields
 abbrev pub has_each : List (List ℕ) → Entry → Bool
-has_each names e = list_all (λ n. has (text n) (fields e) (are_some (parents e))) names
+has_each names e = list_all (λ n. has (text n) (fields_view e) (are_some (parents e))) names
 
 -- what a selector says of entries of the code
 abbrev pub meaning : Tree → Meaning Entry
@@ -90,8 +90,8 @@ abbrev pub holds : Tree → Entry → Bool
 holds x e = (meaning x).at e
 
 -- what a work says of itself, and the works that it is part of
-abbrev pub said_of : Whole → Fields
-said_of (Holding key fs ws) = fs
+abbrev pub fields_of_work : Whole → Fields
+fields_of_work (Holding key fs ws) = fs
 
 abbrev pub listed : Wholes → List Whole
 listed wholes.nothing = []
@@ -102,11 +102,11 @@ outer_works (Holding key fs ws) = listed ws
 
 -- whether a work is of the type
 abbrev pub is_work_of : EntryType → Whole → Bool
-is_work_of t w = is_type_of t (said_of w)
+is_work_of t w = is_type_of t (fields_of_work w)
 
 -- whether it has each of the named fields
 abbrev pub work_has_each : List (List ℕ) → Whole → Bool
-work_has_each names w = list_all (λ n. has (text n) (said_of w) (are_some (outer_works w))) names
+work_has_each names w = list_all (λ n. has (text n) (fields_of_work w) (are_some (outer_works w))) names
 
 -- whether the selector holds at a work
 abbrev pub holds_at : Tree → Whole → Bool

@@ -1,28 +1,28 @@
--- What is left of a list where the things at some places were taken.
+-- What is left of a list where the things at some indices were taken.
 use Rattle.std.specs.Prelude.{ℕ, suc, Bool, ◌==◌, List, [], ◌∷◌, if◌then◌else◌, Option, Some, None}
 use Rattle.std.specs.List.{list_any}
 use Rattle.std.specs.Borrow.{Bor}
 use Rattle.literature_selectors.specs.declared.holding.Taken.{Taken, fold-Taken}
 
--- the places that were taken before
+-- the indices that were taken before
 abbrev pub earlier : Option (Bor (List ℕ)) → List ℕ
 earlier None = []
 earlier (Some b) = b.now
 
--- the places that were taken, the last one first
-abbrev pub places : Taken → List ℕ
-places = fold-Taken (List ℕ) (λ t. t.place ∷ earlier t.before)
+-- the indices that were taken, the last one first
+abbrev pub indices : Taken → List ℕ
+indices = fold-Taken (List ℕ) (λ t. t.index ∷ earlier t.before)
 
 -- the same where there are any
-abbrev pub taken_places : Option (Bor Taken) → List ℕ
-taken_places None = []
-taken_places (Some t) = places t.now
+abbrev pub taken_indices : Option (Bor Taken) → List ℕ
+taken_indices None = []
+taken_indices (Some t) = indices t.now
 
--- whether the place is among them
+-- whether the index is among them
 abbrev pub is_among : ℕ → List ℕ → Bool
 is_among i taken = list_any (λ p. i == p) taken
 
--- what is left, where the first thing stands at place i
+-- what is left, where the first thing stands at index i
 abbrev pub left_from : {X : Type 0} → List ℕ → ℕ → List X → List X
 left_from taken i [] = []
 left_from taken i (x ∷ xs) = if is_among i taken then left_from taken (suc i) xs else x ∷ left_from taken (suc i) xs

@@ -9,13 +9,13 @@ use Rattle.literature_selectors.specs.Bindings.{Bound}
 use Rattle.literature_selectors.specs.declared.bindings.Bindings.{Bindings}
 
 -- a name by its bytes, and the entry that is borrowed
-abbrev pub pair : String Global × Bor Entry → List ℕ × Entry
-pair p = (string_bytes p.0, p.1.now)
+abbrev pub binding_view : String Global × Bor Entry → List ℕ × Entry
+binding_view p = (string_bytes p.0, p.1.now)
 
 -- the names with the entries that they are bound to, each name once
-abbrev pub pairs : Bindings → Bound
-pairs b = map pair b.entries.entries
+abbrev pub bindings_view : Bindings → Bound
+bindings_view b = map binding_view b.entries.entries
 
 -- the entry that is bound to the name
 abbrev pub named_in : Bindings → List ℕ → Option Entry
-named_in b name = lookup (bytes_eq name) (pairs b)
+named_in b name = lookup (bytes_eq name) (bindings_view b)

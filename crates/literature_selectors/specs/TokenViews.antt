@@ -4,6 +4,6 @@ use Rattle.literature_selectors.specs.Tokens.{Token, Name, Sign}
 use Rattle.literature_selectors.specs.declared.token.Token.{Token as CodeToken}
 use Rattle.literature_selectors.specs.declared.token.Token.TheVariants as code
 
-abbrev pub token : CodeToken → Token
-token (code.Name name) = Name (chars name.now)
-token (code.Sign c) = Sign c
+abbrev pub token_view : CodeToken → Token
+token_view (code.Name name) = Name (chars name.now)
+token_view (code.Sign c) = Sign c

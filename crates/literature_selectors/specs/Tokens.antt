@@ -2,7 +2,7 @@
 use Rattle.std.specs.Prelude.{ℕ, zero, suc, Bool, ◌==◌, ◌||◌, List, [], ◌∷◌, length, if◌then◌else◌, Option, Some, None}
 use Rattle.std.specs.Option.{option_map_or}
 use Rattle.std.specs.Char.{is_ascii_alphanumeric}
-use Rattle.laws.specs.Runs.{front_of, after}
+use Rattle.laws.specs.Runs.{prefix_of, after}
 use Rattle.texts.specs.Character.{passes}
 use Rattle.texts.specs.declared.character.Class.TheVariants.{Blank}
 
@@ -22,7 +22,7 @@ is_sign c = c == 42 || c == 124 || c == 38 || c == 62 || c == 33 || c == 58 || c
 -- the longest name that stands here, or the sign, and what follows it; another character begins no token
 abbrev pub token_here : List ℕ → Option (Token × List ℕ)
 token_here [] = None
-token_here (c ∷ cs) = if is_name_character c then Some (Name (front_of is_name_character (c ∷ cs)), after is_name_character (c ∷ cs))
+token_here (c ∷ cs) = if is_name_character c then Some (Name (prefix_of is_name_character (c ∷ cs)), after is_name_character (c ∷ cs))
     else (if is_sign c then Some (Sign c, cs) else None)
 
 -- white space may stand before a token
@@ -34,7 +34,7 @@ unfoldable pub tokens_below : ℕ → List ℕ → List Token
 tokens_below zero cs = []
 tokens_below (suc n) cs = option_map_or (λ p. p.0 ∷ tokens_below n p.1) (token_at cs) []
 
--- The tokens from the text's beginning on, up to a character that begins none. Each takes a character at least, so there
+-- The tokens from the text's start on, up to a character that begins none. Each takes a character at least, so there
 -- are no more tokens than characters.
 unfoldable pub tokens : List ℕ → List Token
 tokens cs = tokens_below (suc (length cs)) cs

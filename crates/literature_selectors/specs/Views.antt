@@ -17,7 +17,7 @@ use Rattle.literature_selectors.specs.declared.error.SelectorError.TheVariants a
 abbrev pub left : Reader → List Token
 left r = tokens (chars r.rest.now)
 
--- one node, with each selector in it already seen
+-- one node, with each selector in it already viewed
 abbrev pub view_step : Node-F Tree → Tree
 view_step Node-F.Any = Any
 view_step (Node-F.Entry t) = Entry t
@@ -29,12 +29,12 @@ view_step (Node-F.Multi xs) = Multi (trees_of xs.items)
 view_step (Node-F.Ancestry x y) = Ancestry x.value y.value
 
 -- a node with what it holds as plain data
-abbrev pub tree : Node → Tree
-tree = fold-Node Tree view_step
+abbrev pub tree_view : Node → Tree
+tree_view = fold-Node Tree view_step
 
 -- a selector as plain data
-abbrev pub meant : Selector → Tree
-meant s = tree s.root
+abbrev pub selector_view : Selector → Tree
+selector_view s = tree_view s.root
 
 -- the fault that an error tells, or none where memory ran out
 abbrev pub fault : SelectorError → Option Fault

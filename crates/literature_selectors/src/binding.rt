@@ -7,8 +7,8 @@ ghost use Rattle.literature_entries.specs.Views.{parents};
 ghost use Rattle.laws.specs.Text.{text, characters};
 ghost use Rattle.literature_selectors.specs.Holding.{meaning, each_takes, take_first};
 ghost use Rattle.literature_selectors.specs.Bindings.{binds, of_first, each_binds, taken_binds};
-ghost use Rattle.literature_selectors.specs.Found.{Adds, all_named, side, borrowed};
-ghost use Rattle.literature_selectors.specs.Views.{tree};
+ghost use Rattle.literature_selectors.specs.Found.{Adds, all_named, side_view, borrowed};
+ghost use Rattle.literature_selectors.specs.Views.{tree_view};
 
 use crate::holding::{has_each, is_of};
 use crate::node::Node;
@@ -31,7 +31,8 @@ impl Node {
         entry: &'e Entry,
         found: &mut Vec<Named<'s, 'e>>,
     ) -> Result<bool, AllocError>
-        ensures { IfOk result (Adds ((meaning (tree self.now)).at entry.now) ((binds (tree self.now)).at entry.now) found.old.items found.new.items) }
+        ensures { IfOk result (Adds ((meaning (tree_view self.now)).at entry.now)
+            ((binds (tree_view self.now)).at entry.now) found.old.items found.new.items) }
     {
         match self {
             Node::Any => Ok(true),
@@ -58,7 +59,9 @@ impl Node {
         entry: &'e Entry,
         found: &mut Vec<Named<'s, 'e>>,
     ) -> Result<bool, AllocError>
-        ensures { IfOk result (Adds ((meaning (tree self.now)).at entry.now) ((name.now, entry.now) ∷ (binds (tree self.now)).at entry.now) found.old.items found.new.items) }
+        ensures { IfOk result (Adds ((meaning (tree_view self.now)).at entry.now)
+            ((name.now, entry.now) ∷ (binds (tree_view self.now)).at entry.now)
+            found.old.items found.new.items) }
     {
         let before = found.len();
         found.push(Named { name, entry })?;
@@ -76,7 +79,8 @@ impl Node {
         parents: &'e [Entry],
         found: &mut Vec<Named<'s, 'e>>,
     ) -> Result<bool, AllocError>
-        ensures { IfOk result (Adds ((meaning (tree self.now)).above parents.now) ((binds (tree self.now)).above parents.now) found.old.items found.new.items) }
+        ensures { IfOk result (Adds ((meaning (tree_view self.now)).above parents.now)
+            ((binds (tree_view self.now)).above parents.now) found.old.items found.new.items) }
     {
         match self {
             Node::Not(negated) => Ok(!negated.holds_above(parents)),
@@ -97,7 +101,9 @@ impl Node {
         entries: &'e [Entry],
         found: &mut Vec<Named<'s, 'e>>,
     ) -> Result<bool, AllocError>
-        ensures { IfOk result (Adds (list_any (meaning (tree self.now)).at entries.now) (of_first (meaning (tree self.now)).at (binds (tree self.now)).at entries.now) found.old.items found.new.items) }
+        ensures { IfOk result (Adds (list_any (meaning (tree_view self.now)).at entries.now)
+            (of_first (meaning (tree_view self.now)).at (binds (tree_view self.now)).at entries.now)
+            found.old.items found.new.items) }
     {
         for entry in entries {
             if self.bind(entry, found)? {
@@ -107,20 +113,24 @@ impl Node {
         Ok(false)
     }
 
-    /// The place of the first of the entries at which it holds; what is bound there is added.
+    /// The index of the first of the entries at which it holds; what is bound there is added.
     #[cycle(binding)]
     fn bind_first<'s, 'e>(
         &'s self,
         entries: &[&'e Entry],
         found: &mut Vec<Named<'s, 'e>>,
     ) -> Result<Option<usize>, AllocError>
-        ensures taken { IfOk result (λ o. option_map (λ p. p.1) (take_first (meaning (tree self.now)).at (borrowed entries.now)) ≡ option_map (remove (borrowed entries.now)) o) }
-        ensures within { IfOk result (λ o. IfSome o (λ place. place < length entries.now)) }
-        ensures added { IfOk result (λ o. all_named found.new.items ≡ all_named found.old.items ++ taken_binds (binds (tree self.now)).at (λ es. []) (take_first (meaning (tree self.now)).at (borrowed entries.now))) }
+        ensures taken { IfOk result (λ o. option_map (λ p. p.1)
+            (take_first (meaning (tree_view self.now)).at (borrowed entries.now))
+            ≡ option_map (remove (borrowed entries.now)) o) }
+        ensures within { IfOk result (λ o. IfSome o (λ index. index < length entries.now)) }
+        ensures added { IfOk result (λ o. all_named found.new.items
+            ≡ all_named found.old.items ++ taken_binds (binds (tree_view self.now)).at
+            (λ es. []) (take_first (meaning (tree_view self.now)).at (borrowed entries.now))) }
     {
-        for (place, entry) in entries.iter().enumerate() {
+        for (index, entry) in entries.iter().enumerate() {
             if self.bind(*entry, found)? {
-                return Ok(Some(place));
+                return Ok(Some(index));
             }
         }
         Ok(None)
@@ -135,7 +145,10 @@ fn bind_ancestry<'s, 'e>(
     entry: &'e Entry,
     found: &mut Vec<Named<'s, 'e>>,
 ) -> Result<bool, AllocError>
-    ensures { IfOk result (Adds ((meaning (tree of.now)).at entry.now && (meaning (tree above.now)).above (parents entry.now)) ((binds (tree of.now)).at entry.now ++ (binds (tree above.now)).above (parents entry.now)) found.old.items found.new.items) }
+    ensures { IfOk result (Adds ((meaning (tree_view of.now)).at entry.now
+        && (meaning (tree_view above.now)).above (parents entry.now))
+        ((binds (tree_view of.now)).at entry.now ++ (binds (tree_view above.now)).above
+        (parents entry.now)) found.old.items found.new.items) }
 {
     let before = found.len();
     if !of.bind(entry, found)? {
@@ -156,7 +169,9 @@ fn bind_first_side<'s, 'e>(
     entry: &'e Entry,
     found: &mut Vec<Named<'s, 'e>>,
 ) -> Result<bool, AllocError>
-    ensures { IfOk result (Adds (list_any (λ x. (meaning (tree x)).at entry.now) selectors.now) (of_first (λ x. (meaning (tree x)).at entry.now) (λ x. (binds (tree x)).at entry.now) selectors.now) found.old.items found.new.items) }
+    ensures { IfOk result (Adds (list_any (λ x. (meaning (tree_view x)).at entry.now) selectors.now)
+        (of_first (λ x. (meaning (tree_view x)).at entry.now)
+        (λ x. (binds (tree_view x)).at entry.now) selectors.now) found.old.items found.new.items) }
 {
     for selector in selectors {
         if selector.bind(entry, found)? {
@@ -174,7 +189,10 @@ fn bind_first_side_above<'s, 'e>(
     parents: &'e [Entry],
     found: &mut Vec<Named<'s, 'e>>,
 ) -> Result<bool, AllocError>
-    ensures { IfOk result (Adds (list_any (λ x. (meaning (tree x)).above parents.now) selectors.now) (of_first (λ x. (meaning (tree x)).above parents.now) (λ x. (binds (tree x)).above parents.now) selectors.now) found.old.items found.new.items) }
+    ensures { IfOk result
+        (Adds (list_any (λ x. (meaning (tree_view x)).above parents.now) selectors.now)
+        (of_first (λ x. (meaning (tree_view x)).above parents.now) (λ x.
+        (binds (tree_view x)).above parents.now) selectors.now) found.old.items found.new.items) }
 {
     for selector in selectors {
         if selector.bind_above(parents, found)? {
@@ -192,14 +210,16 @@ fn bind_each<'s, 'e>(
     parents: &'e [Entry],
     found: &mut Vec<Named<'s, 'e>>,
 ) -> Result<bool, AllocError>
-    ensures { IfOk result (Adds (each_takes (map (λ x. (meaning (tree x)).at) members.now) parents.now) (each_binds (map side members.now) parents.now) found.old.items found.new.items) }
+    ensures { IfOk result
+        (Adds (each_takes (map (λ x. (meaning (tree_view x)).at) members.now) parents.now)
+        (each_binds (map side_view members.now) parents.now) found.old.items found.new.items) }
 {
     let before = found.len();
     let mut left = borrow_each(*found.allocator(), parents)?;
     for member in members {
         match member.bind_first(left.as_slice(), found)? {
-            Some(place) => {
-                left.remove(place);
+            Some(index) => {
+                left.remove(index);
             }
             None => {
                 found.truncate(before);

@@ -4,7 +4,7 @@ ghost use Rattle.std.specs.Prelude.{◌≡◌, IfOk, length, map, string_bytes, 
 ghost use Rattle.std.specs.Option.{option_copied};
 ghost use Rattle.literature_selectors.specs.Bindings.{settled};
 ghost use Rattle.literature_selectors.specs.Found.{all_named};
-ghost use Rattle.literature_selectors.specs.Pairs.{pair, pairs, named_in};
+ghost use Rattle.literature_selectors.specs.Pairs.{binding_view, bindings_view, named_in};
 
 use crate::binding::Named;
 use indexmap::IndexMap;
@@ -24,7 +24,7 @@ impl<'e> Bindings<'e> {
         alloc: Global,
         found: &[Named<'_, 'e>],
     ) -> Result<Bindings<'e>, AllocError>
-        ensures { IfOk result (λ b. pairs b ≡ settled (all_named found.now)) }
+        ensures { IfOk result (λ b. bindings_view b ≡ settled (all_named found.now)) }
     {
         let mut entries = IndexMap::new(alloc);
         for named in found {
@@ -42,28 +42,28 @@ impl<'e> Bindings<'e> {
 
     /// How many names there are.
     pub fn len(&self) -> usize
-        ensures { result ≡ length (pairs self.now) }
+        ensures { result ≡ length (bindings_view self.now) }
     {
         self.entries.len()
     }
 
     /// Whether there are none.
     pub fn is_empty(&self) -> bool
-        ensures { IsTrue result ↔ (pairs self.now ≡ []) }
+        ensures { IsTrue result ↔ (bindings_view self.now ≡ []) }
     {
         self.entries.is_empty()
     }
 
     /// The names in order.
     pub fn keys(&self) -> Keys<'_, String, &'e Entry>
-        ensures { map string_bytes result ≡ map (λ p. p.0) (pairs self.now) }
+        ensures { map string_bytes result ≡ map (λ p. p.0) (bindings_view self.now) }
     {
         self.entries.keys()
     }
 
     /// The names in order, each with the entry that it is bound to.
     pub fn iter(&self) -> Iter<'_, String, &'e Entry>
-        ensures { map pair result ≡ pairs self.now }
+        ensures { map binding_view result ≡ bindings_view self.now }
     {
         self.entries.iter()
     }

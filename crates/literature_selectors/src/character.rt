@@ -2,7 +2,7 @@
 
 ghost use Rattle.std.specs.Prelude.{◌≡◌};
 ghost use Rattle.std.specs.Str.{chars};
-ghost use Rattle.laws.specs.Runs.{front_of, after};
+ghost use Rattle.laws.specs.Runs.{prefix_of, after};
 ghost use Rattle.literature_selectors.specs.Tokens.{is_name_character, is_sign};
 
 use texts::{CharacterClass, split_run};
@@ -36,9 +36,9 @@ impl CharacterClass for Name {
     }
 }
 
-/// The longest front that is of a name, and what follows it.
+/// The longest prefix that is of a name, and what follows it.
 pub(crate) fn split_name(text: &str) -> (&str, &str)
-    ensures front { chars result.0.now ≡ front_of is_name_character (chars text.now) }
+    ensures prefix { chars result.0.now ≡ prefix_of is_name_character (chars text.now) }
     ensures rest { chars result.1.now ≡ after is_name_character (chars text.now) }
 {
     split_run(text, Name)

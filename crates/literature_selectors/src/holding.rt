@@ -4,18 +4,18 @@ ghost use Rattle.std.specs.Prelude.{◌≡◌, ◌∷◌, map};
 ghost use Rattle.std.specs.Option.{option_map};
 ghost use Rattle.std.specs.List.{list_any};
 ghost use Rattle.literature_selectors.specs.Holding.{meaning, is_of, has_each, each_takes, take_first};
-ghost use Rattle.literature_selectors.specs.Left.{left_of, is_among, taken_places};
-ghost use Rattle.literature_selectors.specs.Views.{tree};
+ghost use Rattle.literature_selectors.specs.Left.{left_of, is_among, taken_indices};
+ghost use Rattle.literature_selectors.specs.Views.{tree_view};
 ghost use Rattle.laws.specs.Text.{characters};
 
 use crate::node::Node;
 use literature_entries::Entry;
 use literature_values::EntryType;
 
-/// The place of a parent that was taken, and those that were taken before.
+/// The index of a parent that was taken, and those that were taken before.
 #[derive(Clone, Copy)]
 struct Taken<'t> {
-    place: usize,
+    index: usize,
     before: Option<&'t Taken<'t>>,
 }
 
@@ -23,7 +23,7 @@ impl Node {
     /// Whether it holds at the entry.
     #[cycle(holding)]
     pub(crate) fn holds(&self, entry: &Entry) -> bool
-        ensures { result ≡ (meaning (tree self.now)).at entry.now }
+        ensures { result ≡ (meaning (tree_view self.now)).at entry.now }
     {
         match self {
             Node::Any => true,
@@ -41,7 +41,7 @@ impl Node {
     #[cycle(holding)]
     #[tactic(auto, using(crate::proofs::HoldingMembers::above_multi, crate::proofs::HoldingMembers::above_too_few))]
     pub(crate) fn holds_above(&self, parents: &[Entry]) -> bool
-        ensures { result ≡ (meaning (tree self.now)).above parents.now }
+        ensures { result ≡ (meaning (tree_view self.now)).above parents.now }
     {
         match self {
             Node::Not(negated) => !negated.holds_above(parents),
@@ -60,7 +60,7 @@ impl Node {
     /// Whether it holds at one of the entries.
     #[cycle(holding)]
     fn holds_at_one(&self, entries: &[Entry]) -> bool
-        ensures { result ≡ list_any (meaning (tree self.now)).at entries.now }
+        ensures { result ≡ list_any (meaning (tree_view self.now)).at entries.now }
     {
         for entry in entries {
             if self.holds(entry) {
@@ -70,14 +70,16 @@ impl Node {
         false
     }
 
-    /// The place of the first entry that was not taken and at which it holds.
+    /// The index of the first entry that was not taken and at which it holds.
     #[cycle(holding)]
-    fn free_place(&self, entries: &[Entry], taken: Option<&Taken<'_>>) -> Option<usize>
-        ensures { option_map (λ p. p.1) (take_first (meaning (tree self.now)).at (left_of (taken_places taken.entry) entries.now)) ≡ option_map (λ place. left_of (place ∷ taken_places taken.entry) entries.now) result }
+    fn free_index(&self, entries: &[Entry], taken: Option<&Taken<'_>>) -> Option<usize>
+        ensures { option_map (λ p. p.1) (take_first (meaning (tree_view self.now)).at
+            (left_of (taken_indices taken.entry) entries.now))
+            ≡ option_map (λ index. left_of (index ∷ taken_indices taken.entry) entries.now) result }
     {
-        for (place, entry) in entries.iter().enumerate() {
-            if !is_taken(taken, place) && self.holds(entry) {
-                return Some(place);
+        for (index, entry) in entries.iter().enumerate() {
+            if !is_taken(taken, index) && self.holds(entry) {
+                return Some(index);
             }
         }
         None
@@ -107,7 +109,7 @@ pub(crate) fn has_each(entry: &Entry, names: &[String]) -> bool
 #[cycle(holding)]
 #[tactic(auto, using(crate::proofs::TreesWeights::heft_at))]
 fn one_holds(selectors: &[Node], entry: &Entry) -> bool
-    ensures { result ≡ list_any (λ x. (meaning (tree x)).at entry.now) selectors.now }
+    ensures { result ≡ list_any (λ x. (meaning (tree_view x)).at entry.now) selectors.now }
 {
     for selector in selectors {
         if selector.holds(entry) {
@@ -121,7 +123,7 @@ fn one_holds(selectors: &[Node], entry: &Entry) -> bool
 #[cycle(holding)]
 #[tactic(auto, using(crate::proofs::TreesWeights::heft_at))]
 fn one_holds_above(selectors: &[Node], parents: &[Entry]) -> bool
-    ensures { result ≡ list_any (λ x. (meaning (tree x)).above parents.now) selectors.now }
+    ensures { result ≡ list_any (λ x. (meaning (tree_view x)).above parents.now) selectors.now }
 {
     for selector in selectors {
         if selector.holds_above(parents) {
@@ -131,13 +133,13 @@ fn one_holds_above(selectors: &[Node], parents: &[Entry]) -> bool
     false
 }
 
-/// Whether the place was taken.
-fn is_taken(taken: Option<&Taken<'_>>, place: usize) -> bool
-    ensures { result ≡ is_among place (taken_places taken.entry) }
+/// Whether the index was taken.
+fn is_taken(taken: Option<&Taken<'_>>, index: usize) -> bool
+    ensures { result ≡ is_among index (taken_indices taken.entry) }
 {
     let mut next = taken;
     while let Some(here) = next {
-        if here.place == place {
+        if here.index == index {
             return true;
         }
         next = here.before;
@@ -150,15 +152,16 @@ fn is_taken(taken: Option<&Taken<'_>>, place: usize) -> bool
 /// times the number of parents.
 #[cycle(holding)]
 fn each_takes(members: &[Node], parents: &[Entry], taken: Option<&Taken<'_>>) -> bool
-    ensures { result ≡ each_takes (map (λ x. (meaning (tree x)).at) members.now) (left_of (taken_places taken.entry) parents.now) }
+    ensures { result ≡ each_takes (map (λ x. (meaning (tree_view x)).at) members.now)
+        (left_of (taken_indices taken.entry) parents.now) }
 {
     let Some((first, others)) = members.split_first() else {
         return true;
     };
-    match first.free_place(parents, taken) {
-        Some(place) => {
+    match first.free_index(parents, taken) {
+        Some(index) => {
             let now = Taken {
-                place,
+                index,
                 before: taken,
             };
             each_takes(others, parents, Some(&now))

@@ -4,7 +4,7 @@ ghost use Rattle.std.specs.Prelude.{◌≡◌, IfOk, map};
 ghost use Rattle.std.specs.Str.{chars};
 ghost use Rattle.literature_selectors.specs.Trees.{Tree, one_or_alternatives, one_or_multi, with_attributes};
 ghost use Rattle.literature_selectors.specs.Trees as trees;
-ghost use Rattle.literature_selectors.specs.Views.{tree};
+ghost use Rattle.literature_selectors.specs.Views.{tree_view};
 ghost use Rattle.laws.specs.Text.{characters};
 
 use literature_values::EntryType;
@@ -21,7 +21,7 @@ pub(crate) enum Node {
     Not(Box<Node>),
     /// `name:x`: as `x`, and what it holds at gets the name.
     Binding(String, Box<Node>),
-    /// `x[name, name]`: as `x`, and the entry has each of the one or more fields. Several lists in a row are one.
+    /// `x[name, name]`: as `x`, and the entry has each of the one or more fields. Several lists one after the other are one.
     Attributes(Box<Node>, Vec<String>),
     /// `x | y`: one of the two or more.
     Alternatives(Vec<Node>),
@@ -34,7 +34,7 @@ pub(crate) enum Node {
 /// `!x`.
 #[tactic(auto, using(crate::proofs::Views::view_not))]
 pub(crate) fn not(alloc: Global, negated: Node) -> Result<Node, AllocError>
-    ensures { IfOk result (λ s. tree s ≡ trees.Not (tree negated)) }
+    ensures { IfOk result (λ s. tree_view s ≡ trees.Not (tree_view negated)) }
 {
     Ok(Node::Not(Box::new(alloc, negated)?))
 }
@@ -42,7 +42,7 @@ pub(crate) fn not(alloc: Global, negated: Node) -> Result<Node, AllocError>
 /// `name:x`.
 #[tactic(auto, using(crate::proofs::Views::view_binding))]
 pub(crate) fn binding(alloc: Global, name: &str, bound: Node) -> Result<Node, AllocError>
-    ensures { IfOk result (λ s. tree s ≡ trees.Binding (chars name.now) (tree bound)) }
+    ensures { IfOk result (λ s. tree_view s ≡ trees.Binding (chars name.now) (tree_view bound)) }
 {
     let name = String::from_str(alloc, name)?;
     Ok(Node::Binding(name, Box::new(alloc, bound)?))
@@ -51,7 +51,7 @@ pub(crate) fn binding(alloc: Global, name: &str, bound: Node) -> Result<Node, Al
 /// `x > y`.
 #[tactic(auto, using(crate::proofs::Views::view_ancestry))]
 pub(crate) fn ancestry(alloc: Global, of: Node, above: Node) -> Result<Node, AllocError>
-    ensures { IfOk result (λ s. tree s ≡ trees.Ancestry (tree of) (tree above)) }
+    ensures { IfOk result (λ s. tree_view s ≡ trees.Ancestry (tree_view of) (tree_view above)) }
 {
     let of = Box::new(alloc, of)?;
     Ok(Node::Ancestry(of, Box::new(alloc, above)?))
@@ -64,7 +64,8 @@ pub(crate) fn with_attributes(
     selector: Node,
     names: Vec<String>,
 ) -> Result<Node, AllocError>
-    ensures { IfOk result (λ s. tree s ≡ with_attributes (tree selector) (map characters names.items)) }
+    ensures { IfOk result (λ s. tree_view s
+        ≡ with_attributes (tree_view selector) (map characters names.items)) }
 {
     if names.is_empty() {
         return Ok(selector);
@@ -75,7 +76,8 @@ pub(crate) fn with_attributes(
 /// `x | y` of the first and the others, or the first alone.
 #[tactic(auto, using(crate::proofs::Views::view_alternatives))]
 pub(crate) fn one_or_alternatives(first: Node, mut others: Vec<Node>) -> Result<Node, AllocError>
-    ensures { IfOk result (λ s. tree s ≡ one_or_alternatives (tree first) (map tree others.items)) }
+    ensures { IfOk result (λ s. tree_view s
+        ≡ one_or_alternatives (tree_view first) (map tree_view others.items)) }
 {
     if others.is_empty() {
         return Ok(first);
@@ -87,7 +89,8 @@ pub(crate) fn one_or_alternatives(first: Node, mut others: Vec<Node>) -> Result<
 /// `x & y` of the first and the others, or the first alone.
 #[tactic(auto, using(crate::proofs::Views::view_multi))]
 pub(crate) fn one_or_multi(first: Node, mut others: Vec<Node>) -> Result<Node, AllocError>
-    ensures { IfOk result (λ s. tree s ≡ one_or_multi (tree first) (map tree others.items)) }
+    ensures { IfOk result (λ s. tree_view s
+        ≡ one_or_multi (tree_view first) (map tree_view others.items)) }
 {
     if others.is_empty() {
         return Ok(first);

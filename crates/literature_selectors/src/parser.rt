@@ -3,7 +3,7 @@
 ghost use Rattle.std.specs.Prelude.{◌≡◌, map};
 ghost use Rattle.std.specs.Str.{chars};
 ghost use Rattle.literature_selectors.specs.Reading.{taken, name_at, names_at, lists_at, listed_at, alternatives_of, multi_of, parenthesised, named, unary_in, ancestry_in, level, selector_of};
-ghost use Rattle.literature_selectors.specs.Views.{left, tree, fault, IsUnknown};
+ghost use Rattle.literature_selectors.specs.Views.{left, tree_view, fault, IsUnknown};
 ghost use Rattle.laws.specs.Results.{Gives, GivesRest};
 ghost use Rattle.laws.specs.Text.{characters};
 
@@ -19,10 +19,10 @@ use std::alloc::Global;
 /// How many levels may be open in a text. Each `(`, `!`, `name:` and `>` opens one.
 const MAX_LEVELS: usize = 128;
 
-/// The selector that the longest expression at the text's beginning spells.
+/// The selector that the longest expression at the text's start spells.
 #[tactic(auto, unfolding(crate::specs::Reading::selector_of, crate::specs::Reading::selector_at))]
 pub(crate) fn read_selector(alloc: Global, text: &str) -> Result<Node, SelectorError>
-    ensures { Gives fault tree result (selector_of (chars text.now)) }
+    ensures { Gives fault tree_view result (selector_of (chars text.now)) }
 {
     Reader::new(text).alternatives(alloc, MAX_LEVELS + 1)
 }
@@ -54,7 +54,8 @@ impl<'s> Reader<'s> {
     /// The names of the list whose opening bracket was taken.
     #[tactic(auto, unfolding(crate::specs::Reading::names_at))]
     fn names(&mut self, alloc: Global) -> Result<Vec<String>, SelectorError>
-        ensures { GivesRest fault (λ v. map characters v.items) result (left self.new) (names_at (left self.old)) }
+        ensures { GivesRest fault (λ v. map characters v.items) result
+            (left self.new) (names_at (left self.old)) }
     {
         let mut names = Vec::new(alloc);
         names.push(self.name(alloc)?)?;
@@ -70,7 +71,8 @@ impl<'s> Reader<'s> {
     /// The names of the lists that stand here.
     #[tactic(auto, unfolding(crate::specs::Reading::lists_at))]
     fn lists(&mut self, alloc: Global) -> Result<Vec<String>, SelectorError>
-        ensures { GivesRest fault (λ v. map characters v.items) result (left self.new) (lists_at (left self.old)) }
+        ensures { GivesRest fault (λ v. map characters v.items) result
+            (left self.new) (lists_at (left self.old)) }
     {
         let mut names = Vec::new(alloc);
         while self.take('[') {
@@ -83,7 +85,8 @@ impl<'s> Reader<'s> {
     /// The selector with the lists that stand here.
     #[tactic(auto, unfolding(crate::specs::Reading::listed_at))]
     fn listed(&mut self, alloc: Global, selector: Node) -> Result<Node, SelectorError>
-        ensures { GivesRest fault tree result (left self.new) (listed_at (tree selector) (left self.old)) }
+        ensures { GivesRest fault tree_view result (left self.new)
+            (listed_at (tree_view selector) (left self.old)) }
     {
         let names = self.lists(alloc)?;
         Ok(with_attributes(alloc, selector, names)?)
@@ -92,7 +95,8 @@ impl<'s> Reader<'s> {
     /// What the name that was taken begins: a binding before a colon, else a type.
     #[cycle(selector)]
     fn named(&mut self, alloc: Global, levels: usize, name: &'s str) -> Result<Node, SelectorError>
-        ensures { GivesRest fault tree result (left self.new) (named (level levels) (chars name.now) (taken 58 (left self.old))) }
+        ensures { GivesRest fault tree_view result (left self.new)
+            (named (level levels) (chars name.now) (taken 58 (left self.old))) }
     {
         if self.take(':') {
             let bound = self.unary(alloc, levels)?;
@@ -108,7 +112,8 @@ impl<'s> Reader<'s> {
     #[cycle(selector)]
     #[tactic(auto, unfolding(crate::specs::Reading::parenthesised))]
     fn parenthesised(&mut self, alloc: Global, levels: usize) -> Result<Node, SelectorError>
-        ensures { GivesRest fault tree result (left self.new) (parenthesised (level levels) (left self.old)) }
+        ensures { GivesRest fault tree_view result (left self.new)
+            (parenthesised (level levels) (left self.old)) }
     {
         let inside = self.alternatives(alloc, levels)?;
         if !self.take(')') {
@@ -121,7 +126,8 @@ impl<'s> Reader<'s> {
     #[cycle(selector)]
     #[tactic(auto, unfolding(crate::specs::Reading::unary_in))]
     fn unary_in(&mut self, alloc: Global, levels: usize) -> Result<Node, SelectorError>
-        ensures { GivesRest fault tree result (left self.new) (unary_in (level levels) (left self.old)) }
+        ensures { GivesRest fault tree_view result (left self.new)
+            (unary_in (level levels) (left self.old)) }
     {
         match self.first() {
             None => Err(SelectorError::MissingValue),
@@ -150,7 +156,8 @@ impl<'s> Reader<'s> {
     /// A unary expression one level further in.
     #[cycle(selector)]
     fn unary(&mut self, alloc: Global, levels: usize) -> Result<Node, SelectorError>
-        ensures { GivesRest fault tree result (left self.new) ((level levels).unary (left self.old)) }
+        ensures { GivesRest fault tree_view result (left self.new)
+            ((level levels).unary (left self.old)) }
     {
         if levels == 0 {
             return Err(SelectorError::TooDeep);
@@ -162,7 +169,8 @@ impl<'s> Reader<'s> {
     #[cycle(selector)]
     #[tactic(auto, unfolding(crate::specs::Reading::parted))]
     fn multi(&mut self, alloc: Global, levels: usize) -> Result<Node, SelectorError>
-        ensures { GivesRest fault tree result (left self.new) (multi_of (unary_in (level levels)) (left self.old)) }
+        ensures { GivesRest fault tree_view result (left self.new)
+            (multi_of (unary_in (level levels)) (left self.old)) }
     {
         let first = self.unary_in(alloc, levels)?;
         let mut others = Vec::new(alloc);
@@ -176,7 +184,8 @@ impl<'s> Reader<'s> {
     #[cycle(selector)]
     #[tactic(auto, unfolding(crate::specs::Reading::ancestry_in))]
     fn ancestry_in(&mut self, alloc: Global, levels: usize) -> Result<Node, SelectorError>
-        ensures { GivesRest fault tree result (left self.new) (ancestry_in (level levels) (left self.old)) }
+        ensures { GivesRest fault tree_view result (left self.new)
+            (ancestry_in (level levels) (left self.old)) }
     {
         let of = self.multi(alloc, levels)?;
         if !self.take('>') {
@@ -189,7 +198,8 @@ impl<'s> Reader<'s> {
     /// The same one level further in.
     #[cycle(selector)]
     fn ancestry(&mut self, alloc: Global, levels: usize) -> Result<Node, SelectorError>
-        ensures { GivesRest fault tree result (left self.new) ((level levels).ancestry (left self.old)) }
+        ensures { GivesRest fault tree_view result (left self.new)
+            ((level levels).ancestry (left self.old)) }
     {
         if levels == 0 {
             return Err(SelectorError::TooDeep);
@@ -201,7 +211,8 @@ impl<'s> Reader<'s> {
     #[cycle(selector)]
     #[tactic(auto, unfolding(crate::specs::Reading::parted))]
     fn alternatives(&mut self, alloc: Global, levels: usize) -> Result<Node, SelectorError>
-        ensures { GivesRest fault tree result (left self.new) (alternatives_of (level levels).ancestry (left self.old)) }
+        ensures { GivesRest fault tree_view result (left self.new)
+            (alternatives_of (level levels).ancestry (left self.old)) }
     {
         let first = self.ancestry(alloc, levels)?;
         let mut others = Vec::new(alloc);

@@ -3,7 +3,7 @@
 ghost use Rattle.std.specs.Prelude.{◌≡◌, ◌∷◌, [], MatchOption};
 ghost use Rattle.std.specs.Str.{chars};
 ghost use Rattle.literature_selectors.specs.Tokens.{tokens};
-ghost use Rattle.literature_selectors.specs.TokenViews.{token};
+ghost use Rattle.literature_selectors.specs.TokenViews.{token_view};
 ghost use Rattle.literature_selectors.specs.Reading.{taken};
 ghost use Rattle.literature_selectors.specs.Views.{left};
 
@@ -26,7 +26,8 @@ impl<'s> Reader<'s> {
     /// The first token that is left, and the reader after it.
     #[tactic(auto, using(crate::proofs::Tokens::tokens_none, crate::proofs::Tokens::tokens_some))]
     pub(crate) fn first(&self) -> Option<(Token<'s>, Reader<'s>)>
-        ensures { MatchOption result (left self.now ≡ []) (λ x. left self.now ≡ token x.0 ∷ left x.1) }
+        ensures { MatchOption result (left self.now ≡ []) (λ x. left self.now
+            ≡ token_view x.0 ∷ left x.1) }
     {
         let (token, rest) = split_token(self.rest)?;
         Some((token, Reader { rest }))

@@ -4,7 +4,7 @@ ghost use Rattle.std.specs.Prelude.{◌≡◌, IfOk};
 ghost use Rattle.std.specs.Option.{option_copied};
 ghost use Rattle.literature_entries.specs.declared.entry.Entry.{Entry};
 ghost use Rattle.literature_selectors.specs.Bindings.{bound_to};
-ghost use Rattle.literature_selectors.specs.Views.{meant};
+ghost use Rattle.literature_selectors.specs.Views.{selector_view};
 
 use crate::selector::Selector;
 use literature_entries::Entry;
@@ -25,7 +25,8 @@ pub trait BoundSelect {
         selector: &Selector,
         name: &str,
     ) -> Result<Option<&Entry>, AllocError>
-        ensures { IfOk result (λ e. option_copied e ≡ bound_to (meant selector.now) (asked self.now) name.now) };
+        ensures { IfOk result (λ e. option_copied e
+            ≡ bound_to (selector_view selector.now) (asked self.now) name.now) };
 }
 
 impl BoundSelect for Entry {

@@ -6,10 +6,10 @@ ghost use Rattle.std.specs.Str.{chars};
 ghost use Rattle.literature_selectors.specs.Bindings.{bindings, last_bound, bound_to, settled};
 ghost use Rattle.literature_selectors.specs.Grammar.{IsSelector};
 ghost use Rattle.literature_selectors.specs.Holding.{holds};
-ghost use Rattle.literature_selectors.specs.Pairs.{pairs, named_in};
+ghost use Rattle.literature_selectors.specs.Pairs.{bindings_view, named_in};
 ghost use Rattle.literature_selectors.specs.Reading.{selector_of};
 ghost use Rattle.literature_selectors.specs.Trees.{Tree};
-ghost use Rattle.literature_selectors.specs.Views.{meant, fault};
+ghost use Rattle.literature_selectors.specs.Views.{selector_view, fault};
 ghost use Rattle.laws.specs.Results.{GivesBack, Gives};
 
 use crate::bindings::Bindings;
@@ -27,7 +27,7 @@ pub struct Selector {
 }
 
 impl Selector {
-    /// The selector that the longest expression at the text's beginning spells.
+    /// The selector that the longest expression at the text's start spells.
     ///
     /// # Errors
     /// The first fault from the left: `MissingValue` where an operand is missing, `MalformedAttribute` where a list wants a
@@ -35,19 +35,20 @@ impl Selector {
     /// `UnknownEntryType` for the name of no type, `TooDeep` at the token that opens a 129th level. `Memory` where a
     /// request for memory was refused.
     pub fn parse(alloc: Global, text: &str) -> Result<Selector, SelectorError>
-        // What is read is spelled by the longest expression at the text's beginning.
-        ensures found { IfOk result (λ s. IsSelector (chars text.now) (meant s)) }
+        // What is read is spelled by the longest expression at the text's start.
+        ensures found { IfOk result (λ s. IsSelector (chars text.now) (selector_view s)) }
         // What is spelled there is read, unless memory runs out.
-        ensures only { (x : Tree) → IsSelector (chars text.now) x → GivesBack fault meant result x }
+        ensures only { (x : Tree) → IsSelector (chars text.now) x
+            → GivesBack fault selector_view result x }
         // The tree, or the first fault from the left.
-        ensures reading { Gives fault meant result (selector_of (chars text.now)) }
+        ensures reading { Gives fault selector_view result (selector_of (chars text.now)) }
     {
         rooted(alloc, text)
     }
 
     /// Whether it holds at the entry. This takes no memory, and no part of the selector is asked of an entry twice.
     pub fn matches(&self, entry: &Entry) -> bool
-        ensures { result ≡ holds (meant self.now) entry.now }
+        ensures { result ≡ holds (selector_view self.now) entry.now }
     {
         self.root.holds(entry)
     }
@@ -64,11 +65,13 @@ impl Selector {
         entry: &'e Entry,
     ) -> Result<Option<Bindings<'e>>, AllocError>
         // There is an answer exactly where the selector holds.
-        ensures holds { IfOk result (λ o. is_some o ≡ holds (meant self.now) entry.now) }
-        // Each name is told once, at its first place.
-        ensures bound { IfOk result (λ o. IfSome o (λ b. pairs b ≡ settled (bindings (meant self.now) entry.now))) }
+        ensures holds { IfOk result (λ o. is_some o ≡ holds (selector_view self.now) entry.now) }
+        // Each name is told once, at its first index.
+        ensures bound { IfOk result (λ o. IfSome o (λ b. bindings_view b
+            ≡ settled (bindings (selector_view self.now) entry.now))) }
         // A name means the last entry that is bound to it.
-        ensures last { IfOk result (λ o. IfSome o (λ b. (name : List ℕ) → named_in b name ≡ last_bound name (bindings (meant self.now) entry.now))) }
+        ensures last { IfOk result (λ o. IfSome o (λ b. (name : List ℕ)
+            → named_in b name ≡ last_bound name (bindings (selector_view self.now) entry.now))) }
     {
         let mut found = Vec::new(alloc);
         if !self.root.bind(entry, &mut found)? {
@@ -87,7 +90,8 @@ impl Selector {
         entry: &'e Entry,
         name: &str,
     ) -> Result<Option<&'e Entry>, AllocError>
-        ensures { IfOk result (λ e. option_copied e ≡ bound_to (meant self.now) entry.now name.now) }
+        ensures { IfOk result (λ e. option_copied e
+            ≡ bound_to (selector_view self.now) entry.now name.now) }
     {
         match self.apply(alloc, entry)? {
             Some(bindings) => Ok(bindings.get(name)),
@@ -98,7 +102,7 @@ impl Selector {
 
 /// The selector of the tree that the text spells.
 fn rooted(alloc: Global, text: &str) -> Result<Selector, SelectorError>
-    ensures { Gives fault meant result (selector_of (chars text.now)) }
+    ensures { Gives fault selector_view result (selector_of (chars text.now)) }
 {
     let root = read_selector(alloc, text)?;
     Ok(Selector { root })

@@ -3,7 +3,7 @@
 ghost use Rattle.std.specs.Prelude.{◌≡◌, Some, None, MatchOption};
 ghost use Rattle.std.specs.Str.{chars};
 ghost use Rattle.literature_selectors.specs.Tokens.{token_at};
-ghost use Rattle.literature_selectors.specs.TokenViews.{token};
+ghost use Rattle.literature_selectors.specs.TokenViews.{token_view};
 
 use crate::character::{is_name_character, is_sign, split_name};
 use texts::{Class, split_first, split_run};
@@ -18,7 +18,8 @@ pub(crate) enum Token<'s> {
 /// The first token after white space, and what follows it.
 #[tactic(auto, unfolding(crate::specs::Tokens::token_at))]
 pub(crate) fn split_token(text: &str) -> Option<(Token<'_>, &str)>
-    ensures { MatchOption result (token_at (chars text.now) ≡ None) (λ x. token_at (chars text.now) ≡ Some (token x.0, chars x.1.now)) }
+    ensures { MatchOption result (token_at (chars text.now) ≡ None) (λ x. token_at (chars text.now)
+        ≡ Some (token_view x.0, chars x.1.now)) }
 {
     let (_, text) = split_run(text, Class::Blank);
     let (c, rest) = split_first(text)?;

@@ -73,13 +73,13 @@ marked_passes y month day b exists = both_pass (side_text y month day) (mark_tex
 alone : (cs : List ℕ) → AllPassTest is_of_side cs → range_of cs ≡ date_of (side_of cs)
 alone cs all =
     let c = cuts is_of_side cs [] all tt in
-    ap range_of (sym (append-nil cs)) ∙ (λ i. range_with (c.front i) (c.after i))
+    ap range_of (sym (append-nil cs)) ∙ (λ i. range_with (c.prefix i) (c.after i))
 
 -- a text with a slash is a side and what follows it
 cut : (a b : List ℕ) → AllPassTest is_of_side a → range_of (a ++ 47 ∷ b) ≡ range_with a (47 ∷ b)
 cut a b all =
     let c = cuts is_of_side a (47 ∷ b) all refl in
-    (λ i. range_with (c.front i) (c.after i))
+    (λ i. range_with (c.prefix i) (c.after i))
 
 no_side : side_of (46 ∷ 46 ∷ []) ≡ Err NotThere
 unfolding side_of passes

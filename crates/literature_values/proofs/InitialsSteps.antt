@@ -4,12 +4,12 @@ use Rattle.std.specs.Fmt.{WritesInCalls}
 use Rattle.std.specs.List.{flat_map}
 use Rattle.laws.specs.Results.{◌>>=◌}
 use Rattle.laws.specs.Steps.{each, Shortens}
-use Rattle.laws.specs.Runs.{front_of, after}
+use Rattle.laws.specs.Runs.{prefix_of, after}
 use Rattle.laws.specs.Text.{text}
 use Rattle.std.proofs.Output.{writes_in_calls_nil, writes_in_calls_append}
 use Rattle.laws.proofs.Results.{ok_is}
 use Rattle.laws.proofs.Text.{text-append}
-use Rattle.laws.proofs.Runs.{length-after, front-after}
+use Rattle.laws.proofs.Runs.{length-after, prefix-after}
 use Rattle.laws.proofs.Steps.{each-none, each-some}
 use Rattle.texts.specs.Character.{passes}
 use Rattle.texts.specs.Reading.{taken}
@@ -28,7 +28,7 @@ taken-leaves c (d ∷ cs) = by_test (eqb d c)
 pub runs_shorten : Shortens next_run_at
 unfolding next_run_at
 runs_shorten cs rest r is =
-    by_run (front_of (passes Name) left) (ap length (front-after (passes Name) left) ∙ length-append (front_of (passes Name) left) (after (passes Name) left))
+    by_run (prefix_of (passes Name) left) (ap length (prefix-after (passes Name) left) ∙ length-append (prefix_of (passes Name) left) (after (passes Name) left))
     (ok_is {F = ⊥} (run_from (taken 45 (after (passes Blank) cs))) (Some r, rest) is)
   where
     left : List ℕ

@@ -3,7 +3,7 @@
 use Rattle.std.specs.Prelude.{ℕ, Bool, not, ◌==◌, ◌||◌, List, [], ◌∷◌, if◌then◌else◌, Some, Result, Ok, Err}
 use Rattle.std.specs.Str.{bytes_eq}
 use Rattle.laws.specs.Results.{◌>>=◌}
-use Rattle.laws.specs.Runs.{front_of, after}
+use Rattle.laws.specs.Runs.{prefix_of, after}
 use Rattle.literature_values.specs.Dates.{side_of, date_of}
 use Rattle.literature_values.specs.declared.date.Date.{Date}
 use Rattle.literature_values.specs.declared.date.Side.{Side}
@@ -49,4 +49,4 @@ range_with a (slash ∷ b) = if is_open b then (date_of (side_of a) >>= λ d. Ok
 
 -- the date or range that a text spells, or the first fault
 abbrev pub range_of : List ℕ → Result Date DateError
-range_of cs = range_with (front_of is_of_side cs) (after is_of_side cs)
+range_of cs = range_with (prefix_of is_of_side cs) (after is_of_side cs)

@@ -3,7 +3,7 @@ use Rattle.std.specs.Prelude.{ℕ, Bool, true, ◌&&◌, List, [], ◌∷◌, �
 use Rattle.std.specs.List.{flat_map}
 use Rattle.std.specs.Str.{chars, drop_trailing_whitespace}
 use Rattle.laws.specs.Steps.{each}
-use Rattle.laws.specs.Runs.{front_of, after}
+use Rattle.laws.specs.Runs.{prefix_of, after}
 use Rattle.laws.specs.Text.{text}
 use Rattle.unicode_segmentation.specs.Grapheme.{graphemes}
 use Rattle.texts.specs.Character.{passes}
@@ -22,7 +22,7 @@ run_after hyphen (c ∷ cs) rest = (Some (record { is_hyphenated = hyphen; name 
 
 -- what follows white space and hyphens, of which the first that is no white space decides
 abbrev pub run_from : Bool × List ℕ → Option Run × List ℕ
-run_from (hyphen, cs) = run_after hyphen (front_of (passes Name) (after (passes Apart) cs)) (after (passes Name) (after (passes Apart) cs))
+run_from (hyphen, cs) = run_after hyphen (prefix_of (passes Name) (after (passes Apart) cs)) (after (passes Name) (after (passes Apart) cs))
 
 -- the next run, or nothing at the end; there is no fault
 unfoldable pub next_run_at : List ℕ → Result (Option Run × List ℕ) ⊥

@@ -3,7 +3,7 @@ use Rattle.std.specs.Prelude.{ℕ, List, map, Option}
 use Rattle.url.specs.Parts.{serialize}
 use Rattle.laws.specs.Text.{characters}
 use Rattle.literature_values.specs.declared.date.Date.{Date}
-use Rattle.literature_values.specs.TypedViews.{ValueOrText, value_or_text}
+use Rattle.literature_values.specs.TypedViews.{ValueOrText, typed_view}
 use Rattle.literature_values.specs.declared.qualified_url.QualifiedUrl.{QualifiedUrl}
 use Rattle.literature_values.specs.declared.serial_number.SerialNumber.{SerialNumber}
 
@@ -13,9 +13,9 @@ pub record Address : Type 0 where
   pub visit_date : Option Date
 
 -- the address as it is written, and the day
-abbrev pub address : QualifiedUrl → Address
-address u = record { value = value_or_text serialize u.value; visit_date = u.visit_date }
+abbrev pub address_view : QualifiedUrl → Address
+address_view u = record { value = typed_view serialize u.value; visit_date = u.visit_date }
 
 -- the numbers after the names of their schemes, in the order of the names
-abbrev pub numbers_by_scheme : SerialNumber → List (List ℕ × List ℕ)
-numbers_by_scheme s = map (λ p. (characters p.0, characters p.1)) s.0.entries
+abbrev pub serial_numbers_view : SerialNumber → List (List ℕ × List ℕ)
+serial_numbers_view s = map (λ p. (characters p.0, characters p.1)) s.0.entries

@@ -18,8 +18,8 @@ pub record Named : Type 0 where
   pub suffix : Option (List ℕ)
 
 -- the characters of the four parts
-abbrev pub person : Person → Named
-person p = record {
+abbrev pub person_view : Person → Named
+person_view p = record {
   name = characters p.name;
   given_name = option_map characters p.given_name;
   prefix = option_map characters p.prefix;
@@ -27,12 +27,12 @@ person p = record {
 }
 
 -- a run by its characters
-abbrev pub run : NameRun → Run
-run r = record { is_hyphenated = r.is_hyphenated; name = chars r.name.now }
+abbrev pub run_view : NameRun → Run
+run_view r = record { is_hyphenated = r.is_hyphenated; name = chars r.name.now }
 
 -- a style by its characters
-abbrev pub initials_style : InitialsStyle → Style
-initials_style s = record { trimmed = chars s.trimmed.now; dropped = chars s.dropped.now; with_hyphen = s.with_hyphen }
+abbrev pub initials_style_view : InitialsStyle → Style
+initials_style_view s = record { trimmed = chars s.trimmed.now; dropped = chars s.dropped.now; with_hyphen = s.with_hyphen }
 
 -- the characters of a text, where there is one
 abbrev pub borrowed : Option (Bor (List ℕ)) → List ℕ
@@ -45,5 +45,5 @@ owned None = []
 owned (Some s) = characters s
 
 -- the characters of the given name, where there is one
-abbrev pub given : Person → List ℕ
-given p = owned p.given_name
+abbrev pub given_name_view : Person → List ℕ
+given_name_view p = owned p.given_name

@@ -18,23 +18,23 @@ pub record Format : Type 0 where
   pub value : List Chunk
   pub short : Option (List Chunk)
 
--- a publisher: its name and its place
+-- a publisher: its name and its location
 pub record Publishing : Type 0 where
   pub name : Option Format
   pub location : Option Format
 
 -- a piece by its characters and its kind
-abbrev pub chunk : StringChunk → Chunk
-chunk c = record { value = characters c.value; kind = c.kind }
+abbrev pub chunk_view : StringChunk → Chunk
+chunk_view c = record { value = characters c.value; kind = c.kind }
 
 -- the pieces in order
-abbrev pub chunks : ChunkedString → List Chunk
-chunks s = map chunk s.0.items
+abbrev pub chunks_view : ChunkedString → List Chunk
+chunks_view s = map chunk_view s.0.items
 
 -- the text and its short form
-abbrev pub format : FormatString → Format
-format f = record { value = chunks f.value; short = option_map chunks f.short }
+abbrev pub format_view : FormatString → Format
+format_view f = record { value = chunks_view f.value; short = option_map chunks_view f.short }
 
--- the name and the place
-abbrev pub publishing : Publisher → Publishing
-publishing p = record { name = option_map format p.name; location = option_map format p.location }
+-- the name and the location
+abbrev pub publishing_view : Publisher → Publishing
+publishing_view p = record { name = option_map format_view p.name; location = option_map format_view p.location }

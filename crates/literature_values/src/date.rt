@@ -4,7 +4,7 @@ ghost use Rattle.std.specs.Prelude.{◌≡◌, ◌≤◌, Some, Ok, IfOk, unsign
 ghost use Rattle.std.specs.Fmt.{DisplaysOnOk};
 ghost use Rattle.std.specs.Str.{chars};
 ghost use Rattle.laws.specs.Results.{Reads, Passes};
-ghost use Rattle.laws.specs.Runs.{front_of, after};
+ghost use Rattle.laws.specs.Runs.{prefix_of, after};
 ghost use Rattle.literature_values.specs.Dates.{minutes_at, offset_at, clock_at, time_at, year_at, side_of, year_alone, in_month, day_of, month_of, date_of};
 ghost use Rattle.literature_values.specs.DateRanges.{is_of_side, is_open, with_open_end, with_end, between, range_of};
 ghost use Rattle.laws.specs.Text.{text as text_of};
@@ -100,7 +100,7 @@ impl CharacterClass for OfSide {
 
 /// What stands before the first slash, and what follows it, with the slash.
 fn split_side(text: &str) -> (&str, &str)
-    ensures front { chars result.0.now ≡ front_of is_of_side (chars text.now) }
+    ensures prefix { chars result.0.now ≡ prefix_of is_of_side (chars text.now) }
     ensures rest { chars result.1.now ≡ after is_of_side (chars text.now) }
 {
     split_run(text, OfSide)
@@ -194,7 +194,8 @@ fn read_side(text: &str) -> Result<Side, Unreadable>
 
 /// Four digits, as a year before or after the year 0.
 fn read_year(reader: &mut Reader, is_negative: bool) -> Result<i32, Unreadable>
-    ensures reads { Reads (λ y. y) result (left reader.new) (year_at is_negative (left reader.old)) }
+    ensures reads { Reads (λ y. y) result (left reader.new)
+        (year_at is_negative (left reader.old)) }
     ensures years { IfOk result (λ y. unsigned_abs y ≤ 9999) }
 {
     let year = reader.digits(4, 4)?;
@@ -336,7 +337,8 @@ fn write_side<W: fmt::Write>(
     day: Option<u8>,
     f: &mut fmt::Formatter<W>,
 ) -> fmt::Result
-    ensures { DisplaysOnOk W.write_str_gives f.old result (Some (text_of (side_text year month day))) f.new }
+    ensures { DisplaysOnOk W.write_str_gives f.old result
+        (Some (text_of (side_text year month day))) f.new }
 {
     write_year(year, f)?;
     write_month(month, day, f)
@@ -348,7 +350,8 @@ fn write_end<W: fmt::Write>(
     is_approximate: bool,
     f: &mut fmt::Formatter<W>,
 ) -> fmt::Result
-    ensures { DisplaysOnOk W.write_str_gives f.old result (Some (text_of (end_text is_approximate end))) f.new }
+    ensures { DisplaysOnOk W.write_str_gives f.old result
+        (Some (text_of (end_text is_approximate end))) f.new }
 {
     match end {
         None => write_mark(is_approximate, f),
@@ -370,7 +373,8 @@ fn write_last_side<W: fmt::Write>(
     is_approximate: bool,
     f: &mut fmt::Formatter<W>,
 ) -> fmt::Result
-    ensures { DisplaysOnOk W.write_str_gives f.old result (Some (text_of (end_text is_approximate (Some (On year month day))))) f.new }
+    ensures { DisplaysOnOk W.write_str_gives f.old result
+        (Some (text_of (end_text is_approximate (Some (On year month day))))) f.new }
 {
     f.write_str("/")?;
     write_side(year, month, day, f)?;
@@ -383,7 +387,8 @@ fn write_month<W: fmt::Write>(
     day: Option<u8>,
     f: &mut fmt::Formatter<W>,
 ) -> fmt::Result
-    ensures { DisplaysOnOk W.write_str_gives f.old result (Some (text_of (month_text month day))) f.new }
+    ensures { DisplaysOnOk W.write_str_gives f.old result
+        (Some (text_of (month_text month day))) f.new }
 {
     let Some(month) = month else {
         return Ok(());
@@ -397,7 +402,8 @@ fn write_month<W: fmt::Write>(
 
 /// Writes the mark of an approximate date.
 fn write_mark<W: fmt::Write>(is_approximate: bool, f: &mut fmt::Formatter<W>) -> fmt::Result
-    ensures { DisplaysOnOk W.write_str_gives f.old result (Some (text_of (mark_text is_approximate))) f.new }
+    ensures { DisplaysOnOk W.write_str_gives f.old result
+        (Some (text_of (mark_text is_approximate))) f.new }
 {
     if is_approximate {
         return f.write_str("~");

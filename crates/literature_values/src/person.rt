@@ -6,7 +6,7 @@ ghost use Rattle.std.specs.Option.{option_map};
 ghost use Rattle.std.specs.Str.{chars, drop_trailing_whitespace};
 ghost use Rattle.laws.specs.Text.{text as text_of};
 ghost use Rattle.literature_values.specs.Initials.{next_run_at, cluster, style, initial, between, further, initials_of};
-ghost use Rattle.literature_values.specs.PersonViews.{person, run, initials_style, borrowed, given};
+ghost use Rattle.literature_values.specs.PersonViews.{person_view, run_view, initials_style_view, borrowed, given_name_view};
 ghost use Rattle.texts.specs.Views.{left};
 
 use std::alloc::AllocError;
@@ -33,7 +33,7 @@ struct InitialsStyle<'s> {
 
 impl Person {
     /// Writes the initials of the given name: of each run without white space and hyphens its first grapheme cluster
-    /// and the delimiter; between runs with a hyphen between them, where hyphens are asked, a hyphen in place of the
+    /// and the delimiter; between runs with a hyphen between them, where hyphens are asked, a hyphen instead of the
     /// white space at the delimiter's end. The white space at the end of the last delimiter is not written.
     ///
     /// # Errors
@@ -45,7 +45,8 @@ impl Person {
         with_hyphen: bool,
     ) -> fmt::Result
         // What the writer took is exactly the initials.
-        ensures { IsOk result → WritesInCalls W.write_str_gives writer.old (text_of (initials_of (style (borrowed delimiter.entry) with_hyphen) (given self.now))) writer.new }
+        ensures { IsOk result → WritesInCalls W.write_str_gives writer.old (text_of (initials_of
+            (style (borrowed delimiter.entry) with_hyphen) (given_name_view self.now))) writer.new }
     {
         let Some(given) = &self.given_name else {
             return Ok(());
@@ -55,7 +56,7 @@ impl Person {
 }
 
 impl Clone for Person {
-    ghost is_clone = { λ p q. person q ≡ person p };
+    ghost is_clone = { λ p q. person_view q ≡ person_view p };
 
     fn clone(&self) -> Result<Person, AllocError> {
         Ok(Person {
@@ -69,7 +70,7 @@ impl Clone for Person {
 
 /// How initials are parted.
 fn style<'s>(delimiter: Option<&'s str>, with_hyphen: bool) -> InitialsStyle<'s>
-    ensures { initials_style result ≡ style (borrowed delimiter.entry) with_hyphen }
+    ensures { initials_style_view result ≡ style (borrowed delimiter.entry) with_hyphen }
 {
     let (trimmed, dropped) = split_trailing(borrowed(delimiter));
     InitialsStyle {
@@ -92,7 +93,8 @@ fn borrowed<'s>(text: Option<&'s str>) -> &'s str
 /// Writes the initials of given names.
 #[tactic(auto, unfolding(crate::specs::Initials::initials_of))]
 fn write_initials<W: fmt::Write>(given: &str, style: InitialsStyle, writer: &mut W) -> fmt::Result
-    ensures { IsOk result → WritesInCalls W.write_str_gives writer.old (text_of (initials_of (initials_style style.entry) (chars given.now))) writer.new }
+    ensures { IsOk result → WritesInCalls W.write_str_gives writer.old
+        (text_of (initials_of (initials_style_view style.entry) (chars given.now))) writer.new }
 {
     let mut reader = Reader::new(given);
     let Some(first) = next_run(&mut reader) else {
@@ -107,7 +109,8 @@ fn write_initials<W: fmt::Write>(given: &str, style: InitialsStyle, writer: &mut
 
 /// Writes the initial of a run after another one.
 fn write_further<W: fmt::Write>(next: NameRun, style: InitialsStyle, writer: &mut W) -> fmt::Result
-    ensures { IsOk result → WritesInCalls W.write_str_gives writer.old (text_of (further (initials_style style.entry) (run next.entry))) writer.new }
+    ensures { IsOk result → WritesInCalls W.write_str_gives writer.old
+        (text_of (further (initials_style_view style.entry) (run_view next.entry))) writer.new }
 {
     write_text(between(next.is_hyphenated, style), writer)?;
     write_initial(next.name, style, writer)
@@ -115,7 +118,7 @@ fn write_further<W: fmt::Write>(next: NameRun, style: InitialsStyle, writer: &mu
 
 /// What stands between two initials.
 fn between<'s>(is_hyphenated: bool, style: InitialsStyle<'s>) -> &'s str
-    ensures { chars result.now ≡ between (initials_style style.entry) is_hyphenated }
+    ensures { chars result.now ≡ between (initials_style_view style.entry) is_hyphenated }
 {
     if style.with_hyphen && is_hyphenated {
         return "-";
@@ -125,7 +128,8 @@ fn between<'s>(is_hyphenated: bool, style: InitialsStyle<'s>) -> &'s str
 
 /// Writes the first cluster of a run, and the delimiter without the white space at its end.
 fn write_initial<W: fmt::Write>(name: &str, style: InitialsStyle, writer: &mut W) -> fmt::Result
-    ensures { IsOk result → WritesInCalls W.write_str_gives writer.old (text_of (initial (initials_style style.entry) (chars name.now))) writer.new }
+    ensures { IsOk result → WritesInCalls W.write_str_gives writer.old
+        (text_of (initial (initials_style_view style.entry) (chars name.now))) writer.new }
 {
     write_text(first_cluster(name), writer)?;
     write_text(style.trimmed, writer)
@@ -133,7 +137,8 @@ fn write_initial<W: fmt::Write>(name: &str, style: InitialsStyle, writer: &mut W
 
 /// Writes a text.
 fn write_text<W: fmt::Write>(text: &str, writer: &mut W) -> fmt::Result
-    ensures { IsOk result → WritesInCalls W.write_str_gives writer.old (text_of (chars text.now)) writer.new }
+    ensures { IsOk result
+        → WritesInCalls W.write_str_gives writer.old (text_of (chars text.now)) writer.new }
 {
     writer.write_str(text)
 }
@@ -148,7 +153,7 @@ struct NameRun<'s> {
 /// The next run, or nothing at the end.
 #[tactic(auto, unfolding(crate::specs::Initials::next_run_at))]
 fn next_run<'s>(reader: &mut Reader<'s>) -> Option<NameRun<'s>>
-    ensures { next_run_at (left reader.old) ≡ Ok (option_map run result, left reader.new) }
+    ensures { next_run_at (left reader.old) ≡ Ok (option_map run_view result, left reader.new) }
 {
     reader.run(Class::Blank);
     let is_hyphenated = reader.take('-');
@@ -174,7 +179,8 @@ fn first_cluster(text: &str) -> &str
 /// The text without the white space at its end, and that white space.
 fn split_trailing(text: &str) -> (&str, &str)
     ensures trimmed { chars result.0.now ≡ drop_trailing_whitespace (chars text.now) }
-    ensures dropped { chars result.1.now ≡ drop (length (drop_trailing_whitespace (chars text.now))) (chars text.now) }
+    ensures dropped { chars result.1.now
+        ≡ drop (length (drop_trailing_whitespace (chars text.now))) (chars text.now) }
 {
     text.split_at(text.trim_end().len())
 }

@@ -1,12 +1,12 @@
 //! Publishers.
 
 ghost use Rattle.std.specs.Prelude.{◌≡◌};
-ghost use Rattle.literature_values.specs.TextViews.{publishing};
+ghost use Rattle.literature_values.specs.TextViews.{publishing_view};
 
 use crate::text::FormatString;
 use std::alloc::AllocError;
 
-/// A publisher by name and place.
+/// A publisher by name and location.
 #[derive(Debug, PartialEq, Eq, Drop)]
 pub struct Publisher {
     pub name: Option<FormatString>,
@@ -14,7 +14,7 @@ pub struct Publisher {
 }
 
 impl Clone for Publisher {
-    ghost is_clone = { λ p q. publishing q ≡ publishing p };
+    ghost is_clone = { λ p q. publishing_view q ≡ publishing_view p };
 
     fn clone(&self) -> Result<Publisher, AllocError> {
         Ok(Publisher {

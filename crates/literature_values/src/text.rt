@@ -1,7 +1,7 @@
 //! Texts in pieces of a kind.
 
 ghost use Rattle.std.specs.Prelude.{◌≡◌};
-ghost use Rattle.literature_values.specs.TextViews.{chunk, chunks, format};
+ghost use Rattle.literature_values.specs.TextViews.{chunk_view, chunks_view, format_view};
 
 use std::alloc::AllocError;
 
@@ -35,7 +35,7 @@ pub struct FormatString {
 }
 
 impl Clone for StringChunk {
-    ghost is_clone = { λ a b. chunk b ≡ chunk a };
+    ghost is_clone = { λ a b. chunk_view b ≡ chunk_view a };
 
     fn clone(&self) -> Result<StringChunk, AllocError> {
         Ok(StringChunk {
@@ -46,7 +46,7 @@ impl Clone for StringChunk {
 }
 
 impl Clone for ChunkedString {
-    ghost is_clone = { λ a b. chunks b ≡ chunks a };
+    ghost is_clone = { λ a b. chunks_view b ≡ chunks_view a };
 
     fn clone(&self) -> Result<ChunkedString, AllocError> {
         let mut copied = Vec::with_capacity(*self.0.allocator(), self.0.len())?;
@@ -58,7 +58,7 @@ impl Clone for ChunkedString {
 }
 
 impl Clone for FormatString {
-    ghost is_clone = { λ a b. format b ≡ format a };
+    ghost is_clone = { λ a b. format_view b ≡ format_view a };
 
     fn clone(&self) -> Result<FormatString, AllocError> {
         Ok(FormatString {

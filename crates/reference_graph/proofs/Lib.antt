@@ -1,13 +1,13 @@
 pub mod SearchLists
 pub mod ReferencesWalks
-pub mod SearchPlaces
+pub mod SearchVisits
 pub mod SearchTaking
 pub mod SearchEntering
 pub mod SearchMerging
 pub mod SearchLeaving
 pub mod SearchFinishing
 pub mod SearchWeighing
-pub mod SearchBeginning
+pub mod SearchBegun
 pub mod SearchEnding
 pub mod SearchVectors
 pub mod SearchFollowing

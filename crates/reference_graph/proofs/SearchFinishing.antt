@@ -6,19 +6,19 @@ use Rattle.std.proofs.lemmas.List.Elements.{Contains-append_left, Contains-appen
 use Rattle.std.proofs.lemmas.Bool.{cases_eq, cases_lt}
 use Rattle.reference_graph.specs.References.{references_of, IsCircular}
 use Rattle.reference_graph.specs.Order.{is_marked, StandsAfter}
-use Rattle.reference_graph.specs.declared.search.Place.{Place}
-use Rattle.reference_graph.specs.declared.search.Place.TheVariants.{New, At, Done}
-use Rattle.reference_graph.specs.Search.{State, place_of, unread_of, front, last, written, left, finished}
+use Rattle.reference_graph.specs.declared.search.Visit.{Visit}
+use Rattle.reference_graph.specs.declared.search.Visit.TheVariants.{New, At, Done}
+use Rattle.reference_graph.specs.Search.{State, visit_of, unread_of, without_last, last, written, left, finished}
 use Rattle.reference_graph.specs.Invariant.{IsInvariant, IsSettled, NoStart, IsMet, tally, IsRing, IsGroupRead}
-use Rattle.reference_graph.proofs.SearchLists.{drop_has, in_drop, place_in, front_has, front_or_last, front_rises, front_below, last_top, has_last, written_long, written_not, written_at}
+use Rattle.reference_graph.proofs.SearchLists.{drop_has, in_drop, index_in, without_last_has, before_or_last, without_last_rises, without_last_below, last_top, has_last, written_long, written_not, written_at}
 use Rattle.reference_graph.proofs.ReferencesWalks.{circular_by, circular_at_once, stays}
-use Rattle.reference_graph.proofs.SearchPlaces.{there_is, same_place, path_below, on_or_off}
+use Rattle.reference_graph.proofs.SearchVisits.{there_is, same_index, path_below, on_or_off}
 
--- the group has no part before the place
-off_group : (R : List (List ℕ)) (s : State) → IsInvariant R s → (q v : ℕ) → ((i : ℕ) → place_of s v ≡ At i → i < q) → Contains (drop q s.path) v → ⊥
+-- the group has no part before the index
+off_group : (R : List (List ℕ)) (s : State) → IsInvariant R s → (q v : ℕ) → ((i : ℕ) → visit_of s v ≡ At i → i < q) → Contains (drop q s.path) v → ⊥
 off_group R s k q v off c =
     let p = drop_has q s.path v c in
-    let a : place_of s v ≡ At p.0 = subst (λ (x : ℕ). place_of s x ≡ At p.0) p.3 (k.placed p.0 p.2) in
+    let a : visit_of s v ≡ At p.0 = subst (λ (x : ℕ). visit_of s x ≡ At p.0) p.3 (k.visited p.0 p.2) in
     let b = off p.0 a in
     omega arith
 
@@ -43,33 +43,33 @@ group R s q c k g = record {
 }
 
 -- where numbers are after the step
-keeps_place : (R : List (List ℕ)) (s : State) (q : ℕ) (c : Bool) → Group R s q c → (v : ℕ) (p : Place) → place_of s v ≡ p → ((i : ℕ) → p ≡ At i → i < q) → place_of (finished s q c) v ≡ p
-keeps_place R s q c g v p e off = written_not (drop q s.path) Done s.places v Done (off_group R s g.holds q v (λ i a. off i (sym e ∙ a))) ∙ e
+keeps_visit : (R : List (List ℕ)) (s : State) (q : ℕ) (c : Bool) → Group R s q c → (v : ℕ) (p : Visit) → visit_of s v ≡ p → ((i : ℕ) → p ≡ At i → i < q) → visit_of (finished s q c) v ≡ p
+keeps_visit R s q c g v p e off = written_not (drop q s.path) Done s.visits v Done (off_group R s g.holds q v (λ i a. off i (sym e ∙ a))) ∙ e
 
-turns_done : (R : List (List ℕ)) (s : State) (q : ℕ) (c : Bool) → Group R s q c → (v i : ℕ) → place_of s v ≡ At i → q ≤ i → place_of (finished s q c) v ≡ Done
+turns_done : (R : List (List ℕ)) (s : State) (q : ℕ) (c : Bool) → Group R s q c → (v i : ℕ) → visit_of s v ≡ At i → q ≤ i → visit_of (finished s q c) v ≡ Done
 turns_done R s q c g v i e le =
     let h = g.holds.found v i e in
-    written_at (drop q s.path) Done s.places v Done (in_drop q s.path i v le h.0 h.1) (there_is s v (At i) e (λ f. absurd cc))
+    written_at (drop q s.path) Done s.visits v Done (in_drop q s.path i v le h.0 h.1) (there_is s v (At i) e (λ f. absurd cc))
 
 -- where they were before it
-data Change (R : List (List ℕ)) (s : State) (q v : ℕ) (new : Place) : Type 0 where
-  same : place_of s v ≡ new → ((i : ℕ) → place_of s v ≡ At i → i < q) → Change R s q v new
-  done : (i : ℕ) → place_of s v ≡ At i → q ≤ i → i < length s.path → get_or s.path i 0 ≡ v → new ≡ Done → Change R s q v new
+data Change (R : List (List ℕ)) (s : State) (q v : ℕ) (new : Visit) : Type 0 where
+  same : visit_of s v ≡ new → ((i : ℕ) → visit_of s v ≡ At i → i < q) → Change R s q v new
+  done : (i : ℕ) → visit_of s v ≡ At i → q ≤ i → i < length s.path → get_or s.path i 0 ≡ v → new ≡ Done → Change R s q v new
 
-change : (R : List (List ℕ)) (s : State) (q : ℕ) (c : Bool) → Group R s q c → (v : ℕ) → Change R s q v (place_of (finished s q c) v)
-change R s q c g v = elim (on_or_off (place_of s v)) [
+change : (R : List (List ℕ)) (s : State) (q : ℕ) (c : Bool) → Group R s q c → (v : ℕ) → Change R s q v (visit_of (finished s q c) v)
+change R s q c g v = elim (on_or_off (visit_of s v)) [
   | inl p ↦ elim (cases_lt p.0 q) [
-    | inl lt ↦ same (p.1 ∙ sym (keeps_place R s q c g v (At p.0) p.1 (λ i e. let f : p.0 ≡ i = cc in omega arith))) (λ i e. let f : p.0 ≡ i = cc in omega arith)
+    | inl lt ↦ same (p.1 ∙ sym (keeps_visit R s q c g v (At p.0) p.1 (λ i e. let f : p.0 ≡ i = cc in omega arith))) (λ i e. let f : p.0 ≡ i = cc in omega arith)
     | inr le ↦ let h = g.holds.found v p.0 p.1 in done p.0 p.1 le h.0 h.1 (turns_done R s q c g v p.0 p.1 le)
   ]
-  | inr off ↦ same (sym (keeps_place R s q c g v (place_of s v) refl (λ i e. absurd (off i e)))) (λ i e. absurd (off i e))
+  | inr off ↦ same (sym (keeps_visit R s q c g v (visit_of s v) refl (λ i e. absurd (off i e)))) (λ i e. absurd (off i e))
 ]
 
 -- no group begins inside the last one
 inside_group : (R : List (List ℕ)) (s : State) (q : ℕ) (c : Bool) → Group R s q c → (i j : ℕ) → q ≤ j → NoStart s j i
 inside_group R s q c g i j le b h low high = let t = g.top b h in absurd (omega arith)
 
--- a place that is in the group of another in the last group, or after it, is in the last group
+-- an index that is in the group of another in the last group, or after it, is in the last group
 not_before : (R : List (List ℕ)) (s : State) (q : ℕ) (c : Bool) → Group R s q c → (i j : ℕ) → q ≤ i → NoStart s j i → q ≤ j
 not_before R s q c g i j le none = elim (cases_lt j q) [
   | inl lt ↦ absurd (none q g.start lt le)
@@ -88,9 +88,9 @@ all_read R s q c g i le hi = elim (g.holds.read i hi) [
 ]
 
 -- what the last group refers to is done, or in it
-refers_inside : (R : List (List ℕ)) (s : State) (q : ℕ) (c : Bool) → Group R s q c → (i r : ℕ) → q ≤ i → i < length s.path → Contains (references_of R (get_or s.path i 0)) r → (place_of s r ≡ Done) ⊎ ((j : ℕ) × (place_of s r ≡ At j) × (q ≤ j))
+refers_inside : (R : List (List ℕ)) (s : State) (q : ℕ) (c : Bool) → Group R s q c → (i r : ℕ) → q ≤ i → i < length s.path → Contains (references_of R (get_or s.path i 0)) r → (visit_of s r ≡ Done) ⊎ ((j : ℕ) × (visit_of s r ≡ At j) × (q ≤ j))
 refers_inside R s q c g i r le hi h =
-    let p = place_in (references_of R (get_or s.path i 0)) r h in
+    let p = index_in (references_of R (get_or s.path i 0)) r h in
     let z = all_read R s q c g i le hi in
     let b : IsSettled s i r = subst (λ (x : ℕ). IsSettled s i x) p.2 (g.holds.settled i p.0 hi (omega arith) p.1) in
     elim b [
@@ -103,7 +103,7 @@ both_ways : (R : List (List ℕ)) (s : State) (q : ℕ) (c : Bool) → Group R s
 both_ways R s q c g i j li lj hi hj ne =
     let a = g.holds.joined i j hi hj (inside_group R s q c g i j lj) in
     let b = g.holds.joined j i hj hi (inside_group R s q c g j i li) in
-    circular_by R (get_or s.path i 0) (get_or s.path j 0) a b (λ e. ne (same_place R s g.holds i j hi hj e))
+    circular_by R (get_or s.path i 0) (get_or s.path j 0) a b (λ e. ne (same_index R s g.holds i j hi hj e))
 
 -- in a ring each number is circular
 ring_circular : (R : List (List ℕ)) (s : State) (q : ℕ) (c : Bool) → Group R s q c → IsRing R s q → (i : ℕ) → q ≤ i → i < length s.path → IsCircular R (get_or s.path i 0)
@@ -123,8 +123,8 @@ circular_ring R s q c g i le hi (n, (a, h, w)) = elim (cases_lt (q + 1) (length 
       let e : i ≡ q = omega arith in
       elim (refers_inside R s q c g i a le hi h) [
         | inl d ↦
-            let back : place_of s (get_or s.path i 0) ≡ Done = stays R (λ (x : ℕ). place_of s x ≡ Done) g.holds.closed a (get_or s.path i 0) n d w in
-            let here = g.holds.placed i hi in
+            let back : visit_of s (get_or s.path i 0) ≡ Done = stays R (λ (x : ℕ). visit_of s x ≡ Done) g.holds.closed a (get_or s.path i 0) n d w in
+            let here = g.holds.visited i hi in
             absurd cc
         | inr z ↦
             let k = g.holds.found a z.0 z.1 in
@@ -146,31 +146,31 @@ marked_sound R s q c g v marked = elim (change R s q c g v) [
   | same e off ↦ g.holds.sound v (sym (written_not (drop q s.path) c s.circular v false (off_group R s g.holds q v off)) ∙ marked)
   | done i a le hi is d ↦
       let there = there_is s v (At i) a (λ f. absurd cc) in
-      let l = g.holds.places_long in
+      let l = g.holds.visits_long in
       let l' = g.holds.marks_long in
       let w = written_at (drop q s.path) c s.circular v false (in_drop q s.path i v le hi is) (omega arith) in
       subst (λ (x : ℕ). IsCircular R x) is (ring_circular R s q c g (g.read.ring (sym w ∙ marked)) i le hi)
 ]
 
-marked_complete : (R : List (List ℕ)) (s : State) (q : ℕ) (c : Bool) → Group R s q c → (v : ℕ) → place_of (finished s q c) v ≡ Done → IsCircular R v → is_marked (written (drop q s.path) c s.circular) v ≡ true
+marked_complete : (R : List (List ℕ)) (s : State) (q : ℕ) (c : Bool) → Group R s q c → (v : ℕ) → visit_of (finished s q c) v ≡ Done → IsCircular R v → is_marked (written (drop q s.path) c s.circular) v ≡ true
 marked_complete R s q c g v d circular = elim (change R s q c g v) [
   | same e off ↦ written_not (drop q s.path) c s.circular v false (off_group R s g.holds q v off) ∙ g.holds.complete v (e ∙ d) circular
   | done i a le hi is d ↦
       let there = there_is s v (At i) a (λ f. absurd cc) in
-      let l = g.holds.places_long in
+      let l = g.holds.visits_long in
       let l' = g.holds.marks_long in
       let w = written_at (drop q s.path) c s.circular v false (in_drop q s.path i v le hi is) (omega arith) in
       w ∙ told R s q c g.read (circular_ring R s q c g i le hi (subst (λ (x : ℕ). IsCircular R x) (sym is) circular))
 ]
 
 -- the order
-tally_invariant : (R : List (List ℕ)) (s : State) (q : ℕ) (c : Bool) → Group R s q c → (v : ℕ) → tally (place_of (finished s q c) v) ≡ tally (place_of s v)
+tally_invariant : (R : List (List ℕ)) (s : State) (q : ℕ) (c : Bool) → Group R s q c → (v : ℕ) → tally (visit_of (finished s q c) v) ≡ tally (visit_of s v)
 tally_invariant R s q c g v = elim (change R s q c g v) [
   | same e off ↦ ap tally (sym e)
   | done i a le hi is d ↦ ap tally d ∙ sym (ap tally a)
 ]
 
-counted_once : (R : List (List ℕ)) (s : State) (q : ℕ) (c : Bool) → Group R s q c → (v : ℕ) → v < length R → count_by (λ x. eqb x v) (s.order ++ drop q s.path) + count_by (λ x. eqb x v) (take q s.path) ≡ tally (place_of (finished s q c) v)
+counted_once : (R : List (List ℕ)) (s : State) (q : ℕ) (c : Bool) → Group R s q c → (v : ℕ) → v < length R → count_by (λ x. eqb x v) (s.order ++ drop q s.path) + count_by (λ x. eqb x v) (take q s.path) ≡ tally (visit_of (finished s q c) v)
 counted_once R s q c g v h =
     let a = g.holds.once v h in
     let b = sum_by-append (λ (x : ℕ). cond {A = ℕ} (eqb x v) 1 0) s.order (drop q s.path) in
@@ -216,13 +216,13 @@ all_ordered R s q c g k h = elim (cases_lt k (length s.order)) [
 ]
 
 -- what remains on the path
-placed_before : (R : List (List ℕ)) (s : State) (q : ℕ) (c : Bool) → Group R s q c → (i : ℕ) → i < q → place_of (finished s q c) (get_or (take q s.path) i 0) ≡ At i
-placed_before R s q c g i lt =
+visited_before : (R : List (List ℕ)) (s : State) (q : ℕ) (c : Bool) → Group R s q c → (i : ℕ) → i < q → visit_of (finished s q c) (get_or (take q s.path) i 0) ≡ At i
+visited_before R s q c g i lt =
     let h = g.inside in
-    let a = keeps_place R s q c g (get_or s.path i 0) (At i) (g.holds.placed i (omega arith)) (λ j e. let f : i ≡ j = cc in omega arith) in
+    let a = keeps_visit R s q c g (get_or s.path i 0) (At i) (g.holds.visited i (omega arith)) (λ j e. let f : i ≡ j = cc in omega arith) in
     rw (get_or-take q s.path i 0 lt) a
 
-found_before : (R : List (List ℕ)) (s : State) (q : ℕ) (c : Bool) → Group R s q c → (v i : ℕ) → place_of (finished s q c) v ≡ At i → (i < length (take q s.path)) × (get_or (take q s.path) i 0 ≡ v)
+found_before : (R : List (List ℕ)) (s : State) (q : ℕ) (c : Bool) → Group R s q c → (v i : ℕ) → visit_of (finished s q c) v ≡ At i → (i < length (take q s.path)) × (get_or (take q s.path) i 0 ≡ v)
 found_before R s q c g v i e =
     let inside = g.inside in
     let l = length-take-le q s.path (omega arith) in
@@ -235,41 +235,41 @@ found_before R s q c g v i e =
       | done j a le hi is d ↦ absurd cc
     ]
 
-starts_before : (R : List (List ℕ)) (s : State) (q : ℕ) (c : Bool) → Group R s q c → (b : ℕ) → Contains s.starts b → b < q → Contains (front s.starts) b
-starts_before R s q c g b h lt = elim (front_or_last s.starts b h) [
+starts_before : (R : List (List ℕ)) (s : State) (q : ℕ) (c : Bool) → Group R s q c → (b : ℕ) → Contains s.starts b → b < q → Contains (without_last s.starts) b
+starts_before R s q c g b h lt = elim (before_or_last s.starts b h) [
   | inl f ↦ f
   | inr e ↦ let l = g.read.starts_last in absurd (omega arith)
 ]
 
-reading_before : (R : List (List ℕ)) (s : State) (q : ℕ) (c : Bool) → Group R s q c → (f : ℕ) → Contains s.reading f → f < q → Contains (front s.reading) f
-reading_before R s q c g f h lt = elim (front_or_last s.reading f h) [
+reading_before : (R : List (List ℕ)) (s : State) (q : ℕ) (c : Bool) → Group R s q c → (f : ℕ) → Contains s.reading f → f < q → Contains (without_last s.reading) f
+reading_before R s q c g f h lt = elim (before_or_last s.reading f h) [
   | inl h' ↦ h'
   | inr e ↦ let l = g.read.reading_last in absurd (omega arith)
 ]
 
 settled_before : (R : List (List ℕ)) (s : State) (q : ℕ) (c : Bool) → Group R s q c → (i r : ℕ) → i < q → IsSettled s i r → IsSettled (finished (left s) q c) i r
-settled_before R s q c g i r lt (inl d) = inl (keeps_place R s q c g r Done d (λ j e. absurd cc))
+settled_before R s q c g i r lt (inl d) = inl (keeps_visit R s q c g r Done d (λ j e. absurd cc))
 settled_before R s q c g i r lt (inr (j, a, none)) = elim (cases_lt j q) [
-  | inl before ↦ inr (j, keeps_place R s q c g r (At j) a (λ k e. let f : j ≡ k = cc in omega arith), λ b h low high. none b (front_has s.starts b h) low high)
+  | inl before ↦ inr (j, keeps_visit R s q c g r (At j) a (λ k e. let f : j ≡ k = cc in omega arith), λ b h low high. none b (without_last_has s.starts b h) low high)
   | inr le ↦ inl (turns_done R s q c g r j a le)
 ]
 
-closed_then : (R : List (List ℕ)) (s : State) (q : ℕ) (c : Bool) → Group R s q c → (v r : ℕ) → place_of (finished s q c) v ≡ Done → Contains (references_of R v) r → place_of (finished s q c) r ≡ Done
+closed_then : (R : List (List ℕ)) (s : State) (q : ℕ) (c : Bool) → Group R s q c → (v r : ℕ) → visit_of (finished s q c) v ≡ Done → Contains (references_of R v) r → visit_of (finished s q c) r ≡ Done
 closed_then R s q c g v r d h = elim (change R s q c g v) [
-  | same e off ↦ keeps_place R s q c g r Done (g.holds.closed v r (e ∙ d) h) (λ j f. absurd cc)
+  | same e off ↦ keeps_visit R s q c g r Done (g.holds.closed v r (e ∙ d) h) (λ j f. absurd cc)
   | done i a le hi is d' ↦ elim (refers_inside R s q c g i r le hi (subst (λ (x : ℕ). Contains (references_of R x) r) (sym is) h)) [
-    | inl f ↦ keeps_place R s q c g r Done f (λ j f. absurd cc)
+    | inl f ↦ keeps_visit R s q c g r Done f (λ j f. absurd cc)
     | inr z ↦ turns_done R s q c g r z.0 z.1 z.2
   ]
 ]
 
-listed_then : (R : List (List ℕ)) (s : State) (q : ℕ) (c : Bool) → Group R s q c → (v : ℕ) → place_of (finished s q c) v ≡ Done → v < length R → Contains (s.order ++ drop q s.path) v
+listed_then : (R : List (List ℕ)) (s : State) (q : ℕ) (c : Bool) → Group R s q c → (v : ℕ) → visit_of (finished s q c) v ≡ Done → v < length R → Contains (s.order ++ drop q s.path) v
 listed_then R s q c g v d lt = elim (change R s q c g v) [
   | same e off ↦ Contains-append_left s.order (drop q s.path) v (g.holds.listed v (e ∙ d) lt)
   | done i a le hi is d' ↦ Contains-append_right s.order (drop q s.path) v (in_drop q s.path i v le hi is)
 ]
 
-new_before : (R : List (List ℕ)) (s : State) (q : ℕ) (c : Bool) → Group R s q c → (v : ℕ) → place_of (finished s q c) v ≡ New → place_of s v ≡ New
+new_before : (R : List (List ℕ)) (s : State) (q : ℕ) (c : Bool) → Group R s q c → (v : ℕ) → visit_of (finished s q c) v ≡ New → visit_of s v ≡ New
 new_before R s q c g v e = elim (change R s q c g v) [
   | same f off ↦ f ∙ e
   | done i a le hi is d ↦ absurd cc
@@ -283,17 +283,17 @@ finished_of R s q c g =
     let reading_last = g.read.reading_last in
     let starts_last = g.read.starts_last in
     record {
-      places_long = written_long (drop q s.path) Done s.places ∙ k.places_long;
+      visits_long = written_long (drop q s.path) Done s.visits ∙ k.visits_long;
       unread_long = k.unread_long;
       marks_long = written_long (drop q s.path) c s.circular ∙ k.marks_long;
-      placed = λ i h. placed_before R s q c g i (omega arith);
+      visited = λ i h. visited_before R s q c g i (omega arith);
       found = found_before R s q c g;
       within = k.within;
       fresh = λ v e. k.fresh v (new_before R s q c g v e);
-      reading_rises = front_rises s.reading k.reading_rises;
-      reading_found = λ f h. let lt = front_below s.reading f k.reading_rises h in omega arith;
-      starts_rise = front_rises s.starts k.starts_rise;
-      starts_read = λ b h. let lt = front_below s.starts b k.starts_rise h in reading_before R s q c g b (k.starts_read b (front_has s.starts b h)) (omega arith);
+      reading_rises = without_last_rises s.reading k.reading_rises;
+      reading_found = λ f h. let lt = without_last_below s.reading f k.reading_rises h in omega arith;
+      starts_rise = without_last_rises s.starts k.starts_rise;
+      starts_read = λ b h. let lt = without_last_below s.starts b k.starts_rise h in reading_before R s q c g b (k.starts_read b (without_last_has s.starts b h)) (omega arith);
       starts_first = λ h. starts_before R s q c g 0 (k.starts_first (omega arith)) (omega arith);
       read = λ i h. let lt : i < q = omega arith in rw (get_or-take q s.path i 0 lt) (elim (k.read i (omega arith)) [
         | inl f ↦ inl (reading_before R s q c g i f lt)

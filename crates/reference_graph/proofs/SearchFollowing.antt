@@ -3,9 +3,9 @@ use Rattle.std.proofs.Common.{◌≡◌, ℕ, ◌<◌, ◌≤◌, inl, inr, List
 use Rattle.std.proofs.lemmas.List.{get_or_append_left}
 use Rattle.std.proofs.lemmas.List.Elements.{Contains-append_left}
 use Rattle.reference_graph.specs.References.{references_of}
-use Rattle.reference_graph.specs.declared.search.Place.{Place}
-use Rattle.reference_graph.specs.declared.search.Place.TheVariants.{New, At, Done}
-use Rattle.reference_graph.specs.Search.{State, place_of, last, weight, entered}
+use Rattle.reference_graph.specs.declared.search.Visit.{Visit}
+use Rattle.reference_graph.specs.declared.search.Visit.TheVariants.{New, At, Done}
+use Rattle.reference_graph.specs.Search.{State, visit_of, last, weight, entered}
 use Rattle.reference_graph.specs.Invariant.{IsInvariant, IsSettled, IsMet, Reaches, IsCutTo, FollowsTo}
 use Rattle.reference_graph.proofs.SearchLists.{has_last, last_top}
 use Rattle.reference_graph.proofs.ReferencesWalks.{reaches_on, refers}
@@ -13,7 +13,7 @@ use Rattle.reference_graph.proofs.SearchEntering.{entered_invariant, entered_met
 use Rattle.reference_graph.proofs.SearchMerging.{merged_invariant, merged_settled}
 use Rattle.reference_graph.proofs.SearchWeighing.{entered_less}
 
--- the number at place q is the one that was met last
+-- the number at index q is the one that was met last
 pub record IsLast (R : List (List ℕ)) (s : State) (q : ℕ) : Type 0 where
   pub holds : IsInvariant R s
   pub reading : Contains s.reading q
@@ -44,7 +44,7 @@ reaches_all : (R : List (List ℕ)) (s : State) (q r : ℕ) → IsLast R s q →
 reaches_all R s q r l c i hi =
     reaches_on R (get_or s.path i 0) (get_or s.path q 0) r (l.holds.joined i q hi l.inside (λ b h low high. let t = l.top b h in absurd (omega arith))) (refers R (get_or s.path q 0) r c)
 
-followed_new : (R : List (List ℕ)) (s : State) (q r : ℕ) → place_of s r ≡ New → IsLast R s q → Contains (references_of R (get_or s.path q 0)) r → IsFollowed R s (entered s r) q r
+followed_new : (R : List (List ℕ)) (s : State) (q r : ℕ) → visit_of s r ≡ New → IsLast R s q → Contains (references_of R (get_or s.path q 0)) r → IsFollowed R s (entered s r) q r
 followed_new R s q r e l c =
     let inside = l.inside in
     let w = entered_less s r e in
@@ -58,7 +58,7 @@ followed_new R s q r e l c =
       unread = refl;
     }
 
-followed_on : (R : List (List ℕ)) (s : State) (q r p : ℕ) (starts : List ℕ) → place_of s r ≡ At p → IsCutTo p s.starts starts → IsLast R s q → Contains (references_of R (get_or s.path q 0)) r → IsFollowed R s (record s { starts = starts }) q r
+followed_on : (R : List (List ℕ)) (s : State) (q r p : ℕ) (starts : List ℕ) → visit_of s r ≡ At p → IsCutTo p s.starts starts → IsLast R s q → Contains (references_of R (get_or s.path q 0)) r → IsFollowed R s (record s { starts = starts }) q r
 followed_on R s q r p starts e cut l c =
     let h = l.holds.found r p e in
     let edge : Reaches R (get_or s.path q 0) (get_or s.path p 0) = subst (λ (x : ℕ). Reaches R (get_or s.path q 0) x) (sym h.1) (refers R (get_or s.path q 0) r c) in
@@ -72,7 +72,7 @@ followed_on R s q r p starts e cut l c =
       unread = refl;
     }
 
-pub followed : (R : List (List ℕ)) (s new : State) (q r : ℕ) (p : Place) → place_of s r ≡ p → FollowsTo p s r new → IsLast R s q → Contains (references_of R (get_or s.path q 0)) r → IsFollowed R s new q r
+pub followed : (R : List (List ℕ)) (s new : State) (q r : ℕ) (p : Visit) → visit_of s r ≡ p → FollowsTo p s r new → IsLast R s q → Contains (references_of R (get_or s.path q 0)) r → IsFollowed R s new q r
 followed R s new q r New e f l c = subst (λ (x : State). IsFollowed R s x q r) (sym f) (followed_new R s q r e l c)
 followed R s new q r (At p) e f l c = subst (λ (x : State). IsFollowed R s x q r) (sym f.1) (followed_on R s q r p new.starts e f.0 l c)
 followed R s new q r Done e f l c = subst (λ (x : State). IsFollowed R s x q r) (sym f) (record {
@@ -85,7 +85,7 @@ followed R s new q r Done e f l c = subst (λ (x : State). IsFollowed R s x q r)
   unread = refl;
 })
 
-pub unread_stays : (s new : State) (r : ℕ) (p : Place) → FollowsTo p s r new → new.unread ≡ s.unread
+pub unread_stays : (s new : State) (r : ℕ) (p : Visit) → FollowsTo p s r new → new.unread ≡ s.unread
 unread_stays s new r New f = ap (λ (x : State). x.unread) f
 unread_stays s new r (At p) f = ap (λ (x : State). x.unread) f.1
 unread_stays s new r Done f = ap (λ (x : State). x.unread) f

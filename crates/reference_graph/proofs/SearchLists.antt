@@ -3,19 +3,19 @@ use Rattle.std.proofs.Common.{◌≡◌, ◌≢◌, ℕ, zero, suc, ◌+◌, ◌
 use Rattle.std.proofs.lemmas.List.{get_or_default, get_or_append_left, get_or_push, get_or_past, length_push}
 use Rattle.std.proofs.lemmas.List.Elements.{Contains-get_or}
 use Rattle.std.proofs.lemmas.Bool.{cases_eq, cases_lt}
-use Rattle.reference_graph.specs.Search.{front, last, written}
+use Rattle.reference_graph.specs.Search.{without_last, last, written}
 use Rattle.reference_graph.specs.Invariant.{Rising}
 
 -- where it stands
-pub place_in : (xs : List ℕ) (x : ℕ) → Contains xs x → (k : ℕ) × (k < length xs) × (get_or xs k 0 ≡ x)
-place_in xs x c = (c.0, c.1, get_or_default xs c.0 0 x c.1 ∙ c.2)
+pub index_in : (xs : List ℕ) (x : ℕ) → Contains xs x → (k : ℕ) × (k < length xs) × (get_or xs k 0 ≡ x)
+index_in xs x c = (c.0, c.1, get_or_default xs c.0 0 x c.1 ∙ c.2)
 
-pub stands_in : (xs : List ℕ) (k x : ℕ) → k < length xs → get_or xs k 0 ≡ x → Contains xs x
-stands_in xs k x h e = subst (λ (y : ℕ). Contains xs y) e (Contains-get_or xs k 0 h)
+pub contained_at : (xs : List ℕ) (k x : ℕ) → k < length xs → get_or xs k 0 ≡ x → Contains xs x
+contained_at xs k x h e = subst (λ (y : ℕ). Contains xs y) e (Contains-get_or xs k 0 h)
 
 pub take_has : (n : ℕ) (xs : List ℕ) (x : ℕ) → n ≤ length xs → Contains (take n xs) x → (k : ℕ) × (k < n) × (get_or xs k 0 ≡ x)
 take_has n xs x h c =
-    let p = place_in (take n xs) x c in
+    let p = index_in (take n xs) x c in
     let l = length-take-le n xs h in
     let lt : p.0 < n = omega arith in
     (p.0, lt, sym (get_or-take n xs p.0 0 lt) ∙ p.2)
@@ -23,11 +23,11 @@ take_has n xs x h c =
 pub in_take : (n : ℕ) (xs : List ℕ) (k x : ℕ) → n ≤ length xs → k < n → get_or xs k 0 ≡ x → Contains (take n xs) x
 in_take n xs k x h lt e =
     let l = length-take-le n xs h in
-    stands_in (take n xs) k x (omega arith) (get_or-take n xs k 0 lt ∙ e)
+    contained_at (take n xs) k x (omega arith) (get_or-take n xs k 0 lt ∙ e)
 
 pub drop_has : (n : ℕ) (xs : List ℕ) (x : ℕ) → Contains (drop n xs) x → (k : ℕ) × (n ≤ k) × (k < length xs) × (get_or xs k 0 ≡ x)
 drop_has n xs x c =
-    let p = place_in (drop n xs) x c in
+    let p = index_in (drop n xs) x c in
     let l = length-drop n xs in
     (n + p.0, omega arith, omega arith, sym (get_or-drop n xs p.0 0) ∙ p.2)
 
@@ -35,47 +35,47 @@ pub in_drop : (n : ℕ) (xs : List ℕ) (k x : ℕ) → n ≤ k → k < length x
 in_drop n xs k x h lt e =
     let l = length-drop n xs in
     let s : n + (k - n) ≡ k = omega arith in
-    stands_in (drop n xs) (k - n) x (omega arith) (get_or-drop n xs (k - n) 0 ∙ (ap (λ (j : ℕ). get_or xs j 0) s ∙ e))
+    contained_at (drop n xs) (k - n) x (omega arith) (get_or-drop n xs (k - n) 0 ∙ (ap (λ (j : ℕ). get_or xs j 0) s ∙ e))
 
 -- what `xs[i]` gives
 pub read_index : (xs : List ℕ) (i x : ℕ) → i < length xs → x ≡ get_or xs i x → get_or xs i 0 ≡ x
 read_index xs i x h e = get_or_default xs i 0 x h ∙ sym e
 
 pub has_last : (xs : List ℕ) (q : ℕ) → 0 < length xs → last xs ≡ q → Contains xs q
-has_last xs q some e = stands_in xs (length xs - 1) q (omega arith) e
+has_last xs q some e = contained_at xs (length xs - 1) q (omega arith) e
 
 -- all but the last
-pub front_has : (xs : List ℕ) (x : ℕ) → Contains (front xs) x → Contains xs x
-front_has xs x c =
+pub without_last_has : (xs : List ℕ) (x : ℕ) → Contains (without_last xs) x → Contains xs x
+without_last_has xs x c =
     let p = take_has (length xs - 1) xs x (omega arith) c in
-    stands_in xs p.0 x (omega arith) p.2
+    contained_at xs p.0 x (omega arith) p.2
 
-pub front_or_last : (xs : List ℕ) (x : ℕ) → Contains xs x → Contains (front xs) x ⊎ (x ≡ last xs)
-front_or_last xs x c =
-    let p = place_in xs x c in
+pub before_or_last : (xs : List ℕ) (x : ℕ) → Contains xs x → Contains (without_last xs) x ⊎ (x ≡ last xs)
+before_or_last xs x c =
+    let p = index_in xs x c in
     elim (cases_lt p.0 (length xs - 1)) [
       | inl h ↦ inl (in_take (length xs - 1) xs p.0 x (omega arith) h p.2)
       | inr h ↦ let e : p.0 ≡ length xs - 1 = omega arith in inr (sym p.2 ∙ ap (λ (j : ℕ). get_or xs j 0) e)
     ]
 
-pub front_rises : (xs : List ℕ) → Rising xs → Rising (front xs)
-front_rises xs rises i j h lt =
+pub without_last_rises : (xs : List ℕ) → Rising xs → Rising (without_last xs)
+without_last_rises xs rises i j h lt =
     let l = length-take-le (length xs - 1) xs (omega arith) in
     let hj : j < length xs - 1 = omega arith in
     let hi : i < length xs - 1 = omega arith in
     let r = rises i j h (omega arith) in
     rw (get_or-take (length xs - 1) xs i 0 hi, get_or-take (length xs - 1) xs j 0 hj) r
 
-pub front_below : (xs : List ℕ) (x : ℕ) → Rising xs → Contains (front xs) x → x < last xs
-front_below xs x rises c =
+pub without_last_below : (xs : List ℕ) (x : ℕ) → Rising xs → Contains (without_last xs) x → x < last xs
+without_last_below xs x rises c =
     let p = take_has (length xs - 1) xs x (omega arith) c in
     let r = rises p.0 (length xs - 1) p.1 (omega arith) in
     subst (λ (y : ℕ). y < last xs) p.2 r
 
 pub last_top : (xs : List ℕ) (x : ℕ) → Rising xs → Contains xs x → x ≤ last xs
 last_top xs x rises c =
-    elim (front_or_last xs x c) [
-      | inl h ↦ let r = front_below xs x rises h in omega arith
+    elim (before_or_last xs x c) [
+      | inl h ↦ let r = without_last_below xs x rises h in omega arith
       | inr e ↦ omega arith
     ]
 
@@ -121,8 +121,8 @@ written_long (k ∷ ks) x xs = written_long ks x (set xs k x) ∙ length-set xs 
 pub written_not : {X : Type 0} (ks : List ℕ) (x : X) (xs : List X) (i : ℕ) (d : X) → (Contains ks i → ⊥) → get_or (written ks x xs) i d ≡ get_or xs i d
 written_not [] x xs i d absent = refl
 written_not (k ∷ ks) x xs i d absent =
-    let ne : i ≢ k = λ e. absent (stands_in (k ∷ ks) 0 i (omega arith) (sym e)) in
-    written_not ks x (set xs k x) i d (λ c. let p = place_in ks i c in absent (stands_in (k ∷ ks) (suc p.0) i (omega arith) p.2)) ∙ get_or-set_other xs k i x d ne
+    let ne : i ≢ k = λ e. absent (contained_at (k ∷ ks) 0 i (omega arith) (sym e)) in
+    written_not ks x (set xs k x) i d (λ c. let p = index_in ks i c in absent (contained_at (k ∷ ks) (suc p.0) i (omega arith) p.2)) ∙ get_or-set_other xs k i x d ne
 
 -- a value that stays, once it is written
 pub written_stays : {X : Type 0} (ks : List ℕ) (x : X) (xs : List X) (i : ℕ) (d : X) → get_or xs i d ≡ x → i < length xs → get_or (written ks x xs) i d ≡ x

@@ -2,8 +2,8 @@
 use Rattle.std.proofs.Common.{◌≡◌, ℕ, ◌<◌, ◌≤◌, inl, inr, List, Contains, length, get_or, arith}
 use Rattle.std.proofs.lemmas.Bool.{cases_lt}
 use Rattle.reference_graph.specs.References.{references_of}
-use Rattle.reference_graph.specs.declared.search.Place.TheVariants.{At}
-use Rattle.reference_graph.specs.Search.{State, place_of}
+use Rattle.reference_graph.specs.declared.search.Visit.TheVariants.{At}
+use Rattle.reference_graph.specs.Search.{State, visit_of}
 use Rattle.reference_graph.specs.Invariant.{IsInvariant, IsSettled, Reaches, IsCutTo}
 use Rattle.reference_graph.proofs.ReferencesWalks.{reaches_on}
 
@@ -13,10 +13,10 @@ fewer s new p i r cut (inr (j, a, none)) = inr (j, a, λ b c low high. none b (c
 
 pub merged_invariant : (R : List (List ℕ)) (s : State) → IsInvariant R s → (p q : ℕ) (new : List ℕ) → IsCutTo p s.starts new → p < length s.path → q < length s.path → ((b : ℕ) → Contains s.starts b → b ≤ q) → Reaches R (get_or s.path q 0) (get_or s.path p 0) → IsInvariant R (record s { starts = new })
 merged_invariant R s k p q new cut hp hq top edge = record {
-  places_long = k.places_long;
+  visits_long = k.visits_long;
   unread_long = k.unread_long;
   marks_long = k.marks_long;
-  placed = k.placed;
+  visited = k.visited;
   found = k.found;
   within = k.within;
   fresh = k.fresh;
@@ -44,5 +44,5 @@ merged_invariant R s k p q new cut hp hq top edge = record {
 }
 
 -- what is in the group now
-pub merged_settled : (s : State) (p q r : ℕ) (new : List ℕ) → IsCutTo p s.starts new → place_of s r ≡ At p → IsSettled (record s { starts = new }) q r
+pub merged_settled : (s : State) (p q r : ℕ) (new : List ℕ) → IsCutTo p s.starts new → visit_of s r ≡ At p → IsSettled (record s { starts = new }) q r
 merged_settled s p q r new cut e = inr (p, e, λ b c low high. let u = cut.upto b c in absurd (omega arith))

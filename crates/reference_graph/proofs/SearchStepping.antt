@@ -2,7 +2,7 @@
 use Rattle.std.proofs.Common.{◌≡◌, ℕ, ◌-◌, ◌<◌, ◌↔◌, List, Bool, IsTrue, Contains, length, get_or, set, refl, sym, ap, subst, ◌∙◌, arith}
 use Rattle.std.proofs.lemmas.List.Elements.{Contains-get_or}
 use Rattle.reference_graph.specs.References.{references_of}
-use Rattle.reference_graph.specs.Search.{State, place_of, unread_of, last, taken, left, finished}
+use Rattle.reference_graph.specs.Search.{State, visit_of, unread_of, last, taken, left, finished}
 use Rattle.reference_graph.specs.Invariant.{IsInvariant, IsSettled, IsStep, IsRing, IsGroupRead, FollowsTo}
 use Rattle.reference_graph.proofs.SearchLists.{has_last, last_top}
 use Rattle.reference_graph.proofs.SearchFollowing.{IsLast, is_last, followed}
@@ -15,11 +15,11 @@ with_unread : (s : State) (v u : ℕ) → u ≡ unread_of s v - 1 → record s {
 with_unread s v u e = rw e refl
 
 -- one more reference of the last number is read
-pub read_step : (R : List (List ℕ)) (s new : State) (q v u r : ℕ) → IsLast R s q → get_or s.path q 0 ≡ v → unread_of s v ≡ u → 0 < u → r ≡ get_or (references_of R v) (u - 1) 0 → FollowsTo (place_of s r) s r new → IsStep R s (record new { unread = set new.unread v (u - 1) })
+pub read_step : (R : List (List ℕ)) (s new : State) (q v u r : ℕ) → IsLast R s q → get_or s.path q 0 ≡ v → unread_of s v ≡ u → 0 < u → r ≡ get_or (references_of R v) (u - 1) 0 → FollowsTo (visit_of s r) s r new → IsStep R s (record new { unread = set new.unread v (u - 1) })
 read_step R s new q v u r l is e some re f =
     let w = l.holds.within v in
     let c : Contains (references_of R v) r = subst (λ (x : ℕ). Contains (references_of R v) x) (sym re) (Contains-get_or (references_of R v) (u - 1) 0 (omega arith)) in
-    let g = followed R s new q r (place_of s r) refl f l (subst (λ (x : ℕ). Contains (references_of R x) r) (sym is) c) in
+    let g = followed R s new q r (visit_of s r) refl f l (subst (λ (x : ℕ). Contains (references_of R x) r) (sym is) c) in
     let e' : unread_of new v ≡ u = ap (λ (x : List ℕ). get_or x v 0) g.unread ∙ e in
     let re' : r ≡ get_or (references_of R v) (unread_of new v - 1) 0 = re ∙ ap (λ (x : ℕ). get_or (references_of R v) (x - 1) 0) (sym e') in
     let k = taken_invariant R new g.holds q v g.reading (g.path ∙ is) (omega arith) (subst (λ (x : ℕ). IsSettled new q x) re' g.settled) in

@@ -2,20 +2,20 @@
 use Rattle.std.proofs.Common.{◌≡◌, ℕ, ◌-◌, ◌<◌, ◌≤◌, inl, inr, List, Contains, length, get_or, refl, sym, ap, subst, ◌∙◌, arith, length-set}
 use Rattle.std.proofs.lemmas.Bool.{cases_lt}
 use Rattle.reference_graph.specs.References.{references_of}
-use Rattle.reference_graph.specs.Search.{State, place_of, unread_of, taken}
+use Rattle.reference_graph.specs.Search.{State, visit_of, unread_of, taken}
 use Rattle.reference_graph.specs.Invariant.{IsInvariant, IsSettled}
 use Rattle.reference_graph.proofs.SearchLists.{set_read, within_list}
-use Rattle.reference_graph.proofs.SearchPlaces.{same_place}
+use Rattle.reference_graph.proofs.SearchVisits.{same_index}
 
 pub taken_invariant : (R : List (List ℕ)) (s : State) → IsInvariant R s → (q v : ℕ) → Contains s.reading q → get_or s.path q 0 ≡ v → 0 < unread_of s v → IsSettled s q (get_or (references_of R v) (unread_of s v - 1) 0) → IsInvariant R (taken s v)
 taken_invariant R s k q v hq is some new =
     let there : v < length s.unread = within_list s.unread v (unread_of s v) 0 refl (λ e. omega arith) in
     let inside : q < length s.path = k.reading_found q hq in
     record {
-      places_long = k.places_long;
+      visits_long = k.visits_long;
       unread_long = length-set s.unread v (unread_of s v - 1) ∙ k.unread_long;
       marks_long = k.marks_long;
-      placed = k.placed;
+      visited = k.visited;
       found = k.found;
       within = λ x. let w = k.within x in elim (set_read s.unread v x (unread_of s v - 1) 0 there) [
         | inl e ↦ let here : unread_of s v ≤ length (references_of R x) = subst (λ (y : ℕ). unread_of s y ≤ length (references_of R x)) e.0 w in omega arith
@@ -23,9 +23,9 @@ taken_invariant R s k q v hq is some new =
       ];
       fresh = λ x e. elim (set_read s.unread v x (unread_of s v - 1) 0 there) [
         | inl p ↦
-            let a = k.placed q inside in
+            let a = k.visited q inside in
             let b : get_or s.path q 0 ≡ x = is ∙ sym p.0 in
-            let c = ap (λ (y : ℕ). place_of s y) b in
+            let c = ap (λ (y : ℕ). visit_of s y) b in
             absurd cc
         | inr p ↦ p.1 ∙ k.fresh x e
       ];
@@ -38,7 +38,7 @@ taken_invariant R s k q v hq is some new =
         | inl h ↦ inl h
         | inr z ↦ elim (set_read s.unread v (get_or s.path i 0) (unread_of s v - 1) 0 there) [
           | inl p ↦
-              let e : i ≡ q = same_place R s k i q hi inside (p.0 ∙ sym is) in
+              let e : i ≡ q = same_index R s k i q hi inside (p.0 ∙ sym is) in
               inl (subst (λ (j : ℕ). Contains s.reading j) (sym e) hq)
           | inr p ↦ inr (p.1 ∙ z)
         ]
@@ -46,7 +46,7 @@ taken_invariant R s k q v hq is some new =
       joined = k.joined;
       settled = λ i j hi low high. elim (set_read s.unread v (get_or s.path i 0) (unread_of s v - 1) 0 there) [
         | inl p ↦
-            let e : i ≡ q = same_place R s k i q hi inside (p.0 ∙ sym is) in
+            let e : i ≡ q = same_index R s k i q hi inside (p.0 ∙ sym is) in
             let u : unread_of s (get_or s.path i 0) ≡ unread_of s v = ap (λ (y : ℕ). unread_of s y) p.0 in
             elim (cases_lt j (unread_of s v)) [
               | inl lt ↦

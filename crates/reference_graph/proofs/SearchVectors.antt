@@ -4,8 +4,8 @@ use Rattle.std.proofs.Common.{◌≡◌, ℕ, ◌+◌, ◌<◌, ◌≤◌, ◌�
 use Rattle.std.proofs.lemmas.List.{get_or-map, length-map}
 use Rattle.std.proofs.lemmas.Simd.{map-map}
 use Rattle.reference_graph.specs.References.{lists, references_of}
-use Rattle.reference_graph.specs.declared.search.Place.{Place}
-use Rattle.reference_graph.specs.declared.search.Place.TheVariants.{New}
+use Rattle.reference_graph.specs.declared.search.Visit.{Visit}
+use Rattle.reference_graph.specs.declared.search.Visit.TheVariants.{New}
 use Rattle.reference_graph.specs.Search.{State, begun}
 use Rattle.reference_graph.specs.Invariant.{IsRing}
 
@@ -27,11 +27,11 @@ ring_told R s q number items r e f one k =
       λ ring. elim ring [ inl more ↦ absurd (omega arith) | inr c ↦ k.1 (subst Q f (subst P e c)) ],
     )
 
-abbrev pub state : List Place → List ℕ → List ℕ → List ℕ → List ℕ → List ℕ → List Bool → State
-state places unread path reading starts order circular = record { places = places; unread = unread; path = path; reading = reading; starts = starts; order = order; circular = circular }
+abbrev pub state : List Visit → List ℕ → List ℕ → List ℕ → List ℕ → List ℕ → List Bool → State
+state indices unread path reading starts order circular = record { visits = indices; unread = unread; path = path; reading = reading; starts = starts; order = order; circular = circular }
 
-pub begun_is : (vectors : List (Vec ℕ Global)) (places : List Place) (unread path reading starts order : List ℕ) (circular : List Bool) → places ≡ replicate (length vectors) New → unread ≡ map (λ (y : Vec ℕ Global). length y.items) vectors → path ≡ [] → reading ≡ [] → starts ≡ [] → order ≡ [] → circular ≡ replicate (length vectors) false → state places unread path reading starts order circular ≡ begun (lists vectors)
-begun_is vectors places unread path reading starts order circular a b c d e f g =
+pub begun_is : (vectors : List (Vec ℕ Global)) (indices : List Visit) (unread path reading starts order : List ℕ) (circular : List Bool) → indices ≡ replicate (length vectors) New → unread ≡ map (λ (y : Vec ℕ Global). length y.items) vectors → path ≡ [] → reading ≡ [] → starts ≡ [] → order ≡ [] → circular ≡ replicate (length vectors) false → state indices unread path reading starts order circular ≡ begun (lists vectors)
+begun_is vectors indices unread path reading starts order circular a b c d e f g =
     let n : length (lists vectors) ≡ length vectors = length-map vectors (λ (y : Vec ℕ Global). y.items) in
     let l = lengths_of vectors in
     rw (a, b, c, d, e, f, g, n, l) refl

@@ -3,11 +3,11 @@ use Rattle.std.proofs.Common.{◌≡◌, ℕ, ◌+◌, ◌-◌, ◌<◌, ◌≤�
 use Rattle.std.proofs.lemmas.List.{length_push, set_past}
 use Rattle.std.proofs.lemmas.List.Sums.{sum_by-set}
 use Rattle.std.proofs.lemmas.Bool.{cases_lt}
-use Rattle.reference_graph.specs.declared.search.Place.{Place}
-use Rattle.reference_graph.specs.declared.search.Place.TheVariants.{New, At, Done}
-use Rattle.reference_graph.specs.Search.{State, place_of, unread_of, written, is_new, weight, entered, taken, left, finished}
+use Rattle.reference_graph.specs.declared.search.Visit.{Visit}
+use Rattle.reference_graph.specs.declared.search.Visit.TheVariants.{New, At, Done}
+use Rattle.reference_graph.specs.Search.{State, visit_of, unread_of, written, is_new, weight, entered, taken, left, finished}
 use Rattle.reference_graph.proofs.SearchLists.{within_list}
-use Rattle.reference_graph.proofs.SearchPlaces.{there_is}
+use Rattle.reference_graph.proofs.SearchVisits.{there_is}
 use Rattle.std.specs.Prelude.{Bool, true, false}
 
 pub taken_less : (s : State) (v : ℕ) → 0 < unread_of s v → weight (taken s v) + 1 ≡ weight s
@@ -16,11 +16,11 @@ taken_less s v some =
     let p = sum_by-set (λ (x : ℕ). x) s.unread v (unread_of s v - 1) 0 there in
     omega arith
 
-pub entered_less : (s : State) (w : ℕ) → place_of s w ≡ New → weight (entered s w) + 1 ≡ weight s
+pub entered_less : (s : State) (w : ℕ) → visit_of s w ≡ New → weight (entered s w) + 1 ≡ weight s
 entered_less s w new =
-    let there : w < length s.places = there_is s w New new (λ e. absurd cc) in
-    let p = sum_by-set (λ (x : Place). cond {A = ℕ} (is_new x) 1 0) s.places w (At (length s.path)) Done there in
-    let one : cond {A = ℕ} (is_new (place_of s w)) 1 0 ≡ 1 = ap (λ (x : Place). cond {A = ℕ} (is_new x) 1 0) new in
+    let there : w < length s.visits = there_is s w New new (λ e. absurd cc) in
+    let p = sum_by-set (λ (x : Visit). cond {A = ℕ} (is_new x) 1 0) s.visits w (At (length s.path)) Done there in
+    let one : cond {A = ℕ} (is_new (visit_of s w)) 1 0 ≡ 1 = ap (λ (x : Visit). cond {A = ℕ} (is_new x) 1 0) new in
     let l = length_push s.reading (length s.path) in
     omega arith
 
@@ -29,25 +29,25 @@ left_less s some =
     let l = length-take-le (length s.reading - 1) s.reading (omega arith) in
     omega arith
 
-written_count : (ks : List ℕ) (ps : List Place) → count_by is_new (written ks Done ps) ≤ count_by is_new ps
+written_count : (ks : List ℕ) (ps : List Visit) → count_by is_new (written ks Done ps) ≤ count_by is_new ps
 written_count [] ps = omega arith
 written_count (k ∷ ks) ps =
     let r = written_count ks (set ps k Done) in
     elim (cases_lt k (length ps)) [
-      | inl lt ↦ let p = sum_by-set (λ (x : Place). cond {A = ℕ} (is_new x) 1 0) ps k Done Done lt in omega arith
-      | inr ge ↦ let e = ap (λ (xs : List Place). count_by is_new xs) (set_past ps k Done ge) in omega arith
+      | inl lt ↦ let p = sum_by-set (λ (x : Visit). cond {A = ℕ} (is_new x) 1 0) ps k Done Done lt in omega arith
+      | inr ge ↦ let e = ap (λ (xs : List Visit). count_by is_new xs) (set_past ps k Done ge) in omega arith
     ]
 
 pub finished_less : (s : State) (q : ℕ) (c : Bool) → weight (finished s q c) ≤ weight s
-finished_less s q c = let r = written_count (drop q s.path) s.places in omega arith
+finished_less s q c = let r = written_count (drop q s.path) s.visits in omega arith
 
 -- the test for a number that is not met
-pub new_told : (p : Place) → is_new p ≡ true → p ≡ New
+pub new_told : (p : Visit) → is_new p ≡ true → p ≡ New
 new_told New e = refl
 new_told (At i) e = absurd cc
 new_told Done e = absurd cc
 
-pub met_told : (p : Place) → is_new p ≡ false → p ≡ New → ⊥
+pub met_told : (p : Visit) → is_new p ≡ false → p ≡ New → ⊥
 met_told New e f = absurd cc
 met_told (At i) e f = absurd cc
 met_told Done e f = absurd cc

@@ -15,7 +15,7 @@ is_marked marks i = slice_index_or marks i false
 abbrev pub MarksCircular : List (List ℕ) → List Bool → Type 0
 MarksCircular references marks = (i : ℕ) → IsTrue (is_marked marks i) ↔ IsCircular references i
 
--- unless it is circular, the number at place k stands after all that it refers to and that there is
+-- unless it is circular, the number at index k stands after all that it refers to and that there is
 abbrev pub StandsAfter : List (List ℕ) → List ℕ → ℕ → Type 0
 StandsAfter references order k =
     (IsCircular references (slice_index order k) → ⊥) → (r : ℕ) → Contains (references_of references (slice_index order k)) r → r < length references → Contains (take k order) r

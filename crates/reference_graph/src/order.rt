@@ -36,7 +36,9 @@ impl ReferenceOrder {
 
     /// The least number that reaches itself.
     pub fn first_circular(&self) -> Option<usize>
-        ensures { MatchOption result ((i : ℕ) → is_marked self.now.circular i ≡ false) (λ i. (is_marked self.now.circular i ≡ true) × ((k : ℕ) → k < i → is_marked self.now.circular k ≡ false)) }
+        ensures { MatchOption result ((i : ℕ) → is_marked self.now.circular i ≡ false) (λ i.
+            (is_marked self.now.circular i ≡ true)
+            × ((k : ℕ) → k < i → is_marked self.now.circular k ≡ false)) }
     {
         self.circular.iter().position(|circular| *circular)
     }

@@ -1,37 +1,37 @@
 -- What calls give.
 use Rattle.std.proofs.Common.{◌≡◌, ℕ, Bool, List, ap, ◌∙◌, Option, Result, IfOk}
 use Rattle.std.proofs.lemmas.Result.{IfOk-weaker}
-use Rattle.rendering_context.specs.Cites.{CiteProperties, letters_of}
+use Rattle.rendering_context.specs.Cites.{CiteProperties, year_suffix_of}
 use Rattle.rendering_context.specs.Contexts.{Context}
 use Rattle.rendering_entries.specs.Answers.{Answers}
-use Rattle.rendering_leaves.specs.Settings.{State, begun}
+use Rattle.rendering_leaves.specs.NodeSettings.{State, begun}
 use Rattle.rendering_locale.specs.Locales.{Locale}
 use Rattle.rendering_locale.specs.Lookup.{close_quotes}
 use Rattle.rendering_page.specs.Pages.{Quotes}
 use Rattle.rendering_style.specs.Styles.{Style}
 use Rattle.rendering_context.specs.Contexts.{StyleContext}
 use Rattle.rendering.specs.Purposes.{Rendered, locales_of, context_of, rendered}
-use Rattle.rendering.specs.Views.{rendered_by, spoken}
+use Rattle.rendering.specs.Views.{rendering_view, spoken}
 use Rattle.rendering.specs.declared.rendered.Rendering.{Rendering}
 
--- what was put down from the beginning on
-pub given_put : {E : Type 0} (f : State → State) (first now : State) (r : Result Rendering E) → first ≡ begun → now ≡ f first
-    → IfOk r (λ v. rendered_by v ≡ rendered now) → IfOk r (λ v. rendered_by v ≡ rendered (f begun))
-given_put f first now r e h given = IfOk-weaker r (λ v. rendered_by v ≡ rendered now) (λ v. rendered_by v ≡ rendered (f begun)) (λ v said. said ∙ ap rendered (h ∙ ap f e)) given
+-- what was appended from the start on
+pub given_appended : {E : Type 0} (f : State → State) (first now : State) (r : Result Rendering E) → first ≡ begun → now ≡ f first
+    → IfOk r (λ v. rendering_view v ≡ rendered now) → IfOk r (λ v. rendering_view v ≡ rendered (f begun))
+given_appended f first now r e h given = IfOk-weaker r (λ v. rendering_view v ≡ rendered now) (λ v. rendering_view v ≡ rendered (f begun)) (λ v known. known ∙ ap rendered (h ∙ ap f e)) given
 
-module _ {E : Type 0} (x : StyleContext) (a : Answers) (p : CiteProperties) (b : Bool) (locales : List Locale) (quotes : Quotes) (letters : List ℕ) where
+module _ {E : Type 0} (x : StyleContext) (a : Answers) (p : CiteProperties) (b : Bool) (locales : List Locale) (quotes : Quotes) (year_suffix : List ℕ) where
   -- what a call gives is what is given of what it prints from
   pub given_call : (f : Style → Context → Rendered) (s : Style) (c : Answers → Context) (r : Result Rendering E)
-      → s ≡ x.style → ((k : Answers) → c k ≡ spoken x.style k p locales quotes letters b)
-      → IfOk r (λ v. rendered_by v ≡ f s (c a)) → IfOk r (λ v. rendered_by v ≡ f x.style (spoken x.style a p locales quotes letters b))
+      → s ≡ x.style → ((k : Answers) → c k ≡ spoken x.style k p locales quotes year_suffix b)
+      → IfOk r (λ v. rendering_view v ≡ f s (c a)) → IfOk r (λ v. rendering_view v ≡ f x.style (spoken x.style a p locales quotes year_suffix b))
   given_call f s c r style context given =
-      IfOk-weaker r (λ v. rendered_by v ≡ f s (c a)) (λ v. rendered_by v ≡ f x.style (spoken x.style a p locales quotes letters b))
-      (λ v said. said ∙ (λ i. f (style i) (context a i))) given
+      IfOk-weaker r (λ v. rendering_view v ≡ f s (c a)) (λ v. rendering_view v ≡ f x.style (spoken x.style a p locales quotes year_suffix b))
+      (λ v known. known ∙ (λ i. f (style i) (context a i))) given
 
   -- what is given in the words of a language
   pub given_words : (f : Context → Rendered) (locale : Option (List ℕ)) (r : Result Rendering E)
-      → locales ≡ locales_of x locale → quotes ≡ close_quotes (locales_of x locale) → letters ≡ letters_of p.disambiguation
-      → IfOk r (λ v. rendered_by v ≡ f (spoken x.style a p locales quotes letters b)) → IfOk r (λ v. rendered_by v ≡ f (context_of x locale b a p))
+      → locales ≡ locales_of x locale → quotes ≡ close_quotes (locales_of x locale) → year_suffix ≡ year_suffix_of p.disambiguation
+      → IfOk r (λ v. rendering_view v ≡ f (spoken x.style a p locales quotes year_suffix b)) → IfOk r (λ v. rendering_view v ≡ f (context_of x locale b a p))
   given_words f locale r e h k given =
-      IfOk-weaker r (λ v. rendered_by v ≡ f (spoken x.style a p locales quotes letters b)) (λ v. rendered_by v ≡ f (context_of x locale b a p))
-      (λ v said. said ∙ (λ i. f (spoken x.style a p (e i) (h i) (k i) b))) given
+      IfOk-weaker r (λ v. rendering_view v ≡ f (spoken x.style a p locales quotes year_suffix b)) (λ v. rendering_view v ≡ f (context_of x locale b a p))
+      (λ v known. known ∙ (λ i. f (spoken x.style a p (e i) (h i) (k i) b))) given

@@ -7,19 +7,19 @@ use Rattle.literature_values.specs.declared.date.Date.{Date}
 use Rattle.rendering_locale.specs.Lookup.{term}
 use Rattle.rendering_dates.specs.Dates.{years_text}
 use Rattle.rendering_page.specs.Pieces.{normal, begin, end}
-use Rattle.rendering_page.specs.Shown.{plainly}
+use Rattle.rendering_page.specs.PageCharacters.{plainly}
 use Rattle.rendering_entries.specs.Answers.{Answers}
 use Rattle.rendering_style.specs.Options.{NameOptions}
 use Rattle.rendering_style.specs.Nodes.{names, no_nodes, node}
 use Rattle.rendering_style.specs.Styles.{Layout, Bibliography, Style}
 use Rattle.rendering_context.specs.Contexts.{Context}
-use Rattle.rendering_leaves.specs.Settings.{Form, whole, author_only, without_author, State, begun, put, noted}
+use Rattle.rendering_leaves.specs.NodeSettings.{SpecialForm, whole, author_only, without_author, State, begun, append, noted}
 use Rattle.rendering_nodes.specs.Content.{stage}
 use Rattle.rendering_nodes.specs.Named.{Named, AreAlike, AnswerAlike, joined_named, variable_named, always_named, named}
 use Rattle.rendering_nodes.specs.Laws.{with_answers}
 use Rattle.rendering_nodes.proofs.AnswersAlike.{first_alike, others_alike, has_same}
 use Rattle.rendering_nodes.proofs.EntriesAlike.{labels_alike, surveys_same, contents_same}
-use Rattle.rendering.specs.Purposes.{layout_nodes, context_of, setting_of, layout_put, layout_survey, citation_put, citation_survey, citation_normal, year_dates, first_dated, year_put, author_variable, elsewhere, author_node, made_put, author_last, author_elsewhere, author_put, prints_identifiers, space_before, enclosed_put, prose_put, form_of, fields_joined, rendered_as, rendered, full_of, rendered_for, layout_frame, item_put}
+use Rattle.rendering.specs.Purposes.{layout_nodes, context_of, setting_of, append_layout, layout_survey, append_citation, citation_survey, citation_normal, year_dates, first_dated, append_year, author_variable, elsewhere, author_node, append_made, author_last, author_elsewhere, append_author, prints_identifiers, space_before, append_enclosed, append_prose, form_of, fields_joined, rendered_as, rendered, full_of, rendered_for, layout_frame, append_item}
 use Rattle.rendering.specs.Alike.{named_in_bibliography, style_named, AlikeCitesAreOne, AlikeItemsAreOne}
 use Rattle.rendering_taxonomy.specs.declared.cite.CitePurpose.{CitePurpose}
 use Rattle.rendering_taxonomy.specs.declared.cite.CitePurpose.TheVariants as purposes
@@ -33,7 +33,7 @@ use Rattle.rendering_taxonomy.specs.declared.variable.StandardVariable.TheVarian
 use Rattle.rendering_taxonomy.specs.declared.variable.Variable.{Variable}
 use Rattle.rendering_taxonomy.specs.declared.variable.Variable.TheVariants as variables
 
--- what every style names, at its place
+-- what every style names, at its index
 nine_named : length always_named.variables ≡ 9
 nine_named = refl
 
@@ -61,11 +61,11 @@ author_node_alike : (a b : Answers) → AreAlike always_named a b → AreAlike (
 author_node_alike a b h = first_alike (variable_named (variables.Name name.Author)) besides_author a b h
 
 -- layouts
-layout_same : (a b : Answers) (c : Context) (s : Style) (l : Layout) (options : NameOptions) (form : Form) (st : State) → AreAlike always_named a b → AreAlike (named (layout_nodes s l)) a b
-    → layout_put s (with_answers a c) l options form st ≡ layout_put s (with_answers b c) l options form st
+layout_same : (a b : Answers) (c : Context) (s : Style) (l : Layout) (options : NameOptions) (form : SpecialForm) (st : State) → AreAlike always_named a b → AreAlike (named (layout_nodes s l)) a b
+    → append_layout s (with_answers a c) l options form st ≡ append_layout s (with_answers b c) l options form st
 layout_same a b c s l options form st g h = contents_same a b c (setting_of s l options form) true (layout_nodes s l) st (labels_alike a b g) h
 
-asked_same : (a b : Answers) (c : Context) (s : Style) (l : Layout) (options : NameOptions) (form : Form) (st : State) → AreAlike always_named a b → AreAlike (named (layout_nodes s l)) a b
+asked_same : (a b : Answers) (c : Context) (s : Style) (l : Layout) (options : NameOptions) (form : SpecialForm) (st : State) → AreAlike always_named a b → AreAlike (named (layout_nodes s l)) a b
     → layout_survey s (with_answers a c) l options form st ≡ layout_survey s (with_answers b c) l options form st
 asked_same a b c s l options form st g h = surveys_same a b (stage c (setting_of s l options form) st) (layout_nodes s l) (labels_alike a b g) h
 
@@ -78,9 +78,9 @@ dates_same a b h =
     let original = named_at a b (variables.Date date.OriginalDate) h (7, omega (arith, nine_named), refl) in
     λ i. cons_option (issued i) (cons_option (event i) (cons_option (submitted i) (cons_option (original i) [])))
 
-year_same : (a b : Answers) (c : Context) (st : State) → AreAlike always_named a b → year_put (with_answers a c) st ≡ year_put (with_answers b c) st
+year_same : (a b : Answers) (c : Context) (st : State) → AreAlike always_named a b → append_year (with_answers a c) st ≡ append_year (with_answers b c) st
 year_same a b c st h =
-    ap (λ (ds : List Date). put c (normal plainly (option_map_or (years_text c.locales) (first_dated ds) (unwrap_or (term c.locales (terms.Other others.NoDate) forms.Long false) (codes "n.d."))) ∷ []) st)
+    ap (λ (ds : List Date). append c (normal plainly (option_map_or (years_text c.locales) (first_dated ds) (unwrap_or (term c.locales (terms.Other others.NoDate) forms.Long false) (codes "n.d."))) ∷ []) st)
     (dates_same a b h)
 
 -- the authors
@@ -90,11 +90,11 @@ variable_same a b c h =
     let editors = has_same a b c (variables.Name name.Editor) (labels_alike a b h) (editor_alike a b h) in
     λ i. if not (authors i) && editors i then name.Editor else name.Author
 
-made_same : (a b : Answers) (c : Context) (s : Style) (form : Form) (st : State) → AreAlike always_named a b → made_put s (with_answers a c) form st ≡ made_put s (with_answers b c) form st
+made_same : (a b : Answers) (c : Context) (s : Style) (form : SpecialForm) (st : State) → AreAlike always_named a b → append_made s (with_answers a c) form st ≡ append_made s (with_answers b c) form st
 made_same a b c s form st h =
     contents_same a b c (setting_of s s.citation.layout s.citation.name_options form) true (node (names author_node no_nodes) no_nodes) st (labels_alike a b h) (author_node_alike a b h)
 
-last_same : (a b : Answers) (c : Context) (s : Style) (form : Form) (o : Option Bibliography) (st : State) → AreAlike always_named a b → AreAlike (named_in_bibliography s o) a b
+last_same : (a b : Answers) (c : Context) (s : Style) (form : SpecialForm) (o : Option Bibliography) (st : State) → AreAlike always_named a b → AreAlike (named_in_bibliography s o) a b
     → author_last s (with_answers a c) form o st ≡ author_last s (with_answers b c) form o st
 last_same a b c s form None st g h = made_same a b c s form st g
 last_same a b c s form (Some y) st g h =
@@ -116,13 +116,13 @@ style_alike s a b h =
     let more = others_alike always_named (joined_named cited listed) a b h in
     record { always = first_alike always_named (joined_named cited listed) a b h; in_citation = first_alike cited listed a b more; in_bibliography = others_alike cited listed a b more }
 
-citation_same : (a b : Answers) (c : Context) (s : Style) (form : Form) (st : State) → StyleAlike s a b → citation_put s (with_answers a c) form st ≡ citation_put s (with_answers b c) form st
+citation_same : (a b : Answers) (c : Context) (s : Style) (form : SpecialForm) (st : State) → StyleAlike s a b → append_citation s (with_answers a c) form st ≡ append_citation s (with_answers b c) form st
 citation_same a b c s form st h = layout_same a b c s s.citation.layout s.citation.name_options form st h.always h.in_citation
 
-surveyed_same : (a b : Answers) (c : Context) (s : Style) (form : Form) (st : State) → StyleAlike s a b → citation_survey s (with_answers a c) form st ≡ citation_survey s (with_answers b c) form st
+surveyed_same : (a b : Answers) (c : Context) (s : Style) (form : SpecialForm) (st : State) → StyleAlike s a b → citation_survey s (with_answers a c) form st ≡ citation_survey s (with_answers b c) form st
 surveyed_same a b c s form st h = asked_same a b c s s.citation.layout s.citation.name_options form st h.always h.in_citation
 
-elsewhere_same : (a b : Answers) (c : Context) (s : Style) (form : Form) (st : State) → StyleAlike s a b → author_elsewhere s (with_answers a c) form st ≡ author_elsewhere s (with_answers b c) form st
+elsewhere_same : (a b : Answers) (c : Context) (s : Style) (form : SpecialForm) (st : State) → StyleAlike s a b → author_elsewhere s (with_answers a c) form st ≡ author_elsewhere s (with_answers b c) form st
 elsewhere_same a b c s form st h =
     let asked = surveyed_same a b (elsewhere c) s form st h in
     λ i. if (asked i).is_admitted
@@ -130,30 +130,30 @@ elsewhere_same a b c s form st h =
     else last_same a b c s form s.bibliography (noted (asked i).met st) h.always h.in_bibliography i
 
 -- the authors in a form
-abbrev author_in : Style → Context → Form → State → State
+abbrev author_in : Style → Context → SpecialForm → State → State
 author_in s c form st =
     let asked = citation_survey s c form st in
-    if asked.is_admitted then citation_put s c form (noted asked.met st) else author_elsewhere s c form (noted asked.met st)
+    if asked.is_admitted then append_citation s c form (noted asked.met st) else author_elsewhere s c form (noted asked.met st)
 
-author_in_same : (a b : Answers) (c : Context) (s : Style) (form : Form) (st : State) → StyleAlike s a b → author_in s (with_answers a c) form st ≡ author_in s (with_answers b c) form st
+author_in_same : (a b : Answers) (c : Context) (s : Style) (form : SpecialForm) (st : State) → StyleAlike s a b → author_in s (with_answers a c) form st ≡ author_in s (with_answers b c) form st
 author_in_same a b c s form st h =
     let asked = surveyed_same a b c s form st h in
     λ i. if (asked i).is_admitted
     then citation_same a b c s form (noted (asked i).met st) h i
     else elsewhere_same a b c s form (noted (asked i).met st) h i
 
-author_same : (a b : Answers) (c : Context) (s : Style) (st : State) → StyleAlike s a b → author_put s (with_answers a c) st ≡ author_put s (with_answers b c) st
+author_same : (a b : Answers) (c : Context) (s : Style) (st : State) → StyleAlike s a b → append_author s (with_answers a c) st ≡ append_author s (with_answers b c) st
 author_same a b c s st h =
     ap (λ v. author_in s (with_answers a c) (author_only v) st) (variable_same a b c h.always)
     ∙ author_in_same a b c s (author_only (author_variable (with_answers b c))) st h
 
 -- the authors and the citation
-enclosed_same : (a b : Answers) (c : Context) (s : Style) (form : Form) (prefix suffix : List ℕ) (st : State) → StyleAlike s a b
-    → enclosed_put s (with_answers a c) form prefix suffix st ≡ enclosed_put s (with_answers b c) form prefix suffix st
+enclosed_same : (a b : Answers) (c : Context) (s : Style) (form : SpecialForm) (prefix suffix : List ℕ) (st : State) → StyleAlike s a b
+    → append_enclosed s (with_answers a c) form prefix suffix st ≡ append_enclosed s (with_answers b c) form prefix suffix st
 enclosed_same a b c s form prefix suffix st h =
     ap (citation_normal s c suffix) (citation_same a b c s form (citation_normal s c prefix (space_before prefix st)) h)
 
-prose_same : (a b : Answers) (c : Context) (s : Style) (st : State) → StyleAlike s a b → prose_put s (with_answers a c) st ≡ prose_put s (with_answers b c) st
+prose_same : (a b : Answers) (c : Context) (s : Style) (st : State) → StyleAlike s a b → append_prose s (with_answers a c) st ≡ append_prose s (with_answers b c) st
 prose_same a b c s st h =
     let authors = author_same a b c s st h in
     λ i. if prints_identifiers s
@@ -180,11 +180,11 @@ cites_alike x a b p locale purpose verdict h = purpose_same a b (context_of x lo
 
 -- an item of the bibliography
 item_same : (a b : Answers) (c : Context) (s : Style) (o : Option Bibliography) → AreAlike always_named a b → AreAlike (named_in_bibliography s o) a b
-    → option_map (λ y. rendered (item_put s (with_answers a c) y begun)) o ≡ option_map (λ y. rendered (item_put s (with_answers b c) y begun)) o
+    → option_map (λ y. rendered (append_item s (with_answers a c) y begun)) o ≡ option_map (λ y. rendered (append_item s (with_answers b c) y begun)) o
 item_same a b c s None g h = refl
 item_same a b c s (Some y) g h =
-    ap (λ st. Some (rendered (put c (end (layout_frame y.layout) ∷ []) st)))
-    (layout_same a b c s y.layout y.name_options whole (put c (begin (layout_frame y.layout) ∷ []) begun) g h)
+    ap (λ st. Some (rendered (append c (end (layout_frame y.layout) ∷ []) st)))
+    (layout_same a b c s y.layout y.name_options whole (append c (begin (layout_frame y.layout) ∷ []) begun) g h)
 
 pub items_alike : AlikeItemsAreOne
 items_alike x a b p locale h =

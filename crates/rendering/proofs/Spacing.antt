@@ -6,7 +6,7 @@ use Rattle.rendering_taxonomy.specs.declared.formatting.Formatting.{Formatting}
 use Rattle.rendering_tree.specs.Metas.{Meta}
 use Rattle.rendering_tree.specs.Tokens.{Token, letter, formula, link, transparent, opening, closing, mark, unmark, with_letters, with_letter_after}
 use Rattle.rendering_tree.specs.Trees.{Children, Elem, flat, flat_child}
-use Rattle.rendering_tree.specs.Views.{child, row}
+use Rattle.rendering_tree.specs.Views.{child_view, children_view}
 use Rattle.rendering_tree.specs.declared.element.ElemChild.{ElemChild}
 use Rattle.rendering_tree.proofs.TreesReading.{with_letters-both}
 use Rattle.laws.specs.Text.{is_filled}
@@ -50,7 +50,7 @@ has_end-append (closing ∷ ts) us = has_end-append ts us
 has_end-append (mark ∷ ts) us = has_end-append ts us
 has_end-append (unmark ∷ ts) us = has_end-append ts us
 
--- the beginning of an element stays where it is
+-- the start of an element stays where it is
 after_opening : (c : ℕ) (d : Option Display) (m : Option Meta) (ts : List Token) → with_letter_after c (ts ++ opening d m ∷ []) ≡ with_letter_after c ts ++ opening d m ∷ []
 after_opening c d m [] = refl
 after_opening c d m (letter f e ∷ ts) = refl
@@ -104,88 +104,88 @@ pub text_end : (f : Formatting) (cs : List ℕ) → has_end (with_letters f cs [
 text_end f [] = refl
 text_end f (c ∷ cs) = letter_end f c cs []
 
--- rows
-flat-append : (xs ys : List ElemChild) → flat (row (xs ++ ys)) ≡ flat (row ys) ++ flat (row xs)
-flat-append [] ys = sym (append-nil (flat (row ys)))
-flat-append (x ∷ xs) ys = ap (λ ts. ts ++ flat_child (child x)) (flat-append xs ys) ∙ append_assoc (flat (row ys)) (flat (row xs)) (flat_child (child x))
+-- children
+flat-append : (xs ys : List ElemChild) → flat (children_view (xs ++ ys)) ≡ flat (children_view ys) ++ flat (children_view xs)
+flat-append [] ys = sym (append-nil (flat (children_view ys)))
+flat-append (x ∷ xs) ys = ap (λ ts. ts ++ flat_child (child_view x)) (flat-append xs ys) ∙ append_assoc (flat (children_view ys)) (flat (children_view xs)) (flat_child (child_view x))
 
-parts : (xs : List ElemChild) (i : ℕ) → flat (row xs) ≡ flat (row (drop i xs)) ++ flat (row (take i xs))
-parts xs i = ap (λ ys. flat (row ys)) (sym (take-append-drop i xs)) ∙ flat-append (take i xs) (drop i xs)
+parts : (xs : List ElemChild) (i : ℕ) → flat (children_view xs) ≡ flat (children_view (drop i xs)) ++ flat (children_view (take i xs))
+parts xs i = ap (λ ys. flat (children_view ys)) (sym (take-append-drop i xs)) ∙ flat-append (take i xs) (drop i xs)
 
--- Nothing is printed by the children from a place on; the others are as they were, or print the same.
+-- Nothing is printed by the children from an index on; the others are as they were, or print the same.
 pub record Spacing (old xs : List ElemChild) (i : ℕ) : Type 0 where
-  pub same : flat (row xs) ≡ flat (row old)
-  pub passed : has_end (flat (row (drop i xs))) ≡ false
+  pub same : flat (children_view xs) ≡ flat (children_view old)
+  pub passed : has_end (flat (children_view (drop i xs))) ≡ false
 
 -- at first
 pub spacing_begins : (xs : List ElemChild) (i : ℕ) → length xs ≤ i → Spacing xs xs i
-spacing_begins xs i all = record { same = refl; passed = ap (λ ys. has_end (flat (row ys))) (drop_all i xs all) }
+spacing_begins xs i all = record { same = refl; passed = ap (λ ys. has_end (flat (children_view ys))) (drop_all i xs all) }
 
 -- after all children
-pub spacing_ends : (old xs : List ElemChild) → Spacing old xs 0 → (false ≡ has_end (flat (row old))) × (flat (row xs) ≡ with_letter_after 32 (flat (row old)))
+pub spacing_ends : (old xs : List ElemChild) → Spacing old xs 0 → (false ≡ has_end (flat (children_view old))) × (flat (children_view xs) ≡ with_letter_after 32 (flat (children_view old)))
 spacing_ends old xs s =
-    let none : has_end (flat (row old)) ≡ false = ap has_end (sym s.same) ∙ s.passed in
-    (sym none, s.same ∙ sym (none_same 32 (flat (row old)) none))
+    let none : has_end (flat (children_view old)) ≡ false = ap has_end (sym s.same) ∙ s.passed in
+    (sym none, s.same ∙ sym (none_same 32 (flat (children_view old)) none))
 
--- the same where the place of the first child is reached
-pub spacing_at_end : (old xs : List ElemChild) (i : ℕ) → Spacing old xs i → i ≡ 0 → (false ≡ has_end (flat (row old))) × (flat (row xs) ≡ with_letter_after 32 (flat (row old)))
+-- the same where the index of the first child is reached
+pub spacing_at_end : (old xs : List ElemChild) (i : ℕ) → Spacing old xs i → i ≡ 0 → (false ≡ has_end (flat (children_view old))) × (flat (children_view xs) ≡ with_letter_after 32 (flat (children_view old)))
 spacing_at_end old xs i s none = spacing_ends old xs (subst (λ (k : ℕ). Spacing old xs k) none s)
 
 module _ (old xs : List ElemChild) (i : ℕ) (x y : ElemChild) (spacing : Spacing old xs (i + 1)) (less : i < length xs) (is : x ≡ get_or xs i x)
-    (spaced : flat_child (child y) ≡ with_letter_after 32 (flat_child (child x))) where
-  from : flat (row (drop i xs)) ≡ flat (row (drop (i + 1) xs)) ++ flat_child (child x)
-  from = ap (λ ys. flat (row ys)) (drop_more xs i x less) ∙ ap (λ z. flat (row (drop (i + 1) xs)) ++ flat_child (child z)) (sym is)
+    (spaced : flat_child (child_view y) ≡ with_letter_after 32 (flat_child (child_view x))) where
+  from : flat (children_view (drop i xs)) ≡ flat (children_view (drop (i + 1) xs)) ++ flat_child (child_view x)
+  from = ap (λ ys. flat (children_view ys)) (drop_more xs i x less) ∙ ap (λ z. flat (children_view (drop (i + 1) xs)) ++ flat_child (child_view z)) (sym is)
 
-  whole : flat (row old) ≡ (flat (row (drop (i + 1) xs)) ++ flat_child (child x)) ++ flat (row (take i xs))
-  whole = sym spacing.same ∙ parts xs i ∙ ap (λ ts. ts ++ flat (row (take i xs))) from
+  whole : flat (children_view old) ≡ (flat (children_view (drop (i + 1) xs)) ++ flat_child (child_view x)) ++ flat (children_view (take i xs))
+  whole = sym spacing.same ∙ parts xs i ∙ ap (λ ts. ts ++ flat (children_view (take i xs))) from
 
-  changed_from : flat (row (drop i (set xs i y))) ≡ flat (row (drop (i + 1) xs)) ++ flat_child (child y)
-  changed_from = ap (λ ys. flat (row ys)) (drop-set xs i y less)
+  changed_from : flat (children_view (drop i (set xs i y))) ≡ flat (children_view (drop (i + 1) xs)) ++ flat_child (child_view y)
+  changed_from = ap (λ ys. flat (children_view ys)) (drop-set xs i y less)
 
-  changed : flat (row (set xs i y)) ≡ (flat (row (drop (i + 1) xs)) ++ flat_child (child y)) ++ flat (row (take i xs))
-  changed = parts (set xs i y) i ∙ ap (λ ts. ts ++ flat (row (take i (set xs i y)))) changed_from
-      ∙ ap (λ ys. (flat (row (drop (i + 1) xs)) ++ flat_child (child y)) ++ flat (row ys)) (take-set xs i y)
+  changed : flat (children_view (set xs i y)) ≡ (flat (children_view (drop (i + 1) xs)) ++ flat_child (child_view y)) ++ flat (children_view (take i xs))
+  changed = parts (set xs i y) i ∙ ap (λ ts. ts ++ flat (children_view (take i (set xs i y)))) changed_from
+      ∙ ap (λ ys. (flat (children_view (drop (i + 1) xs)) ++ flat_child (child_view y)) ++ flat (children_view ys)) (take-set xs i y)
 
-  end_here : (b : Bool) → has_end (flat_child (child x)) ≡ b → has_end (flat (row (drop (i + 1) xs)) ++ flat_child (child x)) ≡ b
-  end_here b e = has_end-append (flat (row (drop (i + 1) xs))) (flat_child (child x)) ∙ ap (λ c. c || has_end (flat_child (child x))) spacing.passed ∙ e
+  end_here : (b : Bool) → has_end (flat_child (child_view x)) ≡ b → has_end (flat (children_view (drop (i + 1) xs)) ++ flat_child (child_view x)) ≡ b
+  end_here b e = has_end-append (flat (children_view (drop (i + 1) xs))) (flat_child (child_view x)) ∙ ap (λ c. c || has_end (flat_child (child_view x))) spacing.passed ∙ e
 
   -- a child that prints something has the space
-  pub found : has_end (flat_child (child x)) ≡ true → (true ≡ has_end (flat (row old))) × (flat (row (set xs i y)) ≡ with_letter_after 32 (flat (row old)))
+  pub found : has_end (flat_child (child_view x)) ≡ true → (true ≡ has_end (flat (children_view old))) × (flat (children_view (set xs i y)) ≡ with_letter_after 32 (flat (children_view old)))
   found e =
-      let a = flat (row (drop (i + 1) xs)) in
-      let b = flat (row (take i xs)) in (
-        sym (ap has_end whole ∙ has_end-append (a ++ flat_child (child x)) b ∙ ap (λ c. c || has_end b) (end_here true e)),
+      let a = flat (children_view (drop (i + 1) xs)) in
+      let b = flat (children_view (take i xs)) in (
+        sym (ap has_end whole ∙ has_end-append (a ++ flat_child (child_view x)) b ∙ ap (λ c. c || has_end b) (end_here true e)),
         changed
             ∙ ap (λ ts. (a ++ ts) ++ b) spaced
-            ∙ ap (λ ts. ts ++ b) (sym (before_none 32 a (flat_child (child x)) spacing.passed))
-            ∙ sym (after_end 32 (a ++ flat_child (child x)) b (end_here true e))
+            ∙ ap (λ ts. ts ++ b) (sym (before_none 32 a (flat_child (child_view x)) spacing.passed))
+            ∙ sym (after_end 32 (a ++ flat_child (child_view x)) b (end_here true e))
             ∙ ap (with_letter_after 32) (sym whole),
       )
 
   -- where a child prints nothing, those before it are asked
-  pub passed_on : has_end (flat_child (child x)) ≡ false → Spacing old (set xs i y) i
+  pub passed_on : has_end (flat_child (child_view x)) ≡ false → Spacing old (set xs i y) i
   passed_on e =
-      let a = flat (row (drop (i + 1) xs)) in
-      let b = flat (row (take i xs)) in
-      let same : flat_child (child y) ≡ flat_child (child x) = spaced ∙ none_same 32 (flat_child (child x)) e in
+      let a = flat (children_view (drop (i + 1) xs)) in
+      let b = flat (children_view (take i xs)) in
+      let same : flat_child (child_view y) ≡ flat_child (child_view x) = spaced ∙ none_same 32 (flat_child (child_view x)) e in
       record {
         same = changed ∙ ap (λ ts. (a ++ ts) ++ b) same ∙ sym whole;
         passed = ap has_end (changed_from ∙ ap (λ ts. a ++ ts) same) ∙ end_here false e;
       }
 
--- the same, of the child before a place
+-- the same, of the child before an index
 spacing_at : (old xs : List ElemChild) (i : ℕ) → Spacing old xs i → 0 < i → Spacing old xs (i - 1 + 1)
 spacing_at old xs i s some =
     let same : i ≡ i - 1 + 1 = omega arith in
     subst (λ (k : ℕ). Spacing old xs k) same s
 
 pub found_before : (old xs : List ElemChild) (i : ℕ) (x y : ElemChild) → Spacing old xs i → 0 < i → i ≤ length xs → x ≡ get_or xs (i - 1) x
-    → flat_child (child y) ≡ with_letter_after 32 (flat_child (child x)) → has_end (flat_child (child x)) ≡ true
-    → (true ≡ has_end (flat (row old))) × (flat (row (set xs (i - 1) y)) ≡ with_letter_after 32 (flat (row old)))
+    → flat_child (child_view y) ≡ with_letter_after 32 (flat_child (child_view x)) → has_end (flat_child (child_view x)) ≡ true
+    → (true ≡ has_end (flat (children_view old))) × (flat (children_view (set xs (i - 1) y)) ≡ with_letter_after 32 (flat (children_view old)))
 found_before old xs i x y s some below is spaced e = found old xs (i - 1) x y (spacing_at old xs i s some) (omega arith) is spaced e
 
 pub passed_before : (old xs : List ElemChild) (i : ℕ) (x y : ElemChild) → Spacing old xs i → 0 < i → i ≤ length xs → x ≡ get_or xs (i - 1) x
-    → flat_child (child y) ≡ with_letter_after 32 (flat_child (child x)) → has_end (flat_child (child x)) ≡ false
+    → flat_child (child_view y) ≡ with_letter_after 32 (flat_child (child_view x)) → has_end (flat_child (child_view x)) ≡ false
     → Spacing old (set xs (i - 1) y) (i - 1)
 passed_before old xs i x y s some below is spaced e = passed_on old xs (i - 1) x y (spacing_at old xs i s some) (omega arith) is spaced e
 

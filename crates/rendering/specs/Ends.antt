@@ -2,7 +2,7 @@
 use Rattle.std.specs.Prelude.{Bool, true, false, List, [], ◌∷◌}
 use Rattle.rendering_tree.specs.Tokens.{Token, opening, closing, mark, unmark}
 
--- whether anything is printed but the beginnings and ends of elements
+-- whether anything is printed but the starts and ends of elements
 abbrev pub has_end : List Token → Bool
 has_end [] = false
 has_end (opening d m ∷ ts) = has_end ts

@@ -10,18 +10,18 @@ use Rattle.rendering_locale.specs.Locales.{Locale}
 use Rattle.rendering_locale.specs.Lookup.{term, asked, language, close_quotes}
 use Rattle.literature_values.specs.declared.date.Date.{Date}
 use Rattle.rendering_dates.specs.Dates.{years_text}
-use Rattle.rendering_page.specs.Pages.{Manner, Frame, space_put}
+use Rattle.rendering_page.specs.Pages.{Manner, Frame, append_space}
 use Rattle.rendering_page.specs.Pieces.{normal, begin, end}
-use Rattle.rendering_page.specs.Shown.{plainly}
+use Rattle.rendering_page.specs.PageCharacters.{plainly}
 use Rattle.rendering_entries.specs.Answers.{Answers}
 use Rattle.rendering_style.specs.Options.{NameOptions, options_over}
 use Rattle.rendering_style.specs.Nodes.{Look, NamesNode, Nodes, names, no_nodes, node}
 use Rattle.rendering_style.specs.Styles.{Layout, Bibliography, Style}
 use Rattle.rendering_style.specs.Opening.{opened_nodes}
 use Rattle.rendering_people.specs.Properties.{Properties}
-use Rattle.rendering_context.specs.Cites.{CiteProperties, letters_of}
+use Rattle.rendering_context.specs.Cites.{CiteProperties, year_suffix_of}
 use Rattle.rendering_context.specs.Contexts.{Context, StyleContext}
-use Rattle.rendering_leaves.specs.Settings.{Form, whole, author_only, without_author, first_date_only, suffix_only, Setting, State, begun, put, noted}
+use Rattle.rendering_leaves.specs.NodeSettings.{SpecialForm, whole, author_only, without_author, first_date_only, suffix_only, NodeSetting, State, begun, append, noted}
 use Rattle.rendering_context.specs.Answering.{has_answer}
 use Rattle.rendering_nodes.specs.Admission.{Survey, surveys}
 use Rattle.rendering_nodes.specs.Content.{stage, contents}
@@ -53,7 +53,7 @@ locales_of x term_locale = asked (language (option_or term_locale x.locale) x.st
 abbrev pub layout_nodes : Style → Layout → Nodes
 layout_nodes s l = opened_nodes s.macros l.nodes
 
--- whether a layout of the style prints the letters after a year by themselves
+-- whether a layout of the style prints the year suffix by itself
 unfoldable pub prints_suffix : Style → Bool
 prints_suffix s = has_suffix (layout_nodes s s.citation.layout) || option_map_or (λ b. has_suffix (layout_nodes s b.layout)) s.bibliography false
 
@@ -64,12 +64,12 @@ context_of x term_locale is_bibliography answers properties = record {
   properties = properties;
   locales = locales_of x term_locale;
   quotes = close_quotes (locales_of x term_locale);
-  letters = letters_of properties.disambiguation;
+  year_suffix = year_suffix_of properties.disambiguation;
   is_bibliography = is_bibliography;
   has_suffix_node = prints_suffix x.style;
 }
 
--- how a layout's texts are put down
+-- how a layout's texts are appended
 abbrev pub layout_manner : Layout → Manner
 layout_manner l = record { formatting = changed l.formatting plain; strips_periods = false }
 
@@ -78,43 +78,43 @@ abbrev pub citation_options : Style → NameOptions
 citation_options s = options_over s.citation.name_options s.name_options
 
 -- what a layout hands down, with its options for names over those of the style
-abbrev pub setting_of : Style → Layout → NameOptions → Form → Setting
+abbrev pub setting_of : Style → Layout → NameOptions → SpecialForm → NodeSetting
 setting_of s l options form = record {
   manner = layout_manner l;
   inside_quotes = false;
   delimiter = None;
   options = options_over options s.name_options;
-  stands_in = false;
+  in_substitute = false;
   form = form;
 }
 
--- a layout is put down in a form, without its affixes
-abbrev pub layout_put : Style → Context → Layout → NameOptions → Form → State → State
-layout_put s c l options form st = contents c (setting_of s l options form) true (layout_nodes s l) st
+-- a layout is appended in a form, without its affixes
+abbrev pub append_layout : Style → Context → Layout → NameOptions → SpecialForm → State → State
+append_layout s c l options form st = contents c (setting_of s l options form) true (layout_nodes s l) st
 
 -- whether anything of a layout is admitted in a form, and whether it was asked if the cite is like others
-abbrev pub layout_survey : Style → Context → Layout → NameOptions → Form → State → Survey
+abbrev pub layout_survey : Style → Context → Layout → NameOptions → SpecialForm → State → Survey
 layout_survey s c l options form st = surveys (stage c (setting_of s l options form) st) (layout_nodes s l)
 
 -- the layout of the citation
-abbrev pub citation_put : Style → Context → Form → State → State
-citation_put s c form st = layout_put s c s.citation.layout s.citation.name_options form st
+abbrev pub append_citation : Style → Context → SpecialForm → State → State
+append_citation s c form st = append_layout s c s.citation.layout s.citation.name_options form st
 
 -- what is asked of it
-abbrev pub citation_survey : Style → Context → Form → State → Survey
+abbrev pub citation_survey : Style → Context → SpecialForm → State → Survey
 citation_survey s c form st = layout_survey s c s.citation.layout s.citation.name_options form st
 
 -- the layout of the bibliography
-abbrev pub bibliography_put : Style → Context → Form → Bibliography → State → State
-bibliography_put s c form b st = layout_put s c b.layout b.name_options form st
+abbrev pub append_bibliography : Style → Context → SpecialForm → Bibliography → State → State
+append_bibliography s c form b st = append_layout s c b.layout b.name_options form st
 
 -- what is asked of it
-abbrev pub bibliography_survey : Style → Context → Form → State → Bibliography → Survey
+abbrev pub bibliography_survey : Style → Context → SpecialForm → State → Bibliography → Survey
 bibliography_survey s c form st b = layout_survey s c b.layout b.name_options form st
 
 -- texts of a citation's own look as its layout does
 abbrev pub citation_normal : Style → Context → List ℕ → State → State
-citation_normal s c cs st = put c (normal (layout_manner s.citation.layout) cs ∷ []) st
+citation_normal s c cs st = append c (normal (layout_manner s.citation.layout) cs ∷ []) st
 
 -- the dates that are asked for a year
 abbrev pub year_dates : List DateVariable
@@ -130,8 +130,8 @@ abbrev pub year_text : Context → List ℕ
 year_text c = option_map_or (years_text c.locales) (first_dated (filter_map c.answers.date year_dates)) (unwrap_or (term c.locales (terms.Other others.NoDate) forms.Long false) (codes "n.d."))
 
 -- the year by itself looks as texts do of themselves
-abbrev pub year_put : Context → State → State
-year_put c st = put c (normal plainly (year_text c) ∷ []) st
+abbrev pub append_year : Context → State → State
+append_year c st = append c (normal plainly (year_text c) ∷ []) st
 
 -- the variable whose people are the authors: the editors stand for authors that are missing
 abbrev pub author_variable : Context → NameVariable
@@ -141,11 +141,11 @@ author_variable c = if not (has_answer c (variables.Name name.Author)) && has_an
 abbrev pub elsewhere : Context → Context
 elsewhere c = record c { properties = record c.properties { ibid = ibids.Different } }
 
--- names of the authors, of which nothing is said
+-- names of the authors, for which nothing is specified
 abbrev pub plain_look : Look
 plain_look = record { formatting = unchanged; prefix = []; suffix = []; display = None }
 
--- a node for the authors, of which nothing is said
+-- a node for the authors, for which nothing is specified
 abbrev pub author_node : NamesNode
 author_node = record {
   variables = name.Author ∷ [];
@@ -157,29 +157,29 @@ author_node = record {
   look = plain_look;
 }
 
--- a node for the authors is put down as the layout of the citation would have it
-abbrev pub made_put : Style → Context → Form → State → State
-made_put s c form st = contents c (setting_of s s.citation.layout s.citation.name_options form) true (node (names author_node no_nodes) no_nodes) st
+-- a node for the authors is appended as the layout of the citation would have it
+abbrev pub append_made : Style → Context → SpecialForm → State → State
+append_made s c form st = contents c (setting_of s s.citation.layout s.citation.name_options form) true (node (names author_node no_nodes) no_nodes) st
 
 -- the authors from the layout of the bibliography, where they are admitted there, else from a node of their own
-abbrev pub author_last : Style → Context → Form → Option Bibliography → State → State
-author_last s c form None st = made_put s c form st
+abbrev pub author_last : Style → Context → SpecialForm → Option Bibliography → State → State
+author_last s c form None st = append_made s c form st
 author_last s c form (Some b) st =
     let asked = bibliography_survey s c form st b in
-    if asked.is_admitted then bibliography_put s c form b (noted asked.met st) else made_put s c form (noted asked.met st)
+    if asked.is_admitted then append_bibliography s c form b (noted asked.met st) else append_made s c form (noted asked.met st)
 
 -- else from that of the citation, as it stands after another entry
-abbrev pub author_elsewhere : Style → Context → Form → State → State
+abbrev pub author_elsewhere : Style → Context → SpecialForm → State → State
 author_elsewhere s c form st =
     let asked = citation_survey s (elsewhere c) form st in
-    if asked.is_admitted then citation_put s (elsewhere c) form (noted asked.met st) else author_last s c form s.bibliography (noted asked.met st)
+    if asked.is_admitted then append_citation s (elsewhere c) form (noted asked.met st) else author_last s c form s.bibliography (noted asked.met st)
 
 -- The authors: from the layout of the citation, where they are admitted there, else from one of the others.
-abbrev pub author_put : Style → Context → State → State
-author_put s c st =
+abbrev pub append_author : Style → Context → State → State
+append_author s c st =
     let form = author_only (author_variable c) in
     let asked = citation_survey s c form st in
-    if asked.is_admitted then citation_put s c form (noted asked.met st) else author_elsewhere s c form (noted asked.met st)
+    if asked.is_admitted then append_citation s c form (noted asked.met st) else author_elsewhere s c form (noted asked.met st)
 
 -- whether cites of the style are made of numbers or labels
 abbrev pub is_identifier : StyleCategory → Bool
@@ -198,21 +198,21 @@ begins_spaced (c ∷ cs) = is_whitespace c
 
 -- a space, but not before a text that begins with white space
 abbrev pub space_before : List ℕ → State → State
-space_before cs st = if begins_spaced cs then st else record st { page = space_put st.page }
+space_before cs st = if begins_spaced cs then st else record st { page = append_space st.page }
 
 -- a form of the citation between two texts, after a space
-abbrev pub enclosed_put : Style → Context → Form → List ℕ → List ℕ → State → State
-enclosed_put s c form prefix suffix st = citation_normal s c suffix (citation_put s c form (citation_normal s c prefix (space_before prefix st)))
+abbrev pub append_enclosed : Style → Context → SpecialForm → List ℕ → List ℕ → State → State
+append_enclosed s c form prefix suffix st = citation_normal s c suffix (append_citation s c form (citation_normal s c prefix (space_before prefix st)))
 
 -- the authors, then the citation in its affixes; where cites are no numbers or labels, without the authors and in parentheses if not in affixes
-abbrev pub prose_put : Style → Context → State → State
-prose_put s c st =
+abbrev pub append_prose : Style → Context → State → State
+append_prose s c st =
     if prints_identifiers s
-    then enclosed_put s c whole (unwrap_or s.citation.layout.prefix []) (unwrap_or s.citation.layout.suffix []) (author_put s c st)
-    else enclosed_put s c without_author (unwrap_or s.citation.layout.prefix (40 ∷ [])) (unwrap_or s.citation.layout.suffix (41 ∷ [])) (author_put s c st)
+    then append_enclosed s c whole (unwrap_or s.citation.layout.prefix []) (unwrap_or s.citation.layout.suffix []) (append_author s c st)
+    else append_enclosed s c without_author (unwrap_or s.citation.layout.prefix (40 ∷ [])) (unwrap_or s.citation.layout.suffix (41 ∷ [])) (append_author s c st)
 
 -- what collapsing leaves of a cite
-abbrev pub form_of : Option CollapseVerdict → Form
+abbrev pub form_of : Option CollapseVerdict → SpecialForm
 form_of None = whole
 form_of (Some verdicts.First) = first_date_only
 form_of (Some verdicts.YearSuffix) = suffix_only
@@ -246,22 +246,22 @@ pub record Rendered : Type 0 where
 abbrev pub rendered_as : Children → State → Rendered
 rendered_as tree st = record { tree = tree; met_disambiguate = st.met_disambiguate; names = st.names; usage = usage_by st.used.label st.used.number }
 
--- the tree of what was put down, with the facts
+-- the tree of what was appended, with the facts
 abbrev pub rendered : State → Rendered
 rendered st = rendered_as (tree_of st.page.tokens) st
 
 -- the whole item, or without a bibliography what is printed for no purpose
 abbrev pub full_of : Style → Context → Option CollapseVerdict → Option Bibliography → Rendered
-full_of s c verdict None = rendered (citation_put s c (form_of verdict) begun)
-full_of s c verdict (Some b) = let st = bibliography_put s c whole b begun in rendered_as (fields_joined b.second_field_align st) st
+full_of s c verdict None = rendered (append_citation s c (form_of verdict) begun)
+full_of s c verdict (Some b) = let st = append_bibliography s c whole b begun in rendered_as (fields_joined b.second_field_align st) st
 
 -- a cite by its purpose
 abbrev pub rendered_for : Style → Context → Option CollapseVerdict → Option CitePurpose → Rendered
-rendered_for s c verdict None = rendered (citation_put s c (form_of verdict) begun)
-rendered_for s c verdict (Some purposes.Author) = rendered (author_put s c begun)
-rendered_for s c verdict (Some purposes.Year) = rendered (year_put c begun)
+rendered_for s c verdict None = rendered (append_citation s c (form_of verdict) begun)
+rendered_for s c verdict (Some purposes.Author) = rendered (append_author s c begun)
+rendered_for s c verdict (Some purposes.Year) = rendered (append_year c begun)
 rendered_for s c verdict (Some purposes.Full) = full_of s c verdict s.bibliography
-rendered_for s c verdict (Some purposes.Prose) = rendered (prose_put s c begun)
+rendered_for s c verdict (Some purposes.Prose) = rendered (append_prose s c begun)
 
 -- what a call prints of a cite
 abbrev pub citation : StyleContext → Answers → CiteProperties → Option (List ℕ) → Option CitePurpose → Option CollapseVerdict → Rendered
@@ -271,14 +271,14 @@ citation x answers properties term_locale purpose verdict = rendered_for x.style
 abbrev pub layout_frame : Layout → Frame
 layout_frame l = record { display = None; meta = None; manner = layout_manner l; prefix = unwrap_or l.prefix []; suffix = unwrap_or l.suffix [] }
 
--- an item of the bibliography is put down
-abbrev pub item_put : Style → Context → Bibliography → State → State
-item_put s c b st = put c (end (layout_frame b.layout) ∷ []) (bibliography_put s c whole b (put c (begin (layout_frame b.layout) ∷ []) st))
+-- an item of the bibliography is appended
+abbrev pub append_item : Style → Context → Bibliography → State → State
+append_item s c b st = append c (end (layout_frame b.layout) ∷ []) (append_bibliography s c whole b (append c (begin (layout_frame b.layout) ∷ []) st))
 
 -- what a call prints of an item of the bibliography, where the style has one
 abbrev pub bibliography : StyleContext → Answers → CiteProperties → Option (List ℕ) → Option Rendered
 bibliography x answers properties term_locale =
-    option_map (λ b. rendered (item_put x.style (context_of x term_locale true answers properties) b begun)) x.style.bibliography
+    option_map (λ b. rendered (append_item x.style (context_of x term_locale true answers properties) b begun)) x.style.bibliography
 
 -- each call counts one, up to the last number that a counter holds
 abbrev pub counted : ℕ → ℕ

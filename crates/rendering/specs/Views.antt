@@ -4,15 +4,15 @@ use Rattle.std.specs.Option.{option_map}
 use Rattle.rendering_context.specs.Cites.{CiteProperties}
 use Rattle.rendering_context.specs.Contexts as contexts
 use Rattle.rendering_context.specs.Contexts.{Context}
-use Rattle.rendering_context.specs.Views.{context_by}
+use Rattle.rendering_context.specs.Views.{context_view}
 use Rattle.rendering_entries.specs.Answers.{Answers}
 use Rattle.rendering_locale.specs.Locales.{Locale}
-use Rattle.rendering_locale.specs.CodeViews.{borrowed_code}
-use Rattle.rendering_locale.specs.Views.{locale_seen}
+use Rattle.rendering_locale.specs.CodeViews.{borrowed_code_view}
+use Rattle.rendering_locale.specs.Views.{locale_view}
 use Rattle.rendering_page.specs.Pages.{Quotes}
 use Rattle.rendering_style.specs.Styles.{Style}
-use Rattle.rendering_style.specs.StyleViews.{style_seen}
-use Rattle.rendering_tree.specs.Views.{tree}
+use Rattle.rendering_style.specs.StyleViews.{style_view}
+use Rattle.rendering_tree.specs.Views.{tree_view}
 use Rattle.rendering.specs.Purposes as purposes
 use Rattle.rendering.specs.Purposes.{prints_suffix}
 use Rattle.rendering.specs.declared.call.Call.{Call}
@@ -20,29 +20,29 @@ use Rattle.rendering.specs.declared.rendered.Rendering.{Rendering}
 use Rattle.rendering.specs.declared.style_context.StyleContext.{StyleContext}
 
 -- a style with the language that is asked for, and the files with locales
-abbrev pub context_seen : StyleContext → contexts.StyleContext
-context_seen x = record { style = style_seen x.style.now; locale = option_map borrowed_code x.locale; locale_files = map locale_seen x.locale_files.now }
+abbrev pub style_context_view : StyleContext → contexts.StyleContext
+style_context_view x = record { style = style_view x.style.now; locale = option_map borrowed_code_view x.locale; locale_files = map locale_view x.locale_files.now }
 
 -- the style of a call
 abbrev pub style_of : Call → Style
-style_of c = style_seen c.walk.style.now
+style_of c = style_view c.walk.style.now
 
 -- what a call prints from, with what the entry answers
 abbrev pub context_in : Answers → Call → Context
-context_in a c = context_by a c.walk.context
+context_in a c = context_view a c.walk.context
 
 -- what is printed from in these words
 abbrev pub spoken : Style → Answers → CiteProperties → List Locale → Quotes → List ℕ → Bool → Context
-spoken s a p locales quotes letters is_bibliography = record {
+spoken s a p locales quotes year_suffix is_bibliography = record {
   answers = a;
   properties = p;
   locales = locales;
   quotes = quotes;
-  letters = letters;
+  year_suffix = year_suffix;
   is_bibliography = is_bibliography;
   has_suffix_node = prints_suffix s;
 }
 
 -- what a call gives
-abbrev pub rendered_by : Rendering → purposes.Rendered
-rendered_by r = record { tree = tree r.tree; met_disambiguate = r.met_disambiguate; names = r.names; usage = r.identifier_usage }
+abbrev pub rendering_view : Rendering → purposes.Rendered
+rendering_view r = record { tree = tree_view r.tree; met_disambiguate = r.met_disambiguate; names = r.names; usage = r.identifier_usage }

@@ -1,8 +1,8 @@
-//! The node for authors of which nothing is said.
+//! The node for authors for which nothing is specified.
 
 ghost use Rattle.std.specs.Prelude.{◌≡◌, ◌∷◌, [], true, map, IfOk};
 ghost use Rattle.rendering_style.specs.Nodes.{names, no_nodes};
-ghost use Rattle.rendering_style.specs.Views.{look_seen, names_seen, node_seen};
+ghost use Rattle.rendering_style.specs.Views.{look_view, names_node_view, node_view};
 ghost use Rattle.rendering.specs.AuthorNodes.{is_made};
 ghost use Rattle.rendering.specs.Purposes.{author_node, plain_look};
 
@@ -11,11 +11,11 @@ use rendering_taxonomy::{FormattingChanges, NameVariable};
 use std::alloc::{AllocError, Global};
 use texts::empty_text;
 
-/// A node for the authors, of which nothing is said.
+/// A node for the authors, for which nothing is specified.
 #[derive(Debug, Drop)]
 pub(crate) struct AuthorNode {
     nodes: Vec<Node>,
-    ghost made: { is_made (map node_seen nodes.items) ≡ true },
+    ghost made: { is_made (map node_view nodes.items) ≡ true },
 }
 
 impl AuthorNode {
@@ -33,15 +33,15 @@ impl AuthorNode {
     /// The node alone.
     #[tactic(auto, using(crate::proofs::AuthorNodeIs::made_is))]
     pub(crate) fn nodes(&self) -> &[Node]
-        ensures { map node_seen result.now ≡ names author_node no_nodes ∷ [] }
+        ensures { map node_view result.now ≡ names author_node no_nodes ∷ [] }
     {
         self.nodes.as_slice()
     }
 }
 
-/// What is said of the names of authors: nothing.
+/// What is specified for the names of authors: nothing.
 fn author_names(alloc: Global) -> Result<Names, AllocError>
-    ensures { IfOk result (λ n. names_seen n ≡ author_node) }
+    ensures { IfOk result (λ n. names_node_view n ≡ author_node) }
 {
     Ok(Names {
         variables: Vec::from_array(alloc, [NameVariable::Author])?,
@@ -54,9 +54,9 @@ fn author_names(alloc: Global) -> Result<Names, AllocError>
     })
 }
 
-/// A look of which nothing is said.
+/// A look for which nothing is specified.
 fn plain_look(alloc: Global) -> Look
-    ensures { look_seen result ≡ plain_look }
+    ensures { look_view result ≡ plain_look }
 {
     Look {
         formatting: FormattingChanges::default(),

@@ -2,26 +2,26 @@
 
 ghost use Rattle.std.specs.Prelude.{◌≡◌, [], false, None};
 ghost use Rattle.std.specs.Option.{option_map_or, option_map};
-ghost use Rattle.rendering_leaves.specs.Views.{form_by, setting_by};
-ghost use Rattle.rendering_names.specs.Views.{options_by};
+ghost use Rattle.rendering_leaves.specs.Views.{form_view, setting_view};
+ghost use Rattle.rendering_names.specs.Views.{resolved_options_view};
 ghost use Rattle.rendering_nodes.specs.Named.{has_suffix};
-ghost use Rattle.rendering_page.specs.Views.{frame as frame_seen, manner as manner_seen};
+ghost use Rattle.rendering_page.specs.Views.{frame_view, manner_view};
 ghost use Rattle.rendering_style.specs.Options.{NameOptions as Options, options_over};
 ghost use Rattle.rendering_style.specs.Styles.{Style as Styled};
-ghost use Rattle.rendering_style.specs.StyleViews.{style_seen};
-ghost use Rattle.rendering_style.specs.Views.{bibliography_seen, layout_seen, options_seen, parts_seen};
+ghost use Rattle.rendering_style.specs.StyleViews.{style_view};
+ghost use Rattle.rendering_style.specs.Views.{bibliography_layout_view, layout_view, options_view, style_parts_view};
 ghost use Rattle.rendering.specs.Purposes.{citation_options, layout_frame, layout_manner, layout_nodes, prints_suffix, setting_of};
 
-use crate::texts_of::text_or_empty;
-use rendering_leaves::{Form, Setting};
+use crate::default_texts::text_or_empty;
+use rendering_leaves::{NodeSetting, SpecialForm};
 use rendering_names::ResolvedNameOptions;
 use rendering_nodes::has_suffix;
 use rendering_page::{Frame, Manner, plainly};
 use rendering_style::{Bibliography, Layout, NameOptions, Style, StyleParts};
 
-/// How a layout's texts are put down.
+/// How a layout's texts are appended.
 pub(crate) fn layout_manner(layout: &Layout) -> Manner
-    ensures { manner_seen result ≡ layout_manner (layout_seen layout.now) }
+    ensures { manner_view result ≡ layout_manner (layout_view layout.now) }
 {
     Manner {
         formatting: layout.formatting.over(plainly().formatting),
@@ -34,7 +34,8 @@ pub(crate) fn layout_options<'a>(
     parts: &'a StyleParts,
     options: &'a NameOptions,
 ) -> ResolvedNameOptions<'a>
-    ensures { options_by result ≡ options_over (options_seen options.now) (parts_seen parts.now).name_options }
+    ensures { resolved_options_view result
+        ≡ options_over (options_view options.now) (style_parts_view parts.now).name_options }
 {
     let around = ResolvedNameOptions::new(&parts.name_options);
     ResolvedNameOptions::new(options).over(&around)
@@ -42,7 +43,7 @@ pub(crate) fn layout_options<'a>(
 
 /// The options for names in the citation.
 pub(crate) fn citation_options<'a>(style: &'a Style) -> ResolvedNameOptions<'a>
-    ensures { options_by result ≡ citation_options (style_seen style.now) }
+    ensures { resolved_options_view result ≡ citation_options (style_view style.now) }
 {
     let parts = style.parts();
     layout_options(parts, &parts.citation.name_options)
@@ -52,23 +53,25 @@ pub(crate) fn citation_options<'a>(style: &'a Style) -> ResolvedNameOptions<'a>
 pub(crate) fn setting_of<'a>(
     layout: &'a Layout,
     options: &ResolvedNameOptions<'a>,
-    form: Form,
-) -> Setting<'a>
-    ensures { (s : Styled) (own : Options) → options_by options.now ≡ options_over own s.name_options → setting_by result ≡ setting_of s (layout_seen layout.now) own (form_by form) }
+    form: SpecialForm,
+) -> NodeSetting<'a>
+    ensures { (s : Styled) (own : Options)
+        → resolved_options_view options.now ≡ options_over own s.name_options
+        → setting_view result ≡ setting_of s (layout_view layout.now) own (form_view form) }
 {
-    Setting {
+    NodeSetting {
         manner: layout_manner(layout),
         inside_quotes: false,
         delimiter: None,
         options: *options,
-        stands_in: false,
+        in_substitute: false,
         form,
     }
 }
 
 /// A layout's affixes round all that it prints.
 pub(crate) fn layout_frame<'a>(layout: &'a Layout) -> Frame<'a>
-    ensures { frame_seen result ≡ layout_frame (layout_seen layout.now) }
+    ensures { frame_view result ≡ layout_frame (layout_view layout.now) }
 {
     Frame {
         display: None,
@@ -79,10 +82,10 @@ pub(crate) fn layout_frame<'a>(layout: &'a Layout) -> Frame<'a>
     }
 }
 
-/// Whether a layout of the style prints the letters after a year by themselves.
+/// Whether a layout of the style prints the year suffix by itself.
 #[tactic(auto, unfolding(crate::specs::Purposes::prints_suffix))]
 pub(crate) fn prints_suffix(style: &Style) -> bool
-    ensures { result ≡ prints_suffix (style_seen style.now) }
+    ensures { result ≡ prints_suffix (style_view style.now) }
 {
     let parts = style.parts();
     has_suffix(style, &parts.citation.layout.nodes)
@@ -91,7 +94,9 @@ pub(crate) fn prints_suffix(style: &Style) -> bool
 
 /// Whether the layout of the bibliography does, where there is one.
 fn bibliography_prints_suffix(style: &Style, bibliography: &Option<Bibliography>) -> bool
-    ensures { result ≡ option_map_or (λ b. has_suffix (layout_nodes (style_seen style.now) b.layout)) (option_map bibliography_seen bibliography.now) false }
+    ensures { result
+        ≡ option_map_or (λ b. has_suffix (layout_nodes (style_view style.now) b.layout))
+        (option_map bibliography_layout_view bibliography.now) false }
 {
     match bibliography {
         Some(bibliography) => has_suffix(style, &bibliography.layout.nodes),

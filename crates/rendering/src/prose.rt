@@ -3,29 +3,30 @@
 ghost use Rattle.std.specs.Prelude.{◌≡◌, OnOk};
 ghost use Rattle.std.specs.List.{list_any};
 ghost use Rattle.laws.specs.Text.{spelled};
-ghost use Rattle.rendering_leaves.specs.Views.{form_by};
-ghost use Rattle.rendering_style.specs.Views.{parts_seen};
-ghost use Rattle.rendering.specs.Purposes.{begins_spaced, enclosed_put, is_identifier, prints_identifiers, prose_put, space_before};
+ghost use Rattle.rendering_leaves.specs.Views.{form_view};
+ghost use Rattle.rendering_style.specs.Views.{style_parts_view};
+ghost use Rattle.rendering.specs.Purposes.{begins_spaced, append_enclosed, is_identifier, prints_identifiers, append_prose, space_before};
 ghost use Rattle.rendering.specs.Views.{context_in, style_of};
 
 use crate::call::Call;
-use crate::texts_of::{text_or_close, text_or_empty, text_or_open};
+use crate::default_texts::{text_or_close, text_or_empty, text_or_open};
 use rendering_entries::EntryLike;
-use rendering_leaves::{Form, State};
+use rendering_leaves::{SpecialForm, State};
 use rendering_style::StyleParts;
 use rendering_taxonomy::StyleCategory;
 use std::alloc::AllocError;
 use texts::split_first;
 
 impl<'s, 'a> Call<'s, 'a> {
-    /// Puts the authors down, then the citation in its affixes; where cites are no numbers or labels, without the authors, and in
+    /// Appends the authors, then the citation in its affixes; where cites are no numbers or labels, without the authors, and in
     /// parentheses if not in affixes.
     pub(crate) fn push_prose<E: EntryLike>(
         &self,
         entry: &'a E,
         state: &mut State<'a>,
     ) -> Result<(), AllocError>
-        ensures { OnOk result (state.new ≡ prose_put (style_of self.now) (context_in (E.answers entry.entry.now) self.now) state.old) }
+        ensures { OnOk result (state.new ≡ append_prose (style_of self.now)
+            (context_in (E.answers entry.entry.now) self.now) state.old) }
     {
         self.push_author(entry, state)?;
         let parts = self.walk.style.parts();
@@ -33,24 +34,26 @@ impl<'s, 'a> Call<'s, 'a> {
         if prints_identifiers(parts) {
             let prefix = text_or_empty(&layout.prefix);
             let suffix = text_or_empty(&layout.suffix);
-            self.push_enclosed(entry, Form::Whole, prefix, suffix, state)
+            self.push_enclosed(entry, SpecialForm::Whole, prefix, suffix, state)
         } else {
             let prefix = text_or_open(&layout.prefix);
             let suffix = text_or_close(&layout.suffix);
-            self.push_enclosed(entry, Form::WithoutAuthor, prefix, suffix, state)
+            self.push_enclosed(entry, SpecialForm::WithoutAuthor, prefix, suffix, state)
         }
     }
 
-    /// Puts a form of the citation down between two texts, after a space.
+    /// Appends a form of the citation between two texts, after a space.
     fn push_enclosed<E: EntryLike>(
         &self,
         entry: &'a E,
-        form: Form,
+        form: SpecialForm,
         prefix: &'a str,
         suffix: &'a str,
         state: &mut State<'a>,
     ) -> Result<(), AllocError>
-        ensures { OnOk result (state.new ≡ enclosed_put (style_of self.now) (context_in (E.answers entry.entry.now) self.now) (form_by form) (spelled prefix.entry) (spelled suffix.entry) state.old) }
+        ensures { OnOk result (state.new
+            ≡ append_enclosed (style_of self.now) (context_in (E.answers entry.entry.now) self.now)
+            (form_view form) (spelled prefix.entry) (spelled suffix.entry) state.old) }
     {
         push_space_before(prefix, state)?;
         self.push_own(prefix, state)?;
@@ -83,7 +86,7 @@ fn begins_spaced(text: &str) -> bool
 
 /// Whether the style says that cites are made of numbers or labels.
 fn prints_identifiers(parts: &StyleParts) -> bool
-    ensures { result ≡ prints_identifiers (parts_seen parts.now) }
+    ensures { result ≡ prints_identifiers (style_parts_view parts.now) }
 {
     parts
         .categories

@@ -2,9 +2,9 @@
 
 ghost use Rattle.std.specs.Prelude.{◌≡◌, IfOk};
 ghost use Rattle.rendering.specs.Purposes.{fields_joined, rendered, rendered_as, usage_by};
-ghost use Rattle.rendering.specs.Views.{rendered_by};
+ghost use Rattle.rendering.specs.Views.{rendering_view};
 
-use crate::front::joined_tree;
+use crate::second_field::joined_tree;
 use rendering_leaves::State;
 use rendering_people::NameDisambiguationProperties;
 use rendering_taxonomy::{IdentifierUsage, SecondFieldAlign};
@@ -23,9 +23,9 @@ pub struct Rendering {
     pub identifier_usage: IdentifierUsage,
 }
 
-/// The tree of what was put down, and what became known.
+/// The tree of what was appended, and what became known.
 pub(crate) fn rendered(state: State<'_>) -> Result<Rendering, AllocError>
-    ensures { IfOk result (λ r. rendered_by r ≡ rendered state.entry) }
+    ensures { IfOk result (λ r. rendering_view r ≡ rendered state.entry) }
 {
     joined(state, None)
 }
@@ -35,7 +35,8 @@ pub(crate) fn joined(
     state: State<'_>,
     align: Option<SecondFieldAlign>,
 ) -> Result<Rendering, AllocError>
-    ensures { IfOk result (λ r. rendered_by r ≡ rendered_as (fields_joined align state.entry) state.entry) }
+    ensures { IfOk result (λ r. rendering_view r
+        ≡ rendered_as (fields_joined align state.entry) state.entry) }
 {
     let State {
         page,

@@ -3,20 +3,20 @@
 ghost use Rattle.std.specs.Prelude.{◌≡◌, false, true, map, IfOk, None};
 ghost use Rattle.std.specs.Option.{option_map};
 ghost use Rattle.laws.specs.Text.{characters};
-ghost use Rattle.rendering_locale.specs.CodeViews.{borrowed_code};
+ghost use Rattle.rendering_locale.specs.CodeViews.{borrowed_code_view};
 ghost use Rattle.rendering_locale.specs.Lookup.{close_quotes};
-ghost use Rattle.rendering_locale.specs.Views.{locale_seen};
-ghost use Rattle.rendering_names.specs.Views.{options_by};
-ghost use Rattle.rendering_page.specs.Views.{quotes_of};
-ghost use Rattle.rendering_style.specs.StyleViews.{style_seen};
+ghost use Rattle.rendering_locale.specs.Views.{locale_view};
+ghost use Rattle.rendering_names.specs.Views.{resolved_options_view};
+ghost use Rattle.rendering_page.specs.Views.{quotes_view};
+ghost use Rattle.rendering_style.specs.StyleViews.{style_view};
 ghost use Rattle.rendering.specs.Purposes.{citation_options, locales_of, prints_suffix};
 
 use crate::author_node::AuthorNode;
 use crate::call::Call;
 use crate::effort::Effort;
 use crate::layout::{citation_options, prints_suffix};
+use crate::locale_words::{Words, YearSuffixText};
 use crate::rendered::Rendering;
-use crate::words::{Letters, Words};
 use rendering_context::{CiteProperties, Context};
 use rendering_entries::EntryLike;
 use rendering_locale::{AskedLocales, Locale, LocaleCode, language};
@@ -33,28 +33,28 @@ pub struct StyleContext<'a> {
     style: &'a Style,
     locale: Option<&'a LocaleCode>,
     locale_files: &'a [Locale],
-    /// Whether a layout of the style prints the letters after a year by themselves.
+    /// Whether a layout of the style prints the year suffix by itself.
     has_suffix_node: bool,
     authors: AuthorNode,
     /// The options for names in the citation.
     options: ResolvedNameOptions<'a>,
     /// The words of a call that asks for no language.
     own_words: Words<'a>,
-    ghost locales: { own_words.locales ≡ locales_of (record { style = style_seen style.now; locale = option_map borrowed_code locale; locale_files = map locale_seen locale_files.now }) None },
-    ghost quotes: { quotes_of own_words.quotes.items ≡ close_quotes (locales_of (record { style = style_seen style.now; locale = option_map borrowed_code locale; locale_files = map locale_seen locale_files.now }) None) },
-    ghost resolved: { options_by options ≡ citation_options (style_seen style.now) },
-    ghost suffix: { has_suffix_node ≡ prints_suffix (style_seen style.now) },
+    ghost locales: { own_words.locales ≡ locales_of (record { style = style_view style.now; locale = option_map borrowed_code_view locale; locale_files = map locale_view locale_files.now }) None },
+    ghost quotes: { quotes_view own_words.quotes.items ≡ close_quotes (locales_of (record { style = style_view style.now; locale = option_map borrowed_code_view locale; locale_files = map locale_view locale_files.now }) None) },
+    ghost resolved: { resolved_options_view options ≡ citation_options (style_view style.now) },
+    ghost suffix: { has_suffix_node ≡ prints_suffix (style_view style.now) },
 }
 
 impl<'a> StyleContext<'a> {
-    ghost use Rattle.rendering_context.specs.Cites.{letters_of};
-    ghost use Rattle.rendering_context.specs.Views.{cite_by};
+    ghost use Rattle.rendering_context.specs.Cites.{year_suffix_of};
+    ghost use Rattle.rendering_context.specs.Views.{cite_properties_view};
     ghost use Rattle.rendering_entries.specs.Answers.{Answers};
-    ghost use Rattle.rendering_style.specs.Views.{bibliography_seen};
-    ghost use Rattle.rendering_leaves.specs.Settings.{begun};
+    ghost use Rattle.rendering_style.specs.Views.{bibliography_layout_view};
+    ghost use Rattle.rendering_leaves.specs.NodeSettings.{begun};
     ghost use Rattle.rendering_nodes.specs.Views.{walk_context};
-    ghost use Rattle.rendering.specs.Purposes.{bibliography, citation, context_of, counted, item_put, rendered, rendered_for};
-    ghost use Rattle.rendering.specs.Views.{context_in, context_seen, rendered_by, spoken, style_of};
+    ghost use Rattle.rendering.specs.Purposes.{bibliography, citation, context_of, counted, append_item, rendered, rendered_for};
+    ghost use Rattle.rendering.specs.Views.{context_in, style_context_view, rendering_view, spoken, style_of};
 
     /// A style with the language that is asked for where a call asks for none, and the files with locales.
     ///
@@ -66,7 +66,7 @@ impl<'a> StyleContext<'a> {
         locale: Option<&'a LocaleCode>,
         locale_files: &'a [Locale],
     ) -> Result<StyleContext<'a>, AllocError>
-        ensures { IfOk result (λ x. context_seen x ≡ record { style = style_seen style.now; locale = option_map borrowed_code locale.entry; locale_files = map locale_seen locale_files.now }) }
+        ensures { IfOk result (λ x. style_context_view x ≡ record { style = style_view style.now; locale = option_map borrowed_code_view locale.entry; locale_files = map locale_view locale_files.now }) }
     {
         let authors = AuthorNode::new(alloc)?;
         let own_words = words_in(alloc, style, locale, locale_files)?;
@@ -96,12 +96,21 @@ impl<'a> StyleContext<'a> {
         verdict: Option<CollapseVerdict>,
         effort: &mut Effort,
     ) -> Result<Rendering, AllocError>
-        ensures cite { IfOk result (λ r. rendered_by r ≡ citation (context_seen self.now) (E.answers entry.now) (cite_by properties.now) (option_map borrowed_code term_locale.entry) purpose verdict) }
+        ensures cite { IfOk result (λ r. rendering_view r ≡ citation (style_context_view self.now)
+            (E.answers entry.now) (cite_properties_view properties.now)
+            (option_map borrowed_code_view term_locale.entry) purpose verdict) }
         ensures effort { effort.new ≡ counted effort.old }
     {
         effort.count_one();
-        let letters = Letters::new(self.alloc, &properties.disambiguation)?;
-        self.cite(&letters, entry, properties, term_locale, purpose, verdict)
+        let year_suffix = YearSuffixText::new(self.alloc, &properties.disambiguation)?;
+        self.cite(
+            &year_suffix,
+            entry,
+            properties,
+            term_locale,
+            purpose,
+            verdict,
+        )
     }
 
     /// What the style gives of an item of the bibliography, in the words of that language, where it has a bibliography. The call
@@ -116,7 +125,10 @@ impl<'a> StyleContext<'a> {
         term_locale: Option<&LocaleCode>,
         effort: &mut Effort,
     ) -> Result<Option<Rendering>, AllocError>
-        ensures item { IfOk result (λ r. option_map rendered_by r ≡ bibliography (context_seen self.now) (E.answers entry.now) (cite_by properties.now) (option_map borrowed_code term_locale.entry)) }
+        ensures item { IfOk result (λ r. option_map rendering_view r
+            ≡ bibliography (style_context_view self.now)
+            (E.answers entry.now) (cite_properties_view properties.now)
+            (option_map borrowed_code_view term_locale.entry)) }
         ensures effort { effort.new ≡ counted effort.old }
     {
         effort.count_one();
@@ -136,30 +148,37 @@ impl<'a> StyleContext<'a> {
         term_locale: Option<&LocaleCode>,
         bibliography: &'c Bibliography,
     ) -> Result<Rendering, AllocError>
-        ensures { IfOk result (λ r. rendered_by r ≡ rendered (item_put (context_seen self.now).style (context_of (context_seen self.now) (option_map borrowed_code term_locale.entry) true (E.answers entry.now) (cite_by properties.now)) (bibliography_seen bibliography.now) begun)) }
+        ensures { IfOk result (λ r. rendering_view r
+            ≡ rendered (append_item (style_context_view self.now).style (context_of
+            (style_context_view self.now) (option_map borrowed_code_view term_locale.entry) true
+            (E.answers entry.now) (cite_properties_view properties.now))
+            (bibliography_layout_view bibliography.now) begun)) }
     {
-        let letters = Letters::new(self.alloc, &properties.disambiguation)?;
-        self.listed(&letters, entry, properties, term_locale, bibliography)
+        let year_suffix = YearSuffixText::new(self.alloc, &properties.disambiguation)?;
+        self.listed(&year_suffix, entry, properties, term_locale, bibliography)
     }
 
-    /// What the style gives of a cite with these letters after a year.
+    /// What the style gives of a cite with this year suffix.
     fn cite<'c, E: EntryLike>(
         &'c self,
-        letters: &'c Letters,
+        year_suffix: &'c YearSuffixText,
         entry: &'c E,
         properties: &'c CiteProperties<'c>,
         term_locale: Option<&LocaleCode>,
         purpose: Option<CitePurpose>,
         verdict: Option<CollapseVerdict>,
     ) -> Result<Rendering, AllocError>
-        requires { characters letters.now.0 ≡ letters_of (cite_by properties.now).disambiguation }
-        ensures { IfOk result (λ r. rendered_by r ≡ citation (context_seen self.now) (E.answers entry.now) (cite_by properties.now) (option_map borrowed_code term_locale.entry) purpose verdict) }
+        requires { characters year_suffix.now.0
+            ≡ year_suffix_of (cite_properties_view properties.now).disambiguation }
+        ensures { IfOk result (λ r. rendering_view r ≡ citation (style_context_view self.now)
+            (E.answers entry.now) (cite_properties_view properties.now)
+            (option_map borrowed_code_view term_locale.entry) purpose verdict) }
     {
         match term_locale {
             None => {
                 self.cite_in(
                     &self.own_words,
-                    letters,
+                    year_suffix,
                     entry,
                     properties,
                     purpose,
@@ -168,60 +187,79 @@ impl<'a> StyleContext<'a> {
             }
             Some(_) => {
                 let words = self.words(term_locale)?;
-                self.cite_in(&words, letters, entry, properties, purpose, verdict)
+                self.cite_in(&words, year_suffix, entry, properties, purpose, verdict)
             }
         }
     }
 
-    /// What the style gives of a cite in these words, with these letters after a year.
+    /// What the style gives of a cite in these words, with this year suffix.
     fn cite_in<'s, 'c, E: EntryLike>(
         &'c self,
         words: &'s Words<'c>,
-        letters: &'c Letters,
+        year_suffix: &'c YearSuffixText,
         entry: &'c E,
         properties: &'s CiteProperties<'c>,
         purpose: Option<CitePurpose>,
         verdict: Option<CollapseVerdict>,
     ) -> Result<Rendering, AllocError>
-        ensures { IfOk result (λ r. rendered_by r ≡ rendered_for (context_seen self.now).style (spoken (context_seen self.now).style (E.answers entry.now) (cite_by properties.now) words.now.locales (quotes_of words.now.quotes.items) (characters letters.now.0) false) verdict purpose) }
+        ensures { IfOk result (λ r. rendering_view r ≡ rendered_for
+            (style_context_view self.now).style (spoken (style_context_view self.now).style
+            (E.answers entry.now) (cite_properties_view properties.now) words.now.locales
+            (quotes_view words.now.quotes.items) (characters year_suffix.now.0) false)
+            verdict purpose) }
     {
-        let call = self.call(words, letters, properties, false);
+        let call = self.call(words, year_suffix, properties, false);
         call.rendered_for(entry, verdict, purpose)
     }
 
-    /// What the style gives of an item of this bibliography with these letters after a year.
+    /// What the style gives of an item of this bibliography with this year suffix.
     fn listed<'c, E: EntryLike>(
         &'c self,
-        letters: &'c Letters,
+        year_suffix: &'c YearSuffixText,
         entry: &'c E,
         properties: &'c CiteProperties<'c>,
         term_locale: Option<&LocaleCode>,
         bibliography: &'c Bibliography,
     ) -> Result<Rendering, AllocError>
-        requires { characters letters.now.0 ≡ letters_of (cite_by properties.now).disambiguation }
-        ensures { IfOk result (λ r. rendered_by r ≡ rendered (item_put (context_seen self.now).style (context_of (context_seen self.now) (option_map borrowed_code term_locale.entry) true (E.answers entry.now) (cite_by properties.now)) (bibliography_seen bibliography.now) begun)) }
+        requires { characters year_suffix.now.0
+            ≡ year_suffix_of (cite_properties_view properties.now).disambiguation }
+        ensures { IfOk result (λ r. rendering_view r
+            ≡ rendered (append_item (style_context_view self.now).style (context_of
+            (style_context_view self.now) (option_map borrowed_code_view term_locale.entry) true
+            (E.answers entry.now) (cite_properties_view properties.now))
+            (bibliography_layout_view bibliography.now) begun)) }
     {
         match term_locale {
-            None => self.listed_in(&self.own_words, letters, entry, properties, bibliography),
+            None => self.listed_in(
+                &self.own_words,
+                year_suffix,
+                entry,
+                properties,
+                bibliography,
+            ),
             Some(_) => {
                 let words = self.words(term_locale)?;
-                self.listed_in(&words, letters, entry, properties, bibliography)
+                self.listed_in(&words, year_suffix, entry, properties, bibliography)
             }
         }
     }
 
-    /// What the style gives of an item of this bibliography in these words, with these letters after a year.
+    /// What the style gives of an item of this bibliography in these words, with this year suffix.
     fn listed_in<'s, 'c, E: EntryLike>(
         &'c self,
         words: &'s Words<'c>,
-        letters: &'c Letters,
+        year_suffix: &'c YearSuffixText,
         entry: &'c E,
         properties: &'s CiteProperties<'c>,
         bibliography: &'c Bibliography,
     ) -> Result<Rendering, AllocError>
-        ensures { IfOk result (λ r. rendered_by r ≡ rendered (item_put (context_seen self.now).style (spoken (context_seen self.now).style (E.answers entry.now) (cite_by properties.now) words.now.locales (quotes_of words.now.quotes.items) (characters letters.now.0) true) (bibliography_seen bibliography.now) begun)) }
+        ensures { IfOk result (λ r. rendering_view r ≡ rendered (append_item
+            (style_context_view self.now).style (spoken (style_context_view self.now).style
+            (E.answers entry.now) (cite_properties_view properties.now) words.now.locales
+            (quotes_view words.now.quotes.items) (characters year_suffix.now.0) true)
+            (bibliography_layout_view bibliography.now) begun)) }
     {
-        let call = self.call(words, letters, properties, true);
+        let call = self.call(words, year_suffix, properties, true);
         call.item(entry, bibliography)
     }
 
@@ -230,31 +268,36 @@ impl<'a> StyleContext<'a> {
     /// # Errors
     /// Out of memory.
     pub fn words<'c>(&'c self, term_locale: Option<&LocaleCode>) -> Result<Words<'c>, AllocError>
-        ensures locales { IfOk result (λ w. w.locales ≡ locales_of (context_seen self.now) (option_map borrowed_code term_locale.entry)) }
-        ensures quotes { IfOk result (λ w. quotes_of w.quotes.items ≡ close_quotes (locales_of (context_seen self.now) (option_map borrowed_code term_locale.entry))) }
+        ensures locales { IfOk result (λ w. w.locales ≡ locales_of
+            (style_context_view self.now) (option_map borrowed_code_view term_locale.entry)) }
+        ensures quotes { IfOk result (λ w. quotes_view w.quotes.items ≡ close_quotes (locales_of
+            (style_context_view self.now) (option_map borrowed_code_view term_locale.entry))) }
     {
         let code = term_locale.or(self.locale);
         words_in(self.alloc, self.style, code, self.locale_files)
     }
 
     /// What a caller prints from by itself: as in a cite, or in an item of a bibliography, with these properties, in these words and with
-    /// these letters after a year.
+    /// this year suffix.
     pub fn walk<'s, 'c>(
         &'c self,
         words: &'s Words<'c>,
-        letters: &'c Letters,
+        year_suffix: &'c YearSuffixText,
         properties: &'s CiteProperties<'c>,
         is_bibliography: bool,
     ) -> Walk<'s, 'c>
-        ensures style { style_seen result.style.now ≡ (context_seen self.now).style }
-        ensures context { (a : Answers) → walk_context a result ≡ spoken (context_seen self.now).style a (cite_by properties.now) words.now.locales (quotes_of words.now.quotes.items) (characters letters.now.0) is_bibliography }
+        ensures style { style_view result.style.now ≡ (style_context_view self.now).style }
+        ensures context { (a : Answers)
+            → walk_context a result ≡ spoken (style_context_view self.now).style a
+            (cite_properties_view properties.now) words.now.locales
+            (quotes_view words.now.quotes.items) (characters year_suffix.now.0) is_bibliography }
     {
         let context = Context {
             alloc: self.alloc,
             properties,
             locales: &words.locales,
             quotes: words.quotes.as_slice(),
-            letters: letters.0.as_str(),
+            year_suffix: year_suffix.0.as_str(),
             is_bibliography,
             has_suffix_node: self.has_suffix_node,
         };
@@ -268,15 +311,18 @@ impl<'a> StyleContext<'a> {
     fn call<'s, 'c>(
         &'c self,
         words: &'s Words<'c>,
-        letters: &'c Letters,
+        year_suffix: &'c YearSuffixText,
         properties: &'s CiteProperties<'c>,
         is_bibliography: bool,
     ) -> Call<'s, 'c>
-        ensures style { style_of result ≡ (context_seen self.now).style }
-        ensures context { (a : Answers) → context_in a result ≡ spoken (context_seen self.now).style a (cite_by properties.now) words.now.locales (quotes_of words.now.quotes.items) (characters letters.now.0) is_bibliography }
+        ensures style { style_of result ≡ (style_context_view self.now).style }
+        ensures context { (a : Answers)
+            → context_in a result ≡ spoken (style_context_view self.now).style a
+            (cite_properties_view properties.now) words.now.locales
+            (quotes_view words.now.quotes.items) (characters year_suffix.now.0) is_bibliography }
     {
         Call {
-            walk: self.walk(words, letters, properties, is_bibliography),
+            walk: self.walk(words, year_suffix, properties, is_bibliography),
             authors: &self.authors,
             options: &self.options,
         }
@@ -290,8 +336,8 @@ fn words_in<'a>(
     locale: Option<&LocaleCode>,
     locale_files: &'a [Locale],
 ) -> Result<Words<'a>, AllocError>
-    ensures locales { IfOk result (λ w. w.locales ≡ locales_of (record { style = style_seen style.now; locale = option_map borrowed_code locale.entry; locale_files = map locale_seen locale_files.now }) None) }
-    ensures quotes { IfOk result (λ w. quotes_of w.quotes.items ≡ close_quotes (locales_of (record { style = style_seen style.now; locale = option_map borrowed_code locale.entry; locale_files = map locale_seen locale_files.now }) None)) }
+    ensures locales { IfOk result (λ w. w.locales ≡ locales_of (record { style = style_view style.now; locale = option_map borrowed_code_view locale.entry; locale_files = map locale_view locale_files.now }) None) }
+    ensures quotes { IfOk result (λ w. quotes_view w.quotes.items ≡ close_quotes (locales_of (record { style = style_view style.now; locale = option_map borrowed_code_view locale.entry; locale_files = map locale_view locale_files.now }) None)) }
 {
     let parts = style.parts();
     let code = language(locale, parts.default_locale.as_ref());

@@ -6,11 +6,11 @@ ghost use Rattle.std.specs.Option.{option_map, unwrap_or};
 ghost use Rattle.laws.specs.Text.{characters, spelled};
 ghost use Rattle.rendering_dates.specs.Dates.{years_text};
 ghost use Rattle.rendering_locale.specs.Lookup.{term};
-ghost use Rattle.rendering.specs.Purposes.{first_dated, year_dates, year_put};
+ghost use Rattle.rendering.specs.Purposes.{first_dated, year_dates, append_year};
 ghost use Rattle.rendering.specs.Views.{context_in};
 
 use crate::call::Call;
-use crate::texts_of::no_date;
+use crate::default_texts::no_date;
 use literature_values::Date;
 use rendering_dates::push_years;
 use rendering_entries::EntryLike;
@@ -23,13 +23,14 @@ use std::borrow::Cow;
 use texts::empty_text;
 
 impl<'s, 'a> Call<'s, 'a> {
-    /// Puts the years of the first date down that there is, else the term for none; they look as texts do of themselves.
+    /// Appends the years of the first date that there is, else the term for none; they look as texts do of themselves.
     pub(crate) fn push_year<E: EntryLike>(
         &self,
         entry: &'a E,
         state: &mut State<'a>,
     ) -> Result<(), AllocError>
-        ensures { OnOk result (state.new ≡ year_put (context_in (E.answers entry.entry.now) self.now) state.old) }
+        ensures { OnOk result (state.new
+            ≡ append_year (context_in (E.answers entry.entry.now) self.now) state.old) }
     {
         let context = self.walk.context;
         match first_date(entry) {
@@ -47,7 +48,8 @@ impl<'s, 'a> Call<'s, 'a> {
 
 /// The first of the dates that are asked for a year.
 fn first_date<E: EntryLike>(entry: &E) -> Option<Cow<'_, Date>>
-    ensures { option_map cow_value result ≡ first_dated (filter_map (E.answers entry.now).date year_dates) }
+    ensures { option_map cow_value result
+        ≡ first_dated (filter_map (E.answers entry.now).date year_dates) }
 {
     let variables = &[
         DateVariable::Issued,
@@ -75,7 +77,8 @@ fn years_of(alloc: Global, locales: &AskedLocales, date: &Date) -> Result<String
 
 /// What stands for a year where there is none.
 fn no_year<'a>(locales: &AskedLocales<'a>) -> &'a str
-    ensures { spelled result ≡ unwrap_or (term locales.now (Term.Other OtherTerm.NoDate) TermForm.Long false) (codes "n.d.") }
+    ensures { spelled result ≡ unwrap_or
+        (term locales.now (Term.Other OtherTerm.NoDate) TermForm.Long false) (codes "n.d.") }
 {
     match locales.term(Term::Other(OtherTerm::NoDate), TermForm::Long, false) {
         Some(text) => text,

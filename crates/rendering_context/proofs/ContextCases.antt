@@ -16,8 +16,8 @@ use Rattle.rendering_taxonomy.specs.declared.variable.Variable.{Variable}
 use Rattle.rendering_taxonomy.specs.declared.variable.Variable.TheVariants as variables
 
 -- what is equal to one thing is equal to another that is the same
-pub if_same : {X T E : Type 0} (r : Result T E) (seen : T → X) (y z : X) → y ≡ z → IfOk r (λ a. seen a ≡ y) → IfOk r (λ a. seen a ≡ z)
-if_same r seen y z e given = IfOk-weaker r (λ a. seen a ≡ y) (λ a. seen a ≡ z) (λ a same. same ∙ e) given
+pub if_same : {X T E : Type 0} (r : Result T E) (view : T → X) (y z : X) → y ≡ z → IfOk r (λ a. view a ≡ y) → IfOk r (λ a. view a ≡ z)
+if_same r view y z e given = IfOk-weaker r (λ a. view a ≡ y) (λ a. view a ≡ z) (λ a same. same ∙ e) given
 
 -- a variable that is printed answers what is asked
 pub answer_asked : (c : Context) (suppressed : List Variable) (form : LongShortForm) (v w : Variable) → is_among suppressed v ≡ false → w ≡ asked_for c v

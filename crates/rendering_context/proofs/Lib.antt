@@ -1,4 +1,4 @@
 pub mod AnswersTexts
 pub mod ContextCases
 pub mod PagesFilled
-pub mod VariablesPlaces
+pub mod VariablesIndices

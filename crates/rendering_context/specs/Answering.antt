@@ -56,7 +56,7 @@ abbrev pub of_address : List ℕ → List ℕ → Answer
 of_address url [] = no_answer
 of_address url (c ∷ cs) = address (c ∷ cs) (url ++ c ∷ cs)
 
--- an empty text in place of a number is no answer
+-- an empty text instead of a number is no answer
 abbrev pub of_number : ValueOrText Numeral → Answer
 of_number (Value n) = count (Value n)
 of_number (Text []) = no_answer
@@ -96,7 +96,7 @@ number_answer c v = or_no_answer of_number (c.answers.number v)
 abbrev pub standard_answer : Context → LongShortForm → StandardVariable → Answer
 standard_answer c form standard.Doi = or_no_answer (λ cs. of_address (codes "https://doi.org/") (characters_of cs)) (c.answers.standard form standard.Doi)
 standard_answer c form standard.Url = or_no_answer (λ cs. of_address [] (characters_of cs)) (c.answers.standard form standard.Url)
-standard_answer c form standard.YearSuffix = of_pieces (one_chunk c.letters)
+standard_answer c form standard.YearSuffix = of_pieces (one_chunk c.year_suffix)
 standard_answer c form v = or_no_answer of_pieces (c.answers.standard form v)
 
 -- what is answered to a variable; people and dates are no texts
@@ -107,7 +107,7 @@ answer_of c form variables.Page = or_no_answer of_pages c.answers.pages
 answer_of c form (variables.Name v) = no_answer
 answer_of c form (variables.Date v) = no_answer
 
--- the one of the two variables that tell entries apart that stands for the other, where cites printed only one of them
+-- the one of the two variables that identify entries that stands for the other, where cites printed only one of them
 abbrev pub exchanged_for : IdentifierUsage → Variable → Variable
 exchanged_for usages.OnlyCitationLabel (variables.Number number.CitationNumber) = variables.Standard standard.CitationLabel
 exchanged_for usages.OnlyCitationNumber (variables.Standard standard.CitationLabel) = variables.Number number.CitationNumber

@@ -35,7 +35,7 @@ is_at p positions.Ibid = is_ibid p.ibid
 is_at p positions.IbidWithLocator = is_ibid_with_locator p.ibid
 is_at p positions.NearNote = p.is_near_note
 
--- whether the cite is to be told apart by branches
+-- whether the cite is to be disambiguated by branches
 abbrev pub is_chosen : DisambiguateState → Bool
 is_chosen undisturbed = false
 is_chosen (by_names ps) = false

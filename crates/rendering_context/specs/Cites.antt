@@ -1,7 +1,7 @@
 -- What is known of a cite beside its entry.
 use Rattle.std.specs.Prelude.{ℕ, Bool, nat_lt, max, List, [], if◌then◌else◌, Option}
 use Rattle.rendering_people.specs.Properties.{Properties, greater}
-use Rattle.rendering_numbers.specs.Letters.{suffix_letters}
+use Rattle.rendering_numbers.specs.SuffixesAndLabels.{year_suffix_text}
 use Rattle.rendering_taxonomy.specs.declared.cite.IbidState.{IbidState}
 use Rattle.rendering_taxonomy.specs.declared.cite.IdentifierUsage.{IdentifierUsage}
 use Rattle.rendering_taxonomy.specs.declared.locator.Locator.{Locator}
@@ -16,7 +16,7 @@ pub record SpecificLocator : Type 0 where
   pub label : Locator
   pub payload : Payload
 
--- What tells a cite apart from others: nothing, more of its names, other branches of a style, letters after its year.
+-- The state of disambiguation of a cite: nothing, more of its names, other branches of a style, a year suffix.
 pub data DisambiguateState : Type 0 where
   undisturbed : DisambiguateState
   by_names : Properties → DisambiguateState
@@ -24,8 +24,8 @@ pub data DisambiguateState : Type 0 where
   by_suffix : ℕ → DisambiguateState
 
 -- The number of the note that it stands in and of the one where its entry stood first, whether it stands near it, whether its entry was
--- cited before, its place in the request, its locator, the place of its entry among all that are cited, how it stands to the cite
--- before it, what tells it apart, and which identifiers the entry's cites printed.
+-- cited before, its index in the request, its locator, the index of its entry among all that are cited, how it stands to the cite
+-- before it, its state of disambiguation, and which identifiers the entry's cites printed.
 pub record CiteProperties : Type 0 where
   pub note_number : Option ℕ
   pub first_note_number : Option ℕ
@@ -38,21 +38,21 @@ pub record CiteProperties : Type 0 where
   pub disambiguation : DisambiguateState
   pub identifier_usage : IdentifierUsage
 
--- the letters after a year, where there are any
-abbrev pub letters_of : DisambiguateState → List ℕ
-letters_of undisturbed = []
-letters_of (by_names ps) = []
-letters_of by_choose = []
-letters_of (by_suffix n) = suffix_letters n
+-- the year suffix, where there is one
+abbrev pub year_suffix_of : DisambiguateState → List ℕ
+year_suffix_of undisturbed = []
+year_suffix_of (by_names ps) = []
+year_suffix_of by_choose = []
+year_suffix_of (by_suffix n) = year_suffix_text n
 
--- the properties of names that tell a cite apart
+-- the properties of names that disambiguate a cite
 abbrev pub names_of : DisambiguateState → Properties
 names_of undisturbed = []
 names_of (by_names ps) = ps
 names_of by_choose = []
 names_of (by_suffix n) = []
 
--- the order of what tells cites apart, from the least on
+-- the order of states of disambiguation, from the least on
 abbrev pub state_rank : DisambiguateState → ℕ
 state_rank undisturbed = 0
 state_rank (by_names ps) = 1
@@ -73,6 +73,6 @@ greater_state a b = if nat_lt (state_rank b) (state_rank a) then a else (if nat_
 abbrev pub may_change : DisambiguateState → Bool
 may_change a = nat_lt (state_rank a) 2
 
--- whether letters may still be given
+-- whether a year suffix may still be given
 abbrev pub allows_suffix : DisambiguateState → Bool
 allows_suffix a = nat_lt (state_rank a) 3

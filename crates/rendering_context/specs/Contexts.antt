@@ -6,14 +6,14 @@ use Rattle.rendering_style.specs.Styles.{Style}
 use Rattle.rendering_context.specs.Cites.{CiteProperties}
 
 -- What a call prints from: what the entry answers, what is known of the cite, the locales that are asked, the close quotes inside which
--- punctuation goes, the letters after a year that tell the cite apart, whether an item of a bibliography is printed, and whether a layout of
--- the style prints these letters by themselves.
+-- punctuation goes, the year suffix of the cite, whether an item of a bibliography is printed, and whether a layout of
+-- the style prints the year suffix by itself.
 pub record Context : Type 0 where
   pub answers : Answers
   pub properties : CiteProperties
   pub locales : List Locale
   pub quotes : List (List ℕ)
-  pub letters : List ℕ
+  pub year_suffix : List ℕ
   pub is_bibliography : Bool
   pub has_suffix_node : Bool
 

@@ -3,11 +3,11 @@ use Rattle.std.specs.Prelude.{◌≡◌, map, Option, Some, None}
 use Rattle.std.specs.Option.{option_map}
 use Rattle.std.specs.Str.{chars}
 use Rattle.laws.specs.Text.{characters, spelled}
-use Rattle.literature_numbers.specs.PageViews.{pages}
-use Rattle.literature_values.specs.TypedViews.{value_or_text, Text}
+use Rattle.literature_numbers.specs.PageViews.{pages_view}
+use Rattle.literature_values.specs.TypedViews.{typed_view, Text}
 use Rattle.rendering_entries.specs.Answers.{Answers}
 use Rattle.rendering_entries.specs.Library.{one_chunk}
-use Rattle.rendering_entries.specs.Views.{number_seen, text_seen}
+use Rattle.rendering_entries.specs.Views.{lent_number_view, lent_text_view}
 use Rattle.rendering_context.specs.Answering as answering
 use Rattle.rendering_context.specs.Cites as cites
 use Rattle.rendering_context.specs.Contexts as contexts
@@ -22,9 +22,9 @@ use Rattle.rendering_context.specs.declared.locator.LocatorPayload.TheVariants a
 use Rattle.rendering_context.specs.declared.locator.SpecificLocator.{SpecificLocator}
 
 -- a locator's text, or that the caller prints it
-abbrev pub payload_by : {P : Type 0} → LocatorPayload P → cites.Payload
-payload_by (payloads.Str s) = cites.written (chars s.now)
-payload_by (payloads.Transparent t) = cites.transparent
+abbrev pub payload_view : {P : Type 0} → LocatorPayload P → cites.Payload
+payload_view (payloads.Str s) = cites.written (chars s.now)
+payload_view (payloads.Transparent t) = cites.transparent
 
 -- whether a locator copies another: the same text, or what is a clone of what the caller prints
 abbrev pub is_copy : {P : Type 0} → (P → P → Type 0) → LocatorPayload P → LocatorPayload P → Type 0
@@ -34,54 +34,54 @@ is_copy is_clone (payloads.Transparent p) (payloads.Str t) = ⊥
 is_copy is_clone (payloads.Transparent p) (payloads.Transparent q) = is_clone p.payload q.payload
 
 -- a locator
-abbrev pub locator_by : {P : Type 0} → SpecificLocator P → cites.SpecificLocator
-locator_by l = record { label = l.label; payload = payload_by l.payload }
+abbrev pub locator_view : {P : Type 0} → SpecificLocator P → cites.SpecificLocator
+locator_view l = record { label = l.label; payload = payload_view l.payload }
 
--- what tells a cite apart
-abbrev pub state_by : DisambiguateState → cites.DisambiguateState
-state_by states.None = cites.undisturbed
-state_by (states.NameDisambiguation ps) = cites.by_names ps
-state_by states.Choose = cites.by_choose
-state_by (states.YearSuffix n) = cites.by_suffix n
+-- the state of disambiguation of a cite
+abbrev pub state_view : DisambiguateState → cites.DisambiguateState
+state_view states.None = cites.undisturbed
+state_view (states.NameDisambiguation ps) = cites.by_names ps
+state_view states.Choose = cites.by_choose
+state_view (states.YearSuffix n) = cites.by_suffix n
 
 -- what is known of a cite
-abbrev pub cite_by : CiteProperties → cites.CiteProperties
-cite_by c = record {
+abbrev pub cite_properties_view : CiteProperties → cites.CiteProperties
+cite_properties_view c = record {
   note_number = c.note_number;
   first_note_number = c.first_note_number;
   is_near_note = c.is_near_note;
   is_first = c.is_first;
   initial_idx = c.initial_idx;
-  locator = option_map locator_by c.locator;
+  locator = option_map locator_view c.locator;
   citation_number = c.citation_number;
   ibid = c.ibid;
-  disambiguation = state_by c.disambiguation;
+  disambiguation = state_view c.disambiguation;
   identifier_usage = c.identifier_usage;
 }
 
 -- what a call prints from, with what the entry answers
-abbrev pub context_by : Answers → Context → contexts.Context
-context_by a c = record {
+abbrev pub context_view : Answers → Context → contexts.Context
+context_view a c = record {
   answers = a;
-  properties = cite_by c.properties.now;
+  properties = cite_properties_view c.properties.now;
   locales = c.locales.now;
   quotes = map spelled c.quotes.now;
-  letters = chars c.letters.now;
+  year_suffix = chars c.year_suffix.now;
   is_bibliography = c.is_bibliography;
   has_suffix_node = c.has_suffix_node;
 }
 
 -- what is printed
-abbrev pub answer_by : Answer → answering.Answer
-answer_by (answers.Text t) = answering.pieces (text_seen t)
-answer_by (answers.Letters s) = answering.pieces (one_chunk (chars s.now))
-answer_by (answers.Address text url) = answering.address (characters text) (characters url)
-answer_by (answers.Number n) = answering.count (number_seen n)
-answer_by (answers.Locator s) = answering.count (Text (chars s.now))
-answer_by (answers.Pages ps) = answering.ranges (value_or_text pages ps)
-answer_by answers.Transparent = answering.own
+abbrev pub answer_view : Answer → answering.Answer
+answer_view (answers.Text t) = answering.pieces (lent_text_view t)
+answer_view (answers.YearSuffix s) = answering.pieces (one_chunk (chars s.now))
+answer_view (answers.Address text url) = answering.address (characters text) (characters url)
+answer_view (answers.Number n) = answering.count (lent_number_view n)
+answer_view (answers.Locator s) = answering.count (Text (chars s.now))
+answer_view (answers.Pages ps) = answering.ranges (typed_view pages_view ps)
+answer_view answers.Transparent = answering.own
 
 -- what is printed, if anything
 abbrev pub answer_if : Option Answer → answering.Answer
 answer_if None = answering.no_answer
-answer_if (Some a) = answer_by a
+answer_if (Some a) = answer_view a

@@ -5,14 +5,14 @@ ghost use Rattle.std.specs.Fmt.{decimal};
 ghost use Rattle.std.specs.List.{list_any};
 ghost use Rattle.std.specs.Str.{chars};
 ghost use Rattle.laws.specs.Text.{characters, is_filled};
-ghost use Rattle.literature_values.specs.TextViews.{chunk, chunks};
-ghost use Rattle.literature_values.specs.TypedViews.{Value, Text, value_or_text};
+ghost use Rattle.literature_values.specs.TextViews.{chunk_view, chunks_view};
+ghost use Rattle.literature_values.specs.TypedViews.{Value, Text, typed_view};
 ghost use Rattle.literature_numbers.specs.Numerics.{plain};
-ghost use Rattle.literature_numbers.specs.PageViews.{pages as pages_seen};
+ghost use Rattle.literature_numbers.specs.PageViews.{pages_view};
 ghost use Rattle.rendering_entries.specs.Library.{characters_of, one_chunk};
-ghost use Rattle.rendering_entries.specs.Views.{number_seen, text_seen};
+ghost use Rattle.rendering_entries.specs.Views.{lent_number_view, lent_text_view};
 ghost use Rattle.rendering_context.specs.Answering as answering;
-ghost use Rattle.rendering_context.specs.Views.{payload_by, answer_by, answer_if};
+ghost use Rattle.rendering_context.specs.Views.{payload_view, answer_view, answer_if};
 
 use crate::locator::LocatorPayload;
 use crate::pages::have_text;
@@ -29,15 +29,15 @@ use texts::{empty_text, has_text, push_text};
 pub enum Answer<'a> {
     /// A text in pieces, one of which is a formula or not empty.
     Text(Cow<'a, ChunkedString>),
-    /// The letters after a year.
-    Letters(&'a str),
+    /// The year suffix.
+    YearSuffix(&'a str),
     /// A text that links to its address.
     Address { text: String, url: String },
-    /// A number, or a text in its place.
+    /// A number, or a text instead of it.
     Number(MaybeTyped<Cow<'a, Numeric>>),
     /// The text of a locator.
     Locator(&'a str),
-    /// Pages, or a text in their place.
+    /// Pages, or a text instead of them.
     Pages(MaybeTyped<PageRanges>),
     /// A locator that the caller prints by itself.
     Transparent,
@@ -46,7 +46,7 @@ pub enum Answer<'a> {
 impl Answer<'_> {
     /// Whether it is more than one.
     pub(crate) fn is_plural(&self) -> bool
-        ensures { result ≡ answering.is_plural_answer (answer_by self.now) }
+        ensures { result ≡ answering.is_plural_answer (answer_view self.now) }
     {
         match self {
             Answer::Number(MaybeTyped::Typed(number)) => number.is_plural(),
@@ -57,7 +57,7 @@ impl Answer<'_> {
 
     /// Whether it is a number or pages.
     pub(crate) fn is_numeric(&self) -> bool
-        ensures { result ≡ answering.is_numeric_answer (answer_by self.now) }
+        ensures { result ≡ answering.is_numeric_answer (answer_view self.now) }
     {
         matches!(
             self,
@@ -73,7 +73,8 @@ pub(crate) fn text_of<'a, E: EntryLike>(
     form: LongShortForm,
     variable: StandardVariable,
 ) -> Result<Option<Answer<'a>>, AllocError>
-    ensures { IfOk result (λ a. answer_if a ≡ answering.or_no_answer answering.of_pieces ((E.answers entry.now).standard form variable)) }
+    ensures { IfOk result (λ a. answer_if a ≡ answering.or_no_answer answering.of_pieces
+        ((E.answers entry.now).standard form variable)) }
 {
     match entry.resolve_standard_variable(alloc, form, variable)? {
         Some(text) => Ok(text_with_pieces(text)),
@@ -83,7 +84,7 @@ pub(crate) fn text_of<'a, E: EntryLike>(
 
 /// The text, where it has pieces.
 fn text_with_pieces(text: Cow<'_, ChunkedString>) -> Option<Answer<'_>>
-    ensures { answer_if result ≡ answering.of_pieces (text_seen text.entry) }
+    ensures { answer_if result ≡ answering.of_pieces (lent_text_view text.entry) }
 {
     if has_piece(text.0.as_slice()) {
         Some(Answer::Text(text))
@@ -94,7 +95,7 @@ fn text_with_pieces(text: Cow<'_, ChunkedString>) -> Option<Answer<'_>>
 
 /// Whether a piece is a formula or not empty.
 fn has_piece(text: &[StringChunk]) -> bool
-    ensures { result ≡ list_any (λ c. answering.is_piece c.kind c.value) (map chunk text.now) }
+    ensures { result ≡ list_any (λ c. answering.is_piece c.kind c.value) (map chunk_view text.now) }
 {
     for piece in text {
         if is_piece(piece) {
@@ -114,12 +115,12 @@ fn is_piece(piece: &StringChunk) -> bool
     }
 }
 
-/// The letters after a year, where there are any.
-pub(crate) fn letters(letters: &str) -> Option<Answer<'_>>
-    ensures { answer_if result ≡ answering.of_pieces (one_chunk (chars letters.now)) }
+/// The year suffix, where there is one.
+pub(crate) fn year_suffix(year_suffix: &str) -> Option<Answer<'_>>
+    ensures { answer_if result ≡ answering.of_pieces (one_chunk (chars year_suffix.now)) }
 {
-    if has_text(letters) {
-        Some(Answer::Letters(letters))
+    if has_text(year_suffix) {
+        Some(Answer::YearSuffix(year_suffix))
     } else {
         None
     }
@@ -133,7 +134,9 @@ pub(crate) fn address_of<'a, E: EntryLike>(
     form: LongShortForm,
     variable: StandardVariable,
 ) -> Result<Option<Answer<'a>>, AllocError>
-    ensures { IfOk result (λ a. answer_if a ≡ answering.or_no_answer (λ cs. answering.of_address (chars start.now) (characters_of cs)) ((E.answers entry.now).standard form variable)) }
+    ensures { IfOk result (λ a. answer_if a
+        ≡ answering.or_no_answer (λ cs. answering.of_address (chars start.now) (characters_of cs))
+        ((E.answers entry.now).standard form variable)) }
 {
     match entry.resolve_standard_variable(alloc, form, variable)? {
         Some(text) => address(alloc, start, &text),
@@ -147,7 +150,8 @@ fn address<'a>(
     start: &str,
     text: &ChunkedString,
 ) -> Result<Option<Answer<'a>>, AllocError>
-    ensures { IfOk result (λ a. answer_if a ≡ answering.of_address (chars start.now) (characters_of (chunks text.now))) }
+    ensures { IfOk result (λ a. answer_if a
+        ≡ answering.of_address (chars start.now) (characters_of (chunks_view text.now))) }
 {
     let text = all_characters(alloc, text.0.as_slice())?;
     if !has_text(text.as_str()) {
@@ -159,7 +163,7 @@ fn address<'a>(
 
 /// The characters of all pieces.
 fn all_characters(alloc: Global, pieces: &[StringChunk]) -> Result<String, AllocError>
-    ensures { IfOk result (λ s. characters s ≡ characters_of (map chunk pieces.now)) }
+    ensures { IfOk result (λ s. characters s ≡ characters_of (map chunk_view pieces.now)) }
 {
     let mut text = empty_text(alloc);
     for piece in pieces {
@@ -178,13 +182,14 @@ fn joined(alloc: Global, start: &str, end: &str) -> Result<String, AllocError>
     Ok(text)
 }
 
-/// The number of a variable, or a text in its place, where there is one.
+/// The number of a variable, or a text instead of it, where there is one.
 pub(crate) fn number_of<'a, E: EntryLike>(
     alloc: Global,
     entry: &'a E,
     variable: NumberVariable,
 ) -> Result<Option<Answer<'a>>, AllocError>
-    ensures { IfOk result (λ a. answer_if a ≡ answering.or_no_answer answering.of_number ((E.answers entry.now).number variable)) }
+    ensures { IfOk result (λ a. answer_if a
+        ≡ answering.or_no_answer answering.of_number ((E.answers entry.now).number variable)) }
 {
     match entry.resolve_number_variable(alloc, variable)? {
         Some(number) => Ok(number_or_text(number)),
@@ -192,9 +197,9 @@ pub(crate) fn number_of<'a, E: EntryLike>(
     }
 }
 
-/// The number, or a text in its place that is not empty.
+/// The number, or a text instead of it that is not empty.
 fn number_or_text(number: MaybeTyped<Cow<'_, Numeric>>) -> Option<Answer<'_>>
-    ensures { answer_if result ≡ answering.of_number (number_seen number.entry) }
+    ensures { answer_if result ≡ answering.of_number (lent_number_view number.entry) }
 {
     match number {
         MaybeTyped::Typed(number) => Some(Answer::Number(MaybeTyped::Typed(number))),
@@ -202,7 +207,7 @@ fn number_or_text(number: MaybeTyped<Cow<'_, Numeric>>) -> Option<Answer<'_>>
     }
 }
 
-/// A text in place of a number, where it is not empty.
+/// A text instead of a number, where it is not empty.
 fn text_for_number<'a>(text: String) -> Option<Answer<'a>>
     ensures { answer_if result ≡ answering.of_number (Text (characters text)) }
 {
@@ -215,7 +220,7 @@ fn text_for_number<'a>(text: String) -> Option<Answer<'a>>
 
 /// A number that counts; one that is too great for a number is a text in digits.
 pub(crate) fn count<'a>(alloc: Global, number: u128) -> Result<Answer<'a>, AllocError>
-    ensures { IfOk result (λ a. answer_by a ≡ answering.of_count number) }
+    ensures { IfOk result (λ a. answer_view a ≡ answering.of_count number) }
 {
     if number < 0x8000_0000 {
         return Ok(numeral(number as i32));
@@ -224,9 +229,9 @@ pub(crate) fn count<'a>(alloc: Global, number: u128) -> Result<Answer<'a>, Alloc
     Ok(Answer::Number(MaybeTyped::String(text)))
 }
 
-/// A number with no letters.
+/// A number alone.
 fn numeral<'a>(number: i32) -> Answer<'a>
-    ensures { answer_by result ≡ answering.count (Value (plain number)) }
+    ensures { answer_view result ≡ answering.count (Value (plain number)) }
 {
     Answer::Number(MaybeTyped::Typed(Cow::Owned(Numeric::new(number))))
 }
@@ -242,7 +247,7 @@ fn digits(alloc: Global, number: u128) -> Result<String, AllocError>
 
 /// The locator's text, where it is not empty, or that the caller prints it.
 pub(crate) fn locator<'a>(payload: &LocatorPayload<'a, ()>) -> Option<Answer<'a>>
-    ensures { answer_if result ≡ answering.of_payload (payload_by payload.now) }
+    ensures { answer_if result ≡ answering.of_payload (payload_view payload.now) }
 {
     match payload {
         LocatorPayload::Str(text) => locator_text(text),
@@ -266,7 +271,8 @@ pub(crate) fn pages_of<'a, E: EntryLike>(
     alloc: Global,
     entry: &'a E,
 ) -> Result<Option<Answer<'a>>, AllocError>
-    ensures { IfOk result (λ a. answer_if a ≡ answering.or_no_answer answering.of_pages (E.answers entry.now).pages) }
+    ensures { IfOk result (λ a. answer_if a
+        ≡ answering.or_no_answer answering.of_pages (E.answers entry.now).pages) }
 {
     match entry.resolve_page_variable(alloc)? {
         Some(pages) => Ok(pages_with_text(pages)),
@@ -276,7 +282,7 @@ pub(crate) fn pages_of<'a, E: EntryLike>(
 
 /// The pages, where they have a text.
 fn pages_with_text<'a>(pages: MaybeTyped<PageRanges>) -> Option<Answer<'a>>
-    ensures { answer_if result ≡ answering.of_pages (value_or_text pages_seen pages) }
+    ensures { answer_if result ≡ answering.of_pages (typed_view pages_view pages) }
 {
     if are_printed(&pages) {
         Some(Answer::Pages(pages))
@@ -285,9 +291,9 @@ fn pages_with_text<'a>(pages: MaybeTyped<PageRanges>) -> Option<Answer<'a>>
     }
 }
 
-/// Whether pages, or what stands in their place, have a text.
+/// Whether pages, or what stands instead of them, have a text.
 fn are_printed(pages: &MaybeTyped<PageRanges>) -> bool
-    ensures { result ≡ is_filled (answering.ranges_text (value_or_text pages_seen pages.now)) }
+    ensures { result ≡ is_filled (answering.ranges_text (typed_view pages_view pages.now)) }
 {
     match pages {
         MaybeTyped::Typed(pages) => have_text(pages),

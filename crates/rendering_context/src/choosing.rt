@@ -4,8 +4,8 @@ ghost use Rattle.std.specs.Prelude.{◌≡◌, false, map, IfOk};
 ghost use Rattle.std.specs.List.{list_all, list_any};
 ghost use Rattle.std.specs.Option.{option_map_or};
 ghost use Rattle.rendering_context.specs.Choosing as choosing;
-ghost use Rattle.rendering_context.specs.Views.{context_by, cite_by};
-ghost use Rattle.rendering_style.specs.Views.{condition_seen, test_seen};
+ghost use Rattle.rendering_context.specs.Views.{context_view, cite_properties_view};
+ghost use Rattle.rendering_style.specs.Views.{condition_view, test_view};
 
 use crate::cite::CiteProperties;
 use crate::context::Context;
@@ -24,7 +24,8 @@ impl<'s, 'a> Context<'s, 'a> {
         entry: &'a E,
         condition: &Condition,
     ) -> Result<bool, AllocError>
-        ensures { IfOk result (λ b. b ≡ choosing.is_met (context_by (E.answers entry.now) self.now) (condition_seen condition.now)) }
+        ensures { IfOk result (λ b. b ≡ choosing.is_met
+            (context_view (E.answers entry.now) self.now) (condition_view condition.now)) }
     {
         let tests = condition.tests.as_slice();
         match condition.required {
@@ -36,7 +37,9 @@ impl<'s, 'a> Context<'s, 'a> {
 
     /// Whether all tests hold.
     fn all_hold<E: EntryLike>(&self, entry: &'a E, tests: &[ChooseTest]) -> Result<bool, AllocError>
-        ensures { IfOk result (λ b. b ≡ list_all (choosing.holds (context_by (E.answers entry.now) self.now)) (map test_seen tests.now)) }
+        ensures { IfOk result (λ b. b
+            ≡ list_all (choosing.holds (context_view (E.answers entry.now) self.now))
+            (map test_view tests.now)) }
     {
         for test in tests {
             if !self.holds(entry, *test)? {
@@ -52,7 +55,9 @@ impl<'s, 'a> Context<'s, 'a> {
         entry: &'a E,
         tests: &[ChooseTest],
     ) -> Result<bool, AllocError>
-        ensures { IfOk result (λ b. b ≡ list_any (choosing.holds (context_by (E.answers entry.now) self.now)) (map test_seen tests.now)) }
+        ensures { IfOk result (λ b. b
+            ≡ list_any (choosing.holds (context_view (E.answers entry.now) self.now))
+            (map test_view tests.now)) }
     {
         for test in tests {
             if self.holds(entry, *test)? {
@@ -64,7 +69,8 @@ impl<'s, 'a> Context<'s, 'a> {
 
     /// Whether the test holds. Tests see variables also where they are not printed again.
     fn holds<E: EntryLike>(&self, entry: &'a E, test: ChooseTest) -> Result<bool, AllocError>
-        ensures { IfOk result (λ b. b ≡ choosing.holds (context_by (E.answers entry.now) self.now) (test_seen test)) }
+        ensures { IfOk result (λ b. b
+            ≡ choosing.holds (context_view (E.answers entry.now) self.now) (test_view test)) }
     {
         match test {
             ChooseTest::Type(kind) => Ok(entry.matches_entry_type(kind)),
@@ -82,7 +88,7 @@ impl CiteProperties<'_> {
     /// Whether the cite stands there. A cite that repeats the one before it, stands near the first note or is not the first is a
     /// subsequent one.
     fn is_at(&self, position: TestPosition) -> bool
-        ensures { result ≡ choosing.is_at (cite_by self.now) position }
+        ensures { result ≡ choosing.is_at (cite_properties_view self.now) position }
     {
         match position {
             TestPosition::First => self.is_first,
@@ -116,7 +122,8 @@ fn is_ibid_with_locator(ibid: IbidState) -> bool
 
 /// Whether the entry's date is uncertain.
 fn is_uncertain<E: EntryLike>(entry: &E, variable: DateVariable) -> bool
-    ensures { result ≡ option_map_or (λ d. d.approximate) ((E.answers entry.now).date variable) false }
+    ensures { result
+        ≡ option_map_or (λ d. d.approximate) ((E.answers entry.now).date variable) false }
 {
     match entry.resolve_date_variable(variable) {
         Some(date) => date.approximate,
@@ -126,7 +133,7 @@ fn is_uncertain<E: EntryLike>(entry: &E, variable: DateVariable) -> bool
 
 /// Whether a condition asks if the cite is like others.
 pub fn asks_disambiguate(condition: &Condition) -> bool
-    ensures { result ≡ choosing.asks_disambiguate (condition_seen condition.now) }
+    ensures { result ≡ choosing.asks_disambiguate (condition_view condition.now) }
 {
     for test in &condition.tests {
         if is_asking(*test) {
@@ -138,7 +145,7 @@ pub fn asks_disambiguate(condition: &Condition) -> bool
 
 /// Whether a test asks if the cite is like others.
 fn is_asking(test: ChooseTest) -> bool
-    ensures { result ≡ choosing.is_asking (test_seen test) }
+    ensures { result ≡ choosing.is_asking (test_view test) }
 {
     match test {
         ChooseTest::Disambiguate => true,

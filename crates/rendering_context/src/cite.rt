@@ -3,10 +3,10 @@
 ghost use Rattle.std.specs.Prelude.{◌≡◌, ◌+◌, ◌++◌, false, IfOk, OnOk};
 ghost use Rattle.std.specs.Option.{option_map, option_map_or};
 ghost use Rattle.laws.specs.Text.{characters};
-ghost use Rattle.rendering_context.specs.Cites.{letters_of, state_rank, may_change, allows_suffix, greater_state};
+ghost use Rattle.rendering_context.specs.Cites.{year_suffix_of, state_rank, may_change, allows_suffix, greater_state};
 ghost use Rattle.rendering_context.specs.Answering as answering;
 ghost use Rattle.rendering_context.specs.Choosing.{is_chosen};
-ghost use Rattle.rendering_context.specs.Views.{answer_by, answer_if, cite_by, locator_by, state_by};
+ghost use Rattle.rendering_context.specs.Views.{answer_view, answer_if, cite_properties_view, locator_view, state_view};
 ghost use Rattle.rendering_taxonomy.specs.Kinds.{is_locator};
 
 use crate::answer::{Answer, count, locator};
@@ -16,14 +16,14 @@ use rendering_people::NameDisambiguationProperties;
 use rendering_taxonomy::{IbidState, IdentifierUsage, Locator};
 use std::alloc::{AllocError, Global};
 
-/// What tells a cite apart from others: nothing, more of its names, other branches of a style, letters after its year.
+/// The state of disambiguation of a cite: nothing, more of its names, other branches of a style, a year suffix.
 #[derive(Debug, Default, Drop)]
 pub enum DisambiguateState {
     #[default]
     None,
     NameDisambiguation(NameDisambiguationProperties),
     Choose,
-    /// The place of the letters, from zero.
+    /// The index of the year suffix, from zero.
     YearSuffix(u8),
 }
 
@@ -38,11 +38,11 @@ pub struct CiteProperties<'a> {
     pub is_near_note: bool,
     /// Whether its entry was not cited before.
     pub is_first: bool,
-    /// Its place in its request, from zero.
+    /// Its index in its request, from zero.
     pub initial_idx: usize,
     /// The part of the work that it cites. What the caller prints by itself is not looked at.
     pub locator: Option<SpecificLocator<'a, ()>>,
-    /// The place of its entry among all that are cited, from zero.
+    /// The index of its entry among all that are cited, from zero.
     pub citation_number: usize,
     /// How it stands to the cite before it.
     pub ibid: IbidState,
@@ -57,7 +57,8 @@ impl<'a> CiteProperties<'a> {
     /// # Errors
     /// Out of memory.
     pub fn elsewhere(&self) -> Result<CiteProperties<'a>, AllocError>
-        ensures { IfOk result (λ p. cite_by p ≡ record (cite_by self.now) { ibid = IbidState.Different }) }
+        ensures { IfOk result (λ p. cite_properties_view p
+            ≡ record (cite_properties_view self.now) { ibid = IbidState.Different }) }
     {
         Ok(CiteProperties {
             note_number: self.note_number,
@@ -75,7 +76,7 @@ impl<'a> CiteProperties<'a> {
 
     /// The locator, where there is one.
     fn plain_locator(&self) -> Option<SpecificLocator<'a, ()>>
-        ensures { option_map locator_by result ≡ (cite_by self.now).locator }
+        ensures { option_map locator_view result ≡ (cite_properties_view self.now).locator }
     {
         match &self.locator {
             Some(locator) => Some(locator.without_payload()),
@@ -85,14 +86,16 @@ impl<'a> CiteProperties<'a> {
 
     /// The number of its entry among all that are cited, counted from one.
     pub(crate) fn number_answer(&self, alloc: Global) -> Result<Answer<'a>, AllocError>
-        ensures { IfOk result (λ a. answer_by a ≡ answering.of_count (self.now.citation_number + 1)) }
+        ensures { IfOk result (λ a. answer_view a
+            ≡ answering.of_count (self.now.citation_number + 1)) }
     {
         count(alloc, self.citation_number as u128 + 1)
     }
 
     /// The number of the note in which its entry was cited first, where it is known.
     pub(crate) fn first_note_answer(&self, alloc: Global) -> Result<Option<Answer<'a>>, AllocError>
-        ensures { IfOk result (λ a. answer_if a ≡ answering.or_no_answer answering.of_count self.now.first_note_number) }
+        ensures { IfOk result (λ a. answer_if a
+            ≡ answering.or_no_answer answering.of_count self.now.first_note_number) }
     {
         match self.first_note_number {
             Some(number) => Ok(Some(count(alloc, number as u128)?)),
@@ -102,14 +105,16 @@ impl<'a> CiteProperties<'a> {
 
     /// The locator as a node prints it, where there is one.
     pub(crate) fn locator_answer(&self) -> Option<Answer<'a>>
-        ensures { answer_if result ≡ answering.or_no_answer (λ l. answering.of_payload l.payload) (cite_by self.now).locator }
+        ensures { answer_if result ≡ answering.or_no_answer
+            (λ l. answering.of_payload l.payload) (cite_properties_view self.now).locator }
     {
         locator(&self.locator.as_ref()?.payload)
     }
 
     /// Whether the locator is of more than one.
     pub(crate) fn has_plural_locator(&self) -> bool
-        ensures { result ≡ option_map_or (λ l. answering.is_plural_payload l.payload) (cite_by self.now).locator false }
+        ensures { result ≡ option_map_or (λ l. answering.is_plural_payload l.payload)
+            (cite_properties_view self.now).locator false }
     {
         match &self.locator {
             Some(locator) => locator.payload.is_plural(),
@@ -119,7 +124,8 @@ impl<'a> CiteProperties<'a> {
 
     /// Whether the locator spells a number.
     pub(crate) fn has_numeric_locator(&self, alloc: Global) -> Result<bool, AllocError>
-        ensures { IfOk result (λ b. b ≡ option_map_or (λ l. answering.is_numeric_payload l.payload) (cite_by self.now).locator false) }
+        ensures { IfOk result (λ b. b ≡ option_map_or (λ l. answering.is_numeric_payload l.payload)
+            (cite_properties_view self.now).locator false) }
     {
         match &self.locator {
             Some(locator) => locator.payload.is_numeric(alloc),
@@ -129,7 +135,8 @@ impl<'a> CiteProperties<'a> {
 
     /// Whether the locator has this label.
     pub(crate) fn has_locator(&self, label: Locator) -> bool
-        ensures { result ≡ option_map_or (λ m. is_locator label m.label) (cite_by self.now).locator false }
+        ensures { result ≡ option_map_or (λ m. is_locator label m.label)
+            (cite_properties_view self.now).locator false }
     {
         match &self.locator {
             Some(locator) => is_locator(label, locator.label),
@@ -141,7 +148,7 @@ impl<'a> CiteProperties<'a> {
 impl DisambiguateState {
     /// Whether names and branches may still change it.
     pub fn may_change(&self) -> bool
-        ensures { result ≡ may_change (state_by self.now) }
+        ensures { result ≡ may_change (state_view self.now) }
     {
         match self {
             DisambiguateState::None | DisambiguateState::NameDisambiguation(_) => true,
@@ -149,9 +156,9 @@ impl DisambiguateState {
         }
     }
 
-    /// Whether letters after the year may still be given.
+    /// Whether a year suffix may still be given.
     pub fn allows_suffix(&self) -> bool
-        ensures { result ≡ allows_suffix (state_by self.now) }
+        ensures { result ≡ allows_suffix (state_view self.now) }
     {
         match self {
             DisambiguateState::YearSuffix(_) => false,
@@ -159,9 +166,9 @@ impl DisambiguateState {
         }
     }
 
-    /// The greater of two: by kind, in the order of the variants' list with letters last; of one kind the one that prints more.
+    /// The greater of two: by kind, in the order of the variants' list with year suffixes last; of one kind the one that prints more.
     pub fn max(self, other: DisambiguateState) -> DisambiguateState
-        ensures { state_by result ≡ greater_state (state_by self) (state_by other) }
+        ensures { state_view result ≡ greater_state (state_view self) (state_view other) }
     {
         match (self, other) {
             (
@@ -180,7 +187,7 @@ impl DisambiguateState {
     /// # Errors
     /// Out of memory.
     pub fn clone(&self) -> Result<DisambiguateState, AllocError>
-        ensures { IfOk result (λ s. state_by s ≡ state_by self.now) }
+        ensures { IfOk result (λ s. state_view s ≡ state_view self.now) }
     {
         match self {
             DisambiguateState::None => Ok(DisambiguateState::None),
@@ -188,36 +195,37 @@ impl DisambiguateState {
                 Ok(DisambiguateState::NameDisambiguation(names.clone()?))
             }
             DisambiguateState::Choose => Ok(DisambiguateState::Choose),
-            DisambiguateState::YearSuffix(place) => Ok(DisambiguateState::YearSuffix(*place)),
+            DisambiguateState::YearSuffix(index) => Ok(DisambiguateState::YearSuffix(*index)),
         }
     }
 
-    /// Appends the letters after a year, where there are any.
+    /// Appends the year suffix, where there is one.
     ///
     /// # Errors
     /// Out of memory alone.
-    pub fn push_letters(&self, out: &mut String) -> Result<(), AllocError>
-        ensures { OnOk result (characters out.new ≡ characters out.old ++ letters_of (state_by self.now)) }
+    pub fn push_suffix(&self, out: &mut String) -> Result<(), AllocError>
+        ensures { OnOk result (characters out.new
+            ≡ characters out.old ++ year_suffix_of (state_view self.now)) }
     {
         match self {
-            DisambiguateState::YearSuffix(place) => rendering_numbers::push_suffix_letters(
+            DisambiguateState::YearSuffix(index) => rendering_numbers::push_year_suffix(
                 out,
-                u16::from(*place),
+                u16::from(*index),
             ),
             _ => Ok(()),
         }
     }
 
-    /// Whether the cite is to be told apart by branches.
+    /// Whether the cite is to be disambiguated by branches.
     pub(crate) fn is_chosen(&self) -> bool
-        ensures { result ≡ is_chosen (state_by self.now) }
+        ensures { result ≡ is_chosen (state_view self.now) }
     {
         matches!(self, DisambiguateState::Choose)
     }
 
-    /// The place of its kind.
+    /// The index of its kind.
     fn rank(&self) -> u8
-        ensures { result ≡ state_rank (state_by self.now) }
+        ensures { result ≡ state_rank (state_view self.now) }
     {
         match self {
             DisambiguateState::None => 0,

@@ -5,10 +5,10 @@ ghost use Rattle.std.specs.Cow.{cow_value};
 ghost use Rattle.std.specs.Option.{option_map};
 ghost use Rattle.rendering_context.specs.Answering as answering;
 ghost use Rattle.rendering_entries.specs.Answers.{Answers};
-ghost use Rattle.rendering_context.specs.Views.{context_by, answer_if};
-ghost use Rattle.rendering_people.specs.Views.{all_answered, people_by};
+ghost use Rattle.rendering_context.specs.Views.{context_view, answer_if};
+ghost use Rattle.rendering_people.specs.Views.{all_lent_answered_view, lent_people_view};
 
-use crate::answer::{Answer, address_of, letters, number_of, pages_of, text_of};
+use crate::answer::{Answer, address_of, number_of, pages_of, text_of, year_suffix};
 use crate::cite::CiteProperties;
 use crate::variables::{exchanged_for, is_among};
 use literature_values::{Date, Person};
@@ -30,11 +30,11 @@ pub struct Context<'s, 'a> {
     pub locales: &'s AskedLocales<'a>,
     /// The close quotes inside which punctuation goes, in the order in which they are tried.
     pub quotes: &'s [&'s str],
-    /// The letters after a year that tell the cite apart; none where there are none.
-    pub letters: &'a str,
+    /// The year suffix of the cite; empty where there is none.
+    pub year_suffix: &'a str,
     /// Whether an item of a bibliography is printed.
     pub is_bibliography: bool,
-    /// Whether a layout of the style prints the letters after a year by themselves.
+    /// Whether a layout of the style prints the year suffix by itself.
     pub has_suffix_node: bool,
 }
 
@@ -51,7 +51,8 @@ impl<'s, 'a> Context<'s, 'a> {
         form: LongShortForm,
         variable: Variable,
     ) -> Result<Option<Answer<'a>>, AllocError>
-        ensures { IfOk result (λ a. answer_if a ≡ answering.answer_to (context_by (E.answers entry.now) self.now) suppressed.now form variable) }
+        ensures { IfOk result (λ a. answer_if a ≡ answering.answer_to
+            (context_view (E.answers entry.now) self.now) suppressed.now form variable) }
     {
         if is_among(suppressed, variable) {
             return Ok(None);
@@ -62,7 +63,7 @@ impl<'s, 'a> Context<'s, 'a> {
     /// The variable that is asked: in a bibliography a label stands for a number or the other way round, where cites printed
     /// only one of them.
     pub fn asked_for(&self, variable: Variable) -> Variable
-        ensures { (a : Answers) → result ≡ answering.asked_for (context_by a self.now) variable }
+        ensures { (a : Answers) → result ≡ answering.asked_for (context_view a self.now) variable }
     {
         if self.is_bibliography {
             exchanged_for(self.properties.identifier_usage, variable)
@@ -78,7 +79,8 @@ impl<'s, 'a> Context<'s, 'a> {
         suppressed: &[Variable],
         variable: DateVariable,
     ) -> Option<Cow<'a, Date>>
-        ensures { option_map cow_value result ≡ answering.date_answer (context_by (E.answers entry.now) self.now) suppressed.now variable }
+        ensures { option_map cow_value result ≡ answering.date_answer
+            (context_view (E.answers entry.now) self.now) suppressed.now variable }
     {
         if is_among(suppressed, Variable::Date(variable)) {
             return None;
@@ -96,7 +98,8 @@ impl<'s, 'a> Context<'s, 'a> {
         suppressed: &[Variable],
         variables: &[NameVariable],
     ) -> Result<Vec<Answered<'a>>, AllocError>
-        ensures { IfOk result (λ v. all_answered v.items ≡ answering.all_people (context_by (E.answers entry.now) self.now) suppressed.now variables.now) }
+        ensures { IfOk result (λ v. all_lent_answered_view v.items ≡ answering.all_people
+            (context_view (E.answers entry.now) self.now) suppressed.now variables.now) }
     {
         let mut answered = Vec::new(self.alloc);
         for variable in variables {
@@ -115,7 +118,8 @@ impl<'s, 'a> Context<'s, 'a> {
         suppressed: &[Variable],
         variables: &[NameVariable],
     ) -> Result<bool, AllocError>
-        ensures { IfOk result (λ b. b ≡ answering.has_people (context_by (E.answers entry.now) self.now) suppressed.now variables.now) }
+        ensures { IfOk result (λ b. b ≡ answering.has_people
+            (context_view (E.answers entry.now) self.now) suppressed.now variables.now) }
     {
         for variable in variables {
             if self.is_answered_by_people(entry, suppressed, *variable)? {
@@ -132,7 +136,7 @@ impl<'s, 'a> Context<'s, 'a> {
         suppressed: &[Variable],
         variable: NameVariable,
     ) -> Result<bool, AllocError>
-        ensures { IfOk result (λ b. b ≡ answering.with_people (answering.people_answer (context_by (E.answers entry.now) self.now) suppressed.now variable, variable)) }
+        ensures { IfOk result (λ b. b ≡ answering.with_people (answering.people_answer (context_view (E.answers entry.now) self.now) suppressed.now variable, variable)) }
     {
         if is_among(suppressed, Variable::Name(variable)) {
             return Ok(false);
@@ -149,7 +153,8 @@ impl<'s, 'a> Context<'s, 'a> {
         entry: &'a E,
         variable: Variable,
     ) -> Result<bool, AllocError>
-        ensures { IfOk result (λ b. b ≡ answering.is_plural_variable (context_by (E.answers entry.now) self.now) variable) }
+        ensures { IfOk result (λ b. b
+            ≡ answering.is_plural_variable (context_view (E.answers entry.now) self.now) variable) }
     {
         match variable {
             Variable::Number(NumberVariable::Locator) => Ok(self.properties.has_plural_locator()),
@@ -166,7 +171,8 @@ impl<'s, 'a> Context<'s, 'a> {
         entry: &'a E,
         variable: Variable,
     ) -> Result<bool, AllocError>
-        ensures { IfOk result (λ b. b ≡ answering.has_answer (context_by (E.answers entry.now) self.now) variable) }
+        ensures { IfOk result (λ b. b
+            ≡ answering.has_answer (context_view (E.answers entry.now) self.now) variable) }
     {
         match variable {
             Variable::Name(variable) => has_people(self.alloc, entry, variable),
@@ -181,7 +187,8 @@ impl<'s, 'a> Context<'s, 'a> {
         entry: &'a E,
         variable: Variable,
     ) -> Result<bool, AllocError>
-        ensures { IfOk result (λ b. b ≡ answering.is_numeric_variable (context_by (E.answers entry.now) self.now) variable) }
+        ensures { IfOk result (λ b. b ≡ answering.is_numeric_variable
+            (context_view (E.answers entry.now) self.now) variable) }
     {
         match variable {
             Variable::Number(NumberVariable::Locator) => self
@@ -198,7 +205,8 @@ impl<'s, 'a> Context<'s, 'a> {
         form: LongShortForm,
         variable: Variable,
     ) -> Result<Option<Answer<'a>>, AllocError>
-        ensures { IfOk result (λ a. answer_if a ≡ answering.answer_of (context_by (E.answers entry.now) self.now) form variable) }
+        ensures { IfOk result (λ a. answer_if a
+            ≡ answering.answer_of (context_view (E.answers entry.now) self.now) form variable) }
     {
         match variable {
             Variable::Standard(variable) => self.standard(entry, form, variable),
@@ -215,7 +223,8 @@ impl<'s, 'a> Context<'s, 'a> {
         form: LongShortForm,
         variable: StandardVariable,
     ) -> Result<Option<Answer<'a>>, AllocError>
-        ensures { IfOk result (λ a. answer_if a ≡ answering.standard_answer (context_by (E.answers entry.now) self.now) form variable) }
+        ensures { IfOk result (λ a. answer_if a ≡ answering.standard_answer
+            (context_view (E.answers entry.now) self.now) form variable) }
     {
         match variable {
             StandardVariable::Doi => address_of(
@@ -226,7 +235,7 @@ impl<'s, 'a> Context<'s, 'a> {
                 variable,
             ),
             StandardVariable::Url => address_of(self.alloc, "", entry, form, variable),
-            StandardVariable::YearSuffix => Ok(letters(self.letters)),
+            StandardVariable::YearSuffix => Ok(year_suffix(self.year_suffix)),
             _ => text_of(self.alloc, entry, form, variable),
         }
     }
@@ -237,7 +246,8 @@ impl<'s, 'a> Context<'s, 'a> {
         entry: &'a E,
         variable: NumberVariable,
     ) -> Result<Option<Answer<'a>>, AllocError>
-        ensures { IfOk result (λ a. answer_if a ≡ answering.number_answer (context_by (E.answers entry.now) self.now) variable) }
+        ensures { IfOk result (λ a. answer_if a
+            ≡ answering.number_answer (context_view (E.answers entry.now) self.now) variable) }
     {
         match variable {
             NumberVariable::CitationNumber => Ok(Some(self.properties.number_answer(self.alloc)?)),
@@ -255,7 +265,8 @@ impl<'s, 'a> Context<'s, 'a> {
         entry: &'a E,
         variable: Variable,
     ) -> Result<bool, AllocError>
-        ensures { IfOk result (λ b. b ≡ answering.is_plural_answer (answering.answer_of (context_by (E.answers entry.now) self.now) LongShortForm.Long variable)) }
+        ensures { IfOk result (λ b. b ≡ answering.is_plural_answer (answering.answer_of
+            (context_view (E.answers entry.now) self.now) LongShortForm.Long variable)) }
     {
         match self.answer_of(entry, LongShortForm::Long, variable)? {
             Some(answer) => Ok(answer.is_plural()),
@@ -269,7 +280,8 @@ impl<'s, 'a> Context<'s, 'a> {
         entry: &'a E,
         variable: Variable,
     ) -> Result<bool, AllocError>
-        ensures { IfOk result (λ b. b ≡ answering.is_numeric_answer (answering.answer_of (context_by (E.answers entry.now) self.now) LongShortForm.Long variable)) }
+        ensures { IfOk result (λ b. b ≡ answering.is_numeric_answer (answering.answer_of
+            (context_view (E.answers entry.now) self.now) LongShortForm.Long variable)) }
     {
         match self.answer_of(entry, LongShortForm::Long, variable)? {
             Some(answer) => Ok(answer.is_numeric()),
@@ -283,7 +295,8 @@ impl<'s, 'a> Context<'s, 'a> {
         entry: &'a E,
         variable: Variable,
     ) -> Result<bool, AllocError>
-        ensures { IfOk result (λ b. b ≡ not (answering.is_missing (answering.answer_of (context_by (E.answers entry.now) self.now) LongShortForm.Long variable))) }
+        ensures { IfOk result (λ b. b ≡ not (answering.is_missing (answering.answer_of
+            (context_view (E.answers entry.now) self.now) LongShortForm.Long variable))) }
     {
         match self.answer_of(entry, LongShortForm::Long, variable)? {
             Some(_) => Ok(true),
@@ -299,7 +312,9 @@ impl<'s, 'a> Context<'s, 'a> {
         variable: NameVariable,
         answered: &mut Vec<Answered<'a>>,
     ) -> Result<(), AllocError>
-        ensures { OnOk result (all_answered answered.new.items ≡ all_answered answered.old.items ++ answering.all_people (context_by (E.answers entry.now) self.now) suppressed.now (variable ∷ [])) }
+        ensures { OnOk result (all_lent_answered_view answered.new.items
+            ≡ all_lent_answered_view answered.old.items ++ answering.all_people
+            (context_view (E.answers entry.now) self.now) suppressed.now (variable ∷ [])) }
     {
         if is_among(suppressed, Variable::Name(variable)) {
             return Ok(());
@@ -315,7 +330,9 @@ fn push_answered<'a>(
     people: Vec<Cow<'a, Person>>,
     variable: NameVariable,
 ) -> Result<(), AllocError>
-    ensures { OnOk result (all_answered answered.new.items ≡ all_answered answered.old.items ++ filter answering.with_people ((people_by people.entry.items, variable) ∷ [])) }
+    ensures { OnOk result (all_lent_answered_view answered.new.items
+        ≡ all_lent_answered_view answered.old.items
+        ++ filter answering.with_people ((lent_people_view people.entry.items, variable) ∷ [])) }
 {
     if !people.is_empty() {
         answered.push(Answered { people, variable })?;
@@ -329,7 +346,8 @@ fn has_people<E: EntryLike>(
     entry: &E,
     variable: NameVariable,
 ) -> Result<bool, AllocError>
-    ensures { IfOk result (λ b. b ≡ answering.with_people ((E.answers entry.now).people variable, variable)) }
+    ensures { IfOk result (λ b. b
+        ≡ answering.with_people ((E.answers entry.now).people variable, variable)) }
 {
     let people = entry.resolve_name_variable(alloc, variable)?;
     Ok(!people.is_empty())

@@ -5,7 +5,7 @@ ghost use Rattle.std.specs.List.{list_any};
 ghost use Rattle.std.specs.Str.{chars};
 ghost use Rattle.literature_numbers.specs.Numerics.{numeral_of};
 ghost use Rattle.rendering_context.specs.Answering as answering;
-ghost use Rattle.rendering_context.specs.Views.{is_copy, payload_by, locator_by};
+ghost use Rattle.rendering_context.specs.Views.{is_copy, payload_view, locator_view};
 
 use literature_values::{Numeric, NumericError};
 use rendering_taxonomy::Locator;
@@ -47,7 +47,8 @@ impl<P: Clone + PartialEq> TransparentLocator<P> {
     /// Out of memory.
     pub fn clone(&self) -> Result<TransparentLocator<P>, AllocError>
         ensures copy { IfOk result (λ t. P.is_clone self.now.payload t.payload) }
-        ensures equal { ((p q : P) → P.is_clone p q → P.eq p q ≡ true) → IfOk result (λ t. ⟦<TransparentLocator<P> as PartialEq>⟧.eq self.now t ≡ true) }
+        ensures equal { ((p q : P) → P.is_clone p q → P.eq p q ≡ true)
+            → IfOk result (λ t. ⟦<TransparentLocator<P> as PartialEq>⟧.eq self.now t ≡ true) }
     {
         Ok(TransparentLocator {
             payload: self.payload.clone()?,
@@ -62,7 +63,8 @@ impl<'a, P: Clone + PartialEq> LocatorPayload<'a, P> {
     /// Out of memory.
     pub fn clone(&self) -> Result<LocatorPayload<'a, P>, AllocError>
         ensures copy { IfOk result (λ l. is_copy P.is_clone self.now l) }
-        ensures equal { ((p q : P) → P.is_clone p q → P.eq p q ≡ true) → IfOk result (λ l. ⟦<LocatorPayload<'a, P> as PartialEq>⟧.eq self.now l ≡ true) }
+        ensures equal { ((p q : P) → P.is_clone p q → P.eq p q ≡ true)
+            → IfOk result (λ l. ⟦<LocatorPayload<'a, P> as PartialEq>⟧.eq self.now l ≡ true) }
     {
         match self {
             LocatorPayload::Str(text) => Ok(LocatorPayload::Str(text)),
@@ -79,8 +81,10 @@ impl<'a, P: Clone + PartialEq> SpecificLocator<'a, P> {
     /// # Errors
     /// Out of memory.
     pub fn clone(&self) -> Result<SpecificLocator<'a, P>, AllocError>
-        ensures copy { IfOk result (λ l. (l.label ≡ self.now.label) × is_copy P.is_clone self.now.payload l.payload) }
-        ensures equal { ((p q : P) → P.is_clone p q → P.eq p q ≡ true) → IfOk result (λ l. ⟦<SpecificLocator<'a, P> as PartialEq>⟧.eq self.now l ≡ true) }
+        ensures copy { IfOk result (λ l. (l.label ≡ self.now.label)
+            × is_copy P.is_clone self.now.payload l.payload) }
+        ensures equal { ((p q : P) → P.is_clone p q → P.eq p q ≡ true)
+            → IfOk result (λ l. ⟦<SpecificLocator<'a, P> as PartialEq>⟧.eq self.now l ≡ true) }
     {
         let payload = self.payload.clone()?;
         Ok(SpecificLocator {
@@ -93,7 +97,7 @@ impl<'a, P: Clone + PartialEq> SpecificLocator<'a, P> {
 impl<'a, P> SpecificLocator<'a, P> {
     /// The same without what the caller prints by itself.
     pub fn without_payload(&self) -> SpecificLocator<'a, ()>
-        ensures { locator_by result ≡ locator_by self.now }
+        ensures { locator_view result ≡ locator_view self.now }
     {
         SpecificLocator {
             label: self.label,
@@ -105,7 +109,7 @@ impl<'a, P> SpecificLocator<'a, P> {
 impl<'a, P> LocatorPayload<'a, P> {
     /// The same without what the caller prints by itself.
     fn without_payload(&self) -> LocatorPayload<'a, ()>
-        ensures { payload_by result ≡ payload_by self.now }
+        ensures { payload_view result ≡ payload_view self.now }
     {
         match self {
             LocatorPayload::Str(text) => LocatorPayload::Str(text),
@@ -117,7 +121,7 @@ impl<'a, P> LocatorPayload<'a, P> {
 
     /// Whether there is a sign of more than one in the text.
     pub(crate) fn is_plural(&self) -> bool
-        ensures { result ≡ answering.is_plural_payload (payload_by self.now) }
+        ensures { result ≡ answering.is_plural_payload (payload_view self.now) }
     {
         match self {
             LocatorPayload::Str(text) => has_range_sign(text),
@@ -127,7 +131,7 @@ impl<'a, P> LocatorPayload<'a, P> {
 
     /// Whether the text spells a number.
     pub(crate) fn is_numeric(&self, alloc: Global) -> Result<bool, AllocError>
-        ensures { IfOk result (λ b. b ≡ answering.is_numeric_payload (payload_by self.now)) }
+        ensures { IfOk result (λ b. b ≡ answering.is_numeric_payload (payload_view self.now)) }
     {
         match self {
             LocatorPayload::Str(text) => spells_number(alloc, text),

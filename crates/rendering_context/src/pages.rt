@@ -4,16 +4,16 @@ ghost use Rattle.std.specs.Prelude.{◌≡◌};
 ghost use Rattle.std.specs.Option.{option_map};
 ghost use Rattle.laws.specs.Text.{characters, is_filled};
 ghost use Rattle.literature_numbers.specs.NumericText.{affix_text, value_text, numeral_text};
-ghost use Rattle.literature_numbers.specs.PageViews.{part as part_seen, pages as pages_seen};
+ghost use Rattle.literature_numbers.specs.PageViews.{page_part_view, pages_view};
 ghost use Rattle.literature_numbers.specs.Pages.{part_text, pages_text};
-ghost use Rattle.literature_numbers.specs.Views.{value as value_seen, numeral as numeral_seen};
+ghost use Rattle.literature_numbers.specs.Views.{numeric_value_view, numeral_view};
 
 use literature_values::{Numeric, NumericValue, PageRanges, PageRangesPart};
 use texts::has_text;
 
 /// Whether pages have a text.
 pub(crate) fn have_text(pages: &PageRanges) -> bool
-    ensures { result ≡ is_filled (pages_text (pages_seen pages.now)) }
+    ensures { result ≡ is_filled (pages_text (pages_view pages.now)) }
 {
     for part in &pages.ranges {
         if has_part_text(part) {
@@ -25,7 +25,7 @@ pub(crate) fn have_text(pages: &PageRanges) -> bool
 
 /// Whether a part has a text; separators and ranges do.
 fn has_part_text(part: &PageRangesPart) -> bool
-    ensures { result ≡ is_filled (part_text (part_seen part.now)) }
+    ensures { result ≡ is_filled (part_text (page_part_view part.now)) }
 {
     match part {
         PageRangesPart::Ampersand | PageRangesPart::Comma => true,
@@ -36,7 +36,7 @@ fn has_part_text(part: &PageRangesPart) -> bool
 
 /// Whether a number with what stands before and after it has a text.
 fn has_number_text(number: &Numeric) -> bool
-    ensures { result ≡ is_filled (numeral_text (numeral_seen number.now)) }
+    ensures { result ≡ is_filled (numeral_text (numeral_view number.now)) }
 {
     has_affix_text(&number.prefix)
         || has_value_text(&number.value)
@@ -55,7 +55,7 @@ fn has_affix_text(letters: &Option<String>) -> bool
 
 /// Whether there is a number.
 fn has_value_text(value: &NumericValue) -> bool
-    ensures { result ≡ is_filled (value_text (value_seen value.now)) }
+    ensures { result ≡ is_filled (value_text (numeric_value_view value.now)) }
 {
     match value {
         NumericValue::Number(_) => true,

@@ -21,7 +21,7 @@ pub(crate) fn is_locator(label: Locator, other: Locator) -> bool
     label == other
 }
 
-/// The one of the two variables that tell entries apart that stands for the other, where cites printed only one of them.
+/// The one of the two variables that identify entries that stands for the other, where cites printed only one of them.
 pub(crate) fn exchanged_for(usage: IdentifierUsage, variable: Variable) -> Variable
     ensures { result ≡ answering.exchanged_for usage variable }
 {

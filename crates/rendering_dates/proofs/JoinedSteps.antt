@@ -1,18 +1,18 @@
--- Parts of a date put down one after the other.
+-- Parts of a date appended one after the other.
 use Rattle.std.proofs.Common.{ℕ, Bool, List, map, drop}
 use Rattle.literature_values.specs.declared.date.Date.{Date}
-use Rattle.rendering_locale.specs.Views.{part_seen}
+use Rattle.rendering_locale.specs.Views.{part_view}
 use Rattle.rendering_locale.specs.declared.locale.DatePart.{DatePart}
 use Rattle.rendering_page.specs.Pages.{Page, Quotes}
-use Rattle.rendering_page.specs.Pieces.{Piece, all_down}
+use Rattle.rendering_page.specs.Pieces.{Piece, append_pieces}
 use Rattle.rendering_dates.specs.Joined.{joined_from}
-use Rattle.rendering_dates.specs.Views.{delimiter_seen, parts_by}
+use Rattle.rendering_dates.specs.Views.{delimiter_by, parts_by}
 use Rattle.rendering_dates.specs.declared.sides.DateStyle.{DateStyle}
 
--- the pieces of the parts from a place on
-abbrev pub from_place : DateStyle → List ℕ → Date → List DatePart → ℕ → List (List Piece)
-from_place s letters d ps i = parts_by s letters d (map part_seen (drop i ps))
+-- the pieces of the parts from an index on
+abbrev pub from_index : DateStyle → List ℕ → Date → List DatePart → ℕ → List (List Piece)
+from_index s year_suffix d ps i = parts_by s year_suffix d (map part_view (drop i ps))
 
--- What the parts from a place on put down, after those before them were.
-abbrev pub rest_down : Quotes → DateStyle → List ℕ → Date → List DatePart → ℕ → Bool → Page → Page
-rest_down quotes s letters d ps i first page = all_down quotes (joined_from first (delimiter_seen s) (from_place s letters d ps i)) page
+-- What the parts from an index on append, after those before them.
+abbrev pub append_rest : Quotes → DateStyle → List ℕ → Date → List DatePart → ℕ → Bool → Page → Page
+append_rest quotes s year_suffix d ps i first page = append_pieces quotes (joined_from first (delimiter_by s) (from_index s year_suffix d ps i)) page

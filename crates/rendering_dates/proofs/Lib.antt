@@ -1,4 +1,4 @@
 pub mod DatesTexts
-pub mod DatesPut
+pub mod DatesAppended
 pub mod DatesValues
 pub mod JoinedSteps

@@ -1,4 +1,4 @@
--- Dates as they are printed, alone and as ranges. A side of a range is seen as a date of its own.
+-- Dates as they are printed, alone and as ranges. A side of a range is viewed as a date of its own.
 use Rattle.std.specs.Prelude.{ℕ, ◌+◌, Bool, true, false, ◌||◌, List, [], ◌∷◌, ◌++◌, filter, if◌then◌else◌, Option, Some, None, ℤ, pos, codes}
 use Rattle.std.specs.List.{flat_map}
 use Rattle.std.specs.Option.{option_map_or, unwrap_or}
@@ -16,8 +16,8 @@ use Rattle.rendering_locale.specs.Lookup.{term, term_text, ordinals_of}
 use Rattle.rendering_numbers.specs.Numbers.{ordinal_text}
 use Rattle.rendering_numbers.specs.Years.{year_text}
 use Rattle.rendering_page.specs.Pages.{Manner, Frame, empty_page}
-use Rattle.rendering_page.specs.Pieces.{Piece, normal, framed, all_down}
-use Rattle.rendering_page.specs.Shown.{page_text}
+use Rattle.rendering_page.specs.Pieces.{Piece, normal, framed, append_pieces}
+use Rattle.rendering_page.specs.PageCharacters.{page_text}
 use Rattle.rendering_taxonomy.specs.declared.date.LongShortForm.{LongShortForm}
 use Rattle.rendering_taxonomy.specs.declared.date.LongShortForm.TheVariants as lengths
 use Rattle.rendering_taxonomy.specs.declared.date.DateParts.{DateParts}
@@ -85,7 +85,7 @@ pub record DateShape : Type 0 where
 abbrev pub cut_to : DateParts → DateShape → DateShape
 cut_to cut s = record s { parts = filter (λ p. is_within cut p.form) s.parts }
 
--- how a part's own text is put down
+-- how a part's own text is appended
 abbrev pub part_manner : Manner → DatePart → Manner
 part_manner m p = record { formatting = changed p.formatting m.formatting; strips_periods = m.strips_periods || p.strips_periods }
 
@@ -93,23 +93,23 @@ part_manner m p = record { formatting = changed p.formatting m.formatting; strip
 abbrev pub part_frame : Manner → DatePart → Frame
 part_frame m p = record { display = None; meta = None; manner = m; prefix = p.prefix; suffix = p.suffix }
 
--- the letters that tell cites apart are those of the year
-abbrev pub letters_of : DatePartForm → List ℕ → List ℕ
-letters_of (parts.Year form) letters = letters
-letters_of p letters = []
+-- the year suffix is that of the year
+abbrev pub year_suffix_of : DatePartForm → List ℕ → List ℕ
+year_suffix_of (parts.Year form) year_suffix = year_suffix
+year_suffix_of p year_suffix = []
 
--- a text of a part, with the letters directly after it, in the part's affixes
+-- a text of a part, with the year suffix directly after it, in the part's affixes
 abbrev pub text_pieces : Manner → List ℕ → DatePart → List ℕ → List Piece
-text_pieces m letters p cs =
-    framed (part_frame m p) (normal (part_manner m p) cs ∷ normal (part_manner m p) (letters_of p.form letters) ∷ [])
+text_pieces m year_suffix p cs =
+    framed (part_frame m p) (normal (part_manner m p) cs ∷ normal (part_manner m p) (year_suffix_of p.form year_suffix) ∷ [])
 
 -- the same, but nothing of an empty text
 abbrev pub filled_pieces : Manner → List ℕ → DatePart → List ℕ → List (List Piece)
-filled_pieces m letters p cs = if is_filled cs then text_pieces m letters p cs ∷ [] else []
+filled_pieces m year_suffix p cs = if is_filled cs then text_pieces m year_suffix p cs ∷ [] else []
 
 -- a part of a date
 abbrev pub part_pieces : List Locale → Manner → List ℕ → Date → DatePart → List (List Piece)
-part_pieces ls m letters d p = filled_pieces m letters p (part_text ls d p.form)
+part_pieces ls m year_suffix d p = filled_pieces m year_suffix p (part_text ls d p.form)
 
 -- each with other pieces before it
 abbrev pub each_after : List Piece → List (List Piece) → List Piece
@@ -122,22 +122,22 @@ joined_with between (ps ∷ pss) = ps ++ each_after between pss
 
 -- the parts of a date that is no range, with the delimiter between any two that are printed
 abbrev pub side_pieces : List Locale → Manner → DateShape → List ℕ → Date → List Piece
-side_pieces ls m shape letters d = joined_with (normal m shape.delimiter ∷ []) (flat_map (part_pieces ls m letters d) shape.parts)
+side_pieces ls m shape year_suffix d = joined_with (normal m shape.delimiter ∷ []) (flat_map (part_pieces ls m year_suffix d) shape.parts)
 
 -- what it prints by itself
 abbrev pub side_text : List Locale → Manner → DateShape → Date → List ℕ
-side_text ls m shape d = page_text (all_down [] (side_pieces ls m shape [] d) empty_page).tokens
+side_text ls m shape d = page_text (append_pieces [] (side_pieces ls m shape [] d) empty_page).tokens
 
 -- an en dash
 abbrev pub dash : List ℕ
 dash = 8211 ∷ []
 
--- the first side, a dash and the last side, which has the letters; where both print the same, the first alone
+-- the first side, a dash and the last side, which has the year suffix; where both print the same, the first alone
 abbrev pub both_pieces : List Locale → Manner → DateShape → List ℕ → Date → Date → List Piece
-both_pieces ls m shape letters first last =
+both_pieces ls m shape year_suffix first last =
     if bytes_eq (side_text ls m shape first) (side_text ls m shape last)
-    then side_pieces ls m shape letters first
-    else side_pieces ls m shape [] first ++ normal m dash ∷ [] ++ side_pieces ls m shape letters last
+    then side_pieces ls m shape year_suffix first
+    else side_pieces ls m shape [] first ++ normal m dash ∷ [] ++ side_pieces ls m shape year_suffix last
 
 -- what a range ends with, as a date of its own
 abbrev pub last_side : Date → ℤ → Option ℕ → Option ℕ → Date
@@ -145,14 +145,14 @@ last_side d y month day = record d { year = y; month = month; day = day; end = N
 
 -- a date by what it ends with, if it is a range
 abbrev pub ended_pieces : List Locale → Manner → DateShape → List ℕ → Date → Option DateEnd → List Piece
-ended_pieces ls m shape letters d None = side_pieces ls m shape letters d
-ended_pieces ls m shape letters d (Some (On y month day)) = both_pieces ls m shape letters d (last_side d y month day)
-ended_pieces ls m shape letters d (Some Open) = side_pieces ls m shape letters d ++ normal m dash ∷ []
+ended_pieces ls m shape year_suffix d None = side_pieces ls m shape year_suffix d
+ended_pieces ls m shape year_suffix d (Some (On y month day)) = both_pieces ls m shape year_suffix d (last_side d y month day)
+ended_pieces ls m shape year_suffix d (Some Open) = side_pieces ls m shape year_suffix d ++ normal m dash ∷ []
 
--- A date in its shape, with letters after its year. Of a range both sides where they print otherwise, or the first and a dash
+-- A date in its shape, with a year suffix. Of a range both sides where they print otherwise, or the first and a dash
 -- where it has no end yet.
 abbrev pub date_pieces : List Locale → Manner → DateShape → List ℕ → Date → List Piece
-date_pieces ls m shape letters d = ended_pieces ls m shape letters d d.end
+date_pieces ls m shape year_suffix d = ended_pieces ls m shape year_suffix d d.end
 
 -- a whole year
 abbrev pub whole_year : List Locale → ℤ → List ℕ

@@ -1,4 +1,4 @@
--- Pieces with others between them, put down one after the other.
+-- Pieces with others between them, appended one after the other.
 use Rattle.std.specs.Prelude.{Bool, true, false, List, [], ◌∷◌}
 use Rattle.rendering_page.specs.Pieces.{Piece}
 use Rattle.rendering_dates.specs.Dates.{joined_with, each_after}

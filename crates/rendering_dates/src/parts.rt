@@ -6,7 +6,7 @@ ghost use Rattle.std.specs.Option.{option_map_or};
 ghost use Rattle.date_parts.specs.Written.{padded};
 ghost use Rattle.laws.specs.Text.{characters, is_filled};
 ghost use Rattle.rendering_dates.specs.Dates.{day_by, month_by, part_text, year_by};
-ghost use Rattle.rendering_dates.specs.Views.{text_seen};
+ghost use Rattle.rendering_dates.specs.Views.{part_text_view};
 ghost use Rattle.rendering_locale.specs.Lookup.{ordinals_of, term_text};
 ghost use Rattle.rendering_numbers.specs.Numbers.{ordinal_text};
 
@@ -34,7 +34,7 @@ pub(crate) enum PartText<'a> {
 impl<'a> PartText<'a> {
     /// Whether there is a character.
     pub(crate) fn is_filled(&self) -> bool
-        ensures { result ≡ is_filled (text_seen self.now) }
+        ensures { result ≡ is_filled (part_text_view self.now) }
     {
         match self {
             PartText::Absent => false,
@@ -51,7 +51,7 @@ pub(crate) fn part_text<'a>(
     date: &Date,
     form: DatePartForm,
 ) -> Result<PartText<'a>, AllocError>
-    ensures { IfOk result (λ t. text_seen t ≡ part_text locales.now date.now form) }
+    ensures { IfOk result (λ t. part_text_view t ≡ part_text locales.now date.now form) }
 {
     match form {
         DatePartForm::Day(form) => day_text(alloc, locales, form, date.day),
@@ -67,7 +67,7 @@ fn day_text<'a>(
     form: DateDayForm,
     day: Option<u8>,
 ) -> Result<PartText<'a>, AllocError>
-    ensures { IfOk result (λ t. text_seen t ≡ option_map_or (day_by locales.now form) day []) }
+    ensures { IfOk result (λ t. part_text_view t ≡ option_map_or (day_by locales.now form) day []) }
 {
     let Some(day) = day else {
         return Ok(PartText::Absent);
@@ -86,7 +86,8 @@ fn month_text<'a>(
     form: DateMonthForm,
     month: Option<u8>,
 ) -> Result<PartText<'a>, AllocError>
-    ensures { IfOk result (λ t. text_seen t ≡ option_map_or (month_by locales.now form) month []) }
+    ensures { IfOk result (λ t. part_text_view t
+        ≡ option_map_or (month_by locales.now form) month []) }
 {
     let Some(month) = month else {
         return Ok(PartText::Absent);
@@ -101,7 +102,8 @@ fn month_text<'a>(
 
 /// The locale's word for a month.
 fn month_word<'a>(locales: &AskedLocales<'a>, form: TermForm, month: u8) -> PartText<'a>
-    ensures { text_seen result ≡ term_text locales.now (Term.Other (OtherTerm.Month month)) form false }
+    ensures { part_text_view result
+        ≡ term_text locales.now (Term.Other (OtherTerm.Month month)) form false }
 {
     PartText::Word(locales.term_text(Term::Other(OtherTerm::Month(month)), form, false))
 }
@@ -113,7 +115,7 @@ fn year_text<'a>(
     form: LongShortForm,
     year: i32,
 ) -> Result<PartText<'a>, AllocError>
-    ensures { IfOk result (λ t. text_seen t ≡ year_by locales.now form year) }
+    ensures { IfOk result (λ t. part_text_view t ≡ year_by locales.now form year) }
 {
     let mut text = empty_text(alloc);
     push_year_by(&mut text, locales, form, year)?;
@@ -122,7 +124,7 @@ fn year_text<'a>(
 
 /// A number that counts from zero, as it counts from one.
 fn counted<'a>(alloc: Global, number: u8) -> Result<PartText<'a>, AllocError>
-    ensures { IfOk result (λ t. text_seen t ≡ decimal (number + 1)) }
+    ensures { IfOk result (λ t. part_text_view t ≡ decimal (number + 1)) }
 {
     let mut text = empty_text(alloc);
     push_digits(&mut text, u32::from(number) + 1)?;
@@ -131,7 +133,7 @@ fn counted<'a>(alloc: Global, number: u8) -> Result<PartText<'a>, AllocError>
 
 /// A number that counts from zero, as it counts from one, in two digits or more.
 fn counted_in_two_digits<'a>(alloc: Global, number: u8) -> Result<PartText<'a>, AllocError>
-    ensures { IfOk result (λ t. text_seen t ≡ padded 2 (number + 1)) }
+    ensures { IfOk result (λ t. part_text_view t ≡ padded 2 (number + 1)) }
 {
     let mut text = empty_text(alloc);
     push_two_digits(&mut text, u32::from(number) + 1)?;
@@ -144,7 +146,8 @@ fn counted_with_ending<'a>(
     locales: &AskedLocales<'a>,
     number: u8,
 ) -> Result<PartText<'a>, AllocError>
-    ensures { IfOk result (λ t. text_seen t ≡ ordinal_text (ordinals_of locales.now) (pos (number + 1))) }
+    ensures { IfOk result (λ t. part_text_view t
+        ≡ ordinal_text (ordinals_of locales.now) (pos (number + 1))) }
 {
     let mut text = empty_text(alloc);
     push_with_ending(&mut text, locales, u16::from(number) + 1)?;
@@ -153,7 +156,8 @@ fn counted_with_ending<'a>(
 
 /// Appends a number and the ending that the locales give it. Without endings it is in digits alone.
 fn push_with_ending(out: &mut String, locales: &AskedLocales, number: u16) -> Result<(), AllocError>
-    ensures { OnOk result (characters out.new ≡ characters out.old ++ ordinal_text (ordinals_of locales.now) (pos number)) }
+    ensures { OnOk result (characters out.new
+        ≡ characters out.old ++ ordinal_text (ordinals_of locales.now) (pos number)) }
 {
     match locales.ordinals() {
         Some(ordinals) => push_ordinal(out, ordinals, i32::from(number)),

@@ -1,14 +1,14 @@
-//! A part of a date on a page: its text with its look, between its affixes, with the letters after a year.
+//! A part of a date on a page: its text with its look, between its affixes, with the year suffix.
 
 ghost use Rattle.std.specs.Prelude.{◌≡◌, OnOk};
 ghost use Rattle.std.specs.Str.{chars};
 ghost use Rattle.laws.specs.Text.{spelled};
-ghost use Rattle.rendering_dates.specs.Dates.{part_manner, part_frame, letters_of, text_pieces};
-ghost use Rattle.rendering_dates.specs.Views.{text_seen};
-ghost use Rattle.rendering_locale.specs.Views.{part_seen};
-ghost use Rattle.rendering_page.specs.Pages.{normal_put};
-ghost use Rattle.rendering_page.specs.Pieces.{all_down};
-ghost use Rattle.rendering_page.specs.Views.{quotes_of, manner as manner_seen, frame as frame_seen};
+ghost use Rattle.rendering_dates.specs.Dates.{part_manner, part_frame, year_suffix_of, text_pieces};
+ghost use Rattle.rendering_dates.specs.Views.{part_text_view};
+ghost use Rattle.rendering_locale.specs.Views.{part_view};
+ghost use Rattle.rendering_page.specs.Pages.{append_normal};
+ghost use Rattle.rendering_page.specs.Pieces.{append_pieces};
+ghost use Rattle.rendering_page.specs.Views.{quotes_view, manner_view, frame_view};
 
 use crate::parts::PartText;
 use rendering_locale::DatePart;
@@ -16,33 +16,36 @@ use rendering_page::{Frame, Manner, Page};
 use rendering_taxonomy::DatePartForm;
 use std::alloc::AllocError;
 
-/// Puts down a text of a part and, of a year, the letters directly after it, between the part's affixes.
+/// Appends a text of a part and, of a year, the year suffix directly after it, between the part's affixes.
 pub(crate) fn push_part<'a>(
     page: &mut Page<'a>,
     quotes: &[&str],
     manner: Manner,
-    letters: &'a str,
+    year_suffix: &'a str,
     part: &'a DatePart,
     text: PartText<'a>,
 ) -> Result<(), AllocError>
-    ensures { OnOk result (page.new ≡ all_down (quotes_of quotes.now) (text_pieces (manner_seen manner) (chars letters.now) (part_seen part.now) (text_seen text.entry)) page.old) }
+    ensures { OnOk result (page.new
+        ≡ append_pieces (quotes_view quotes.now) (text_pieces (manner_view manner)
+        (chars year_suffix.now) (part_view part.now) (part_text_view text.entry)) page.old) }
 {
     let frame = part_frame(manner, part);
     let own = part_manner(manner, part);
     page.begin(&frame)?;
     push_part_text(page, quotes, own, text)?;
-    page.push_text(quotes, own, letters_of(part.form, letters))?;
+    page.push_text(quotes, own, year_suffix_of(part.form, year_suffix))?;
     page.end(quotes, &frame)
 }
 
-/// Puts down a text of a part.
+/// Appends a text of a part.
 fn push_part_text<'a>(
     page: &mut Page<'a>,
     quotes: &[&str],
     manner: Manner,
     text: PartText<'a>,
 ) -> Result<(), AllocError>
-    ensures { OnOk result (page.new ≡ normal_put (quotes_of quotes.now) (manner_seen manner) (text_seen text.entry) page.old) }
+    ensures { OnOk result (page.new ≡ append_normal (quotes_view quotes.now)
+        (manner_view manner) (part_text_view text.entry) page.old) }
 {
     match text {
         PartText::Absent => Ok(()),
@@ -51,20 +54,20 @@ fn push_part_text<'a>(
     }
 }
 
-/// The letters after a part: a year has them.
+/// The year suffix after a part: a year has it.
 #[tactic(auto, using(rendering_locale::proofs::LookupTexts::no_characters))]
-fn letters_of(form: DatePartForm, letters: &str) -> &str
-    ensures { spelled result ≡ letters_of form (chars letters.now) }
+fn year_suffix_of(form: DatePartForm, year_suffix: &str) -> &str
+    ensures { spelled result ≡ year_suffix_of form (chars year_suffix.now) }
 {
     match form {
-        DatePartForm::Year(_) => letters,
+        DatePartForm::Year(_) => year_suffix,
         DatePartForm::Day(_) | DatePartForm::Month(_) => "",
     }
 }
 
 /// The affixes of a part, which look as what is around the part.
 fn part_frame<'a>(manner: Manner, part: &'a DatePart) -> Frame<'a>
-    ensures { frame_seen result ≡ part_frame (manner_seen manner) (part_seen part.now) }
+    ensures { frame_view result ≡ part_frame (manner_view manner) (part_view part.now) }
 {
     Frame {
         display: None,
@@ -75,9 +78,9 @@ fn part_frame<'a>(manner: Manner, part: &'a DatePart) -> Frame<'a>
     }
 }
 
-/// How a part's own text is put down.
+/// How a part's own text is appended.
 fn part_manner(manner: Manner, part: &DatePart) -> Manner
-    ensures { manner_seen result ≡ part_manner (manner_seen manner) (part_seen part.now) }
+    ensures { manner_view result ≡ part_manner (manner_view manner) (part_view part.now) }
 {
     Manner {
         formatting: part.formatting.over(manner.formatting),

@@ -3,10 +3,10 @@
 ghost use Rattle.std.specs.Prelude.{◌≡◌, IfOk, OnOk};
 ghost use Rattle.std.specs.Str.{chars, bytes_eq};
 ghost use Rattle.rendering_dates.specs.Dates.{dash, side_text, both_pieces, last_side, date_pieces};
-ghost use Rattle.rendering_dates.specs.Views.{shape_seen};
-ghost use Rattle.rendering_page.specs.Pages.{normal_put};
-ghost use Rattle.rendering_page.specs.Pieces.{all_down};
-ghost use Rattle.rendering_page.specs.Views.{quotes_of, manner as manner_seen};
+ghost use Rattle.rendering_dates.specs.Views.{shape_view};
+ghost use Rattle.rendering_page.specs.Pages.{append_normal};
+ghost use Rattle.rendering_page.specs.Pieces.{append_pieces};
+ghost use Rattle.rendering_page.specs.Views.{quotes_view, manner_view};
 
 use crate::sides::DateStyle;
 use literature_values::{Date, DateEnd};
@@ -14,54 +14,61 @@ use rendering_page::Page;
 use std::alloc::AllocError;
 
 impl<'s, 'a> DateStyle<'s, 'a> {
-    /// Puts down a date: the parts of the shape that it has, each with its look and its affixes, with the delimiter between any
-    /// two, and the letters directly after the year. Of a range that prints its two sides alike the first side is put down, of
-    /// another one the first side, an en dash and the last side, which alone has the letters; of a range that has no end yet the
-    /// first side with the letters, and an en dash. Nothing is promised of the page after an error.
+    /// Appends a date: the parts of the shape that it has, each with its look and its affixes, with the delimiter between any
+    /// two, and the year suffix. Of a range that prints its two sides alike the first side is appended, of
+    /// another one the first side, an en dash and the last side, which alone has the year suffix; of a range that has no end yet the
+    /// first side with the year suffix, and an en dash. Nothing is promised of the page after an error.
     ///
     /// # Errors
     /// Out of memory alone.
     pub fn push_date(
         &self,
         page: &mut Page<'a>,
-        letters: &'a str,
+        year_suffix: &'a str,
         date: &Date,
     ) -> Result<(), AllocError>
-        ensures { OnOk result (page.new ≡ all_down (quotes_of self.now.quotes.now) (date_pieces self.now.locales.now (manner_seen self.now.manner) (shape_seen self.now.shape) (chars letters.now) date.now) page.old) }
+        ensures { OnOk result (page.new ≡ append_pieces (quotes_view self.now.quotes.now)
+            (date_pieces self.now.locales.now (manner_view self.now.manner)
+            (shape_view self.now.shape) (chars year_suffix.now) date.now) page.old) }
     {
         match date.end {
-            None => self.push_side(page, letters, date),
+            None => self.push_side(page, year_suffix, date),
             Some(DateEnd::On { year, month, day }) => {
-                self.push_both(page, letters, date, &last_side(date, year, month, day))
+                self.push_both(page, year_suffix, date, &last_side(date, year, month, day))
             }
             Some(DateEnd::Open) => {
-                self.push_side(page, letters, date)?;
+                self.push_side(page, year_suffix, date)?;
                 self.push_dash(page)
             }
         }
     }
 
-    /// Puts down both sides of a range with an en dash between them, or the first alone where they print the same.
+    /// Appends both sides of a range with an en dash between them, or the first alone where they print the same.
     fn push_both(
         &self,
         page: &mut Page<'a>,
-        letters: &'a str,
+        year_suffix: &'a str,
         first: &Date,
         last: &Date,
     ) -> Result<(), AllocError>
-        ensures { OnOk result (page.new ≡ all_down (quotes_of self.now.quotes.now) (both_pieces self.now.locales.now (manner_seen self.now.manner) (shape_seen self.now.shape) (chars letters.now) first.now last.now) page.old) }
+        ensures { OnOk result (page.new ≡ append_pieces (quotes_view self.now.quotes.now)
+            (both_pieces self.now.locales.now (manner_view self.now.manner)
+            (shape_view self.now.shape) (chars year_suffix.now) first.now last.now) page.old) }
     {
         if self.prints_alike(first, last)? {
-            return self.push_side(page, letters, first);
+            return self.push_side(page, year_suffix, first);
         }
         self.push_side(page, "", first)?;
         self.push_dash(page)?;
-        self.push_side(page, letters, last)
+        self.push_side(page, year_suffix, last)
     }
 
     /// Whether two dates print the same by themselves.
     fn prints_alike(&self, first: &Date, last: &Date) -> Result<bool, AllocError>
-        ensures { IfOk result (λ b. b ≡ bytes_eq (side_text self.now.locales.now (manner_seen self.now.manner) (shape_seen self.now.shape) first.now) (side_text self.now.locales.now (manner_seen self.now.manner) (shape_seen self.now.shape) last.now)) }
+        ensures { IfOk result (λ b. b
+            ≡ bytes_eq (side_text self.now.locales.now (manner_view self.now.manner)
+            (shape_view self.now.shape) first.now) (side_text self.now.locales.now
+            (manner_view self.now.manner) (shape_view self.now.shape) last.now)) }
     {
         let alone = DateStyle {
             quotes: &[],
@@ -74,9 +81,10 @@ impl<'s, 'a> DateStyle<'s, 'a> {
         Ok(first_page.has_text_of(&last_page))
     }
 
-    /// Puts down an en dash.
+    /// Appends an en dash.
     fn push_dash(&self, page: &mut Page<'a>) -> Result<(), AllocError>
-        ensures { OnOk result (page.new ≡ normal_put (quotes_of self.now.quotes.now) (manner_seen self.now.manner) dash page.old) }
+        ensures { OnOk result (page.new ≡ append_normal (quotes_view self.now.quotes.now)
+            (manner_view self.now.manner) dash page.old) }
     {
         page.push_text(self.quotes, self.manner, "–")
     }

@@ -4,10 +4,10 @@ ghost use Rattle.std.specs.Prelude.{◌≡◌, IfOk, OnOk};
 ghost use Rattle.std.specs.Str.{chars};
 ghost use Rattle.rendering_dates.specs.Dates.{filled_pieces};
 ghost use Rattle.rendering_dates.specs.Joined.{joined_from, still_first, before_next};
-ghost use Rattle.rendering_dates.specs.Views.{text_seen, delimiter_seen, part_by, side_by};
-ghost use Rattle.rendering_locale.specs.Views.{part_seen};
-ghost use Rattle.rendering_page.specs.Pieces.{all_down};
-ghost use Rattle.rendering_page.specs.Views.{quotes_of, manner as manner_seen};
+ghost use Rattle.rendering_dates.specs.Views.{part_text_view, delimiter_by, part_by, side_by};
+ghost use Rattle.rendering_locale.specs.Views.{part_view};
+ghost use Rattle.rendering_page.specs.Pieces.{append_pieces};
+ghost use Rattle.rendering_page.specs.Views.{quotes_view, manner_view};
 
 use crate::parts::{PartText, part_text};
 use crate::printed::push_part;
@@ -17,7 +17,7 @@ use rendering_locale::{AskedLocales, DatePart};
 use rendering_page::{Manner, Page};
 use std::alloc::{AllocError, Global};
 
-/// How dates are put down, and where.
+/// How dates are appended, and where.
 #[derive(Clone, Copy)]
 pub struct DateStyle<'s, 'a> {
     pub alloc: Global,
@@ -25,71 +25,81 @@ pub struct DateStyle<'s, 'a> {
     pub quotes: &'s [&'s str],
     /// The locales that are asked for months, eras and the endings of numbers.
     pub locales: &'s AskedLocales<'a>,
-    /// How the texts around the parts are put down; a part may change it for its own text.
+    /// How the texts around the parts are appended; a part may change it for its own text.
     pub manner: Manner,
     pub shape: DateShape<'a>,
 }
 
 impl<'s, 'a> DateStyle<'s, 'a> {
-    /// Puts down the year, the month and the day of a date, as far as the shape has them. What a range ends with is left out.
+    /// Appends the year, the month and the day of a date, as far as the shape has them. What a range ends with is left out.
     pub(crate) fn push_side(
         &self,
         page: &mut Page<'a>,
-        letters: &'a str,
+        year_suffix: &'a str,
         date: &Date,
     ) -> Result<(), AllocError>
-        ensures { OnOk result (page.new ≡ all_down (quotes_of self.now.quotes.now) (side_by self.now (chars letters.now) date.now) page.old) }
+        ensures { OnOk result (page.new ≡ append_pieces (quotes_view self.now.quotes.now)
+            (side_by self.now (chars year_suffix.now) date.now) page.old) }
     {
         let mut is_first = true;
         for part in self.shape.parts {
-            is_first = self.push_next(page, letters, date, is_first, part)?;
+            is_first = self.push_next(page, year_suffix, date, is_first, part)?;
         }
         Ok(())
     }
 
-    /// Puts down a part that is printed, after the delimiter unless it is the first, and returns whether the next is the first.
+    /// Appends a part that is printed, after the delimiter unless it is the first, and returns whether the next is the first.
     fn push_next(
         &self,
         page: &mut Page<'a>,
-        letters: &'a str,
+        year_suffix: &'a str,
         date: &Date,
         is_first: bool,
         part: &'a DatePart,
     ) -> Result<bool, AllocError>
-        ensures page { OnOk result (page.new ≡ all_down (quotes_of self.now.quotes.now) (joined_from is_first (delimiter_seen self.now) (part_by self.now (chars letters.now) date.now (part_seen part.now))) page.old) }
-        ensures first { IfOk result (λ b. b ≡ still_first is_first (part_by self.now (chars letters.now) date.now (part_seen part.now))) }
+        ensures page { OnOk result (page.new ≡ append_pieces
+            (quotes_view self.now.quotes.now) (joined_from is_first (delimiter_by self.now)
+            (part_by self.now (chars year_suffix.now) date.now (part_view part.now))) page.old) }
+        ensures first { IfOk result (λ b. b ≡ still_first is_first
+            (part_by self.now (chars year_suffix.now) date.now (part_view part.now))) }
     {
         if !is_within(self.shape.cut, part.form) {
             return Ok(is_first);
         }
         let text = part_text(self.alloc, self.locales, date, part.form)?;
-        self.push_filled(page, letters, is_first, part, text)
+        self.push_filled(page, year_suffix, is_first, part, text)
     }
 
-    /// Puts down a part that has that text, after the delimiter unless it is the first, and returns whether the next is the first.
+    /// Appends a part that has that text, after the delimiter unless it is the first, and returns whether the next is the first.
     /// A part without a text is not printed.
     fn push_filled(
         &self,
         page: &mut Page<'a>,
-        letters: &'a str,
+        year_suffix: &'a str,
         is_first: bool,
         part: &'a DatePart,
         text: PartText<'a>,
     ) -> Result<bool, AllocError>
-        ensures page { OnOk result (page.new ≡ all_down (quotes_of self.now.quotes.now) (joined_from is_first (delimiter_seen self.now) (filled_pieces (manner_seen self.now.manner) (chars letters.now) (part_seen part.now) (text_seen text.entry))) page.old) }
-        ensures first { IfOk result (λ b. b ≡ still_first is_first (filled_pieces (manner_seen self.now.manner) (chars letters.now) (part_seen part.now) (text_seen text.entry))) }
+        ensures page { OnOk result (page.new
+            ≡ append_pieces (quotes_view self.now.quotes.now) (joined_from is_first
+            (delimiter_by self.now) (filled_pieces (manner_view self.now.manner)
+            (chars year_suffix.now) (part_view part.now) (part_text_view text.entry))) page.old) }
+        ensures first { IfOk result (λ b. b
+            ≡ still_first is_first (filled_pieces (manner_view self.now.manner)
+            (chars year_suffix.now) (part_view part.now) (part_text_view text.entry))) }
     {
         if !text.is_filled() {
             return Ok(is_first);
         }
         self.push_delimiter(page, is_first)?;
-        push_part(page, self.quotes, self.manner, letters, part, text)?;
+        push_part(page, self.quotes, self.manner, year_suffix, part, text)?;
         Ok(false)
     }
 
-    /// Puts down what stands before a part.
+    /// Appends what stands before a part.
     fn push_delimiter(&self, page: &mut Page<'a>, is_first: bool) -> Result<(), AllocError>
-        ensures { OnOk result (page.new ≡ all_down (quotes_of self.now.quotes.now) (before_next is_first (delimiter_seen self.now)) page.old) }
+        ensures { OnOk result (page.new ≡ append_pieces (quotes_view self.now.quotes.now)
+            (before_next is_first (delimiter_by self.now)) page.old) }
     {
         if is_first {
             return Ok(());

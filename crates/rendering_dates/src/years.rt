@@ -18,7 +18,8 @@ use texts::push_character;
 /// # Errors
 /// Out of memory alone.
 pub fn push_years(out: &mut String, locales: &AskedLocales, date: &Date) -> Result<(), AllocError>
-    ensures { OnOk result (characters out.new ≡ characters out.old ++ years_text locales.now date.now) }
+    ensures { OnOk result (characters out.new
+        ≡ characters out.old ++ years_text locales.now date.now) }
 {
     push_whole_year(out, locales, date.year)?;
     push_other_year(out, locales, date.year, date.end)
@@ -31,7 +32,8 @@ fn push_other_year(
     first: i32,
     end: Option<DateEnd>,
 ) -> Result<(), AllocError>
-    ensures { OnOk result (characters out.new ≡ characters out.old ++ other_year locales.now first end) }
+    ensures { OnOk result (characters out.new
+        ≡ characters out.old ++ other_year locales.now first end) }
 {
     match end {
         None => Ok(()),
@@ -65,7 +67,8 @@ pub(crate) fn push_year_by(
     form: LongShortForm,
     year: i32,
 ) -> Result<(), AllocError>
-    ensures { OnOk result (characters out.new ≡ characters out.old ++ year_by locales.now form year) }
+    ensures { OnOk result (characters out.new
+        ≡ characters out.old ++ year_by locales.now form year) }
 {
     let is_short = is_short(form);
     if has_era(year) {
@@ -77,7 +80,8 @@ pub(crate) fn push_year_by(
 
 /// Whether a year is written with its era.
 fn has_era(year: i32) -> bool
-    ensures { (short : Bool) (ad bc others more : List ℕ) → result ≡ false → year_text year short ad bc ≡ year_text year short others more }
+    ensures { (short : Bool) (ad bc others more : List ℕ) → result ≡ false
+        → year_text year short ad bc ≡ year_text year short others more }
 {
     year < 1000
 }

@@ -1,9 +1,9 @@
 //! The dates of English.
 
 ghost use Rattle.std.specs.Prelude.{◌≡◌, ◌++◌, map, IfOk, OnOk};
-ghost use Rattle.rendering_locale.specs.Views.{part_seen, date_seen};
+ghost use Rattle.rendering_locale.specs.Views.{part_view, localized_date_view};
 ghost use Rattle.rendering_english.specs.Dates.{dates, date, text_parts, numeric_parts};
-ghost use Rattle.rendering_english.specs.Rows.{part_row_seen};
+ghost use Rattle.rendering_english.specs.Rows.{part_row_view};
 
 use rendering_locale::{DatePart, LocalizedDate};
 use rendering_taxonomy::{
@@ -31,21 +31,21 @@ const NUMERIC: &[Row] = &[
 
 /// The parts of a date in words.
 fn text_parts() -> &'static [Row]
-    ensures { map part_row_seen result.now ≡ text_parts }
+    ensures { map part_row_view result.now ≡ text_parts }
 {
     TEXT
 }
 
 /// The parts of a date in digits.
 fn numeric_parts() -> &'static [Row]
-    ensures { map part_row_seen result.now ≡ numeric_parts }
+    ensures { map part_row_view result.now ≡ numeric_parts }
 {
     NUMERIC
 }
 
 /// Both forms of dates.
 pub(crate) fn dates(alloc: Global) -> Result<Vec<LocalizedDate>, AllocError>
-    ensures { IfOk result (λ v. map date_seen v.items ≡ dates) }
+    ensures { IfOk result (λ v. map localized_date_view v.items ≡ dates) }
 {
     let mut dates = Vec::new(alloc);
     dates.push(date(alloc, DateForm::Text, text_parts())?)?;
@@ -55,7 +55,7 @@ pub(crate) fn dates(alloc: Global) -> Result<Vec<LocalizedDate>, AllocError>
 
 /// A form of dates.
 fn date(alloc: Global, form: DateForm, rows: &[Row]) -> Result<LocalizedDate, AllocError>
-    ensures { IfOk result (λ d. date_seen d ≡ date form (map part_row_seen rows.now)) }
+    ensures { IfOk result (λ d. localized_date_view d ≡ date form (map part_row_view rows.now)) }
 {
     let parts = parts(alloc, rows)?;
     Ok(LocalizedDate {
@@ -67,7 +67,7 @@ fn date(alloc: Global, form: DateForm, rows: &[Row]) -> Result<LocalizedDate, Al
 
 /// The parts of the rows.
 fn parts(alloc: Global, rows: &[Row]) -> Result<Vec<DatePart>, AllocError>
-    ensures { IfOk result (λ v. map part_seen v.items ≡ map part_row_seen rows.now) }
+    ensures { IfOk result (λ v. map part_view v.items ≡ map part_row_view rows.now) }
 {
     let mut parts = Vec::new(alloc);
     for row in rows {
@@ -78,7 +78,7 @@ fn parts(alloc: Global, rows: &[Row]) -> Result<Vec<DatePart>, AllocError>
 
 /// The part of a row.
 fn part(alloc: Global, row: &Row) -> Result<DatePart, AllocError>
-    ensures { IfOk result (λ p. part_seen p ≡ part_row_seen row.now) }
+    ensures { IfOk result (λ p. part_view p ≡ part_row_view row.now) }
 {
     let (form, suffix) = *row;
     let suffix = owned(alloc, suffix)?;

@@ -2,9 +2,9 @@
 
 ghost use Rattle.std.specs.Prelude.{◌≡◌, map, IfOk};
 ghost use Rattle.std.specs.Str.{chars};
-ghost use Rattle.rendering_locale.specs.Views.{ending_seen, ordinals_seen};
+ghost use Rattle.rendering_locale.specs.Views.{ending_view, ordinals_view};
 ghost use Rattle.rendering_english.specs.Dates.{default_ending, endings, ordinals};
-ghost use Rattle.rendering_english.specs.Rows.{ending_row_seen};
+ghost use Rattle.rendering_english.specs.Rows.{ending_row_view};
 
 use rendering_locale::{OrdinalEnding, Ordinals};
 use std::alloc::{AllocError, Global};
@@ -25,7 +25,7 @@ const ENDINGS: &[Row] = &[
 
 /// The numbers with an ending of their own.
 fn endings() -> &'static [Row]
-    ensures { map ending_row_seen result.now ≡ endings }
+    ensures { map ending_row_view result.now ≡ endings }
 {
     ENDINGS
 }
@@ -39,7 +39,7 @@ fn default_ending() -> &'static str
 
 /// The endings of ordinal numbers.
 pub(crate) fn ordinals(alloc: Global) -> Result<Ordinals, AllocError>
-    ensures { IfOk result (λ o. ordinals_seen o ≡ ordinals) }
+    ensures { IfOk result (λ o. ordinals_view o ≡ ordinals) }
 {
     let default = owned(alloc, default_ending())?;
     let endings = endings_of(alloc, endings())?;
@@ -48,7 +48,7 @@ pub(crate) fn ordinals(alloc: Global) -> Result<Ordinals, AllocError>
 
 /// The endings of the rows.
 fn endings_of(alloc: Global, rows: &[Row]) -> Result<Vec<OrdinalEnding>, AllocError>
-    ensures { IfOk result (λ v. map ending_seen v.items ≡ map ending_row_seen rows.now) }
+    ensures { IfOk result (λ v. map ending_view v.items ≡ map ending_row_view rows.now) }
 {
     let mut endings = Vec::new(alloc);
     for row in rows {
@@ -59,7 +59,7 @@ fn endings_of(alloc: Global, rows: &[Row]) -> Result<Vec<OrdinalEnding>, AllocEr
 
 /// The ending of a row.
 fn ending(alloc: Global, row: &Row) -> Result<OrdinalEnding, AllocError>
-    ensures { IfOk result (λ e. ending_seen e ≡ ending_row_seen row.now) }
+    ensures { IfOk result (λ e. ending_view e ≡ ending_row_view row.now) }
 {
     let (number, ending) = *row;
     let ending = owned(alloc, ending)?;

@@ -1,9 +1,9 @@
 //! The locale of English.
 
 ghost use Rattle.std.specs.Prelude.{◌≡◌, ◌++◌, map, IfOk, OnOk};
-ghost use Rattle.rendering_locale.specs.Views.{term_seen, locale_seen};
+ghost use Rattle.rendering_locale.specs.Views.{term_view, locale_view};
 ghost use Rattle.rendering_english.specs.English.{english, english_terms};
-ghost use Rattle.rendering_english.specs.Rows.{row_seen};
+ghost use Rattle.rendering_english.specs.Rows.{term_row_view};
 
 use crate::dates::dates;
 use crate::endings::ordinals;
@@ -17,7 +17,7 @@ use texts::owned;
 /// # Errors
 /// Out of memory.
 pub fn english(alloc: Global) -> Result<Locale, AllocError>
-    ensures { IfOk result (λ l. locale_seen l ≡ english) }
+    ensures { IfOk result (λ l. locale_view l ≡ english) }
 {
     let lang = LocaleCode::en_us(alloc)?;
     let terms = terms(alloc)?;
@@ -34,7 +34,7 @@ pub fn english(alloc: Global) -> Result<Locale, AllocError>
 
 /// All terms.
 fn terms(alloc: Global) -> Result<Vec<LocalizedTerm>, AllocError>
-    ensures { IfOk result (λ v. map term_seen v.items ≡ english_terms) }
+    ensures { IfOk result (λ v. map term_view v.items ≡ english_terms) }
 {
     let mut terms = Vec::new(alloc);
     push_rows(alloc, &mut terms, words())?;
@@ -46,7 +46,8 @@ fn terms(alloc: Global) -> Result<Vec<LocalizedTerm>, AllocError>
 
 /// Appends the terms of the rows.
 fn push_rows(alloc: Global, terms: &mut Vec<LocalizedTerm>, rows: &[Row]) -> Result<(), AllocError>
-    ensures { OnOk result (map term_seen terms.new.items ≡ map term_seen terms.old.items ++ map row_seen rows.now) }
+    ensures { OnOk result (map term_view terms.new.items
+        ≡ map term_view terms.old.items ++ map term_row_view rows.now) }
 {
     for row in rows {
         terms.push(term(alloc, row)?)?;
@@ -56,7 +57,7 @@ fn push_rows(alloc: Global, terms: &mut Vec<LocalizedTerm>, rows: &[Row]) -> Res
 
 /// The term of a row.
 fn term(alloc: Global, row: &Row) -> Result<LocalizedTerm, AllocError>
-    ensures { IfOk result (λ t. term_seen t ≡ row_seen row.now) }
+    ensures { IfOk result (λ t. term_view t ≡ term_row_view row.now) }
 {
     let (name, form, single, multiple) = *row;
     let single = owned(alloc, single)?;

@@ -2,7 +2,7 @@
 
 ghost use Rattle.std.specs.Prelude.{◌≡◌, map};
 ghost use Rattle.rendering_english.specs.English.{words, counted, labels, months};
-ghost use Rattle.rendering_english.specs.Rows.{row_seen};
+ghost use Rattle.rendering_english.specs.Rows.{term_row_view};
 
 use rendering_taxonomy::Term::{Locator as Label, Other};
 use rendering_taxonomy::TermForm::{Long, Short};
@@ -106,28 +106,28 @@ const MONTHS: &[Row] = &[
 
 /// The words that are not counted.
 pub(crate) fn words() -> &'static [Row]
-    ensures { map row_seen result.now ≡ words }
+    ensures { map term_row_view result.now ≡ words }
 {
     WORDS
 }
 
 /// What is counted, and people.
 pub(crate) fn counted() -> &'static [Row]
-    ensures { map row_seen result.now ≡ counted }
+    ensures { map term_row_view result.now ≡ counted }
 {
     COUNTED
 }
 
 /// The other labels of locators.
 pub(crate) fn labels() -> &'static [Row]
-    ensures { map row_seen result.now ≡ labels }
+    ensures { map term_row_view result.now ≡ labels }
 {
     LABELS
 }
 
 /// The months.
 pub(crate) fn months() -> &'static [Row]
-    ensures { map row_seen result.now ≡ months }
+    ensures { map term_row_view result.now ≡ months }
 {
     MONTHS
 }

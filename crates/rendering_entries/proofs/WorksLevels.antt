@@ -5,22 +5,22 @@ use Rattle.std.proofs.lemmas.List.{map-append}
 use Rattle.std.proofs.lemmas.List.Concat.{flat_map-append}
 use Rattle.literature_entries.specs.Ancestors.{upwards}
 use Rattle.literature_entries.specs.Fields.{Fields}
-use Rattle.literature_entries.specs.Views.{key, fields, parents}
-use Rattle.literature_entries.specs.Wholes.{Holding, wholes, whole}
+use Rattle.literature_entries.specs.Views.{key_view, fields_view, parents}
+use Rattle.literature_entries.specs.Wholes.{Holding, wholes, entry_view}
 use Rattle.literature_entries.specs.declared.entry.Entry.{Entry, the_lemmas}
 use Rattle.literature_entries.proofs.AncestorsWalks.{upwards_more}
-use Rattle.rendering_entries.specs.Views.{entry_standing}
-use Rattle.rendering_entries.specs.Works.{beside, by_level, each_by_level, first_level, later_levels, standing}
+use Rattle.rendering_entries.specs.Views.{entry_ancestry}
+use Rattle.rendering_entries.specs.Works.{beside, by_level, each_by_level, first_level, later_levels, ancestry}
 
 -- what entries and their ancestors say, level by level
-abbrev said_by_level : List Entry → List (List Fields)
-said_by_level es = each_by_level (wholes (map whole es))
+abbrev fields_by_level : List Entry → List (List Fields)
+fields_by_level es = each_by_level (wholes (map entry_view es))
 
-whole_is : (e : Entry) → whole e ≡ Holding (key e) (fields e) (wholes (map whole (parents e)))
+whole_is : (e : Entry) → entry_view e ≡ Holding (key_view e) (fields_view e) (wholes (map entry_view (parents e)))
 whole_is e = search (rules, the_lemmas)
 
 -- an entry, and the levels of its parents
-level_is : (e : Entry) → by_level (whole e) ≡ (fields e ∷ []) ∷ said_by_level (parents e)
+level_is : (e : Entry) → by_level (entry_view e) ≡ (fields_view e ∷ []) ∷ fields_by_level (parents e)
 level_is e = ap by_level (whole_is e)
 
 beside_assoc : {X : Type 0} (ls ms ns : List (List X)) → beside (beside ls ms) ns ≡ beside ls (beside ms ns)
@@ -30,21 +30,21 @@ beside_assoc (l ∷ ls) (m ∷ ms) [] = refl
 beside_assoc (l ∷ ls) (m ∷ ms) (n ∷ ns) = λ i. append_assoc l m n i ∷ beside_assoc ls ms ns i
 
 -- the levels of two lists of entries are those of both, side by side
-said_append : (es xs : List Entry) → said_by_level (es ++ xs) ≡ beside (said_by_level es) (said_by_level xs)
-said_append [] xs = refl
-said_append (e ∷ es) xs =
-    ap (beside (by_level (whole e))) (said_append es xs)
-    ∙ sym (beside_assoc (by_level (whole e)) (said_by_level es) (said_by_level xs))
+fields_append : (es xs : List Entry) → fields_by_level (es ++ xs) ≡ beside (fields_by_level es) (fields_by_level xs)
+fields_append [] xs = refl
+fields_append (e ∷ es) xs =
+    ap (beside (by_level (entry_view e))) (fields_append es xs)
+    ∙ sym (beside_assoc (by_level (entry_view e)) (fields_by_level es) (fields_by_level xs))
 
 -- entries are the first level, and their parents begin the others
-said_more : (e : Entry) (es : List Entry) → said_by_level (e ∷ es) ≡ map fields (e ∷ es) ∷ said_by_level (flat_map parents (e ∷ es))
-said_more e [] =
+fields_more : (e : Entry) (es : List Entry) → fields_by_level (e ∷ es) ≡ map fields_view (e ∷ es) ∷ fields_by_level (flat_map parents (e ∷ es))
+fields_more e [] =
     ap (λ (ls : List (List Fields)). beside ls []) (level_is e)
-    ∙ ap (λ (ps : List Entry). (fields e ∷ []) ∷ said_by_level ps) (sym (append-nil (parents e)))
-said_more e (x ∷ xs) =
-    ap (λ (ls : List (List Fields)). beside ls (said_by_level (x ∷ xs))) (level_is e)
-    ∙ ap (beside ((fields e ∷ []) ∷ said_by_level (parents e))) (said_more x xs)
-    ∙ ap (λ (ls : List (List Fields)). map fields (e ∷ x ∷ xs) ∷ ls) (sym (said_append (parents e) (flat_map parents (x ∷ xs))))
+    ∙ ap (λ (ps : List Entry). (fields_view e ∷ []) ∷ fields_by_level ps) (sym (append-nil (parents e)))
+fields_more e (x ∷ xs) =
+    ap (λ (ls : List (List Fields)). beside ls (fields_by_level (x ∷ xs))) (level_is e)
+    ∙ ap (beside ((fields_view e ∷ []) ∷ fields_by_level (parents e))) (fields_more x xs)
+    ∙ ap (λ (ls : List (List Fields)). map fields_view (e ∷ x ∷ xs) ∷ ls) (sym (fields_append (parents e) (flat_map parents (x ∷ xs))))
 
 -- entries, and then what is above them
 upwards_is : (es : List Entry) → upwards es ≡ es ++ upwards (flat_map parents es)
@@ -52,8 +52,8 @@ upwards_is [] = refl
 upwards_is (e ∷ es) = upwards_more e es
 
 -- ancestors are the parents, and then what is above these
-pub upwards_said : (es : List Entry) → map fields (upwards es) ≡ map fields es ++ map fields (upwards (flat_map parents es))
-upwards_said es = ap (map fields) (upwards_is es) ∙ map-append fields es (upwards (flat_map parents es))
+pub fields_upwards : (es : List Entry) → map fields_view (upwards es) ≡ map fields_view es ++ map fields_view (upwards (flat_map parents es))
+fields_upwards es = ap (map fields_view) (upwards_is es) ∙ map-append fields_view es (upwards (flat_map parents es))
 
 abbrev others : List (List Fields) → List (List Fields)
 others [] = []
@@ -64,41 +64,41 @@ IsNone [] = Unit {0}
 IsNone (l ∷ ls) = ⊥
 
 -- the levels one after the other are the entries and all that is above them
-joined_levels : (ls : List (List Fields)) (es : List Entry) → said_by_level es ≡ ls → flat_map (λ x. x) ls ≡ map fields (upwards es)
+joined_levels : (ls : List (List Fields)) (es : List Entry) → fields_by_level es ≡ ls → flat_map (λ x. x) ls ≡ map fields_view (upwards es)
 joined_levels [] [] is = refl
-joined_levels [] (e ∷ es) is = absurd (subst IsNone (sym (sym (said_more e es) ∙ is)) tt)
+joined_levels [] (e ∷ es) is = absurd (subst IsNone (sym (sym (fields_more e es) ∙ is)) tt)
 joined_levels (l ∷ ls) [] is = absurd (subst IsNone is tt)
 joined_levels (l ∷ ls) (e ∷ es) is =
-    let level = sym is ∙ said_more e es in
+    let level = sym is ∙ fields_more e es in
     (λ i. ap first_level level i ++ joined_levels ls (flat_map parents (e ∷ es)) (sym (ap others level)) i)
-    ∙ sym (upwards_said (e ∷ es))
+    ∙ sym (fields_upwards (e ∷ es))
 
 -- the parents of the entries and of all above them are what is above the entries
-parents_upwards : (ls : List (List Fields)) (es : List Entry) → said_by_level es ≡ ls → flat_map parents (upwards es) ≡ upwards (flat_map parents es)
+parents_upwards : (ls : List (List Fields)) (es : List Entry) → fields_by_level es ≡ ls → flat_map parents (upwards es) ≡ upwards (flat_map parents es)
 parents_upwards ls [] is = refl
-parents_upwards [] (e ∷ es) is = absurd (subst IsNone (sym (sym (said_more e es) ∙ is)) tt)
+parents_upwards [] (e ∷ es) is = absurd (subst IsNone (sym (sym (fields_more e es) ∙ is)) tt)
 parents_upwards (l ∷ ls) (e ∷ es) is =
     let next = flat_map parents (e ∷ es) in
     ap (flat_map parents) (upwards_is (e ∷ es))
     ∙ flat_map-append parents (e ∷ es) (upwards next)
-    ∙ ap (λ (xs : List Entry). next ++ xs) (parents_upwards ls next (sym (ap others (sym is ∙ said_more e es))))
+    ∙ ap (λ (xs : List Entry). next ++ xs) (parents_upwards ls next (sym (ap others (sym is ∙ fields_more e es))))
     ∙ sym (upwards_is next)
 
 pub parents_above : (es : List Entry) → flat_map parents (upwards es) ≡ upwards (flat_map parents es)
-parents_above es = parents_upwards (said_by_level es) es refl
+parents_above es = parents_upwards (fields_by_level es) es refl
 
-first_level_is : (es : List Entry) → first_level (said_by_level es) ≡ map fields es
+first_level_is : (es : List Entry) → first_level (fields_by_level es) ≡ map fields_view es
 first_level_is [] = refl
-first_level_is (e ∷ es) = ap first_level (said_more e es)
+first_level_is (e ∷ es) = ap first_level (fields_more e es)
 
-later_levels_are : (es : List Entry) → later_levels (said_by_level es) ≡ map fields (upwards (flat_map parents es))
+later_levels_are : (es : List Entry) → later_levels (fields_by_level es) ≡ map fields_view (upwards (flat_map parents es))
 later_levels_are [] = refl
 later_levels_are (e ∷ es) =
-    ap later_levels (said_more e es)
-    ∙ joined_levels (said_by_level (flat_map parents (e ∷ es))) (flat_map parents (e ∷ es)) refl
+    ap later_levels (fields_more e es)
+    ∙ joined_levels (fields_by_level (flat_map parents (e ∷ es))) (flat_map parents (e ∷ es)) refl
 
 -- what an entry holds stands among works as the entry does
-pub standing_is : (e : Entry) → standing (whole e) ≡ entry_standing e
-standing_is e =
-    ap standing (whole_is e)
-    ∙ (λ i. record { key = key e; own = fields e; parents = first_level_is (parents e) i; further = later_levels_are (parents e) i })
+pub ancestry_is : (e : Entry) → ancestry (entry_view e) ≡ entry_ancestry e
+ancestry_is e =
+    ap ancestry (whole_is e)
+    ∙ (λ i. record { key = key_view e; own = fields_view e; parents = first_level_is (parents e) i; further = later_levels_are (parents e) i })

@@ -12,8 +12,8 @@ use Rattle.literature_entries.specs.Fields.{Fields}
 use Rattle.literature_entries.specs.Names.{serial}
 use Rattle.literature_entries.specs.Wholes.{Whole}
 use Rattle.rendering_entries.specs.Answers.{Answers}
-use Rattle.rendering_entries.specs.Works.{Standing, standing, is_one_of, nearest, first_parent, container, collection, is_article_in}
-use Rattle.rendering_numbers.specs.Letters.{citation_label}
+use Rattle.rendering_entries.specs.Works.{Ancestry, ancestry, is_one_of, nearest, first_parent, container, collection, is_article_in}
+use Rattle.rendering_numbers.specs.SuffixesAndLabels.{citation_label}
 use Rattle.texts.specs.declared.reader.Unreadable.{Unreadable}
 use Rattle.literature_values.specs.declared.date.Date.{Date}
 use Rattle.literature_values.specs.declared.entry_type.EntryType.TheVariants as types
@@ -51,7 +51,7 @@ long_text t = option_map (λ f. f.value) t
 abbrev pub short_text : Option Format → Option (List Chunk)
 short_text t = option_and_then (λ f. f.short) t
 
--- a text in a form; the long form stands in for a short one that is not there
+-- a text in a form; the long form is taken for a short one that is not there
 abbrev pub text_in : LongShortForm → Format → List Chunk
 text_in lengths.Long f = f.value
 text_in lengths.Short f = unwrap_or f.short f.value
@@ -64,7 +64,7 @@ title_of w = option_and_then (λ fs. long_text fs.title) w
 abbrev pub publisher_name : Fields → Option Format
 publisher_name fs = option_and_then (λ p. p.name) fs.publisher
 
--- the place of the publisher
+-- the publisher's location
 abbrev pub publisher_place : Fields → Option Format
 publisher_place fs = option_and_then (λ p. p.location) fs.publisher
 
@@ -96,7 +96,7 @@ abbrev pub is_english : List ℕ → Bool
 is_english code = starts_with nat_eq code (codes "en")
 
 -- Numbers. Those of a cite, as its number, are not the entry's.
-abbrev pub number_answer : Standing → NumberVariable → Option (ValueOrText Numeral)
+abbrev pub number_answer : Ancestry → NumberVariable → Option (ValueOrText Numeral)
 number_answer s number.ChapterNumber = s.own.chapter
 number_answer s number.CitationNumber = None
 number_answer s number.Edition = nearest (λ fs. fs.edition) s
@@ -110,20 +110,20 @@ number_answer s number.PageFirst = option_and_then first_page s.own.page_range
 number_answer s number.Volume = nearest (λ fs. fs.volume) s
 
 -- people
-abbrev pub people_answer : Standing → NameVariable → List Named
+abbrev pub people_answer : Ancestry → NameVariable → List Named
 people_answer s name.Author = people_or_none s.own.author
 people_answer s name.ContainerAuthor = people_or_none (option_and_then (λ fs. fs.author) (container s))
 people_answer s name.Editor = people_or_none (nearest (λ fs. fs.editor) s)
 people_answer s name.Translator = people_or_none s.own.translator
 
 -- the label of an entry, with so many letters of one name
-abbrev pub label_of : ℕ → Standing → List ℕ
+abbrev pub label_of : ℕ → Ancestry → List ℕ
 label_of letters s =
     citation_label letters (people_answer s name.Author) (people_answer s name.Editor)
     (option_map_or characters_of (long_text s.own.title) []) (option_map (λ d. d.year) s.own.date)
 
--- Texts. Only the title has a short form; the letters after a year are the cite's.
-abbrev pub standard_answer : Standing → LongShortForm → StandardVariable → Option (List Chunk)
+-- Texts. Only the title has a short form; the year suffix is the cite's.
+abbrev pub standard_answer : Ancestry → LongShortForm → StandardVariable → Option (List Chunk)
 standard_answer s form standard.CitationLabel = Some (one_chunk (label_of 3 s))
 standard_answer s form standard.CollectionTitle = title_of (collection s)
 standard_answer s form standard.ContainerTitle = title_of (container s)
@@ -140,7 +140,7 @@ standard_answer s form standard.Url = option_map (λ u. one_chunk (address_text 
 standard_answer s form standard.YearSuffix = None
 
 -- dates
-abbrev pub date_answer : Standing → DateVariable → Option Date
+abbrev pub date_answer : Ancestry → DateVariable → Option Date
 date_answer s date.Accessed = option_and_then (λ u. u.visit_date) s.own.url
 date_answer s date.AvailableDate = None
 date_answer s date.EventDate = option_and_then (λ fs. fs.date) (first_parent (types.Conference ∷ []) s)
@@ -149,7 +149,7 @@ date_answer s date.OriginalDate = option_and_then (λ fs. fs.date) (first_parent
 date_answer s date.Submitted = None
 
 -- kinds
-abbrev pub kind_answer : Standing → Kind → Bool
+abbrev pub kind_answer : Ancestry → Kind → Bool
 kind_answer s kinds.Article = is_one_of (types.Article ∷ []) s.own && not (is_article_in types.Periodical s || is_article_in types.Proceedings s)
 kind_answer s kinds.ArticleJournal = is_article_in types.Periodical s
 kind_answer s kinds.Book = is_one_of (types.Book ∷ types.Anthology ∷ types.Proceedings ∷ types.Reference ∷ []) s.own
@@ -166,7 +166,7 @@ kind_answer s kinds.Thesis = is_one_of (types.Thesis ∷ []) s.own
 kind_answer s kinds.Webpage = is_one_of (types.Web ∷ []) s.own
 
 -- all that an entry answers which stands so among works
-abbrev pub answers_among : Standing → Answers
+abbrev pub answers_among : Ancestry → Answers
 answers_among s = record {
   number = number_answer s;
   pages = s.own.page_range;
@@ -180,4 +180,4 @@ answers_among s = record {
 
 -- all that an entry of a library answers
 abbrev pub answers_of : Whole → Answers
-answers_of w = answers_among (standing w)
+answers_of w = answers_among (ancestry w)

@@ -11,7 +11,7 @@ use Rattle.literature_values.specs.declared.entry_type.EntryType.TheVariants as 
 
 -- An entry with what it says of itself, with what its parents say of themselves, and with what its other ancestors say, by depth
 -- and then by path.
-pub record Standing : Type 0 where
+pub record Ancestry : Type 0 where
   pub key : List ℕ
   pub own : Fields
   pub parents : List Fields
@@ -44,24 +44,24 @@ later_levels [] = []
 later_levels (l ∷ ls) = flat_map (λ x. x) ls
 
 -- an entry among the works that it is part of
-abbrev pub standing : Whole → Standing
-standing (Holding key fs ws) = record { key = key; own = fs; parents = first_level (each_by_level ws); further = later_levels (each_by_level ws) }
+abbrev pub ancestry : Whole → Ancestry
+ancestry (Holding key fs ws) = record { key = key; own = fs; parents = first_level (each_by_level ws); further = later_levels (each_by_level ws) }
 
 -- whether a work is of one of the types
 abbrev pub is_one_of : List EntryType → Fields → Bool
 is_one_of ts fs = list_any (λ t. bytes_eq (type_name t) (type_name fs.entry_type)) ts
 
 -- what the first of some works says that says something
-abbrev pub first_said : {V : Type 0} → (Fields → Option V) → List Fields → Option V
-first_said look [] = None
-first_said look (fs ∷ more) = first_or (look fs) (first_said look more)
+abbrev pub first_answer : {V : Type 0} → (Fields → Option V) → List Fields → Option V
+first_answer look [] = None
+first_answer look (fs ∷ more) = first_or (look fs) (first_answer look more)
 
 -- what the entry says, or else the first of its ancestors
-abbrev pub nearest : {V : Type 0} → (Fields → Option V) → Standing → Option V
-nearest look s = first_said look (s.own ∷ (s.parents ++ s.further))
+abbrev pub nearest : {V : Type 0} → (Fields → Option V) → Ancestry → Option V
+nearest look s = first_answer look (s.own ∷ (s.parents ++ s.further))
 
 -- the first parent of one of the types
-abbrev pub first_parent : List EntryType → Standing → Option Fields
+abbrev pub first_parent : List EntryType → Ancestry → Option Fields
 first_parent ts s = find (is_one_of ts) s.parents
 
 -- the types of the works that contain others; an anthology contains its parts alone
@@ -71,7 +71,7 @@ types_of_containers fs =
     else types.Periodical ∷ types.Book ∷ types.Proceedings ∷ types.Reference ∷ []
 
 -- the container: the first parent that can contain the entry
-abbrev pub container : Standing → Option Fields
+abbrev pub container : Ancestry → Option Fields
 container s = first_parent (types_of_containers s.own) s
 
 -- a list without the first that passes the test
@@ -80,7 +80,7 @@ without_first test [] = []
 without_first test (x ∷ xs) = if test x then xs else x ∷ without_first test xs
 
 -- the parents other than the container
-abbrev pub other_parents : Standing → List Fields
+abbrev pub other_parents : Ancestry → List Fields
 other_parents s = without_first (is_one_of (types_of_containers s.own)) s.parents
 
 -- the first anthology of some works
@@ -88,9 +88,9 @@ abbrev pub first_anthology : List Fields → Option Fields
 first_anthology ws = find (is_one_of (types.Anthology ∷ [])) ws
 
 -- the collection: the first anthology among the ancestors other than the container
-abbrev pub collection : Standing → Option Fields
+abbrev pub collection : Ancestry → Option Fields
 collection s = first_anthology (other_parents s ++ s.further)
 
 -- whether the entry is an article with a parent of that type
-abbrev pub is_article_in : EntryType → Standing → Bool
+abbrev pub is_article_in : EntryType → Ancestry → Bool
 is_article_in t s = is_one_of (types.Article ∷ []) s.own && is_some (first_parent (t ∷ []) s)

@@ -3,10 +3,10 @@
 ghost use Rattle.std.specs.Prelude.{◌≡◌, true, IfOk, IsTrue, map};
 ghost use Rattle.std.specs.Cow.{cow_value, cow_str_bytes};
 ghost use Rattle.std.specs.Option.{option_map};
-ghost use Rattle.literature_numbers.specs.PageViews.{pages};
-ghost use Rattle.literature_values.specs.TypedViews.{value_or_text};
+ghost use Rattle.literature_numbers.specs.PageViews.{pages_view};
+ghost use Rattle.literature_values.specs.TypedViews.{typed_view};
 ghost use Rattle.rendering_entries.specs.Answers.{Answers};
-ghost use Rattle.rendering_entries.specs.Views.{number_seen, text_seen, person_seen};
+ghost use Rattle.rendering_entries.specs.Views.{lent_number_view, lent_text_view, lent_person_view};
 
 use literature_values::{ChunkedString, Date, MaybeTyped, Numeric, PageRanges, Person};
 use rendering_taxonomy::{
@@ -21,30 +21,33 @@ pub trait EntryLike: Eq {
     /// All that the entry answers.
     ghost answers: { Self → Answers };
 
-    /// The answer to a number variable: a number, or a text in its place. Numbers of a cite, as its own number or its
+    /// The answer to a number variable: a number, or a text instead of it. Numbers of a cite, as its own number or its
     /// locator, are not the entry's.
     fn resolve_number_variable(
         &self,
         alloc: Global,
         variable: NumberVariable,
     ) -> Result<Option<MaybeTyped<Cow<'_, Numeric>>>, AllocError>
-        ensures { IfOk result (λ n. option_map number_seen n ≡ (answers self.now).number variable) };
+        ensures { IfOk result (λ n. option_map lent_number_view n
+            ≡ (answers self.now).number variable) };
 
-    /// The pages, or a text in their place.
+    /// The pages, or a text instead of them.
     fn resolve_page_variable(
         &self,
         alloc: Global,
     ) -> Result<Option<MaybeTyped<PageRanges>>, AllocError>
-        ensures { IfOk result (λ p. option_map (value_or_text pages) p ≡ (answers self.now).pages) };
+        ensures { IfOk result (λ p. option_map (typed_view pages_view) p
+            ≡ (answers self.now).pages) };
 
-    /// The text of a variable, in the long or the short form. A variable without a short form has the long one in its place.
+    /// The text of a variable, in the long or the short form. A variable without a short form has the long one instead.
     fn resolve_standard_variable(
         &self,
         alloc: Global,
         form: LongShortForm,
         variable: StandardVariable,
     ) -> Result<Option<Cow<'_, ChunkedString>>, AllocError>
-        ensures { IfOk result (λ t. option_map text_seen t ≡ (answers self.now).standard form variable) };
+        ensures { IfOk result (λ t. option_map lent_text_view t
+            ≡ (answers self.now).standard form variable) };
 
     /// The people of a variable, in order.
     fn resolve_name_variable(
@@ -52,7 +55,8 @@ pub trait EntryLike: Eq {
         alloc: Global,
         variable: NameVariable,
     ) -> Result<Vec<Cow<'_, Person>>, AllocError>
-        ensures { IfOk result (λ ps. map person_seen ps.items ≡ (answers self.now).people variable) };
+        ensures { IfOk result (λ ps. map lent_person_view ps.items
+            ≡ (answers self.now).people variable) };
 
     /// The date of a variable. Takes no memory.
     fn resolve_date_variable(&self, variable: DateVariable) -> Option<Cow<'_, Date>>

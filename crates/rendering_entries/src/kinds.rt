@@ -2,7 +2,7 @@
 
 ghost use Rattle.std.specs.Prelude.{◌≡◌};
 ghost use Rattle.rendering_entries.specs.Library.{kind_answer};
-ghost use Rattle.rendering_entries.specs.Views.{entry_standing};
+ghost use Rattle.rendering_entries.specs.Views.{entry_ancestry};
 
 use crate::works::{is_article_in, is_one_of};
 use literature_entries::Entry;
@@ -11,7 +11,7 @@ use rendering_taxonomy::Kind;
 
 /// Whether the entry is of the kind.
 pub(crate) fn kind_answer(entry: &Entry, kind: Kind) -> bool
-    ensures { result ≡ kind_answer (entry_standing entry.now) kind }
+    ensures { result ≡ kind_answer (entry_ancestry entry.now) kind }
 {
     match kind {
         Kind::Article => is_other_article(entry),
@@ -41,7 +41,7 @@ const BOOKS: [EntryType; 4] = [
 
 /// Whether the entry is an article that is neither of a journal nor of proceedings.
 fn is_other_article(entry: &Entry) -> bool
-    ensures { result ≡ kind_answer (entry_standing entry.now) Kind.Article }
+    ensures { result ≡ kind_answer (entry_ancestry entry.now) Kind.Article }
 {
     is_one_of(entry, &[EntryType::Article])
         && !(is_article_in(entry, EntryType::Periodical)

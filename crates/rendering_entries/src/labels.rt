@@ -3,12 +3,12 @@
 ghost use Rattle.std.specs.Prelude.{◌≡◌, ◌++◌, [], map, OnOk, IfOk};
 ghost use Rattle.std.specs.Option.{option_map, option_map_or};
 ghost use Rattle.laws.specs.Text.{characters};
-ghost use Rattle.literature_values.specs.TextViews.{chunk};
-ghost use Rattle.literature_entries.specs.Views.{fields};
-ghost use Rattle.literature_entries.specs.Wholes.{whole};
+ghost use Rattle.literature_values.specs.TextViews.{chunk_view};
+ghost use Rattle.literature_entries.specs.Views.{fields_view};
+ghost use Rattle.literature_entries.specs.Wholes.{entry_view};
 ghost use Rattle.rendering_entries.specs.Library.{characters_of, long_text, label_of};
-ghost use Rattle.rendering_entries.specs.Views.{entry_standing};
-ghost use Rattle.rendering_entries.specs.Works.{standing};
+ghost use Rattle.rendering_entries.specs.Views.{entry_ancestry};
+ghost use Rattle.rendering_entries.specs.Works.{ancestry};
 
 use crate::nearest::nearest_editor;
 use crate::people::people_or_none;
@@ -41,7 +41,8 @@ impl Alphanumerical {
     /// # Errors
     /// Out of memory.
     pub fn citation(self, alloc: Global, entry: &Entry) -> Result<String, AllocError>
-        ensures { IfOk result (λ s. characters s ≡ label_of self.letters (standing (whole entry.now))) }
+        ensures { IfOk result (λ s. characters s
+            ≡ label_of self.letters (ancestry (entry_view entry.now))) }
     {
         label(alloc, entry, self.letters)
     }
@@ -60,7 +61,7 @@ impl Default for Alphanumerical {
 /// # Errors
 /// Out of memory.
 pub(crate) fn label(alloc: Global, entry: &Entry, letters: usize) -> Result<String, AllocError>
-    ensures { IfOk result (λ s. characters s ≡ label_of letters (entry_standing entry.now)) }
+    ensures { IfOk result (λ s. characters s ≡ label_of letters (entry_ancestry entry.now)) }
 {
     let mut label = empty_text(alloc);
     push_label(alloc, &mut label, entry, letters)?;
@@ -75,7 +76,8 @@ fn push_label(
     entry: &Entry,
     letters: usize,
 ) -> Result<(), AllocError>
-    ensures { OnOk result (characters out.new ≡ characters out.old ++ label_of letters (entry_standing entry.now)) }
+    ensures { OnOk result (characters out.new
+        ≡ characters out.old ++ label_of letters (entry_ancestry entry.now)) }
 {
     let authors = people_or_none(entry.author());
     if !authors.is_empty() {
@@ -91,14 +93,15 @@ fn push_label(
 
 /// The year of the entry's date, of a range the first.
 fn year(entry: &Entry) -> Option<i32>
-    ensures { result ≡ option_map (λ d. d.year) (fields entry.now).date }
+    ensures { result ≡ option_map (λ d. d.year) (fields_view entry.now).date }
 {
     Some(entry.date()?.year)
 }
 
 /// The characters of the title.
 fn title_text(alloc: Global, entry: &Entry) -> Result<String, AllocError>
-    ensures { IfOk result (λ s. characters s ≡ option_map_or characters_of (long_text (fields entry.now).title) []) }
+    ensures { IfOk result (λ s. characters s
+        ≡ option_map_or characters_of (long_text (fields_view entry.now).title) []) }
 {
     let mut text = empty_text(alloc);
     if let Some(title) = entry.title() {
@@ -109,7 +112,8 @@ fn title_text(alloc: Global, entry: &Entry) -> Result<String, AllocError>
 
 /// Appends the characters of pieces.
 fn push_chunks(text: &mut String, pieces: &[StringChunk]) -> Result<(), AllocError>
-    ensures { OnOk result (characters text.new ≡ characters text.old ++ characters_of (map chunk pieces.now)) }
+    ensures { OnOk result (characters text.new
+        ≡ characters text.old ++ characters_of (map chunk_view pieces.now)) }
 {
     for piece in pieces {
         push_text(text, piece.value.as_str())?;

@@ -2,9 +2,9 @@
 
 ghost use Rattle.std.specs.Prelude.{◌≡◌, IfOk};
 ghost use Rattle.std.specs.Option.{option_map};
-ghost use Rattle.literature_numbers.specs.PageViews.{pages};
-ghost use Rattle.literature_values.specs.TypedViews.{value_or_text};
-ghost use Rattle.literature_entries.specs.Views.{fields};
+ghost use Rattle.literature_numbers.specs.PageViews.{pages_view};
+ghost use Rattle.literature_values.specs.TypedViews.{typed_view};
+ghost use Rattle.literature_entries.specs.Views.{fields_view};
 ghost use Rattle.rendering_entries.specs.Library.{is_english};
 
 use crate::dates::date_answer;
@@ -25,11 +25,11 @@ use std::borrow::{Cow, CowStr};
 /// first, and of one depth those of the first parent.
 impl EntryLike for Entry {
     ghost use Rattle.std.proofs.Common.{ap};
-    ghost use Rattle.literature_entries.specs.Wholes.{whole};
+    ghost use Rattle.literature_entries.specs.Wholes.{entry_view};
     ghost use Rattle.literature_entries.proofs.WholesEquality.{Shows-Entry};
     ghost use Rattle.rendering_entries.specs.Library.{answers_of};
 
-    ghost answers = { λ e. answers_of (whole e) };
+    ghost answers = { λ e. answers_of (entry_view e) };
 
     ghost alike = { λ a b e. ap answers_of ((Shows-Entry a b).0 e) };
 
@@ -84,7 +84,8 @@ impl EntryLike for Entry {
 
 /// The pages of the entry.
 fn page_answer(entry: &Entry) -> Result<Option<MaybeTyped<PageRanges>>, AllocError>
-    ensures { IfOk result (λ p. option_map (value_or_text pages) p ≡ (fields entry.now).page_range) }
+    ensures { IfOk result (λ p. option_map (typed_view pages_view) p
+        ≡ (fields_view entry.now).page_range) }
 {
     match entry.page_range() {
         Some(MaybeTyped::Typed(pages)) => Ok(Some(MaybeTyped::Typed(pages.clone()?))),
@@ -95,7 +96,7 @@ fn page_answer(entry: &Entry) -> Result<Option<MaybeTyped<PageRanges>>, AllocErr
 
 /// Whether the language of the entry is English.
 fn english_answer(entry: &Entry) -> Option<bool>
-    ensures { result ≡ option_map is_english (fields entry.now).language }
+    ensures { result ≡ option_map is_english (fields_view entry.now).language }
 {
     match entry.language() {
         Some(code) => Some(is_english(code)),

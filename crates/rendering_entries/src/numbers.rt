@@ -2,12 +2,12 @@
 
 ghost use Rattle.std.specs.Prelude.{◌≡◌, codes, option_and_then, IfOk};
 ghost use Rattle.std.specs.Option.{option_map};
-ghost use Rattle.literature_numbers.specs.Views.{numeral};
-ghost use Rattle.literature_values.specs.TypedViews.{value_or_text};
+ghost use Rattle.literature_numbers.specs.Views.{numeral_view};
+ghost use Rattle.literature_values.specs.TypedViews.{typed_view};
 ghost use Rattle.literature_entries.specs.Names.{serial};
-ghost use Rattle.literature_entries.specs.Views.{fields, seen_in};
+ghost use Rattle.literature_entries.specs.Views.{fields_view, view_in};
 ghost use Rattle.rendering_entries.specs.Library.{read_number, first_page, number_answer};
-ghost use Rattle.rendering_entries.specs.Views.{number_seen, entry_standing};
+ghost use Rattle.rendering_entries.specs.Views.{lent_number_view, entry_ancestry};
 
 use crate::nearest::{nearest_edition, nearest_issue, nearest_volume, nearest_volume_total};
 use literature_entries::Entry;
@@ -25,7 +25,8 @@ pub(crate) fn number_answer(
     entry: &Entry,
     variable: NumberVariable,
 ) -> Result<Option<MaybeTyped<Cow<'_, Numeric>>>, AllocError>
-    ensures { IfOk result (λ n. option_map number_seen n ≡ number_answer (entry_standing entry.now) variable) }
+    ensures { IfOk result (λ n. option_map lent_number_view n
+        ≡ number_answer (entry_ancestry entry.now) variable) }
 {
     match variable {
         NumberVariable::ChapterNumber => borrowed_number(entry.chapter()),
@@ -42,11 +43,12 @@ pub(crate) fn number_answer(
     }
 }
 
-/// The number, borrowed; a text in its place is copied.
+/// The number, borrowed; a text instead of it is copied.
 fn borrowed_number(
     number: Option<&MaybeTyped<Numeric>>,
 ) -> Result<Option<MaybeTyped<Cow<'_, Numeric>>>, AllocError>
-    ensures { IfOk result (λ n. option_map number_seen n ≡ seen_in (value_or_text numeral) number.entry) }
+    ensures { IfOk result (λ n. option_map lent_number_view n
+        ≡ view_in (typed_view numeral_view) number.entry) }
 {
     match number {
         Some(MaybeTyped::Typed(number)) => Ok(Some(MaybeTyped::Typed(Cow::Borrowed(number)))),
@@ -60,7 +62,8 @@ fn serial_number(
     alloc: Global,
     entry: &Entry,
 ) -> Result<Option<MaybeTyped<Cow<'_, Numeric>>>, AllocError>
-    ensures { IfOk result (λ n. option_map number_seen n ≡ option_map read_number (serial (codes "serial") (fields entry.now))) }
+    ensures { IfOk result (λ n. option_map lent_number_view n
+        ≡ option_map read_number (serial (codes "serial") (fields_view entry.now))) }
 {
     match entry.keyed_serial_number("serial") {
         Some(text) => Ok(Some(read_number(alloc, text)?)),
@@ -70,7 +73,7 @@ fn serial_number(
 
 /// The number that the text spells, or the text.
 fn read_number(alloc: Global, text: &str) -> Result<MaybeTyped<Cow<'static, Numeric>>, AllocError>
-    ensures { IfOk result (λ n. number_seen n ≡ read_number text.now) }
+    ensures { IfOk result (λ n. lent_number_view n ≡ read_number text.now) }
 {
     match MaybeTyped::<Numeric>::read(alloc, text)? {
         MaybeTyped::Typed(number) => Ok(MaybeTyped::Typed(Cow::Owned(number))),
@@ -80,7 +83,8 @@ fn read_number(alloc: Global, text: &str) -> Result<MaybeTyped<Cow<'static, Nume
 
 /// The first page, where the pages were read.
 fn first_page(entry: &Entry) -> Option<MaybeTyped<Cow<'_, Numeric>>>
-    ensures { option_map number_seen result ≡ option_and_then first_page (fields entry.now).page_range }
+    ensures { option_map lent_number_view result
+        ≡ option_and_then first_page (fields_view entry.now).page_range }
 {
     match entry.page_range()? {
         MaybeTyped::Typed(pages) => Some(MaybeTyped::Typed(Cow::Borrowed(pages.first()?))),

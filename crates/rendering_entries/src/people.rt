@@ -1,10 +1,10 @@
 //! People of entries.
 
 ghost use Rattle.std.specs.Prelude.{◌≡◌, ◌++◌, map, option_and_then, IfOk, OnOk};
-ghost use Rattle.literature_values.specs.PersonViews.{person as person_of};
-ghost use Rattle.literature_entries.specs.Views.{fields, people, seen_in};
+ghost use Rattle.literature_values.specs.PersonViews.{person_view as person_of};
+ghost use Rattle.literature_entries.specs.Views.{fields_view, people_view, view_in};
 ghost use Rattle.rendering_entries.specs.Library.{people_or_none, people_answer};
-ghost use Rattle.rendering_entries.specs.Views.{person_seen, entry_standing};
+ghost use Rattle.rendering_entries.specs.Views.{lent_person_view, entry_ancestry};
 ghost use Rattle.rendering_entries.specs.Works.{container};
 
 use crate::nearest::nearest_editor;
@@ -24,7 +24,8 @@ pub(crate) fn people_answer(
     entry: &Entry,
     variable: NameVariable,
 ) -> Result<Vec<Cow<'_, Person>>, AllocError>
-    ensures { IfOk result (λ ps. map person_seen ps.items ≡ people_answer (entry_standing entry.now) variable) }
+    ensures { IfOk result (λ ps. map lent_person_view ps.items
+        ≡ people_answer (entry_ancestry entry.now) variable) }
 {
     match variable {
         NameVariable::Author => borrowed_people(alloc, entry.author()),
@@ -36,7 +37,8 @@ pub(crate) fn people_answer(
 
 /// The authors of the container.
 fn container_author(entry: &Entry) -> Option<&[Person]>
-    ensures { seen_in people result ≡ option_and_then (λ fs. fs.author) (container (entry_standing entry.now)) }
+    ensures { view_in people_view result
+        ≡ option_and_then (λ fs. fs.author) (container (entry_ancestry entry.now)) }
 {
     container(entry)?.author()
 }
@@ -46,7 +48,8 @@ fn borrowed_people<'a>(
     alloc: Global,
     list: Option<&'a [Person]>,
 ) -> Result<Vec<Cow<'a, Person>>, AllocError>
-    ensures { IfOk result (λ ps. map person_seen ps.items ≡ people_or_none (seen_in people list.entry)) }
+    ensures { IfOk result (λ ps. map lent_person_view ps.items
+        ≡ people_or_none (view_in people_view list.entry)) }
 {
     let mut all = Vec::new(alloc);
     push_people(&mut all, people_or_none(list))?;
@@ -55,7 +58,8 @@ fn borrowed_people<'a>(
 
 /// Appends people, borrowed.
 fn push_people<'a>(all: &mut Vec<Cow<'a, Person>>, list: &'a [Person]) -> Result<(), AllocError>
-    ensures { OnOk result (map person_seen all.new.items ≡ map person_seen all.old.items ++ map person_of list.now) }
+    ensures { OnOk result (map lent_person_view all.new.items
+        ≡ map lent_person_view all.old.items ++ map person_of list.now) }
 {
     for person in list {
         all.push(Cow::Borrowed(person))?;
@@ -65,7 +69,7 @@ fn push_people<'a>(all: &mut Vec<Cow<'a, Person>>, list: &'a [Person]) -> Result
 
 /// The people of a list that may be there.
 pub(crate) fn people_or_none(list: Option<&[Person]>) -> &[Person]
-    ensures { map person_of result.now ≡ people_or_none (seen_in people list.entry) }
+    ensures { map person_of result.now ≡ people_or_none (view_in people_view list.entry) }
 {
     match list {
         Some(list) => list,

@@ -4,11 +4,11 @@ ghost use Rattle.std.specs.Prelude.{◌≡◌, Some, IfOk};
 ghost use Rattle.std.specs.Option.{option_map};
 ghost use Rattle.std.specs.Str.{chars};
 ghost use Rattle.laws.specs.Text.{characters};
-ghost use Rattle.literature_values.specs.OtherViews.{address as address_seen};
-ghost use Rattle.literature_values.specs.TextViews.{chunks, format};
-ghost use Rattle.literature_entries.specs.Views.{fields, seen_in};
+ghost use Rattle.literature_values.specs.OtherViews.{address_view};
+ghost use Rattle.literature_values.specs.TextViews.{chunks_view, format_view};
+ghost use Rattle.literature_entries.specs.Views.{fields_view, view_in};
 ghost use Rattle.rendering_entries.specs.Library.{one_chunk, serial_text, long_text, short_text, text_in, title_of, address_text, label_of, standard_answer};
-ghost use Rattle.rendering_entries.specs.Views.{text_seen, entry_standing};
+ghost use Rattle.rendering_entries.specs.Views.{lent_text_view, entry_ancestry};
 
 use crate::labels::label;
 use crate::nearest::{nearest_isbn, nearest_issn, nearest_place, nearest_publisher};
@@ -32,7 +32,8 @@ pub(crate) fn standard_answer(
     form: LongShortForm,
     variable: StandardVariable,
 ) -> Result<Option<Cow<'_, ChunkedString>>, AllocError>
-    ensures { IfOk result (λ t. option_map text_seen t ≡ standard_answer (entry_standing entry.now) form variable) }
+    ensures { IfOk result (λ t. option_map lent_text_view t
+        ≡ standard_answer (entry_ancestry entry.now) form variable) }
 {
     match variable {
         StandardVariable::CitationLabel => label_text(alloc, entry),
@@ -54,7 +55,7 @@ pub(crate) fn standard_answer(
 
 /// A text as one ordinary piece.
 fn one_chunk(alloc: Global, value: String) -> Result<ChunkedString, AllocError>
-    ensures { IfOk result (λ t. chunks t ≡ one_chunk (characters value)) }
+    ensures { IfOk result (λ t. chunks_view t ≡ one_chunk (characters value)) }
 {
     let mut pieces = Vec::new(alloc);
     pieces.push(StringChunk {
@@ -66,7 +67,8 @@ fn one_chunk(alloc: Global, value: String) -> Result<ChunkedString, AllocError>
 
 /// The label of the entry, with three letters of one name.
 fn label_text(alloc: Global, entry: &Entry) -> Result<Option<Cow<'_, ChunkedString>>, AllocError>
-    ensures { IfOk result (λ t. option_map text_seen t ≡ Some (one_chunk (label_of 3 (entry_standing entry.now)))) }
+    ensures { IfOk result (λ t. option_map lent_text_view t
+        ≡ Some (one_chunk (label_of 3 (entry_ancestry entry.now)))) }
 {
     let label = label(alloc, entry, 3)?;
     Ok(Some(Cow::Owned(one_chunk(alloc, label)?)))
@@ -77,7 +79,8 @@ fn serial_text<'a>(
     alloc: Global,
     number: Option<&'a str>,
 ) -> Result<Option<Cow<'a, ChunkedString>>, AllocError>
-    ensures { IfOk result (λ t. option_map text_seen t ≡ serial_text (seen_in (λ s. s) number.entry)) }
+    ensures { IfOk result (λ t. option_map lent_text_view t
+        ≡ serial_text (view_in (λ s. s) number.entry)) }
 {
     match number {
         Some(number) => Ok(Some(Cow::Owned(copied_text(alloc, number)?))),
@@ -87,14 +90,15 @@ fn serial_text<'a>(
 
 /// A copy of a text as one ordinary piece.
 fn copied_text(alloc: Global, text: &str) -> Result<ChunkedString, AllocError>
-    ensures { IfOk result (λ t. chunks t ≡ one_chunk (chars text.now)) }
+    ensures { IfOk result (λ t. chunks_view t ≡ one_chunk (chars text.now)) }
 {
     one_chunk(alloc, owned(alloc, text)?)
 }
 
 /// The address as a text of one piece.
 fn url_text(alloc: Global, entry: &Entry) -> Result<Option<Cow<'_, ChunkedString>>, AllocError>
-    ensures { IfOk result (λ t. option_map text_seen t ≡ option_map (λ u. one_chunk (address_text u.value)) (fields entry.now).url) }
+    ensures { IfOk result (λ t. option_map lent_text_view t
+        ≡ option_map (λ u. one_chunk (address_text u.value)) (fields_view entry.now).url) }
 {
     match entry.url() {
         Some(url) => Ok(Some(Cow::Owned(copied_text(alloc, address(url))?))),
@@ -104,7 +108,7 @@ fn url_text(alloc: Global, entry: &Entry) -> Result<Option<Cow<'_, ChunkedString
 
 /// The address as it is written.
 fn address(url: &QualifiedUrl) -> &str
-    ensures { chars result.now ≡ address_text (address_seen url.now).value }
+    ensures { chars result.now ≡ address_text (address_view url.now).value }
 {
     match &url.value {
         MaybeTyped::Typed(url) => url.as_str(),
@@ -114,21 +118,22 @@ fn address(url: &QualifiedUrl) -> &str
 
 /// The text in its long form.
 fn long_text(text: Option<&FormatString>) -> Option<Cow<'_, ChunkedString>>
-    ensures { option_map text_seen result ≡ long_text (seen_in format text.entry) }
+    ensures { option_map lent_text_view result ≡ long_text (view_in format_view text.entry) }
 {
     Some(Cow::Borrowed(&text?.value))
 }
 
 /// The text in its short form, where it has one.
 fn short_text(text: Option<&FormatString>) -> Option<Cow<'_, ChunkedString>>
-    ensures { option_map text_seen result ≡ short_text (seen_in format text.entry) }
+    ensures { option_map lent_text_view result ≡ short_text (view_in format_view text.entry) }
 {
     Some(Cow::Borrowed(text?.short.as_ref()?))
 }
 
-/// The text in a form; the long form stands in for a short one that is not there.
+/// The text in a form; the long form is taken for a short one that is not there.
 fn text_in(form: LongShortForm, text: Option<&FormatString>) -> Option<Cow<'_, ChunkedString>>
-    ensures { option_map text_seen result ≡ option_map (text_in form) (seen_in format text.entry) }
+    ensures { option_map lent_text_view result
+        ≡ option_map (text_in form) (view_in format_view text.entry) }
 {
     let text = text?;
     match form {
@@ -139,7 +144,7 @@ fn text_in(form: LongShortForm, text: Option<&FormatString>) -> Option<Cow<'_, C
 
 /// The short form, or the long one where there is none.
 fn short_or_long(text: &FormatString) -> &ChunkedString
-    ensures { chunks result.now ≡ text_in LongShortForm.Short (format text.now) }
+    ensures { chunks_view result.now ≡ text_in LongShortForm.Short (format_view text.now) }
 {
     match &text.short {
         Some(short) => short,
@@ -149,7 +154,7 @@ fn short_or_long(text: &FormatString) -> &ChunkedString
 
 /// The title of a work, where there is a work with one.
 fn title_of(work: Option<&Entry>) -> Option<Cow<'_, ChunkedString>>
-    ensures { option_map text_seen result ≡ title_of (seen_in fields work.entry) }
+    ensures { option_map lent_text_view result ≡ title_of (view_in fields_view work.entry) }
 {
     long_text(work?.title())
 }

@@ -1,3 +1,3 @@
 pub mod PagesTexts
 pub mod DatesInside
-pub mod StatesPut
+pub mod StatesAppended

@@ -1,4 +1,4 @@
-pub mod Settings
+pub mod NodeSettings
 pub mod Values
 pub mod Views
 pub mod Parts

@@ -1,4 +1,4 @@
--- Parts of what nodes put down.
+-- Parts of what nodes append.
 use Rattle.std.specs.Prelude.{ℕ, Bool, List, [], ◌∷◌, ◌++◌, Option, Some, None}
 use Rattle.literature_values.specs.declared.date.Date.{Date}
 use Rattle.rendering_locale.specs.Lookup.{term_text}
@@ -9,48 +9,48 @@ use Rattle.rendering_tree.specs.Metas as metas
 use Rattle.rendering_names.specs.Names.{pluralizes, label_manner}
 use Rattle.rendering_context.specs.Contexts.{Context}
 use Rattle.rendering_context.specs.Answering.{Answer}
-use Rattle.rendering_leaves.specs.Settings.{Setting}
-use Rattle.rendering_leaves.specs.Values.{frame, text_manner, look_manner, quote_before, quote_after, identified, answer_pieces, label_letters, label_term, date_frame, date_inside}
+use Rattle.rendering_leaves.specs.NodeSettings.{NodeSetting}
+use Rattle.rendering_leaves.specs.Values.{frame, text_manner, look_manner, quote_before, quote_after, identified, answer_pieces, label_suffix, label_term, date_frame, date_inside}
 use Rattle.rendering_taxonomy.specs.declared.number.NumberForm.TheVariants as number_forms
 use Rattle.rendering_taxonomy.specs.declared.variable.Variable.{Variable}
 
 -- what stands before the text of a text node: its prefix and its quote
-abbrev pub before_text : Context → Setting → TextLook → List Piece
+abbrev pub before_text : Context → NodeSetting → TextLook → List Piece
 before_text c s look = begin (frame s.manner (Some metas.Text) look.look) ∷ quote_before c (text_manner s.manner look) look.quotes s.inside_quotes
 
 -- what stands after it: its quote and its suffix
-abbrev pub after_text : Context → Setting → TextLook → List Piece
+abbrev pub after_text : Context → NodeSetting → TextLook → List Piece
 after_text c s look = quote_after c (text_manner s.manner look) look.quotes s.inside_quotes ++ end (frame s.manner (Some metas.Text) look.look) ∷ []
 
 -- pieces in a text node
-abbrev pub in_text : Context → Setting → TextLook → List Piece → List Piece
+abbrev pub in_text : Context → NodeSetting → TextLook → List Piece → List Piece
 in_text c s look ps =
     framed (frame s.manner (Some metas.Text) look.look)
     (quote_before c (text_manner s.manner look) look.quotes s.inside_quotes
     ++ ps
     ++ quote_after c (text_manner s.manner look) look.quotes s.inside_quotes)
 
--- an answer as a text, with the letters after a label
+-- an answer as a text, with the year suffix after a label
 abbrev pub labelled : Context → Manner → Variable → Answer → List Piece
-labelled c m v answer = identified m v (answer_pieces c m number_forms.Numeric answer) ++ label_letters c m v
+labelled c m v answer = identified m v (answer_pieces c m number_forms.Numeric answer) ++ label_suffix c m v
 
 -- an answer in a number node
-abbrev pub in_number : Context → Setting → NumberNode → Answer → List Piece
+abbrev pub in_number : Context → NodeSetting → NumberNode → Answer → List Piece
 in_number c s n answer =
     framed (frame s.manner (Some metas.Number) n.look)
     (identified (look_manner s.manner n.look) n.variable (answer_pieces c (look_manner s.manner n.look) n.form answer))
 
 -- the term of a variable in a label, for one or for more than one
-abbrev pub in_label : Context → Setting → Variable → LabelLook → Bool → List Piece
+abbrev pub in_label : Context → NodeSetting → Variable → LabelLook → Bool → List Piece
 in_label c s v l plural =
     framed (frame s.manner (Some metas.Label) l.look)
     (normal (label_manner s.manner l) (term_text c.locales (label_term c v) l.form (pluralizes l.plural plural)) ∷ [])
 
--- a date in a date node, with letters after its year
-abbrev pub in_date : Context → Setting → DateNode → List ℕ → Date → List Piece
-in_date c s d letters day = framed (date_frame s s.form d) (date_inside c (look_manner s.manner d.look) s.form d letters day)
+-- a date in a date node, with a year suffix
+abbrev pub in_date : Context → NodeSetting → DateNode → List ℕ → Date → List Piece
+in_date c s d year_suffix day = framed (date_frame s s.form d) (date_inside c (look_manner s.manner d.look) s.form d year_suffix day)
 
 -- the same, and nothing where there is no date
-abbrev pub day_in : Context → Setting → DateNode → List ℕ → Option Date → List Piece
-day_in c s d letters None = []
-day_in c s d letters (Some day) = in_date c s d letters day
+abbrev pub day_in : Context → NodeSetting → DateNode → List ℕ → Option Date → List Piece
+day_in c s d year_suffix None = []
+day_in c s d year_suffix (Some day) = in_date c s d year_suffix day

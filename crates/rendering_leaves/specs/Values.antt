@@ -1,4 +1,4 @@
--- What text, number, label and date nodes put down.
+-- What text, number, label and date nodes append.
 use Rattle.std.specs.Prelude.{ℕ, Bool, true, false, ◌||◌, List, [], ◌∷◌, ◌++◌, if◌then◌else◌, Option, Some, None}
 use Rattle.std.specs.Option.{option_and_then, option_map_or, unwrap_or}
 use Rattle.rendering_taxonomy.specs.Formats.{changed}
@@ -16,7 +16,7 @@ use Rattle.rendering_style.specs.Nodes.{Look, TextSource, of_variable, of_term, 
 use Rattle.rendering_style.specs.Nodes as nodes
 use Rattle.rendering_names.specs.Names.{pluralizes, label_manner}
 use Rattle.rendering_context.specs.Contexts.{Context}
-use Rattle.rendering_leaves.specs.Settings.{with_variable, Form, suffix_only, Setting, State, put}
+use Rattle.rendering_leaves.specs.NodeSettings.{with_variable, SpecialForm, suffix_only, NodeSetting, State, append}
 use Rattle.rendering_context.specs.Answering.{Answer, no_answer, pieces, address, count, ranges, own, answer_to, asked_for, ranges_text, date_answer, is_plural_variable}
 use Rattle.rendering_taxonomy.specs.declared.date.LongShortForm.TheVariants as lengths
 use Rattle.rendering_taxonomy.specs.declared.number.NumberForm.{NumberForm}
@@ -52,7 +52,7 @@ abbrev pub close_term : Bool → OtherTerm
 close_term false = others.CloseQuote
 close_term true = others.CloseInnerQuote
 
--- what a node puts down before and after what it prints, where it stands in quotes
+-- what a node appends before and after what it prints, where it stands in quotes
 abbrev pub quote_before : Context → Manner → Bool → Bool → List Piece
 quote_before c m false inside = []
 quote_before c m true inside = normal m (quote_text c.locales (terms.Other (open_term inside))) ∷ []
@@ -75,7 +75,7 @@ answer_pieces c m form (count n) = normal m (numeral_or_text (ordinals_of c.loca
 answer_pieces c m form (ranges ps) = normal m (ranges_text ps) ∷ []
 answer_pieces c m form own = own_locator m.formatting c.properties.initial_idx ∷ []
 
--- what one of the two variables that tell entries apart answers stands in an element of its own
+-- what one of the two variables that identify entries answers stands in an element of its own
 abbrev pub identified : Manner → Variable → List Piece → List Piece
 identified m (variables.Number number.CitationNumber) ps = meaning m metas.CitationNumber ps
 identified m (variables.Standard standard.CitationLabel) ps = meaning m metas.CitationLabel ps
@@ -89,22 +89,22 @@ is_label_variable v = is_variable v (variables.Standard standard.CitationLabel)
 abbrev pub is_number_variable : Variable → Bool
 is_number_variable v = is_variable v (variables.Number number.CitationNumber)
 
--- the letters after a year, unless a layout prints them by themselves
-abbrev pub own_letters : Context → List ℕ
-own_letters c = if c.has_suffix_node then [] else c.letters
+-- the year suffix, unless a layout prints it by itself
+abbrev pub own_year_suffix : Context → List ℕ
+own_year_suffix c = if c.has_suffix_node then [] else c.year_suffix
 
 -- they stand after a label too
-abbrev pub label_letters : Context → Manner → Variable → List Piece
-label_letters c m v = if is_label_variable v then normal m (own_letters c) ∷ [] else []
+abbrev pub label_suffix : Context → Manner → Variable → List Piece
+label_suffix c m v = if is_label_variable v then normal m (own_year_suffix c) ∷ [] else []
 
 -- what a text node prints, without its quotes
 abbrev pub source_pieces : Context → List Variable → Manner → TextSource → List Piece
-source_pieces c suppressed m (of_variable v form) = identified m v (answer_pieces c m number_forms.Numeric (answer_to c suppressed form v)) ++ label_letters c m v
+source_pieces c suppressed m (of_variable v form) = identified m v (answer_pieces c m number_forms.Numeric (answer_to c suppressed form v)) ++ label_suffix c m v
 source_pieces c suppressed m (of_term name form plural) = normal m (term_text c.locales name form plural) ∷ []
 source_pieces c suppressed m (of_value cs) = normal m cs ∷ []
 
 -- what a text node prints
-abbrev pub text_pieces : Context → Setting → List Variable → TextSource → TextLook → List Piece
+abbrev pub text_pieces : Context → NodeSetting → List Variable → TextSource → TextLook → List Piece
 text_pieces c s suppressed source look =
     framed (frame s.manner (Some metas.Text) look.look)
     (quote_before c (text_manner s.manner look) look.quotes s.inside_quotes
@@ -112,7 +112,7 @@ text_pieces c s suppressed source look =
     ++ quote_after c (text_manner s.manner look) look.quotes s.inside_quotes)
 
 -- what a number node prints
-abbrev pub number_pieces : Context → Setting → List Variable → NumberNode → List Piece
+abbrev pub number_pieces : Context → NodeSetting → List Variable → NumberNode → List Piece
 number_pieces c s suppressed n =
     framed (frame s.manner (Some metas.Number) n.look)
     (identified (look_manner s.manner n.look) n.variable
@@ -124,7 +124,7 @@ label_term c (variables.Number number.Locator) = option_map_or (λ l. terms.Loca
 label_term c v = terms.Variable v
 
 -- what a label prints
-abbrev pub label_pieces : Context → Setting → Variable → LabelLook → List Piece
+abbrev pub label_pieces : Context → NodeSetting → Variable → LabelLook → List Piece
 label_pieces c s v l =
     framed (frame s.manner (Some metas.Label) l.look)
     (normal (label_manner s.manner l) (term_text c.locales (label_term c v) l.form (pluralizes l.plural (is_plural_variable c v))) ∷ [])
@@ -145,28 +145,28 @@ shape_of c d = record {
   delimiter = unwrap_or d.delimiter (option_map_or (λ l. l.delimiter) (localized c d) []);
 }
 
--- what a date prints: the letters alone where they are all that is wanted, else its parts
-abbrev pub date_inside : Context → Manner → Form → DateNode → List ℕ → Date → List Piece
-date_inside c m suffix_only d letters day = normal m letters ∷ []
-date_inside c m form d letters day = date_pieces c.locales m (cut_to d.parts (shape_of c d)) letters day
+-- what a date prints: the year suffix alone where it is all that is wanted, else its parts
+abbrev pub date_inside : Context → Manner → SpecialForm → DateNode → List ℕ → Date → List Piece
+date_inside c m suffix_only d year_suffix day = normal m year_suffix ∷ []
+date_inside c m form d year_suffix day = date_pieces c.locales m (cut_to d.parts (shape_of c d)) year_suffix day
 
--- a date whose letters alone are printed has no affixes
-abbrev pub date_frame : Setting → Form → DateNode → Frame
+-- a date whose year suffix alone is printed has no affixes
+abbrev pub date_frame : NodeSetting → SpecialForm → DateNode → Frame
 date_frame s suffix_only d = record (frame s.manner (Some metas.Date) d.look) { prefix = []; suffix = [] }
 date_frame s form d = frame s.manner (Some metas.Date) d.look
 
--- the letters stand after the year of the first date alone
-abbrev pub date_letters : Context → Bool → List ℕ
-date_letters c has_date = if has_date then [] else own_letters c
+-- the year suffix stands after the year of the first date alone
+abbrev pub date_suffix : Context → Bool → List ℕ
+date_suffix c has_date = if has_date then [] else own_year_suffix c
 
 -- what a date node prints, if it has an answer
-abbrev pub day_pieces : Context → Setting → Bool → DateNode → Option Date → List Piece
+abbrev pub day_pieces : Context → NodeSetting → Bool → DateNode → Option Date → List Piece
 day_pieces c s has_date d None = []
-day_pieces c s has_date d (Some day) = framed (date_frame s s.form d) (date_inside c (look_manner s.manner d.look) s.form d (date_letters c has_date) day)
+day_pieces c s has_date d (Some day) = framed (date_frame s s.form d) (date_inside c (look_manner s.manner d.look) s.form d (date_suffix c has_date) day)
 
--- a variable that a stand-in prints is not printed again
-abbrev pub suppressing : Setting → Variable → State → State
-suppressing s v st = if s.stands_in then record st { suppressed = with_variable st.suppressed v } else st
+-- a variable that a substitute prints is not printed again
+abbrev pub suppressing : NodeSetting → Variable → State → State
+suppressing s v st = if s.in_substitute then record st { suppressed = with_variable st.suppressed v } else st
 
 -- cites remember which identifiers they printed
 abbrev pub using : Context → Variable → State → State
@@ -175,18 +175,18 @@ using c v st =
     else record st { used = record { label = st.used.label || is_label_variable v; number = st.used.number || is_number_variable v } }
 
 -- after a node of a variable
-abbrev pub after_variable : Context → Setting → Variable → State → State
+abbrev pub after_variable : Context → NodeSetting → Variable → State → State
 after_variable c s v st = using c v (if is_variable v (asked_for c v) then suppressing s v st else st)
 
--- a text node is put down
-abbrev pub text_put : Context → Setting → TextSource → TextLook → State → State
-text_put c s (of_variable v form) look st = after_variable c s v (put c (text_pieces c s st.suppressed (of_variable v form) look) st)
-text_put c s source look st = put c (text_pieces c s st.suppressed source look) st
+-- a text node is appended
+abbrev pub append_text_node : Context → NodeSetting → TextSource → TextLook → State → State
+append_text_node c s (of_variable v form) look st = after_variable c s v (append c (text_pieces c s st.suppressed (of_variable v form) look) st)
+append_text_node c s source look st = append c (text_pieces c s st.suppressed source look) st
 
--- a node that holds no others is put down
-abbrev pub leaf_put : Context → Setting → Leaf → State → State
-leaf_put c s (nodes.text source look) st = text_put c s source look st
-leaf_put c s (nodes.number n) st = after_variable c s n.variable (put c (number_pieces c s st.suppressed n) st)
-leaf_put c s (nodes.label v look) st = put c (label_pieces c s v look) st
-leaf_put c s (nodes.date d) st =
-    record (suppressing s (variables.Date d.variable) (put c (day_pieces c s st.has_date d (date_answer c st.suppressed d.variable)) st)) { has_date = true }
+-- a node that holds no others is appended
+abbrev pub append_leaf : Context → NodeSetting → Leaf → State → State
+append_leaf c s (nodes.text source look) st = append_text_node c s source look st
+append_leaf c s (nodes.number n) st = after_variable c s n.variable (append c (number_pieces c s st.suppressed n) st)
+append_leaf c s (nodes.label v look) st = append c (label_pieces c s v look) st
+append_leaf c s (nodes.date d) st =
+    record (suppressing s (variables.Date d.variable) (append c (day_pieces c s st.has_date d (date_answer c st.suppressed d.variable)) st)) { has_date = true }

@@ -1,18 +1,18 @@
 //! Label nodes.
 
 ghost use Rattle.std.specs.Prelude.{◌≡◌, OnOk};
-ghost use Rattle.rendering_context.specs.Views.{context_by};
+ghost use Rattle.rendering_context.specs.Views.{context_view};
 ghost use Rattle.rendering_entries.specs.Answers.{Answers};
 ghost use Rattle.rendering_leaves.specs.Parts.{in_label};
-ghost use Rattle.rendering_leaves.specs.Values.{label_term, leaf_put};
-ghost use Rattle.rendering_leaves.specs.Views.{setting_by};
-ghost use Rattle.rendering_page.specs.Pieces.{all_down};
-ghost use Rattle.rendering_page.specs.Views.{quotes_of};
+ghost use Rattle.rendering_leaves.specs.Values.{label_term, append_leaf};
+ghost use Rattle.rendering_leaves.specs.Views.{setting_view};
+ghost use Rattle.rendering_page.specs.Pieces.{append_pieces};
+ghost use Rattle.rendering_page.specs.Views.{quotes_view};
 ghost use Rattle.rendering_style.specs.Nodes as nodes;
-ghost use Rattle.rendering_style.specs.Views.{label_seen};
+ghost use Rattle.rendering_style.specs.Views.{label_look_view};
 
-use crate::look::frame_of;
-use crate::setting::Setting;
+use crate::node_frame::frame_of;
+use crate::node_setting::NodeSetting;
 use crate::state::State;
 use rendering_context::Context;
 use rendering_entries::EntryLike;
@@ -23,32 +23,37 @@ use rendering_taxonomy::{NumberVariable, Term, Variable};
 use rendering_tree::ElemMeta;
 use std::alloc::AllocError;
 
-/// Puts down a label: the term of its variable, of a locator that of what it counts.
+/// Appends a label: the term of its variable, of a locator that of what it counts.
 ///
 /// # Errors
 /// Out of memory.
 pub fn push_label<'a, E: EntryLike>(
     context: &Context<'_, 'a>,
     entry: &'a E,
-    setting: &Setting<'a>,
+    setting: &NodeSetting<'a>,
     node: &'a Label,
     state: &mut State<'a>,
 ) -> Result<(), AllocError>
-    ensures { OnOk result (state.new ≡ leaf_put (context_by (E.answers entry.now) context.now) (setting_by setting.now) (nodes.label node.now.variable (label_seen node.now.label)) state.old) }
+    ensures { OnOk result (state.new
+        ≡ append_leaf (context_view (E.answers entry.now) context.now) (setting_view setting.now)
+        (nodes.label node.now.variable (label_look_view node.now.label)) state.old) }
 {
     let is_plural = context.is_plural(entry, node.variable)?;
-    put_label(context, setting, node, is_plural, &mut state.page)
+    append_label(context, setting, node, is_plural, &mut state.page)
 }
 
-/// Puts down a label, for one or for more than one.
-fn put_label<'a>(
+/// Appends a label, for one or for more than one.
+fn append_label<'a>(
     context: &Context<'_, 'a>,
-    setting: &Setting<'a>,
+    setting: &NodeSetting<'a>,
     node: &'a Label,
     is_plural: bool,
     page: &mut Page<'a>,
 ) -> Result<(), AllocError>
-    ensures { (a : Answers) → OnOk result (page.new ≡ all_down (quotes_of context.now.quotes.now) (in_label (context_by a context.now) (setting_by setting.now) node.now.variable (label_seen node.now.label) is_plural) page.old) }
+    ensures { (a : Answers)
+        → OnOk result (page.new ≡ append_pieces (quotes_view context.now.quotes.now)
+        (in_label (context_view a context.now) (setting_view setting.now) node.now.variable
+        (label_look_view node.now.label) is_plural) page.old) }
 {
     let label = &node.label;
     let frame = frame_of(setting.manner, &label.look);
@@ -63,7 +68,7 @@ fn put_label<'a>(
 
 /// The term of a variable; of a locator that of what it counts.
 fn label_term(context: &Context<'_, '_>, variable: Variable) -> Term
-    ensures { (a : Answers) → result ≡ label_term (context_by a context.now) variable }
+    ensures { (a : Answers) → result ≡ label_term (context_view a context.now) variable }
 {
     match variable {
         Variable::Number(number) => number_term(context, number),
@@ -73,7 +78,8 @@ fn label_term(context: &Context<'_, '_>, variable: Variable) -> Term
 
 /// The term of a variable that is a number; of a locator that of what it counts.
 fn number_term(context: &Context<'_, '_>, number: NumberVariable) -> Term
-    ensures { (a : Answers) → result ≡ label_term (context_by a context.now) (Variable.Number number) }
+    ensures { (a : Answers)
+        → result ≡ label_term (context_view a context.now) (Variable.Number number) }
 {
     match number {
         NumberVariable::Locator => locator_term(context),
@@ -83,7 +89,8 @@ fn number_term(context: &Context<'_, '_>, number: NumberVariable) -> Term
 
 /// The term of what the locator counts, where there is a locator.
 fn locator_term(context: &Context<'_, '_>) -> Term
-    ensures { (a : Answers) → result ≡ label_term (context_by a context.now) (Variable.Number NumberVariable.Locator) }
+    ensures { (a : Answers) → result
+        ≡ label_term (context_view a context.now) (Variable.Number NumberVariable.Locator) }
 {
     match &context.properties.locator {
         Some(locator) => Term::Locator(locator.label),

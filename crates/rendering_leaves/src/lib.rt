@@ -2,27 +2,27 @@
 //! call has printed so far.
 #![tactic(auto)]
 
-mod after;
-mod answered;
 mod date;
-mod identified;
+mod date_shape;
+mod entry_identifiers;
 mod label;
-mod look;
+mod node_frame;
+mod node_setting;
 mod number;
 mod numeral;
 mod pages;
+mod printed_answers;
 mod quotes;
-mod setting;
-mod shape;
 mod state;
 mod suppressed;
+mod suppression;
 mod text;
 
 pub use date::push_date;
 pub use label::push_label;
-pub use look::{frame_of, look_manner, text_manner};
+pub use node_frame::{frame_of, look_manner, text_manner};
+pub use node_setting::{NodeSetting, SpecialForm};
 pub use number::push_number;
 pub use quotes::{push_quote_after, push_quote_before};
-pub use setting::{Form, Setting};
 pub use state::State;
 pub use text::{push_term, push_value, push_variable};

@@ -2,9 +2,9 @@
 
 ghost use Rattle.std.specs.Prelude.{◌≡◌, ◌++◌, [], IfOk, OnOk};
 ghost use Rattle.laws.specs.Text.{characters};
-ghost use Rattle.literature_numbers.specs.Views.{numeral as numeral_seen};
+ghost use Rattle.literature_numbers.specs.Views.{numeral_view};
 ghost use Rattle.rendering_locale.specs.Lookup.{ordinals_of};
-ghost use Rattle.rendering_locale.specs.Views.{ordinals_seen};
+ghost use Rattle.rendering_locale.specs.Views.{ordinals_view};
 ghost use Rattle.rendering_numbers.specs.Numbers.{numeral_by};
 
 use literature_values::Numeric;
@@ -21,7 +21,8 @@ pub(crate) fn numeral_text(
     form: NumberForm,
     numeral: &Numeric,
 ) -> Result<String, AllocError>
-    ensures { IfOk result (λ s. characters s ≡ numeral_by (ordinals_of locales.now) form (numeral_seen numeral.now)) }
+    ensures { IfOk result (λ s. characters s
+        ≡ numeral_by (ordinals_of locales.now) form (numeral_view numeral.now)) }
 {
     let mut text = empty_text(alloc);
     append_numeral(alloc, &mut text, locales, form, numeral)?;
@@ -36,7 +37,8 @@ fn append_numeral(
     form: NumberForm,
     numeral: &Numeric,
 ) -> Result<(), AllocError>
-    ensures { OnOk result (characters out.new ≡ characters out.old ++ numeral_by (ordinals_of locales.now) form (numeral_seen numeral.now)) }
+    ensures { OnOk result (characters out.new ≡ characters out.old
+        ++ numeral_by (ordinals_of locales.now) form (numeral_view numeral.now)) }
 {
     match locales.ordinals() {
         Some(ordinals) => push_numeral(out, ordinals, form, numeral),
@@ -46,7 +48,7 @@ fn append_numeral(
 
 /// No endings of ordinal numbers.
 pub(crate) fn no_ordinals(alloc: Global) -> Ordinals
-    ensures { ordinals_seen result ≡ record { endings = []; default = [] } }
+    ensures { ordinals_view result ≡ record { endings = []; default = [] } }
 {
     Ordinals {
         endings: Vec::new(alloc),

@@ -4,9 +4,9 @@ ghost use Rattle.std.specs.Prelude.{◌≡◌, ◌++◌, IfOk, OnOk};
 ghost use Rattle.std.specs.List.{flat_map};
 ghost use Rattle.laws.specs.Text.{characters, spelled};
 ghost use Rattle.literature_numbers.specs.NumericText.{delimiter_text, numeral_text};
-ghost use Rattle.literature_numbers.specs.PageViews.{part as part_seen, pages as pages_seen};
+ghost use Rattle.literature_numbers.specs.PageViews.{page_part_view, pages_view};
 ghost use Rattle.literature_numbers.specs.Pages.{pages_text, part_text};
-ghost use Rattle.literature_numbers.specs.Views.{numeral as numeral_seen};
+ghost use Rattle.literature_numbers.specs.Views.{numeral_view};
 
 use crate::numeral::no_ordinals;
 use literature_values::{Numeric, NumericDelimiter, PageRanges, PageRangesPart};
@@ -18,7 +18,7 @@ use texts::{empty_text, push_text};
 
 /// The text of pages.
 pub(crate) fn pages_text(alloc: Global, pages: &PageRanges) -> Result<String, AllocError>
-    ensures { IfOk result (λ s. characters s ≡ pages_text (pages_seen pages.now)) }
+    ensures { IfOk result (λ s. characters s ≡ pages_text (pages_view pages.now)) }
 {
     let mut text = empty_text(alloc);
     append_parts(&mut text, &no_ordinals(alloc), &pages.ranges)?;
@@ -31,7 +31,8 @@ fn append_parts(
     ordinals: &Ordinals,
     parts: &[PageRangesPart],
 ) -> Result<(), AllocError>
-    ensures { OnOk result (characters out.new ≡ characters out.old ++ flat_map (λ p. part_text (part_seen p)) parts.now) }
+    ensures { OnOk result (characters out.new
+        ≡ characters out.old ++ flat_map (λ p. part_text (page_part_view p)) parts.now) }
 {
     for part in parts {
         append_part(out, ordinals, part)?;
@@ -45,7 +46,8 @@ fn append_part(
     ordinals: &Ordinals,
     part: &PageRangesPart,
 ) -> Result<(), AllocError>
-    ensures { OnOk result (characters out.new ≡ characters out.old ++ part_text (part_seen part.now)) }
+    ensures { OnOk result (characters out.new
+        ≡ characters out.old ++ part_text (page_part_view part.now)) }
 {
     match part {
         PageRangesPart::Ampersand => push_text(out, separator(NumericDelimiter::Ampersand)),
@@ -62,7 +64,8 @@ fn append_part(
 /// Appends a page in digits.
 #[tactic(auto, using(crate::proofs::PagesTexts::numeral_in_digits))]
 fn append_page(out: &mut String, ordinals: &Ordinals, page: &Numeric) -> Result<(), AllocError>
-    ensures { OnOk result (characters out.new ≡ characters out.old ++ numeral_text (numeral_seen page.now)) }
+    ensures { OnOk result (characters out.new
+        ≡ characters out.old ++ numeral_text (numeral_view page.now)) }
 {
     push_numeral(out, ordinals, NumberForm::Numeric, page)
 }

@@ -1,12 +1,12 @@
 //! The quotes round what a node prints.
 
 ghost use Rattle.std.specs.Prelude.{◌≡◌, OnOk};
-ghost use Rattle.rendering_context.specs.Views.{context_by};
+ghost use Rattle.rendering_context.specs.Views.{context_view};
 ghost use Rattle.rendering_entries.specs.Answers.{Answers};
-ghost use Rattle.rendering_leaves.specs.Settings.{put};
+ghost use Rattle.rendering_leaves.specs.NodeSettings.{append};
 ghost use Rattle.rendering_leaves.specs.Values.{close_term, open_term, quote_after, quote_before};
-ghost use Rattle.rendering_page.specs.Pieces.{all_down};
-ghost use Rattle.rendering_page.specs.Views.{quotes_of, manner as manner_seen};
+ghost use Rattle.rendering_page.specs.Pieces.{append_pieces};
+ghost use Rattle.rendering_page.specs.Views.{quotes_view, manner_view};
 
 use crate::state::State;
 use rendering_context::Context;
@@ -14,7 +14,7 @@ use rendering_page::{Manner, Page};
 use rendering_taxonomy::OtherTerm;
 use std::alloc::AllocError;
 
-/// Puts down the quote before what a node prints, where it stands in quotes, or in quotes inside others.
+/// Appends the quote before what a node prints, where it stands in quotes, or in quotes inside others.
 ///
 /// # Errors
 /// Out of memory.
@@ -25,12 +25,13 @@ pub fn push_quote_before<'a>(
     inside: bool,
     state: &mut State<'a>,
 ) -> Result<(), AllocError>
-    ensures { (a : Answers) → OnOk result (state.new ≡ put (context_by a context.now) (quote_before (context_by a context.now) (manner_seen manner) quotes inside) state.old) }
+    ensures { (a : Answers) → OnOk result (state.new ≡ append (context_view a context.now)
+        (quote_before (context_view a context.now) (manner_view manner) quotes inside) state.old) }
 {
-    put_before(context, manner, quotes, inside, &mut state.page)
+    append_before(context, manner, quotes, inside, &mut state.page)
 }
 
-/// Puts down the quote after what a node prints, where it stands in quotes, or in quotes inside others.
+/// Appends the quote after what a node prints, where it stands in quotes, or in quotes inside others.
 ///
 /// # Errors
 /// Out of memory.
@@ -41,20 +42,23 @@ pub fn push_quote_after<'a>(
     inside: bool,
     state: &mut State<'a>,
 ) -> Result<(), AllocError>
-    ensures { (a : Answers) → OnOk result (state.new ≡ put (context_by a context.now) (quote_after (context_by a context.now) (manner_seen manner) quotes inside) state.old) }
+    ensures { (a : Answers) → OnOk result (state.new ≡ append (context_view a context.now)
+        (quote_after (context_view a context.now) (manner_view manner) quotes inside) state.old) }
 {
-    put_after(context, manner, quotes, inside, &mut state.page)
+    append_after(context, manner, quotes, inside, &mut state.page)
 }
 
-/// Puts down the quote before what a node prints.
-pub(crate) fn put_before<'a>(
+/// Appends the quote before what a node prints.
+pub(crate) fn append_before<'a>(
     context: &Context<'_, 'a>,
     manner: Manner,
     quotes: bool,
     inside: bool,
     page: &mut Page<'a>,
 ) -> Result<(), AllocError>
-    ensures { (a : Answers) → OnOk result (page.new ≡ all_down (quotes_of context.now.quotes.now) (quote_before (context_by a context.now) (manner_seen manner) quotes inside) page.old) }
+    ensures { (a : Answers)
+        → OnOk result (page.new ≡ append_pieces (quotes_view context.now.quotes.now)
+        (quote_before (context_view a context.now) (manner_view manner) quotes inside) page.old) }
 {
     if !quotes {
         return Ok(());
@@ -63,15 +67,17 @@ pub(crate) fn put_before<'a>(
     page.push_text(context.quotes, manner, text)
 }
 
-/// Puts down the quote after what a node prints.
-pub(crate) fn put_after<'a>(
+/// Appends the quote after what a node prints.
+pub(crate) fn append_after<'a>(
     context: &Context<'_, 'a>,
     manner: Manner,
     quotes: bool,
     inside: bool,
     page: &mut Page<'a>,
 ) -> Result<(), AllocError>
-    ensures { (a : Answers) → OnOk result (page.new ≡ all_down (quotes_of context.now.quotes.now) (quote_after (context_by a context.now) (manner_seen manner) quotes inside) page.old) }
+    ensures { (a : Answers)
+        → OnOk result (page.new ≡ append_pieces (quotes_view context.now.quotes.now)
+        (quote_after (context_view a context.now) (manner_view manner) quotes inside) page.old) }
 {
     if !quotes {
         return Ok(());

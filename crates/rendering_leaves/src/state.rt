@@ -1,7 +1,7 @@
 //! What a call has printed so far.
 
 ghost use Rattle.std.specs.Prelude.{◌≡◌, IfOk, OnOk};
-ghost use Rattle.rendering_leaves.specs.Settings.{begun, noted, with_variable};
+ghost use Rattle.rendering_leaves.specs.NodeSettings.{begun, noted, with_variable};
 
 use crate::suppressed::add_variable;
 use rendering_page::Page;
@@ -29,7 +29,7 @@ pub struct State<'a> {
 }
 
 impl<'a> Model for State<'a> {
-    ghost use Rattle.rendering_leaves.specs.Settings as settings;
+    ghost use Rattle.rendering_leaves.specs.NodeSettings as settings;
 
     ghost Value = { settings.State };
 
@@ -37,7 +37,7 @@ impl<'a> Model for State<'a> {
 }
 
 impl<'a> State<'a> {
-    /// Before anything was put down.
+    /// Before anything was appended.
     pub fn new(alloc: Global) -> State<'a>
         ensures { result ≡ begun }
     {
@@ -64,7 +64,8 @@ impl<'a> State<'a> {
     /// # Errors
     /// Out of memory.
     pub fn suppress(&mut self, variable: Variable) -> Result<(), AllocError>
-        ensures { OnOk result (self.new ≡ record self.old { suppressed = with_variable self.old.suppressed variable }) }
+        ensures { OnOk result (self.new
+            ≡ record self.old { suppressed = with_variable self.old.suppressed variable }) }
     {
         add_variable(&mut self.suppressed, variable)
     }

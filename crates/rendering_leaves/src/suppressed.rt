@@ -1,7 +1,7 @@
 //! The variables that are not printed again.
 
 ghost use Rattle.std.specs.Prelude.{◌≡◌, OnOk};
-ghost use Rattle.rendering_leaves.specs.Settings.{with_variable};
+ghost use Rattle.rendering_leaves.specs.NodeSettings.{with_variable};
 ghost use Rattle.rendering_taxonomy.specs.Variables.{is_among, is_variable};
 
 use rendering_taxonomy::Variable;

@@ -4,7 +4,7 @@ ghost use Rattle.std.specs.Prelude.{◌≡◌, ◌++◌, [], map, IfOk, OnOk};
 ghost use Rattle.std.specs.Option.{option_map, option_to_list, unwrap_or};
 ghost use Rattle.laws.specs.Text.{characters, spelled};
 ghost use Rattle.rendering_locale.specs.Lookup.{asked, first_answer, term, term_text, text_of, date_found, punctuates_in_quotes, quote_text, close_quotes};
-ghost use Rattle.rendering_locale.specs.Views.{term_seen, date_seen, ordinals_seen, locale_seen, locales_seen};
+ghost use Rattle.rendering_locale.specs.Views.{term_view, localized_date_view, ordinals_view, locale_view, locales_view};
 
 use crate::code::base_of;
 use crate::locale::{Locale, LocalizedDate, LocalizedTerm, Ordinals};
@@ -23,12 +23,12 @@ pub struct AskedLocales<'a> {
 
 impl<'a> Model for AskedLocales<'a> {
     ghost use Rattle.std.specs.Prelude.{List};
-    ghost use Rattle.rendering_locale.specs.Locales.{Locale as Seen};
-    ghost use Rattle.rendering_locale.specs.Views.{locales_seen};
+    ghost use Rattle.rendering_locale.specs.Locales.{Locale as Viewed};
+    ghost use Rattle.rendering_locale.specs.Views.{locales_view};
 
-    ghost Value = { List Seen };
+    ghost Value = { List Viewed };
 
-    ghost view = { λ a. locales_seen a.locales.items };
+    ghost view = { λ a. locales_view a.locales.items };
 }
 
 impl<'a> AskedLocales<'a> {
@@ -43,7 +43,8 @@ impl<'a> AskedLocales<'a> {
         own: &'a [Locale],
         files: &'a [Locale],
     ) -> Result<AskedLocales<'a>, AllocError>
-        ensures { IfOk result (λ a. a ≡ asked code.now (map locale_seen own.now) (map locale_seen files.now)) }
+        ensures { IfOk result (λ a. a
+            ≡ asked code.now (map locale_view own.now) (map locale_view files.now)) }
     {
         let mut locales = Vec::with_capacity(alloc, 6)?;
         push_some(&mut locales, in_language(Some(code), own))?;
@@ -79,14 +80,15 @@ impl<'a> AskedLocales<'a> {
 
     /// The first date of the form.
     pub fn date(&self, form: DateForm) -> Option<&'a LocalizedDate>
-        ensures { option_map (λ d. date_seen d.now) result ≡ date_found self.now form }
+        ensures { option_map (λ d. localized_date_view d.now) result ≡ date_found self.now form }
     {
         date_found(&self.locales, form)
     }
 
     /// The first endings of ordinal numbers; without any, numbers have no ending.
     pub fn ordinals(&self) -> Option<&'a Ordinals>
-        ensures { option_map (λ o. ordinals_seen o.now) result ≡ first_answer (λ l. l.ordinals) self.now }
+        ensures { option_map (λ o. ordinals_view o.now) result
+            ≡ first_answer (λ l. l.ordinals) self.now }
     {
         ordinals_found(&self.locales)
     }
@@ -123,7 +125,7 @@ impl<'a> AskedLocales<'a> {
 
 /// The text of the term for one or for more than one, empty where it has none.
 fn text_of(term: &LocalizedTerm, plural: bool) -> &str
-    ensures { spelled result ≡ text_of plural (term_seen term.now) }
+    ensures { spelled result ≡ text_of plural (term_view term.now) }
 {
     if plural {
         text_or_empty(&term.multiple)
@@ -145,7 +147,8 @@ fn text_or_empty(text: &Option<String>) -> &str
 
 /// Appends a locale where there is one.
 fn push_some<'a>(locales: &mut Vec<&'a Locale>, found: Option<&'a Locale>) -> Result<(), AllocError>
-    ensures { OnOk result (locales_seen locales.new.items ≡ locales_seen locales.old.items ++ option_to_list (option_map (λ l. locale_seen l.now) found.entry)) }
+    ensures { OnOk result (locales_view locales.new.items ≡ locales_view locales.old.items
+        ++ option_to_list (option_map (λ l. locale_view l.now) found.entry)) }
 {
     if let Some(locale) = found {
         locales.push(locale)?;

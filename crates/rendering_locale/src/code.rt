@@ -4,7 +4,7 @@ ghost use Rattle.std.specs.Prelude.{◌≡◌, IfOk};
 ghost use Rattle.std.specs.Option.{option_map};
 ghost use Rattle.rendering_locale.specs.Codes.{en_us, base_of, fallback};
 ghost use Rattle.rendering_locale.specs.Lookup.{language};
-ghost use Rattle.rendering_locale.specs.CodeViews.{code_seen, borrowed_code};
+ghost use Rattle.rendering_locale.specs.CodeViews.{code_view, borrowed_code_view};
 
 use std::alloc::{AllocError, Global};
 
@@ -18,14 +18,14 @@ impl LocaleCode {
     /// # Errors
     /// Out of memory.
     pub fn en_us(alloc: Global) -> Result<LocaleCode, AllocError>
-        ensures { IfOk result (λ c. code_seen c ≡ en_us) }
+        ensures { IfOk result (λ c. code_view c ≡ en_us) }
     {
         Ok(LocaleCode(String::from_str(alloc, "en-US")?))
     }
 
     /// The language that the code begins with, up to the first hyphen.
     pub fn parse_base(&self) -> &str
-        ensures { result.now ≡ base_of (code_seen self.now) }
+        ensures { result.now ≡ base_of (code_view self.now) }
     {
         base_of(self.0.as_str())
     }
@@ -35,7 +35,7 @@ impl LocaleCode {
     /// # Errors
     /// Out of memory.
     pub fn fallback(&self, alloc: Global) -> Result<Option<LocaleCode>, AllocError>
-        ensures { IfOk result (λ c. option_map code_seen c ≡ fallback (code_seen self.now)) }
+        ensures { IfOk result (λ c. option_map code_view c ≡ fallback (code_view self.now)) }
     {
         match fallback(self.0.as_str()) {
             Some(other) => Ok(Some(LocaleCode(String::from_str(alloc, other)?))),
@@ -46,7 +46,8 @@ impl LocaleCode {
 
 /// The code of the language that is wanted: the one that is asked for, else the style's own, else `en-US`.
 pub fn language<'a>(asked: Option<&'a LocaleCode>, own: Option<&'a LocaleCode>) -> &'a str
-    ensures { result.now ≡ language (option_map borrowed_code asked.entry) (option_map borrowed_code own.entry) }
+    ensures { result.now ≡ language (option_map borrowed_code_view asked.entry)
+        (option_map borrowed_code_view own.entry) }
 {
     match asked.or(own) {
         Some(code) => code.0.as_str(),

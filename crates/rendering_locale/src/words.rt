@@ -1,9 +1,9 @@
 //! Which terms are one, and which forms of a term stand for another. A term is known by its word.
 
 ghost use Rattle.std.specs.Prelude.{◌≡◌, ◌+◌};
-ghost use Rattle.rendering_taxonomy.specs.Variables.{standard_place, number_place, name_place, date_place, variable_place};
-ghost use Rattle.rendering_taxonomy.specs.Kinds.{locator_place};
-ghost use Rattle.rendering_taxonomy.specs.Terms.{label_place, other_place, term_place, is_term, form_place, is_form, forms_from};
+ghost use Rattle.rendering_taxonomy.specs.Variables.{standard_index, number_index, name_index, date_index, variable_index};
+ghost use Rattle.rendering_taxonomy.specs.Kinds.{locator_index};
+ghost use Rattle.rendering_taxonomy.specs.Terms.{label_index, other_index, term_index, is_term, form_index, is_form, forms_from};
 
 use rendering_taxonomy::{
     DateVariable, Locator, NameVariable, NumberVariable, OtherTerm, StandardVariable, Term,
@@ -14,23 +14,23 @@ use rendering_taxonomy::{
 pub(crate) fn is_term(term: Term, name: Term) -> bool
     ensures { result ≡ is_term term name }
 {
-    term_place(term) == term_place(name)
+    term_index(term) == term_index(name)
 }
 
-/// The place of the term among all words.
-fn term_place(term: Term) -> u16
-    ensures { result ≡ term_place term }
+/// The index of the term among all words.
+fn term_index(term: Term) -> u16
+    ensures { result ≡ term_index term }
 {
     match term {
-        Term::Variable(variable) => variable_place(variable),
-        Term::Locator(locator) => label_place(locator),
-        Term::Other(other) => other_place(other),
+        Term::Variable(variable) => variable_index(variable),
+        Term::Locator(locator) => label_index(locator),
+        Term::Other(other) => other_index(other),
     }
 }
 
-/// The place of a variable that is a text.
-fn standard_place(variable: StandardVariable) -> u16
-    ensures { result ≡ standard_place variable }
+/// The index of a variable that is a text.
+fn standard_index(variable: StandardVariable) -> u16
+    ensures { result ≡ standard_index variable }
 {
     match variable {
         StandardVariable::CitationLabel => 0,
@@ -50,9 +50,9 @@ fn standard_place(variable: StandardVariable) -> u16
     }
 }
 
-/// The place of a variable that is a number.
-fn number_place(variable: NumberVariable) -> u16
-    ensures { result ≡ number_place variable }
+/// The index of a variable that is a number.
+fn number_index(variable: NumberVariable) -> u16
+    ensures { result ≡ number_index variable }
 {
     match variable {
         NumberVariable::ChapterNumber => 20,
@@ -69,9 +69,9 @@ fn number_place(variable: NumberVariable) -> u16
     }
 }
 
-/// The place of a variable that is people.
-fn name_place(variable: NameVariable) -> u16
-    ensures { result ≡ name_place variable }
+/// The index of a variable that is people.
+fn name_index(variable: NameVariable) -> u16
+    ensures { result ≡ name_index variable }
 {
     match variable {
         NameVariable::Author => 40,
@@ -81,9 +81,9 @@ fn name_place(variable: NameVariable) -> u16
     }
 }
 
-/// The place of a variable that is a date.
-fn date_place(variable: DateVariable) -> u16
-    ensures { result ≡ date_place variable }
+/// The index of a variable that is a date.
+fn date_index(variable: DateVariable) -> u16
+    ensures { result ≡ date_index variable }
 {
     match variable {
         DateVariable::Accessed => 50,
@@ -95,28 +95,28 @@ fn date_place(variable: DateVariable) -> u16
     }
 }
 
-/// The place of a variable.
-fn variable_place(variable: Variable) -> u16
-    ensures { result ≡ variable_place variable }
+/// The index of a variable.
+fn variable_index(variable: Variable) -> u16
+    ensures { result ≡ variable_index variable }
 {
     match variable {
-        Variable::Standard(variable) => standard_place(variable),
-        Variable::Number(variable) => number_place(variable),
-        Variable::Name(variable) => name_place(variable),
-        Variable::Date(variable) => date_place(variable),
+        Variable::Standard(variable) => standard_index(variable),
+        Variable::Number(variable) => number_index(variable),
+        Variable::Name(variable) => name_index(variable),
+        Variable::Date(variable) => date_index(variable),
         Variable::Page => 60,
     }
 }
 
-/// The place of the word of a label: a variable's where the label has its name, else one after all of theirs.
-fn label_place(locator: Locator) -> u16
-    ensures { result ≡ label_place locator }
+/// The index of the word of a label: a variable's where the label has its name, else one after all of theirs.
+fn label_index(locator: Locator) -> u16
+    ensures { result ≡ label_index locator }
 {
     match locator {
-        Locator::Issue => number_place(NumberVariable::Issue),
-        Locator::Note => standard_place(StandardVariable::Note),
-        Locator::Page => variable_place(Variable::Page),
-        Locator::Volume => number_place(NumberVariable::Volume),
+        Locator::Issue => number_index(NumberVariable::Issue),
+        Locator::Note => standard_index(StandardVariable::Note),
+        Locator::Page => variable_index(Variable::Page),
+        Locator::Volume => number_index(NumberVariable::Volume),
         Locator::Book => 100,
         Locator::Chapter => 101,
         Locator::Column => 102,
@@ -134,9 +134,9 @@ fn label_place(locator: Locator) -> u16
     }
 }
 
-/// The place of another word.
-fn other_place(term: OtherTerm) -> u16
-    ensures { result ≡ other_place term }
+/// The index of another word.
+fn other_index(term: OtherTerm) -> u16
+    ensures { result ≡ other_index term }
 {
     match term {
         OtherTerm::And => 200,
@@ -155,9 +155,9 @@ fn other_place(term: OtherTerm) -> u16
     }
 }
 
-/// The place of a form of a term.
-fn form_place(form: TermForm) -> u8
-    ensures { result ≡ form_place form }
+/// The index of a form of a term.
+fn form_index(form: TermForm) -> u8
+    ensures { result ≡ form_index form }
 {
     match form {
         TermForm::Long => 0,
@@ -172,7 +172,7 @@ fn form_place(form: TermForm) -> u8
 pub(crate) fn is_form(form: TermForm, wanted: TermForm) -> bool
     ensures { result ≡ is_form form wanted }
 {
-    form_place(form) == form_place(wanted)
+    form_index(form) == form_index(wanted)
 }
 
 /// The forms in which a term is looked up, one after the other.

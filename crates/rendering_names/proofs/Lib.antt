@@ -1,8 +1,8 @@
 pub mod NamesTexts
 pub mod PersonsJoined
 pub mod NamesCases
-pub mod PiecesPut
-pub mod PlacedSteps
+pub mod PiecesAppended
+pub mod IndexedSteps
 pub mod CountsOwn
 pub mod OwnSteps
 pub mod PeopleSteps

@@ -3,7 +3,7 @@ use Rattle.std.proofs.Common.{arith, ◌≡◌, ℕ, ◌+◌, ◌<◌, List, [],
 use Rattle.std.proofs.lemmas.List.{length-map, map_more, replicate-append-replicate}
 use Rattle.rendering_tree.specs.Metas as metas
 use Rattle.rendering_names.specs.Counts.{people_count}
-use Rattle.rendering_people.specs.Views.{answered_by, person_by}
+use Rattle.rendering_people.specs.Views.{lent_answered_view, lent_person_view}
 use Rattle.rendering_people.specs.declared.people.Answered.{Answered}
 use Rattle.rendering_taxonomy.specs.declared.name.DisambiguatedNameForm.{DisambiguatedNameForm}
 
@@ -13,13 +13,13 @@ count_push (x ∷ xs) a = let e : people_count (xs ++ a ∷ []) ≡ people_count
 
 pub forms_more : (ps : List Answered) (i : ℕ) (a : Answered) (f : DisambiguatedNameForm) (n : ℕ) (old new : List DisambiguatedNameForm)
     → i < length ps → a ≡ get_or ps i a → n ≡ length a.people.items
-    → old ≡ replicate (people_count (map answered_by (take i ps))) f → new ≡ old ++ replicate n f
-    → new ≡ replicate (people_count (map answered_by (take (i + 1) ps))) f
+    → old ≡ replicate (people_count (map lent_answered_view (take i ps))) f → new ≡ old ++ replicate n f
+    → new ≡ replicate (people_count (map lent_answered_view (take (i + 1) ps))) f
 forms_more ps i a f n old new low is_a is_n before after =
-    let front = map answered_by (take i ps) in
+    let leading = map lent_answered_view (take i ps) in
     after
-    ∙ (λ k. before k ++ replicate ((is_n ∙ sym (length-map a.people.items person_by)) k) f)
-    ∙ replicate-append-replicate (people_count front) (length (answered_by a).0) f
+    ∙ (λ k. before k ++ replicate ((is_n ∙ sym (length-map a.people.items lent_person_view)) k) f)
+    ∙ replicate-append-replicate (people_count leading) (length (lent_answered_view a).0) f
     ∙ ap (λ m. replicate m f)
-    (sym (count_push front (answered_by a))
-    ∙ ap people_count (ap (λ b. front ++ answered_by b ∷ []) is_a ∙ sym (map_more answered_by ps i a low)))
+    (sym (count_push leading (lent_answered_view a))
+    ∙ ap people_count (ap (λ b. leading ++ lent_answered_view b ∷ []) is_a ∙ sym (map_more lent_answered_view ps i a low)))

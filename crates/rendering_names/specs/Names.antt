@@ -69,7 +69,7 @@ properties_by o is_first people = map (own_properties o is_first) people
 abbrev pub delimiter_by : NameOptions → List ℕ
 delimiter_by o = unwrap_or o.delimiter comma_and_space
 
--- whether the name at a place is inverted
+-- whether the name at an index is inverted
 abbrev pub inverts : Option NameAsSortOrder → ℕ → Bool
 inverts None i = false
 inverts (Some orders.All) i = true
@@ -95,8 +95,8 @@ before_last_by m o n (c ∷ cs) =
     normal m (if delimits_last o n (unwrap_or o.delimiter_precedes_last behaviors.Contextual) then delimiter_by o else 32 ∷ [])
     ∷ normal m (c ∷ cs) ∷ normal m (32 ∷ []) ∷ []
 
--- what stands before the name at a place among n: nothing before the first; before the last, if it is not the first, the word; the delimiter
--- before others
+-- what stands before the name at an index among n: nothing before the first; before the last, if it is not the first, the word; the
+-- delimiter before others
 abbrev pub before_name : List Locale → Manner → NameOptions → ℕ → ℕ → List Piece
 before_name ls m o n i =
     if i == 0 then []
@@ -110,27 +110,27 @@ pub record NameStyle : Type 0 where
   pub et_al : EtAl
   pub options : NameOptions
 
--- a single name, in its own look and its affixes in that of the node, as the person at a place
+-- a single name, in its own look and its affixes in that of the node, as the person at an index
 abbrev pub name_pieces : NameStyle → NameVariable → ℕ → DisambiguatedNameForm → Named → List Piece
 name_pieces s v i f p =
     framed (record { display = None; meta = Some (Name v i); manner = s.manner; prefix = s.look.prefix; suffix = s.look.suffix })
     (normal (record s.manner { formatting = changed s.look.formatting s.manner.formatting }) (person_text s.options (inverts s.options.name_as_sort_order i) f p) ∷ [])
 
--- a person of a variable with a form, under its place
-abbrev pub Placed : Type 0
-Placed = ℕ × (DisambiguatedNameForm × Named)
+-- a person of a variable with a form, under its index
+abbrev pub IndexedPerson : Type 0
+IndexedPerson = ℕ × (DisambiguatedNameForm × Named)
 
--- the person at a place
-abbrev pub placed_pieces : NameStyle → NameVariable → Placed → List Piece
-placed_pieces s v p = name_pieces s v p.0 (p.1).0 (p.1).1
+-- the person at an index
+abbrev pub indexed_pieces : NameStyle → NameVariable → IndexedPerson → List Piece
+indexed_pieces s v p = name_pieces s v p.0 (p.1).0 (p.1).1
 
 -- people of a variable that has n, each after what stands before it
-abbrev pub shown_pieces : NameStyle → NameVariable → ℕ → List Placed → List Piece
-shown_pieces s v n ps = flat_map (λ p. before_name s.locales s.manner s.options n p.0 ++ placed_pieces s v p) ps
+abbrev pub shown_pieces : NameStyle → NameVariable → ℕ → List IndexedPerson → List Piece
+shown_pieces s v n ps = flat_map (λ p. before_name s.locales s.manner s.options n p.0 ++ indexed_pieces s v p) ps
 
 -- the last of n people
-abbrev pub last_pieces : NameStyle → NameVariable → ℕ → List Placed → List Piece
-last_pieces s v n ps = flat_map (placed_pieces s v) (drop (n - 1) ps)
+abbrev pub last_pieces : NameStyle → NameVariable → ℕ → List IndexedPerson → List Piece
+last_pieces s v n ps = flat_map (indexed_pieces s v) (drop (n - 1) ps)
 
 -- the term by its name
 abbrev pub et_al_term : EtAlTerm → OtherTerm
@@ -158,13 +158,13 @@ after_ellipsis s ps = normal s.manner (delimiter_by s.options) ∷ normal s.mann
 
 -- After the shown names, where there are more: the last one, after an ellipsis, where it is wanted and two or more are left out;
 -- else the term for them.
-abbrev pub rest_pieces : NameStyle → NameVariable → ℕ → ℕ → List Placed → List Piece
+abbrev pub rest_pieces : NameStyle → NameVariable → ℕ → ℕ → List IndexedPerson → List Piece
 rest_pieces s v n shown ps =
     if nat_le n shown then []
     else (if unwrap_or s.options.et_al_use_last false && nat_le 2 (n - shown) then after_ellipsis s (last_pieces s v n ps) else et_al_pieces s shown)
 
 -- the first of the people, so many, and what stands for the rest
-abbrev pub list_pieces : NameStyle → NameVariable → ℕ → List Placed → List Piece
+abbrev pub list_pieces : NameStyle → NameVariable → ℕ → List IndexedPerson → List Piece
 list_pieces s v shown ps = shown_pieces s v (length ps) (take shown ps) ++ rest_pieces s v (length ps) shown ps
 
 -- whether a label stands in the plural, where its value does or not
@@ -173,7 +173,7 @@ pluralizes plurals.Contextual plural = plural
 pluralizes plurals.Always plural = true
 pluralizes plurals.Never plural = false
 
--- how a label's text is put down
+-- how a label's text is appended
 abbrev pub label_manner : Manner → LabelLook → Manner
 label_manner m l = record { formatting = changed l.look.formatting m.formatting; strips_periods = m.strips_periods || l.strips_periods }
 
@@ -203,11 +203,11 @@ variable_pieces s h (p, a) =
     (beside h.label_is_first (label_pieces s.locales s.manner a.1 (length a.0) h.label)
     (list_pieces s a.1 p.shown (enumerate_from 0 (zip p.forms a.0))))
 
--- the look of single names where nothing is said of them
+-- the look of single names where nothing is specified for them
 abbrev pub no_look : NameLook
 no_look = record { options = open_options; formatting = unchanged; prefix = []; suffix = [] }
 
--- the term for others where nothing is said of it
+-- the term for others where nothing is specified for it
 abbrev pub plain_et_al : EtAl
 plain_et_al = record { name = et_al_terms.EtAl; formatting = unchanged }
 
@@ -230,26 +230,26 @@ abbrev pub is_count : Option NameForm → Bool
 is_count (Some name_forms.Count) = true
 is_count f = false
 
--- what stands before the people of the variable at a place: the node's delimiter, but before the first nothing
+-- what stands before the people of the variable at an index: the node's delimiter, but before the first nothing
 abbrev pub before_people : Manner → NamesNode → ℕ → List Piece
 before_people m h i = if i == 0 then [] else normal m (unwrap_or h.delimiter comma_and_space) ∷ []
 
--- the people of the variable at a place, after what stands before them
-abbrev pub placed_variable : NameStyle → NamesNode → ℕ × (VariableProperties × Answered) → List Piece
-placed_variable s h p = before_people s.manner h p.0 ++ variable_pieces s h p.1
+-- the people of the variable at an index, after what stands before them
+abbrev pub indexed_variable : NameStyle → NamesNode → ℕ × (VariableProperties × Answered) → List Piece
+indexed_variable s h p = before_people s.manner h p.0 ++ variable_pieces s h p.1
 
 -- the people of each variable, or only how many are shown
 abbrev pub people_pieces : NameStyle → NamesNode → Properties → List Answered → List Piece
 people_pieces s h ps people =
     if is_count s.options.form
     then normal s.manner (decimal (all_shown ps)) ∷ []
-    else flat_map (placed_variable s h) (enumerate_from 0 (zip ps people))
+    else flat_map (indexed_variable s h) (enumerate_from 0 (zip ps people))
 
 -- the element of a names node
 abbrev pub names_frame : Manner → NamesNode → List Answered → Frame
 names_frame m h people = record { display = h.look.display; meta = Some (Names people); manner = m; prefix = h.look.prefix; suffix = h.look.suffix }
 
--- how a names node's own texts are put down
+-- how a names node's own texts are appended
 abbrev pub names_manner : Manner → NamesNode → Manner
 names_manner m h = record m { formatting = changed h.look.formatting m.formatting }
 
@@ -257,8 +257,8 @@ names_manner m h = record m { formatting = changed h.look.formatting m.formattin
 abbrev pub names_pieces : List Locale → Manner → NamesNode → NameOptions → Properties → List Answered → List Piece
 names_pieces ls m h around ps people = framed (names_frame m h people) (people_pieces (style_of ls (names_manner m h) h around) h ps people)
 
--- What a names node says of names where it stands in for another: without a name and without a term for others it takes those of that
--- node, and its label with the label's place, if it has none itself.
+-- What a names node says of names where it is a substitute for another: without a name and without a term for others it takes those of that
+-- node, and its label with the label's position, if it has none itself.
 abbrev pub completed : NamesNode → NamesNode → NamesNode
 completed outer h = if is_some h.name || is_some h.et_al then h else record h {
   name = outer.name;

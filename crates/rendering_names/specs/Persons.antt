@@ -17,11 +17,11 @@ joined between (c ∷ cs) (d ∷ ds) = (c ∷ cs) ++ between ++ (d ∷ ds)
 abbrev pub spaced : List ℕ → List ℕ → List ℕ
 spaced cs ds = joined (32 ∷ []) cs ds
 
--- what stands between names where nothing is said of it
+-- what stands between names where nothing is specified for it
 abbrev pub comma_and_space : List ℕ
 comma_and_space = 44 ∷ 32 ∷ []
 
--- what stands after initials where nothing is said of it
+-- what stands after initials where nothing is specified for it
 abbrev pub stop_and_space : List ℕ
 stop_and_space = 46 ∷ 32 ∷ []
 

@@ -6,25 +6,25 @@ use Rattle.std.specs.Option.{option_map, unwrap_or}
 use Rattle.std.specs.declared.borrow.Cow.{Cow}
 use Rattle.laws.specs.Text.{spelled}
 use Rattle.literature_values.specs.declared.person.Person.{Person}
-use Rattle.rendering_people.specs.Views.{people_by}
+use Rattle.rendering_people.specs.Views.{lent_people_view}
 use Rattle.rendering_page.specs.Pages.{Page}
-use Rattle.rendering_page.specs.Pieces.{Piece, all_down}
-use Rattle.rendering_page.specs.Views.{quotes_of, manner}
+use Rattle.rendering_page.specs.Pieces.{Piece, append_pieces}
+use Rattle.rendering_page.specs.Views.{quotes_view, manner_view}
 use Rattle.rendering_style.specs.Nodes as nodes
 use Rattle.rendering_style.specs.Options.{NameOptions}
-use Rattle.rendering_style.specs.Views.{name_seen, et_al_seen, label_seen, look_seen}
+use Rattle.rendering_style.specs.Views.{name_look_view, et_al_view, label_look_view, look_view}
 use Rattle.rendering_style.specs.declared.node.EtAl.{EtAl}
 use Rattle.rendering_style.specs.declared.node.Name.{Name}
 use Rattle.rendering_names.specs.Names as names
-use Rattle.rendering_names.specs.Names.{Placed, no_look, plain_et_al}
+use Rattle.rendering_names.specs.Names.{IndexedPerson, no_look, plain_et_al}
 use Rattle.rendering_names.specs.declared.options.ResolvedNameOptions.{ResolvedNameOptions}
 use Rattle.rendering_names.specs.declared.parts.NamesParts.{NamesParts}
 use Rattle.rendering_names.specs.declared.style.NameStyle.{NameStyle}
 use Rattle.rendering_taxonomy.specs.declared.name.DisambiguatedNameForm.{DisambiguatedNameForm}
 
--- what is said of names
-abbrev pub options_by : ResolvedNameOptions → NameOptions
-options_by o = record {
+-- what is specified for names
+abbrev pub resolved_options_view : ResolvedNameOptions → NameOptions
+resolved_options_view o = record {
   and_term = o.and;
   delimiter = option_map spelled o.delimiter;
   delimiter_precedes_last = o.delimiter_precedes_last;
@@ -40,40 +40,40 @@ options_by o = record {
   demote = o.demote_non_dropping_particle;
 }
 
--- what is said of single names, where something is
-abbrev pub name_by : Option (Bor Name) → Option nodes.NameLook
-name_by n = option_map (λ b. name_seen b.now) n
+-- what is specified for single names, where something is
+abbrev pub lent_name_view : Option (Bor Name) → Option nodes.NameLook
+lent_name_view n = option_map (λ b. name_look_view b.now) n
 
--- the term for those left out, where something is said of it
-abbrev pub et_al_by : Option (Bor EtAl) → Option nodes.EtAl
-et_al_by e = option_map (λ b. et_al_seen b.now) e
+-- the term for those left out, where something is specified for it
+abbrev pub lent_et_al_view : Option (Bor EtAl) → Option nodes.EtAl
+lent_et_al_view e = option_map (λ b. et_al_view b.now) e
 
 -- a names node
-abbrev pub node_by : NamesParts → nodes.NamesNode
-node_by n = record {
+abbrev pub names_parts_view : NamesParts → nodes.NamesNode
+names_parts_view n = record {
   variables = n.variables.now;
-  name = name_by n.name;
-  et_al = et_al_by n.et_al;
-  label = option_map (λ b. label_seen b.now) n.label;
+  name = lent_name_view n.name;
+  et_al = lent_et_al_view n.et_al;
+  label = option_map (λ b. label_look_view b.now) n.label;
   label_is_first = n.label_is_first;
   delimiter = option_map spelled n.delimiter;
-  look = look_seen n.look.now;
+  look = look_view n.look.now;
 }
 
--- people with their forms under their places
-abbrev pub placed : List DisambiguatedNameForm → List (Cow Person) → List Placed
-placed fs ps = enumerate_from 0 (zip fs (people_by ps))
+-- people with their forms under their indices
+abbrev pub indexed : List DisambiguatedNameForm → List (Cow Person) → List IndexedPerson
+indexed fs ps = enumerate_from 0 (zip fs (lent_people_view ps))
 
 -- how names stand
-abbrev pub style_by : NameStyle → names.NameStyle
-style_by s = record {
+abbrev pub name_style_view : NameStyle → names.NameStyle
+name_style_view s = record {
   locales = s.setting.locales.now;
-  manner = manner s.setting.manner;
-  look = unwrap_or (name_by s.name) no_look;
-  et_al = unwrap_or (et_al_by s.et_al) plain_et_al;
-  options = options_by s.options;
+  manner = manner_view s.setting.manner;
+  look = unwrap_or (lent_name_view s.name) no_look;
+  et_al = unwrap_or (lent_et_al_view s.et_al) plain_et_al;
+  options = resolved_options_view s.options;
 }
 
--- what a page comes to when these are put down
-abbrev pub down : NameStyle → List Piece → Page → Page
-down s ps p = all_down (quotes_of s.setting.quotes.now) ps p
+-- what a page comes to when these are appended
+abbrev pub append_here : NameStyle → List Piece → Page → Page
+append_here s ps p = append_pieces (quotes_view s.setting.quotes.now) ps p

@@ -4,9 +4,9 @@ ghost use Rattle.std.specs.Prelude.{◌≡◌, OnOk, None};
 ghost use Rattle.std.specs.Option.{option_map};
 ghost use Rattle.laws.specs.Text.{spelled};
 ghost use Rattle.rendering_names.specs.Names.{label_manner, label_pieces, label_text_pieces, pluralizes};
-ghost use Rattle.rendering_names.specs.Views.{down, style_by};
-ghost use Rattle.rendering_page.specs.Views.{manner as manner_seen, frame as frame_seen};
-ghost use Rattle.rendering_style.specs.Views.{label_seen};
+ghost use Rattle.rendering_names.specs.Views.{append_here, name_style_view};
+ghost use Rattle.rendering_page.specs.Views.{manner_view, frame_view};
+ghost use Rattle.rendering_style.specs.Views.{label_look_view};
 
 use crate::style::{NameStyle, changed_manner};
 use rendering_page::{Frame, Manner, Page};
@@ -25,9 +25,9 @@ pub fn pluralizes(plural: LabelPluralize, is_plural: bool) -> bool
     }
 }
 
-/// How the text of a label is put down.
+/// How the text of a label is appended.
 pub fn label_manner(manner: Manner, label: &LabelLook) -> Manner
-    ensures { manner_seen result ≡ label_manner (manner_seen manner) (label_seen label.now) }
+    ensures { manner_view result ≡ label_manner (manner_view manner) (label_look_view label.now) }
 {
     let own = changed_manner(label.look.formatting, manner);
     Manner {
@@ -37,7 +37,7 @@ pub fn label_manner(manner: Manner, label: &LabelLook) -> Manner
 }
 
 impl<'s, 'a> NameStyle<'s, 'a> {
-    /// Puts down the label of a variable with so many people, where there is one.
+    /// Appends the label of a variable with so many people, where there is one.
     pub(crate) fn push_label(
         &self,
         page: &mut Page<'a>,
@@ -45,7 +45,9 @@ impl<'s, 'a> NameStyle<'s, 'a> {
         people: usize,
         label: Option<&'a LabelLook>,
     ) -> Result<(), AllocError>
-        ensures { OnOk result (page.new ≡ down self.now (label_pieces self.now.setting.locales.now (style_by self.now).manner variable people (option_map (λ b. label_seen b.now) label.entry)) page.old) }
+        ensures { OnOk result (page.new ≡ append_here self.now
+            (label_pieces self.now.setting.locales.now (name_style_view self.now).manner
+            variable people (option_map (λ b. label_look_view b.now) label.entry)) page.old) }
     {
         let Some(label) = label else {
             return Ok(());
@@ -56,14 +58,16 @@ impl<'s, 'a> NameStyle<'s, 'a> {
         self.push_label_text(page, label, locales.term_text(term, label.form, is_plural))
     }
 
-    /// Puts down the text of a label between its affixes.
+    /// Appends the text of a label between its affixes.
     fn push_label_text(
         &self,
         page: &mut Page<'a>,
         label: &'a LabelLook,
         text: &'a str,
     ) -> Result<(), AllocError>
-        ensures { OnOk result (page.new ≡ down self.now (label_text_pieces (style_by self.now).manner (label_seen label.now) (spelled text.entry)) page.old) }
+        ensures { OnOk result (page.new
+            ≡ append_here self.now (label_text_pieces (name_style_view self.now).manner
+            (label_look_view label.now) (spelled text.entry)) page.old) }
     {
         let frame = label_frame(self.setting.manner, label);
         page.begin(&frame)?;
@@ -79,7 +83,7 @@ impl<'s, 'a> NameStyle<'s, 'a> {
 
 /// The affixes of a label.
 fn label_frame<'a>(manner: Manner, label: &'a LabelLook) -> Frame<'a>
-    ensures { frame_seen result ≡ record { display = None; meta = None; manner = manner_seen manner; prefix = (label_seen label.now).look.prefix; suffix = (label_seen label.now).look.suffix } }
+    ensures { frame_view result ≡ record { display = None; meta = None; manner = manner_view manner; prefix = (label_look_view label.now).look.prefix; suffix = (label_look_view label.now).look.suffix } }
 {
     Frame {
         display: None,

@@ -1,5 +1,5 @@
 //! Names as a style prints them: what a node, the layout and the style say of them; and the people of a names node on a page, in the forms
-//! that tell cites apart.
+//! that disambiguate cites.
 #![tactic(auto)]
 
 mod label;

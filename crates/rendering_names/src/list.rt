@@ -2,13 +2,13 @@
 
 ghost use Rattle.std.specs.Prelude.{◌≡◌, ◌+◌, ◌<◌, ◌≤◌, ◌∷◌, [], IfOk, OnOk, length, take, if◌then◌else◌};
 ghost use Rattle.laws.specs.Text.{characters, spelled};
-ghost use Rattle.literature_values.specs.PersonViews.{person as person_seen};
+ghost use Rattle.literature_values.specs.PersonViews.{person_view};
 ghost use Rattle.rendering_names.specs.Names.{after_ellipsis, and_text, before_last_by, before_name, delimiter_by, et_al_by, et_al_pieces, inverts, last_pieces, list_pieces, name_pieces, rest_pieces, shown_pieces};
 ghost use Rattle.rendering_names.specs.Persons.{person_text};
-ghost use Rattle.rendering_people.specs.Views.{person_by};
-ghost use Rattle.rendering_names.specs.Views.{down, options_by, placed, style_by};
-ghost use Rattle.rendering_page.specs.Pages.{normal_put};
-ghost use Rattle.rendering_page.specs.Views.{quotes_of};
+ghost use Rattle.rendering_people.specs.Views.{lent_person_view};
+ghost use Rattle.rendering_names.specs.Views.{append_here, resolved_options_view, indexed, name_style_view};
+ghost use Rattle.rendering_page.specs.Pages.{append_normal};
+ghost use Rattle.rendering_page.specs.Views.{quotes_view};
 
 use crate::person::person_text;
 use crate::style::NameStyle;
@@ -23,7 +23,7 @@ use std::borrow::Cow;
 use texts::has_text;
 
 impl<'s, 'a> NameStyle<'s, 'a> {
-    /// Puts down the first people of a variable, so many of them, and what stands for the rest.
+    /// Appends the first people of a variable, so many of them, and what stands for the rest.
     pub(crate) fn push_list(
         &self,
         page: &mut Page<'a>,
@@ -32,14 +32,15 @@ impl<'s, 'a> NameStyle<'s, 'a> {
         forms: &[DisambiguatedNameForm],
         people: &[Cow<'_, Person>],
     ) -> Result<(), AllocError>
-        ensures { OnOk result (page.new ≡ down self.now (list_pieces (style_by self.now) variable shown (placed forms.now people.now)) page.old) }
+        ensures { OnOk result (page.new ≡ append_here self.now (list_pieces
+            (name_style_view self.now) variable shown (indexed forms.now people.now)) page.old) }
     {
         let count = forms.len().min(people.len());
         self.push_shown(page, variable, forms, people, count, shown.min(count))?;
         self.push_rest(page, variable, count, shown, forms, people)
     }
 
-    /// Puts down the first people of a variable, each after what stands before it.
+    /// Appends the first people of a variable, each after what stands before it.
     fn push_shown(
         &self,
         page: &mut Page<'a>,
@@ -52,33 +53,39 @@ impl<'s, 'a> NameStyle<'s, 'a> {
         requires shown { shown ≤ count }
         requires forms { count ≤ length forms.now }
         requires people { count ≤ length people.now }
-        ensures { OnOk result (page.new ≡ down self.now (shown_pieces (style_by self.now) variable count (take shown (placed forms.now people.now))) page.old) }
+        ensures { OnOk result (page.new
+            ≡ append_here self.now (shown_pieces (name_style_view self.now) variable count
+            (take shown (indexed forms.now people.now))) page.old) }
     {
-        for place in 0..shown {
-            self.push_before(page, count, place)?;
-            self.push_name(page, variable, place, forms[place], &people[place])?;
+        for index in 0..shown {
+            self.push_before(page, count, index)?;
+            self.push_name(page, variable, index, forms[index], &people[index])?;
         }
         Ok(())
     }
 
-    /// Puts down what stands before the name at a place among so many.
-    fn push_before(&self, page: &mut Page<'a>, count: usize, place: usize) -> Result<(), AllocError>
-        requires { place < count }
-        ensures { OnOk result (page.new ≡ down self.now (before_name self.now.setting.locales.now (style_by self.now).manner (options_by self.now.options) count place) page.old) }
+    /// Appends what stands before the name at an index among so many.
+    fn push_before(&self, page: &mut Page<'a>, count: usize, index: usize) -> Result<(), AllocError>
+        requires { index < count }
+        ensures { OnOk result (page.new ≡ append_here self.now
+            (before_name self.now.setting.locales.now (name_style_view self.now).manner
+            (resolved_options_view self.now.options) count index) page.old) }
     {
-        if place == 0 {
+        if index == 0 {
             return Ok(());
         }
-        if place + 1 == count {
+        if index + 1 == count {
             return self.push_before_last(page, count);
         }
         self.push_delimiter(page)
     }
 
-    /// Puts down what stands before the last of so many names: the delimiter or a space, the word and a space; without a word
+    /// Appends what stands before the last of so many names: the delimiter or a space, the word and a space; without a word
     /// the delimiter.
     fn push_before_last(&self, page: &mut Page<'a>, count: usize) -> Result<(), AllocError>
-        ensures { OnOk result (page.new ≡ down self.now (before_last_by (style_by self.now).manner (options_by self.now.options) count (and_text self.now.setting.locales.now self.now.options.and)) page.old) }
+        ensures { OnOk result (page.new ≡ append_here self.now (before_last_by
+            (name_style_view self.now).manner (resolved_options_view self.now.options) count
+            (and_text self.now.setting.locales.now self.now.options.and)) page.old) }
     {
         let word = self.and_text();
         if !has_text(word) {
@@ -89,13 +96,15 @@ impl<'s, 'a> NameStyle<'s, 'a> {
         self.push_space(page)
     }
 
-    /// Puts down the delimiter, or else a space.
+    /// Appends the delimiter, or else a space.
     fn push_delimiter_or_space(
         &self,
         page: &mut Page<'a>,
         is_delimited: bool,
     ) -> Result<(), AllocError>
-        ensures { OnOk result (page.new ≡ normal_put (quotes_of self.now.setting.quotes.now) (style_by self.now).manner (if is_delimited then delimiter_by (options_by self.now.options) else 32 ∷ []) page.old) }
+        ensures { OnOk result (page.new ≡ append_normal (quotes_view self.now.setting.quotes.now)
+            (name_style_view self.now).manner (if is_delimited
+            then delimiter_by (resolved_options_view self.now.options) else 32 ∷ []) page.old) }
     {
         if is_delimited {
             return self.push_delimiter(page);
@@ -103,9 +112,11 @@ impl<'s, 'a> NameStyle<'s, 'a> {
         self.push_space(page)
     }
 
-    /// Puts down the text between names.
+    /// Appends the text between names.
     fn push_delimiter(&self, page: &mut Page<'a>) -> Result<(), AllocError>
-        ensures { OnOk result (page.new ≡ normal_put (quotes_of self.now.setting.quotes.now) (style_by self.now).manner (delimiter_by (options_by self.now.options)) page.old) }
+        ensures { OnOk result (page.new ≡ append_normal
+            (quotes_view self.now.setting.quotes.now) (name_style_view self.now).manner
+            (delimiter_by (resolved_options_view self.now.options)) page.old) }
     {
         page.push_text(
             self.setting.quotes,
@@ -114,46 +125,51 @@ impl<'s, 'a> NameStyle<'s, 'a> {
         )
     }
 
-    /// Puts down a space.
+    /// Appends a space.
     fn push_space(&self, page: &mut Page<'a>) -> Result<(), AllocError>
-        ensures { OnOk result (page.new ≡ normal_put (quotes_of self.now.setting.quotes.now) (style_by self.now).manner (32 ∷ []) page.old) }
+        ensures { OnOk result (page.new ≡ append_normal (quotes_view self.now.setting.quotes.now)
+            (name_style_view self.now).manner (32 ∷ []) page.old) }
     {
         page.push_text(self.setting.quotes, self.setting.manner, space())
     }
 
-    /// Puts down a name between its affixes, as the person at a place.
+    /// Appends a name between its affixes, as the person at an index.
     fn push_name(
         &self,
         page: &mut Page<'a>,
         variable: NameVariable,
-        place: usize,
+        index: usize,
         form: DisambiguatedNameForm,
         person: &Cow<'_, Person>,
     ) -> Result<(), AllocError>
-        ensures { OnOk result (page.new ≡ down self.now (name_pieces (style_by self.now) variable place form (person_by person.now)) page.old) }
+        ensures { OnOk result (page.new
+            ≡ append_here self.now (name_pieces (name_style_view self.now) variable index form
+            (lent_person_view person.now)) page.old) }
     {
         let frame = self.name_frame();
-        let text = self.name_text(place, form, borrowed_person(person))?;
-        page.begin_element(&frame, ElemMeta::Name(variable, place))?;
+        let text = self.name_text(index, form, borrowed_person(person))?;
+        page.begin_element(&frame, ElemMeta::Name(variable, index))?;
         page.push_made(self.setting.quotes, self.name_manner(), text)?;
         page.end_element(self.setting.quotes, &frame)?;
         Ok(())
     }
 
-    /// The text of the name at a place.
+    /// The text of the name at an index.
     fn name_text(
         &self,
-        place: usize,
+        index: usize,
         form: DisambiguatedNameForm,
         person: &Person,
     ) -> Result<String, AllocError>
-        ensures { IfOk result (λ s. characters s ≡ person_text (options_by self.now.options) (inverts self.now.options.name_as_sort_order place) form (person_seen person.now)) }
+        ensures { IfOk result (λ s. characters s
+            ≡ person_text (resolved_options_view self.now.options)
+            (inverts self.now.options.name_as_sort_order index) form (person_view person.now)) }
     {
-        let is_inverted = self.options.inverts(place);
+        let is_inverted = self.options.inverts(index);
         person_text(self.setting.alloc, &self.options, is_inverted, form, person)
     }
 
-    /// Puts down what stands for those who are not shown: the last one, after an ellipsis, where that is wanted and two or more
+    /// Appends what stands for those who are not shown: the last one, after an ellipsis, where that is wanted and two or more
     /// are left out, or else the term for them.
     fn push_rest(
         &self,
@@ -166,8 +182,10 @@ impl<'s, 'a> NameStyle<'s, 'a> {
     ) -> Result<(), AllocError>
         requires forms { count ≤ length forms.now }
         requires people { count ≤ length people.now }
-        requires all { length (placed forms.now people.now) ≡ count }
-        ensures { OnOk result (page.new ≡ down self.now (rest_pieces (style_by self.now) variable count shown (placed forms.now people.now)) page.old) }
+        requires all { length (indexed forms.now people.now) ≡ count }
+        ensures { OnOk result (page.new
+            ≡ append_here self.now (rest_pieces (name_style_view self.now) variable count shown
+            (indexed forms.now people.now)) page.old) }
     {
         if count <= shown {
             return Ok(());
@@ -178,7 +196,7 @@ impl<'s, 'a> NameStyle<'s, 'a> {
         self.push_et_al(page, shown)
     }
 
-    /// Puts down the name at the last place after an ellipsis.
+    /// Appends the name at the last index after an ellipsis.
     fn push_last(
         &self,
         page: &mut Page<'a>,
@@ -189,8 +207,10 @@ impl<'s, 'a> NameStyle<'s, 'a> {
     ) -> Result<(), AllocError>
         requires forms { last < length forms.now }
         requires people { last < length people.now }
-        requires all { length (placed forms.now people.now) ≡ last + 1 }
-        ensures { OnOk result (page.new ≡ down self.now (after_ellipsis (style_by self.now) (last_pieces (style_by self.now) variable (last + 1) (placed forms.now people.now))) page.old) }
+        requires all { length (indexed forms.now people.now) ≡ last + 1 }
+        ensures { OnOk result (page.new ≡ append_here self.now
+            (after_ellipsis (name_style_view self.now) (last_pieces (name_style_view self.now)
+            variable (last + 1) (indexed forms.now people.now))) page.old) }
     {
         self.push_delimiter(page)?;
         page.push_text(self.setting.quotes, self.setting.manner, ellipsis())?;
@@ -198,24 +218,26 @@ impl<'s, 'a> NameStyle<'s, 'a> {
         self.push_name(page, variable, last, forms[last], &people[last])
     }
 
-    /// Puts down the term for those left out, after the delimiter where two or more are shown, else after a space. Without a
+    /// Appends the term for those left out, after the delimiter where two or more are shown, else after a space. Without a
     /// term there is neither.
     fn push_et_al(&self, page: &mut Page<'a>, shown: usize) -> Result<(), AllocError>
-        ensures { OnOk result (page.new ≡ down self.now (et_al_pieces (style_by self.now) shown) page.old) }
+        ensures { OnOk result (page.new
+            ≡ append_here self.now (et_al_pieces (name_style_view self.now) shown) page.old) }
     {
         let term = Term::Other(self.et_al_term());
         let locales = self.setting.locales;
         self.push_et_al_text(page, shown, locales.term_text(term, TermForm::Long, false))
     }
 
-    /// Puts down that text for those left out, after the delimiter or a space; an empty text has neither.
+    /// Appends that text for those left out, after the delimiter or a space; an empty text has neither.
     fn push_et_al_text(
         &self,
         page: &mut Page<'a>,
         shown: usize,
         text: &'a str,
     ) -> Result<(), AllocError>
-        ensures { OnOk result (page.new ≡ down self.now (et_al_by (style_by self.now) shown (spelled text.entry)) page.old) }
+        ensures { OnOk result (page.new ≡ append_here self.now
+            (et_al_by (name_style_view self.now) shown (spelled text.entry)) page.old) }
     {
         if !has_text(text) {
             return Ok(());

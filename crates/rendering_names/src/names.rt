@@ -5,12 +5,12 @@ ghost use Rattle.std.specs.Fmt.{decimal};
 ghost use Rattle.std.specs.List.{enumerate_from, flat_map};
 ghost use Rattle.laws.specs.Text.{characters};
 ghost use Rattle.rendering_people.specs.Counts.{cut};
-ghost use Rattle.rendering_names.specs.Names.{before_people, beside, label_pieces, list_pieces, names_frame, names_manner, names_pieces, node_options, people_pieces, placed_variable, variable_frame, variable_pieces};
-ghost use Rattle.rendering_people.specs.Views.{all_answered, answered_by};
-ghost use Rattle.rendering_names.specs.Views.{down, node_by, options_by, placed, style_by};
-ghost use Rattle.rendering_page.specs.Pieces.{all_down, normal};
+ghost use Rattle.rendering_names.specs.Names.{before_people, beside, label_pieces, list_pieces, names_frame, names_manner, names_pieces, node_options, people_pieces, indexed_variable, variable_frame, variable_pieces};
+ghost use Rattle.rendering_people.specs.Views.{all_lent_answered_view, lent_answered_view};
+ghost use Rattle.rendering_names.specs.Views.{append_here, names_parts_view, resolved_options_view, indexed, name_style_view};
+ghost use Rattle.rendering_page.specs.Pieces.{append_pieces, normal};
 ghost use Rattle.rendering_style.specs.Options.{NameOptions};
-ghost use Rattle.rendering_page.specs.Views.{quotes_of, manner as manner_seen, frame as frame_seen};
+ghost use Rattle.rendering_page.specs.Views.{quotes_view, manner_view, frame_view};
 
 use crate::options::ResolvedNameOptions;
 use crate::parts::NamesParts;
@@ -26,7 +26,7 @@ use std::alloc::{AllocError, Global};
 use std::fmt::Write;
 use texts::empty_text;
 
-/// Puts down the people of a names node in an element that stands for them: of each variable the names that the properties
+/// Appends the people of a names node in an element that stands for them: of each variable the names that the properties
 /// show, each in its form, with the label of the variable; or only how many are shown, where the options say so. The options are those
 /// of the node over those around it. The
 /// properties are those of the same people, variable by variable. Nothing is promised of the page after an error.
@@ -41,7 +41,12 @@ pub fn push_names<'a>(
     properties: &NameDisambiguationProperties,
     people: &[Answered<'_>],
 ) -> Result<(), AllocError>
-    ensures { (around : NameOptions) → options_by options.now ≡ node_options (node_by node.now) around → OnOk result (page.new ≡ all_down (quotes_of setting.now.quotes.now) (names_pieces setting.now.locales.now (manner_seen setting.now.manner) (node_by node.now) around properties.now (all_answered people.now)) page.old) }
+    ensures { (around : NameOptions)
+        → resolved_options_view options.now ≡ node_options (names_parts_view node.now) around
+        → OnOk result (page.new ≡ append_pieces (quotes_view setting.now.quotes.now)
+        (names_pieces setting.now.locales.now (manner_view setting.now.manner)
+        (names_parts_view node.now) around properties.now (all_lent_answered_view people.now))
+        page.old) }
 {
     let frame = names_frame(setting.manner, node);
     let meta = names_meta(setting.alloc, people)?;
@@ -54,7 +59,8 @@ pub fn push_names<'a>(
 
 /// The element of a names node, whatever it stands for.
 fn names_frame<'a>(manner: Manner, node: &NamesParts<'a>) -> Frame<'a>
-    ensures { frame_seen result ≡ record (names_frame (manner_seen manner) (node_by node.now) []) { meta = None } }
+    ensures { frame_view result
+        ≡ record (names_frame (manner_view manner) (names_parts_view node.now) []) { meta = None } }
 {
     Frame {
         display: node.look.display,
@@ -65,14 +71,15 @@ fn names_frame<'a>(manner: Manner, node: &NamesParts<'a>) -> Frame<'a>
     }
 }
 
-/// Where the names of a node are put down: there, with the look of the node.
+/// Where the names of a node are appended: there, with the look of the node.
 fn names_setting<'s, 'a>(
     setting: &NameSetting<'s, 'a>,
     node: &NamesParts<'a>,
 ) -> NameSetting<'s, 'a>
     ensures quotes { result.quotes.now ≡ setting.now.quotes.now }
     ensures locales { result.locales.now ≡ setting.now.locales.now }
-    ensures manner { manner_seen result.manner ≡ names_manner (manner_seen setting.now.manner) (node_by node.now) }
+    ensures manner { manner_view result.manner
+        ≡ names_manner (manner_view setting.now.manner) (names_parts_view node.now) }
 {
     NameSetting {
         alloc: setting.alloc,
@@ -83,7 +90,7 @@ fn names_setting<'s, 'a>(
 }
 
 impl<'s, 'a> NameStyle<'s, 'a> {
-    /// Puts down the people of each variable, or only how many are shown.
+    /// Appends the people of each variable, or only how many are shown.
     fn push_people(
         &self,
         page: &mut Page<'a>,
@@ -91,7 +98,9 @@ impl<'s, 'a> NameStyle<'s, 'a> {
         properties: &NameDisambiguationProperties,
         people: &[Answered<'_>],
     ) -> Result<(), AllocError>
-        ensures { OnOk result (page.new ≡ down self.now (people_pieces (style_by self.now) (node_by node.now) properties.now (all_answered people.now)) page.old) }
+        ensures { OnOk result (page.new ≡ append_here self.now
+            (people_pieces (name_style_view self.now) (names_parts_view node.now) properties.now
+            (all_lent_answered_view people.now)) page.old) }
     {
         if self.options.is_count() {
             return self.push_count(page, properties.all_shown());
@@ -99,15 +108,16 @@ impl<'s, 'a> NameStyle<'s, 'a> {
         self.push_variables(page, node, properties.counts(), properties.forms(), people)
     }
 
-    /// Puts down a number.
+    /// Appends a number.
     fn push_count(&self, page: &mut Page<'a>, shown: usize) -> Result<(), AllocError>
-        ensures { OnOk result (page.new ≡ down self.now (normal (style_by self.now).manner (decimal shown) ∷ []) page.old) }
+        ensures { OnOk result (page.new ≡ append_here self.now
+            (normal (name_style_view self.now).manner (decimal shown) ∷ []) page.old) }
     {
         let text = digits(self.setting.alloc, shown)?;
         page.push_made(self.setting.quotes, self.setting.manner, text)
     }
 
-    /// Puts down the people of each variable, with the node's delimiter between those of two.
+    /// Appends the people of each variable, with the node's delimiter between those of two.
     fn push_variables(
         &self,
         page: &mut Page<'a>,
@@ -116,35 +126,39 @@ impl<'s, 'a> NameStyle<'s, 'a> {
         forms: &[DisambiguatedNameForm],
         people: &[Answered<'_>],
     ) -> Result<(), AllocError>
-        ensures { OnOk result (page.new ≡ down self.now (flat_map (placed_variable (style_by self.now) (node_by node.now)) (enumerate_from 0 (zip (cut counts.now forms.now) (all_answered people.now)))) page.old) }
+        ensures { OnOk result (page.new ≡ append_here self.now
+            (flat_map (indexed_variable (name_style_view self.now) (names_parts_view node.now))
+            (enumerate_from 0 (zip (cut counts.now forms.now) (all_lent_answered_view people.now))))
+            page.old) }
     {
         let mut rest = forms;
-        for place in 0..counts.len().min(people.len()) {
-            let count = counts[place];
+        for index in 0..counts.len().min(people.len()) {
+            let count = counts[index];
             let (own, others) = split_forms(rest, count.people);
-            self.push_before_people(page, node, place)?;
-            self.push_variable(page, node, count, own, &people[place])?;
+            self.push_before_people(page, node, index)?;
+            self.push_variable(page, node, count, own, &people[index])?;
             rest = others;
         }
         Ok(())
     }
 
-    /// Puts down what stands before the people of the variable at a place.
+    /// Appends what stands before the people of the variable at an index.
     fn push_before_people(
         &self,
         page: &mut Page<'a>,
         node: &NamesParts<'a>,
-        place: usize,
+        index: usize,
     ) -> Result<(), AllocError>
-        ensures { OnOk result (page.new ≡ down self.now (before_people (style_by self.now).manner (node_by node.now) place) page.old) }
+        ensures { OnOk result (page.new ≡ append_here self.now (before_people
+            (name_style_view self.now).manner (names_parts_view node.now) index) page.old) }
     {
-        if place == 0 {
+        if index == 0 {
             return Ok(());
         }
         page.push_text(self.setting.quotes, self.setting.manner, node.delimiter())
     }
 
-    /// Puts down the people of a variable in an element, with the label.
+    /// Appends the people of a variable in an element, with the label.
     fn push_variable(
         &self,
         page: &mut Page<'a>,
@@ -153,7 +167,7 @@ impl<'s, 'a> NameStyle<'s, 'a> {
         forms: &[DisambiguatedNameForm],
         answered: &Answered<'_>,
     ) -> Result<(), AllocError>
-        ensures { OnOk result (page.new ≡ down self.now (variable_pieces (style_by self.now) (node_by node.now) (record { variable = count.variable; forms = forms.now; shown = count.shown }, answered_by answered.now)) page.old) }
+        ensures { OnOk result (page.new ≡ append_here self.now (variable_pieces (name_style_view self.now) (names_parts_view node.now) (record { variable = count.variable; forms = forms.now; shown = count.shown }, lent_answered_view answered.now)) page.old) }
     {
         let frame = self.variable_frame();
         page.begin_element(&frame, ElemMeta::NameVariable(answered.variable))?;
@@ -162,7 +176,7 @@ impl<'s, 'a> NameStyle<'s, 'a> {
         Ok(())
     }
 
-    /// Puts down the people of a variable with the label before or after them.
+    /// Appends the people of a variable with the label before or after them.
     fn push_labelled(
         &self,
         page: &mut Page<'a>,
@@ -171,7 +185,12 @@ impl<'s, 'a> NameStyle<'s, 'a> {
         forms: &[DisambiguatedNameForm],
         answered: &Answered<'_>,
     ) -> Result<(), AllocError>
-        ensures { OnOk result (page.new ≡ down self.now (beside (node_by node.now).label_is_first (label_pieces self.now.setting.locales.now (style_by self.now).manner answered.now.variable (length (answered_by answered.now).0) (node_by node.now).label) (list_pieces (style_by self.now) answered.now.variable shown (placed forms.now answered.now.people.items))) page.old) }
+        ensures { OnOk result (page.new
+            ≡ append_here self.now (beside (names_parts_view node.now).label_is_first (label_pieces
+            self.now.setting.locales.now (name_style_view self.now).manner answered.now.variable
+            (length (lent_answered_view answered.now).0) (names_parts_view node.now).label)
+            (list_pieces (name_style_view self.now) answered.now.variable shown
+            (indexed forms.now answered.now.people.items))) page.old) }
     {
         let variable = answered.variable;
         let people = answered.people.as_slice();
@@ -185,7 +204,9 @@ impl<'s, 'a> NameStyle<'s, 'a> {
 
     /// An element without affixes.
     fn variable_frame(&self) -> Frame<'a>
-        ensures { frame_seen result ≡ record (variable_frame (style_by self.now).manner NameVariable.Author) { meta = None } }
+        ensures { frame_view result
+            ≡ record (variable_frame (name_style_view self.now).manner NameVariable.Author)
+            { meta = None } }
     {
         Frame {
             display: None,

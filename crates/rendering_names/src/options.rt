@@ -1,13 +1,13 @@
-//! What is said of names by a node, the layout and the style.
+//! What is specified for names by a node, the layout and the style.
 
 ghost use Rattle.std.specs.Prelude.{◌≡◌, ◌&&◌, nat_le, nat_lt, if◌then◌else◌};
 ghost use Rattle.std.specs.Option.{option_map, unwrap_or};
 ghost use Rattle.laws.specs.Text.{spelled};
 ghost use Rattle.rendering_names.specs.Names.{form_by, base_form, shown_by, shown_of, delimiter_by, inverts, delimits_last, is_count};
 ghost use Rattle.rendering_names.specs.Persons.{comma_and_space, stop_and_space};
-ghost use Rattle.rendering_names.specs.Views.{options_by};
+ghost use Rattle.rendering_names.specs.Views.{resolved_options_view};
 ghost use Rattle.rendering_style.specs.Options.{options_over};
-ghost use Rattle.rendering_style.specs.Views.{options_seen};
+ghost use Rattle.rendering_style.specs.Views.{options_view};
 
 use crate::words::{borrowed, comma_and_space, or_text, stop_and_space, text_or};
 use rendering_style::NameOptions;
@@ -15,7 +15,7 @@ use rendering_taxonomy::{
     DelimiterBehavior, DisambiguatedNameForm, NameAnd, NameAsSortOrder, NameForm,
 };
 
-/// What is said of names, taken together from a node, the layout around it and the style. What none of them says is left
+/// What is specified for names, taken together from a node, the layout around it and the style. What none of them says is left
 /// open.
 #[derive(Clone, Copy)]
 pub struct ResolvedNameOptions<'a> {
@@ -35,7 +35,7 @@ pub struct ResolvedNameOptions<'a> {
     /// Whether the last name is shown after those left out.
     pub et_al_use_last: Option<bool>,
     pub form: Option<NameForm>,
-    /// What stands after each initial; given names are cut to initials where this is said.
+    /// What stands after each initial; given names are cut to initials where this is specified.
     pub initialize_with: Option<&'a str>,
     /// Which names are inverted.
     pub name_as_sort_order: Option<NameAsSortOrder>,
@@ -48,7 +48,7 @@ pub struct ResolvedNameOptions<'a> {
 impl<'a> ResolvedNameOptions<'a> {
     /// What one of them says alone.
     pub fn new(options: &'a NameOptions) -> ResolvedNameOptions<'a>
-        ensures { options_by result ≡ options_seen options.now }
+        ensures { resolved_options_view result ≡ options_view options.now }
     {
         ResolvedNameOptions {
             and: options.and,
@@ -67,10 +67,11 @@ impl<'a> ResolvedNameOptions<'a> {
         }
     }
 
-    /// Each option as it is said here, or else around.
+    /// Each option as it is specified here, or else around.
     #[inline(always)]
     pub fn over(&self, around: &ResolvedNameOptions<'a>) -> ResolvedNameOptions<'a>
-        ensures { options_by result ≡ options_over (options_by self.now) (options_by around.now) }
+        ensures { resolved_options_view result
+            ≡ options_over (resolved_options_view self.now) (resolved_options_view around.now) }
     {
         ResolvedNameOptions {
             and: self.and.or(around.and),
@@ -97,7 +98,7 @@ impl<'a> ResolvedNameOptions<'a> {
 
     /// The form in which names are printed.
     pub(crate) fn base_form(&self) -> DisambiguatedNameForm
-        ensures { result ≡ base_form (options_by self.now) }
+        ensures { result ≡ base_form (resolved_options_view self.now) }
     {
         form_by(
             self.form.unwrap_or(NameForm::Long),
@@ -107,7 +108,7 @@ impl<'a> ResolvedNameOptions<'a> {
 
     /// How many of so many people are shown, in a first cite or in a subsequent one.
     pub(crate) fn shown(&self, is_first: bool, count: usize) -> usize
-        ensures { result ≡ shown_of (options_by self.now) is_first count }
+        ensures { result ≡ shown_of (resolved_options_view self.now) is_first count }
     {
         if is_first {
             return shown_by(self.et_al_min, self.et_al_use_first, count);
@@ -121,39 +122,42 @@ impl<'a> ResolvedNameOptions<'a> {
 
     /// The text between names.
     pub(crate) fn delimiter(&self) -> &'a str
-        ensures { spelled result ≡ delimiter_by (options_by self.now) }
+        ensures { spelled result ≡ delimiter_by (resolved_options_view self.now) }
     {
         text_or(self.delimiter, comma_and_space())
     }
 
     /// The text after the family name of an inverted name.
     pub(crate) fn sort_separator(&self) -> &'a str
-        ensures { spelled result ≡ unwrap_or (option_map spelled self.now.sort_separator) comma_and_space }
+        ensures { spelled result
+            ≡ unwrap_or (option_map spelled self.now.sort_separator) comma_and_space }
     {
         text_or(self.sort_separator, comma_and_space())
     }
 
     /// The text after each initial.
     pub(crate) fn after_initials(&self) -> &'a str
-        ensures { spelled result ≡ unwrap_or (option_map spelled self.now.initialize_with) stop_and_space }
+        ensures { spelled result
+            ≡ unwrap_or (option_map spelled self.now.initialize_with) stop_and_space }
     {
         text_or(self.initialize_with, stop_and_space())
     }
 
-    /// Whether the name at the place is inverted.
-    pub(crate) fn inverts(&self, place: usize) -> bool
-        ensures { result ≡ inverts self.now.name_as_sort_order place }
+    /// Whether the name at the index is inverted.
+    pub(crate) fn inverts(&self, index: usize) -> bool
+        ensures { result ≡ inverts self.now.name_as_sort_order index }
     {
         match self.name_as_sort_order {
             None => false,
             Some(NameAsSortOrder::All) => true,
-            Some(NameAsSortOrder::First) => place == 0,
+            Some(NameAsSortOrder::First) => index == 0,
         }
     }
 
     /// Whether the delimiter stands before the last of so many names, where a word does.
     pub(crate) fn delimits_last(&self, count: usize) -> bool
-        ensures { result ≡ delimits_last (options_by self.now) count (unwrap_or self.now.delimiter_precedes_last DelimiterBehavior.Contextual) }
+        ensures { result ≡ delimits_last (resolved_options_view self.now) count
+            (unwrap_or self.now.delimiter_precedes_last DelimiterBehavior.Contextual) }
     {
         match self
             .delimiter_precedes_last

@@ -3,8 +3,8 @@
 ghost use Rattle.std.specs.Prelude.{◌≡◌, ◌++◌, map, replicate, IfOk, OnOk};
 ghost use Rattle.rendering_names.specs.Counts.{own_count, people_count};
 ghost use Rattle.rendering_names.specs.Names.{properties_by};
-ghost use Rattle.rendering_people.specs.Views.{all_answered, answered_by};
-ghost use Rattle.rendering_names.specs.Views.{options_by};
+ghost use Rattle.rendering_people.specs.Views.{all_lent_answered_view, lent_answered_view};
+ghost use Rattle.rendering_names.specs.Views.{resolved_options_view};
 
 use crate::options::ResolvedNameOptions;
 use rendering_people::{Answered, NameDisambiguationProperties, PeopleCount};
@@ -22,7 +22,8 @@ pub fn properties_by(
     is_first: bool,
     people: &[Answered],
 ) -> Result<NameDisambiguationProperties, AllocError>
-    ensures { IfOk result (λ p. p ≡ properties_by (options_by options.now) is_first (all_answered people.now)) }
+    ensures { IfOk result (λ p. p ≡ properties_by
+        (resolved_options_view options.now) is_first (all_lent_answered_view people.now)) }
 {
     let counts = own_counts(alloc, options, is_first, people)?;
     let forms = own_forms(alloc, people, options.base_form())?;
@@ -36,7 +37,9 @@ fn own_counts(
     is_first: bool,
     people: &[Answered],
 ) -> Result<Vec<PeopleCount>, AllocError>
-    ensures { IfOk result (λ counts. counts.items ≡ map (own_count (options_by options.now) is_first) (all_answered people.now)) }
+    ensures { IfOk result (λ counts. counts.items
+        ≡ map (own_count (resolved_options_view options.now) is_first)
+        (all_lent_answered_view people.now)) }
 {
     let mut counts = Vec::with_capacity(alloc, people.len())?;
     for answered in people {
@@ -47,7 +50,8 @@ fn own_counts(
 
 /// The numbers of a variable.
 fn own_count(options: &ResolvedNameOptions, is_first: bool, answered: &Answered) -> PeopleCount
-    ensures { result ≡ own_count (options_by options.now) is_first (answered_by answered.now) }
+    ensures { result
+        ≡ own_count (resolved_options_view options.now) is_first (lent_answered_view answered.now) }
 {
     let people = answered.people.len();
     PeopleCount {
@@ -63,7 +67,8 @@ fn own_forms(
     people: &[Answered],
     form: DisambiguatedNameForm,
 ) -> Result<Vec<DisambiguatedNameForm>, AllocError>
-    ensures { IfOk result (λ forms. forms.items ≡ replicate (people_count (all_answered people.now)) form) }
+    ensures { IfOk result (λ forms. forms.items
+        ≡ replicate (people_count (all_lent_answered_view people.now)) form) }
 {
     let mut forms = Vec::new(alloc);
     for answered in people {

@@ -5,15 +5,15 @@ ghost use Rattle.std.specs.Option.{option_map, option_or, unwrap_or};
 ghost use Rattle.laws.specs.Text.{spelled};
 ghost use Rattle.rendering_names.specs.Persons.{comma_and_space};
 ghost use Rattle.rendering_names.specs.Names.{completed, node_options};
-ghost use Rattle.rendering_names.specs.Views.{node_by, options_by};
-ghost use Rattle.rendering_style.specs.Views.{names_seen, label_seen};
+ghost use Rattle.rendering_names.specs.Views.{names_parts_view, resolved_options_view};
+ghost use Rattle.rendering_style.specs.Views.{names_node_view, label_look_view};
 
 use crate::options::ResolvedNameOptions;
 use crate::words::{borrowed, comma_and_space, text_or};
 use rendering_style::{EtAl, LabelLook, Look, Name, Names};
 use rendering_taxonomy::NameVariable;
 
-/// What a names node says: its own, and, where it stands in for another one, what it takes from that.
+/// What a names node says: its own, and, where it is a substitute for another one, what it takes from that.
 #[derive(Clone, Copy)]
 pub struct NamesParts<'a> {
     pub variables: &'a [NameVariable],
@@ -30,7 +30,7 @@ pub struct NamesParts<'a> {
 impl<'a> NamesParts<'a> {
     /// What the node says by itself.
     pub fn new(node: &'a Names) -> NamesParts<'a>
-        ensures { node_by result ≡ names_seen node.now }
+        ensures { names_parts_view result ≡ names_node_view node.now }
     {
         NamesParts {
             variables: node.variables.as_slice(),
@@ -43,10 +43,11 @@ impl<'a> NamesParts<'a> {
         }
     }
 
-    /// What it says where it stands in for another node: without a name and a term for those left out it takes those of the
-    /// other node, and without a label of its own the label too, with its place.
+    /// What it says where it is a substitute for another node: without a name and a term for those left out it takes those of the
+    /// other node, and without a label of its own the label too, with its position.
     pub fn completed(&self, outer: &NamesParts<'a>) -> NamesParts<'a>
-        ensures { node_by result ≡ completed (node_by outer.now) (node_by self.now) }
+        ensures { names_parts_view result
+            ≡ completed (names_parts_view outer.now) (names_parts_view self.now) }
     {
         if self.says_how() {
             return *self;
@@ -60,9 +61,10 @@ impl<'a> NamesParts<'a> {
         }
     }
 
-    /// Whether something is said of single names or of the term for those left out.
+    /// Whether something is specified for single names or of the term for those left out.
     fn says_how(&self) -> bool
-        ensures { result ≡ (is_some (node_by self.now).name || is_some (node_by self.now).et_al) }
+        ensures { result ≡ (is_some (names_parts_view self.now).name
+            || is_some (names_parts_view self.now).et_al) }
     {
         match (self.name, self.et_al) {
             (Some(_), _) | (None, Some(_)) => true,
@@ -72,7 +74,8 @@ impl<'a> NamesParts<'a> {
 
     /// Whether the label stands before the names, where there is none as another one does.
     fn label_is_first_or(&self, other: bool) -> bool
-        ensures { result ≡ (if is_some (node_by self.now).label then self.now.label_is_first else other) }
+        ensures { result ≡ (if is_some (names_parts_view self.now).label
+            then self.now.label_is_first else other) }
     {
         match self.label {
             Some(_) => self.label_is_first,
@@ -82,14 +85,16 @@ impl<'a> NamesParts<'a> {
 
     /// The text between the people of two variables.
     pub(crate) fn delimiter(&self) -> &'a str
-        ensures { spelled result ≡ unwrap_or (option_map spelled self.now.delimiter) comma_and_space }
+        ensures { spelled result
+            ≡ unwrap_or (option_map spelled self.now.delimiter) comma_and_space }
     {
         text_or(self.delimiter, comma_and_space())
     }
 
-    /// What it says of names, and where it says nothing what is said around it.
+    /// What it says of names, and where it says nothing what is specified around it.
     pub fn options(&self, around: &ResolvedNameOptions<'a>) -> ResolvedNameOptions<'a>
-        ensures { options_by result ≡ node_options (node_by self.now) (options_by around.now) }
+        ensures { resolved_options_view result
+            ≡ node_options (names_parts_view self.now) (resolved_options_view around.now) }
     {
         match self.name {
             Some(name) => ResolvedNameOptions::new(&name.options).over(around),
@@ -100,7 +105,9 @@ impl<'a> NamesParts<'a> {
 
 /// The first of two labels, or else the second.
 fn or_label<'a>(label: Option<&'a LabelLook>, other: Option<&'a LabelLook>) -> Option<&'a LabelLook>
-    ensures { option_map (λ b. label_seen b.now) result ≡ option_or (option_map (λ b. label_seen b.now) label.entry) (option_map (λ b. label_seen b.now) other.entry) }
+    ensures { option_map (λ b. label_look_view b.now) result
+        ≡ option_or (option_map (λ b. label_look_view b.now) label.entry)
+        (option_map (λ b. label_look_view b.now) other.entry) }
 {
     match label {
         Some(label) => Some(label),

@@ -3,9 +3,9 @@
 ghost use Rattle.std.specs.Prelude.{◌≡◌, ◌∷◌, [], IfOk, OnOk, false, true, if◌then◌else◌};
 ghost use Rattle.std.specs.Str.{chars};
 ghost use Rattle.laws.specs.Text.{characters, spelled, is_filled};
-ghost use Rattle.literature_values.specs.PersonViews.{person as person_seen};
+ghost use Rattle.literature_values.specs.PersonViews.{person_view};
 ghost use Rattle.rendering_names.specs.Persons.{joined, short_text, straight, inverted_by, long_text, initials_by, person_text};
-ghost use Rattle.rendering_names.specs.Views.{options_by};
+ghost use Rattle.rendering_names.specs.Views.{resolved_options_view};
 
 use crate::options::ResolvedNameOptions;
 use crate::words::{space, text_or_empty};
@@ -22,7 +22,8 @@ pub(crate) fn person_text(
     form: DisambiguatedNameForm,
     person: &Person,
 ) -> Result<String, AllocError>
-    ensures { IfOk result (λ s. characters s ≡ person_text (options_by options.now) is_inverted form (person_seen person.now)) }
+    ensures { IfOk result (λ s. characters s ≡ person_text
+        (resolved_options_view options.now) is_inverted form (person_view person.now)) }
 {
     match form {
         DisambiguatedNameForm::LongFull => {
@@ -40,7 +41,7 @@ pub(crate) fn person_text(
 
 /// Particle and family name.
 fn short_text(alloc: Global, person: &Person) -> Result<String, AllocError>
-    ensures { IfOk result (λ s. characters s ≡ short_text (person_seen person.now)) }
+    ensures { IfOk result (λ s. characters s ≡ short_text (person_view person.now)) }
 {
     let mut out = empty_text(alloc);
     push_part(&mut out, space(), text_or_empty(&person.prefix))?;
@@ -55,7 +56,9 @@ fn initialized_text(
     is_inverted: bool,
     person: &Person,
 ) -> Result<String, AllocError>
-    ensures { IfOk result (λ s. characters s ≡ long_text (options_by options.now) is_inverted (initials_by (options_by options.now) (person_seen person.now)) (person_seen person.now)) }
+    ensures { IfOk result (λ s. characters s ≡ long_text (resolved_options_view options.now)
+        is_inverted (initials_by (resolved_options_view options.now) (person_view person.now))
+        (person_view person.now)) }
 {
     let initials = initials(alloc, options, person)?;
     long_text(alloc, options, is_inverted, initials.as_str(), person)
@@ -67,7 +70,8 @@ fn initials(
     options: &ResolvedNameOptions,
     person: &Person,
 ) -> Result<String, AllocError>
-    ensures { IfOk result (λ s. characters s ≡ initials_by (options_by options.now) (person_seen person.now)) }
+    ensures { IfOk result (λ s. characters s
+        ≡ initials_by (resolved_options_view options.now) (person_view person.now)) }
 {
     let mut out = empty_text(alloc);
     match person.initials(&mut out, Some(options.after_initials()), true) {
@@ -84,7 +88,8 @@ fn long_text(
     given: &str,
     person: &Person,
 ) -> Result<String, AllocError>
-    ensures { IfOk result (λ s. characters s ≡ long_text (options_by options.now) is_inverted (chars given.now) (person_seen person.now)) }
+    ensures { IfOk result (λ s. characters s ≡ long_text (resolved_options_view options.now)
+        is_inverted (chars given.now) (person_view person.now)) }
 {
     if !is_inverted {
         return straight(alloc, given, person);
@@ -99,7 +104,8 @@ fn long_text(
 
 /// Given name, particle, family name, suffix.
 fn straight(alloc: Global, given: &str, person: &Person) -> Result<String, AllocError>
-    ensures { IfOk result (λ s. characters s ≡ straight (chars given.now) (person_seen person.now)) }
+    ensures { IfOk result (λ s. characters s
+        ≡ straight (chars given.now) (person_view person.now)) }
 {
     let mut out = text_with_room(alloc)?;
     push_part(&mut out, space(), given)?;
@@ -116,7 +122,8 @@ fn inverted(
     given: &str,
     person: &Person,
 ) -> Result<String, AllocError>
-    ensures { IfOk result (λ s. characters s ≡ inverted_by false (chars separator.now) (chars given.now) (person_seen person.now)) }
+    ensures { IfOk result (λ s. characters s
+        ≡ inverted_by false (chars separator.now) (chars given.now) (person_view person.now)) }
 {
     let mut out = text_with_room(alloc)?;
     push_part(&mut out, space(), text_or_empty(&person.prefix))?;
@@ -134,7 +141,8 @@ fn demoted(
     given: &str,
     person: &Person,
 ) -> Result<String, AllocError>
-    ensures { IfOk result (λ s. characters s ≡ inverted_by true (chars separator.now) (chars given.now) (person_seen person.now)) }
+    ensures { IfOk result (λ s. characters s
+        ≡ inverted_by true (chars separator.now) (chars given.now) (person_view person.now)) }
 {
     let mut out = text_with_room(alloc)?;
     push_part(&mut out, separator, person.name.as_str())?;
@@ -150,7 +158,8 @@ fn demoted(
 
 /// What stands before a particle after a given name: a space, or the separator where there is no given name.
 fn after_given<'a>(separator: &'a str, given: &str) -> &'a str
-    ensures { spelled result ≡ (if is_filled (chars given.now) then 32 ∷ [] else spelled separator.entry) }
+    ensures { spelled result
+        ≡ (if is_filled (chars given.now) then 32 ∷ [] else spelled separator.entry) }
 {
     if has_text(given) { space() } else { separator }
 }
@@ -165,7 +174,8 @@ fn text_with_room(alloc: Global) -> Result<String, AllocError>
 
 /// Appends a part of a name, after what stands between two parts. A part that is empty is none.
 fn push_part(out: &mut String, between: &str, part: &str) -> Result<(), AllocError>
-    ensures { OnOk result (characters out.new ≡ joined (chars between.now) (characters out.old) (chars part.now)) }
+    ensures { OnOk result (characters out.new
+        ≡ joined (chars between.now) (characters out.old) (chars part.now)) }
 {
     if !has_text(part) {
         return Ok(());

@@ -2,10 +2,10 @@
 
 ghost use Rattle.std.specs.Prelude.{◌≡◌, None};
 ghost use Rattle.laws.specs.Text.{spelled};
-ghost use Rattle.rendering_locale.specs.Views.{changes_seen};
+ghost use Rattle.rendering_locale.specs.Views.{changes_view};
 ghost use Rattle.rendering_names.specs.Names.{style_of, and_text, et_al_term, node_options};
-ghost use Rattle.rendering_names.specs.Views.{node_by, options_by, style_by};
-ghost use Rattle.rendering_page.specs.Views.{manner as manner_seen, frame as frame_seen};
+ghost use Rattle.rendering_names.specs.Views.{names_parts_view, resolved_options_view, name_style_view};
+ghost use Rattle.rendering_page.specs.Views.{manner_view, frame_view};
 ghost use Rattle.rendering_style.specs.Options.{NameOptions};
 ghost use Rattle.rendering_taxonomy.specs.Formats.{changed};
 
@@ -18,8 +18,8 @@ use rendering_style::{EtAl, Name};
 use rendering_taxonomy::{EtAlTerm, FormattingChanges, NameAnd, OtherTerm, Term, TermForm};
 use std::alloc::Global;
 
-/// Where names are put down: the close quotes inside which punctuation goes, the locales that are asked for words, and how
-/// texts are put down there.
+/// Where names are appended: the close quotes inside which punctuation goes, the locales that are asked for words, and how
+/// texts are appended there.
 #[derive(Clone, Copy)]
 pub struct NameSetting<'s, 'a> {
     pub alloc: Global,
@@ -31,7 +31,7 @@ pub struct NameSetting<'s, 'a> {
 /// How the names of a node stand.
 #[derive(Clone, Copy)]
 pub(crate) struct NameStyle<'s, 'a> {
-    /// Where they are put down, with the node's look.
+    /// Where they are appended, with the node's look.
     pub(crate) setting: NameSetting<'s, 'a>,
     pub(crate) name: Option<&'a Name>,
     pub(crate) et_al: Option<&'a EtAl>,
@@ -45,7 +45,10 @@ impl<'s, 'a> NameStyle<'s, 'a> {
         node: &NamesParts<'a>,
         options: &ResolvedNameOptions<'a>,
     ) -> NameStyle<'s, 'a>
-        ensures style { (around : NameOptions) → options_by options.now ≡ node_options (node_by node.now) around → style_by result ≡ style_of setting.entry.locales.now (manner_seen setting.entry.manner) (node_by node.now) around }
+        ensures style { (around : NameOptions)
+            → resolved_options_view options.now ≡ node_options (names_parts_view node.now) around
+            → name_style_view result ≡ style_of setting.entry.locales.now
+            (manner_view setting.entry.manner) (names_parts_view node.now) around }
         ensures setting { result.setting ≡ setting.entry }
     {
         NameStyle {
@@ -72,7 +75,7 @@ impl<'s, 'a> NameStyle<'s, 'a> {
 
     /// The affixes of a single name.
     pub(crate) fn name_frame(&self) -> Frame<'a>
-        ensures { frame_seen result ≡ record { display = None; meta = None; manner = (style_by self.now).manner; prefix = (style_by self.now).look.prefix; suffix = (style_by self.now).look.suffix } }
+        ensures { frame_view result ≡ record { display = None; meta = None; manner = (name_style_view self.now).manner; prefix = (name_style_view self.now).look.prefix; suffix = (name_style_view self.now).look.suffix } }
     {
         Frame {
             display: None,
@@ -85,7 +88,7 @@ impl<'s, 'a> NameStyle<'s, 'a> {
 
     /// The text before a single name.
     fn name_prefix(&self) -> &'a str
-        ensures { spelled result ≡ (style_by self.now).look.prefix }
+        ensures { spelled result ≡ (name_style_view self.now).look.prefix }
     {
         match self.name {
             Some(name) => name.prefix.as_str(),
@@ -95,7 +98,7 @@ impl<'s, 'a> NameStyle<'s, 'a> {
 
     /// The text after a single name.
     fn name_suffix(&self) -> &'a str
-        ensures { spelled result ≡ (style_by self.now).look.suffix }
+        ensures { spelled result ≡ (name_style_view self.now).look.suffix }
     {
         match self.name {
             Some(name) => name.suffix.as_str(),
@@ -103,9 +106,9 @@ impl<'s, 'a> NameStyle<'s, 'a> {
         }
     }
 
-    /// How the text of a single name is put down.
+    /// How the text of a single name is appended.
     pub(crate) fn name_manner(&self) -> Manner
-        ensures { manner_seen result ≡ record (style_by self.now).manner { formatting = changed (style_by self.now).look.formatting (style_by self.now).manner.formatting } }
+        ensures { manner_view result ≡ record (name_style_view self.now).manner { formatting = changed (name_style_view self.now).look.formatting (name_style_view self.now).manner.formatting } }
     {
         match self.name {
             Some(name) => changed_manner(name.formatting, self.setting.manner),
@@ -113,9 +116,9 @@ impl<'s, 'a> NameStyle<'s, 'a> {
         }
     }
 
-    /// How the term for those left out is put down.
+    /// How the term for those left out is appended.
     pub(crate) fn et_al_manner(&self) -> Manner
-        ensures { manner_seen result ≡ record (style_by self.now).manner { formatting = changed (style_by self.now).et_al.formatting (style_by self.now).manner.formatting } }
+        ensures { manner_view result ≡ record (name_style_view self.now).manner { formatting = changed (name_style_view self.now).et_al.formatting (name_style_view self.now).manner.formatting } }
     {
         match self.et_al {
             Some(et_al) => changed_manner(et_al.formatting, self.setting.manner),
@@ -125,7 +128,7 @@ impl<'s, 'a> NameStyle<'s, 'a> {
 
     /// The term for those left out.
     pub(crate) fn et_al_term(&self) -> OtherTerm
-        ensures { result ≡ et_al_term (style_by self.now).et_al.name }
+        ensures { result ≡ et_al_term (name_style_view self.now).et_al.name }
     {
         match self.et_al {
             Some(et_al) => et_al_term(et_al.term),
@@ -144,9 +147,10 @@ fn et_al_term(term: EtAlTerm) -> OtherTerm
     }
 }
 
-/// How texts that look otherwise are put down.
+/// How texts that look otherwise are appended.
 pub(crate) fn changed_manner(changes: FormattingChanges, around: Manner) -> Manner
-    ensures { manner_seen result ≡ record (manner_seen around) { formatting = changed (changes_seen changes) around.formatting } }
+    ensures { manner_view result ≡ record (manner_view around)
+        { formatting = changed (changes_view changes) around.formatting } }
 {
     Manner {
         formatting: changes.over(around.formatting),

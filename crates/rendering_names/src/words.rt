@@ -66,7 +66,8 @@ pub(crate) fn borrowed(text: &Option<String>) -> Option<&str>
 
 /// The first of two texts, or else the second.
 pub(crate) fn or_text<'a>(text: Option<&'a str>, other: Option<&'a str>) -> Option<&'a str>
-    ensures { option_map spelled result ≡ option_or (option_map spelled text.entry) (option_map spelled other.entry) }
+    ensures { option_map spelled result
+        ≡ option_or (option_map spelled text.entry) (option_map spelled other.entry) }
 {
     match text {
         Some(text) => Some(text),

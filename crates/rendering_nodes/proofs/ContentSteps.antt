@@ -3,16 +3,16 @@ use Rattle.std.proofs.Common.{◌≡◌, ℕ, ◌+◌, ◌<◌, Bool, true, fals
 use Rattle.std.proofs.lemmas.Bool.{false≢true}
 use Rattle.rendering_context.specs.Contexts.{Context}
 use Rattle.rendering_context.specs.Choosing.{is_met, asks_disambiguate}
-use Rattle.rendering_leaves.specs.Settings.{Setting, State, noted}
+use Rattle.rendering_leaves.specs.NodeSettings.{NodeSetting, State, noted}
 use Rattle.rendering_style.specs.Nodes as nodes
 use Rattle.rendering_style.specs.Nodes.{NamesNode, Nodes, Branches, otherwise, branch}
 use Rattle.rendering_style.specs.Opening.{each_node, each_branch}
-use Rattle.rendering_style.specs.Views.{node_seen, nodes_seen}
-use Rattle.rendering_style.specs.declared.node.Node as seen
-use Rattle.rendering_nodes.specs.Content.{accepted, chosen, content, contents, delimited, first_standing, stage}
+use Rattle.rendering_style.specs.Views.{node_view, nodes_view}
+use Rattle.rendering_style.specs.declared.node.Node as viewed
+use Rattle.rendering_nodes.specs.Content.{accepted, chosen, content, contents, delimited, first_substitute, stage}
 use Rattle.rendering_nodes.specs.Admission.{survey}
 use Rattle.rendering_nodes.specs.Taken.{TakenNodes, taken_after, taken}
-use Rattle.rendering_nodes.specs.Turns.{asked, attempt, is_next, next_put, standing_put, stands}
+use Rattle.rendering_nodes.specs.Turns.{asked, attempt, is_next, append_next, append_substitute, is_substitute}
 use Rattle.rendering_page.specs.Pages.{prints}
 use Rattle.rendering_nodes.proofs.FindingsSteps.{left_is}
 use Rattle.rendering_nodes.proofs.SurveySteps.{or_assoc, or_none, opened_taken}
@@ -23,14 +23,14 @@ noted_twice a b st = λ k. record st { met_disambiguate = or_assoc st.met_disamb
 pub noted_none : (st : State) → noted false st ≡ st
 noted_none st = λ k. record st { met_disambiguate = or_none st.met_disambiguate k }
 
-chosen_by : (b : Bool) (c : Context) (s : Setting) (t u : TakenNodes) (st v w : State)
+chosen_by : (b : Bool) (c : Context) (s : NodeSetting) (t u : TakenNodes) (st v w : State)
     → v ≡ contents c s true t.0 (noted t.1 st) → w ≡ contents c s true u.0 (noted u.1 st)
     → (if b then v else w) ≡ (let r = (if b then t else u) in contents c s true r.0 (noted r.1 st))
 chosen_by true c s t u st v w e f = e
 chosen_by false c s t u st v w e f = f
 
--- what branches put down is what the one that is taken does
-pub chosen_taken : (c : Context) (s : Setting) (m : Bool) (bs : Branches) (st : State)
+-- what branches append is what the one that is taken appends
+pub chosen_taken : (c : Context) (s : NodeSetting) (m : Bool) (bs : Branches) (st : State)
     → chosen c s bs (noted m st) ≡ contents c s true (taken_after c m bs).0 (noted (taken_after c m bs).1 st)
 chosen_taken c s m (otherwise xs) st = refl
 chosen_taken c s m (branch k xs bs) st =
@@ -40,10 +40,10 @@ chosen_taken c s m (branch k xs bs) st =
     (ap (chosen c s bs) (noted_twice m (asks_disambiguate k) st) ∙ chosen_taken c s (m || asks_disambiguate k) bs st)
 
 -- the same of branches that are opened
-pub choose_put : (c : Context) (s : Setting) (f : nodes.Node → nodes.Node) (bs : Branches) (xs : Nodes) (met : Bool) (st middle new : State)
+pub choose_appended : (c : Context) (s : NodeSetting) (f : nodes.Node → nodes.Node) (bs : Branches) (xs : Nodes) (met : Bool) (st middle new : State)
     → (xs, met) ≡ taken c bs → middle ≡ noted met st → new ≡ contents c s true (each_node f xs) middle
     → new ≡ chosen c s (each_branch f bs) st
-choose_put c s f bs xs met st middle new is m e =
+choose_appended c s f bs xs met st middle new is m e =
     e
     ∙ ap (contents c s true (each_node f xs)) m
     ∙ ap (λ (t : TakenNodes). contents c s true (each_node f t.0) (noted t.1 st)) is
@@ -52,49 +52,49 @@ choose_put c s f bs xs met st middle new is m e =
     ∙ ap (chosen c s (each_branch f bs)) (noted_none st)
 
 -- a node that is not admitted
-pub next_passed : (c : Context) (s : Setting) (is_first b : Bool) (x : nodes.Node) (st new : State)
-    → b ≡ is_next c s x st → b ≡ false → new ≡ asked c s x st → new ≡ next_put c s is_first x st
-next_passed c s is_first b x st new is so put =
-    put ∙ ap (λ y. if y then content c None s x (delimited c s is_first (asked c s x st)) else asked c s x st) (sym so ∙ is)
+pub next_passed : (c : Context) (s : NodeSetting) (is_first b : Bool) (x : nodes.Node) (st new : State)
+    → b ≡ is_next c s x st → b ≡ false → new ≡ asked c s x st → new ≡ append_next c s is_first x st
+next_passed c s is_first b x st new is so append =
+    append ∙ ap (λ y. if y then content c None s x (delimited c s is_first (asked c s x st)) else asked c s x st) (sym so ∙ is)
 
 -- a node that is admitted, after the delimiter
-pub next_admitted : (c : Context) (s : Setting) (is_first b : Bool) (x : nodes.Node) (st middle before new : State)
+pub next_admitted : (c : Context) (s : NodeSetting) (is_first b : Bool) (x : nodes.Node) (st middle before new : State)
     → b ≡ is_next c s x st → b ≡ true → middle ≡ asked c s x st → before ≡ delimited c s is_first middle → new ≡ content c None s x before
-    → new ≡ next_put c s is_first x st
-next_admitted c s is_first b x st middle before new is so e f put =
-    put
+    → new ≡ append_next c s is_first x st
+next_admitted c s is_first b x st middle before new is so e f append =
+    append
     ∙ ap (content c None s x) (f ∙ ap (delimited c s is_first) e)
     ∙ ap (λ y. if y then content c None s x (delimited c s is_first (asked c s x st)) else asked c s x st) (sym so ∙ is)
 
 -- what is left of nodes, one step on
-pub contents_more : (c : Context) (s : Setting) (f : nodes.Node → nodes.Node) (xs : List seen.Node) (i : ℕ) (x : seen.Node) (is_first b w : Bool) (st new end : State)
-    → i < length xs → x ≡ get_or xs i x → b ≡ is_next c s (f (node_seen x)) st → w ≡ (is_first && not b) → new ≡ next_put c s is_first (f (node_seen x)) st
-    → contents c s is_first (each_node f (nodes_seen (drop i xs))) st ≡ end
-    → contents c s w (each_node f (nodes_seen (drop (i + 1) xs))) new ≡ end
-contents_more c s f xs i x is_first b w st new end less is admitted same put e =
-    let rest = each_node f (nodes_seen (drop (i + 1) xs)) in
-    (λ k. contents c s ((same ∙ ap (λ a. is_first && not a) admitted) k) rest (put k))
+pub contents_more : (c : Context) (s : NodeSetting) (f : nodes.Node → nodes.Node) (xs : List viewed.Node) (i : ℕ) (x : viewed.Node) (is_first b w : Bool) (st new end : State)
+    → i < length xs → x ≡ get_or xs i x → b ≡ is_next c s (f (node_view x)) st → w ≡ (is_first && not b) → new ≡ append_next c s is_first (f (node_view x)) st
+    → contents c s is_first (each_node f (nodes_view (drop i xs))) st ≡ end
+    → contents c s w (each_node f (nodes_view (drop (i + 1) xs))) new ≡ end
+contents_more c s f xs i x is_first b w st new end less is admitted same append e =
+    let rest = each_node f (nodes_view (drop (i + 1) xs)) in
+    (λ k. contents c s ((same ∙ ap (λ a. is_first && not a) admitted) k) rest (append k))
     ∙ ap (λ (ys : Nodes). contents c s is_first ys st) (sym (left_is f xs i x less is))
     ∙ e
 
-on_by : (a p : Bool) (c : Context) (h : NamesNode) (s : Setting) (xs : Nodes) (m d : Bool) (st done : State) → (a && p) ≡ false
-    → first_standing c h s xs (if a then (if p then done else noted d (noted m st)) else noted m st) ≡ (if a && p then done else first_standing c h s xs (noted (m || a && d) st))
+on_by : (a p : Bool) (c : Context) (h : NamesNode) (s : NodeSetting) (xs : Nodes) (m d : Bool) (st done : State) → (a && p) ≡ false
+    → first_substitute c h s xs (if a then (if p then done else noted d (noted m st)) else noted m st) ≡ (if a && p then done else first_substitute c h s xs (noted (m || a && d) st))
 on_by true true c h s xs m d st done never = absurd (false≢true (sym never))
-on_by true false c h s xs m d st done never = ap (first_standing c h s xs) (noted_twice m d st)
-on_by false p c h s xs m d st done never = ap (λ e. first_standing c h s xs (noted e st)) (sym (or_none m))
+on_by true false c h s xs m d st done never = ap (first_substitute c h s xs) (noted_twice m d st)
+on_by false p c h s xs m d st done never = ap (λ e. first_substitute c h s xs (noted e st)) (sym (or_none m))
 
--- what is left of those that may stand in, once one does not
-pub standing_more : (c : Context) (h : NamesNode) (s : Setting) (f : nodes.Node → nodes.Node) (xs : List seen.Node) (i : ℕ) (x : seen.Node) (b : Bool) (st new end : State)
-    → i < length xs → x ≡ get_or xs i x → b ≡ stands c h s (f (node_seen x)) st → b ≡ false → new ≡ standing_put c h s (f (node_seen x)) st
-    → first_standing c h s (each_node f (nodes_seen (drop i xs))) st ≡ end
-    → first_standing c h s (each_node f (nodes_seen (drop (i + 1) xs))) new ≡ end
-standing_more c h s f xs i x b st new end less is tries fails put e =
-    let rest = each_node f (nodes_seen (drop (i + 1) xs)) in
-    let y = f (node_seen x) in
+-- what is left of a substitute, once one of its nodes prints nothing
+pub substitute_more : (c : Context) (h : NamesNode) (s : NodeSetting) (f : nodes.Node → nodes.Node) (xs : List viewed.Node) (i : ℕ) (x : viewed.Node) (b : Bool) (st new end : State)
+    → i < length xs → x ≡ get_or xs i x → b ≡ is_substitute c h s (f (node_view x)) st → b ≡ false → new ≡ append_substitute c h s (f (node_view x)) st
+    → first_substitute c h s (each_node f (nodes_view (drop i xs))) st ≡ end
+    → first_substitute c h s (each_node f (nodes_view (drop (i + 1) xs))) new ≡ end
+substitute_more c h s f xs i x b st new end less is tries fails append e =
+    let rest = each_node f (nodes_view (drop (i + 1) xs)) in
+    let y = f (node_view x) in
     let done = attempt c h s y st in
-    ap (first_standing c h s rest) put
+    ap (first_substitute c h s rest) append
     ∙ on_by (is_next c s y st) (prints 0 done.page.tokens) c h s rest (survey (stage c s st) y).met done.met_disambiguate st (accepted c s done) (sym tries ∙ fails)
-    ∙ ap (λ (ys : Nodes). first_standing c h s ys st) (sym (left_is f xs i x less is))
+    ∙ ap (λ (ys : Nodes). first_substitute c h s ys st) (sym (left_is f xs i x less is))
     ∙ e
 
 -- whether both of two hold is what the second says where the first does, and else what the first says

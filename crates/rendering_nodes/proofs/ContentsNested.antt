@@ -1,4 +1,4 @@
--- What nodes put down on a properly nested page leaves it so.
+-- What nodes append to a properly nested page leaves it so.
 use Rattle.std.proofs.Common.{ℕ, Bool, true, false, not, ◌&&◌, ◌||◌, List, [], ◌∷◌, sym, ◌∙◌, Option, Some, None}
 use Rattle.std.specs.Prelude.{if◌then◌else◌}
 use Rattle.std.specs.Option.{option_map_or}
@@ -6,18 +6,18 @@ use Rattle.std.proofs.lemmas.List.Sums.{fold-append}
 use Rattle.rendering_tree.specs.Metas as metas
 use Rattle.rendering_tree.specs.Metas.{Answered}
 use Rattle.rendering_page.specs.Pages.{Frame, begun, ended, prints}
-use Rattle.rendering_page.specs.Pieces.{Piece, normal, end, put_down, all_down}
+use Rattle.rendering_page.specs.Pieces.{Piece, normal, end, append_piece, append_pieces}
 use Rattle.rendering_style.specs.Nodes.{NamesNode, Node, Nodes, Branches, leaf, call, opened, names, choose, group, no_nodes, node, otherwise, branch}
 use Rattle.rendering_names.specs.Names.{names_frame, names_pieces, node_options, properties_by}
 use Rattle.rendering_context.specs.Contexts.{Context}
 use Rattle.rendering_context.specs.Choosing.{is_met, asks_disambiguate}
-use Rattle.rendering_leaves.specs.Settings.{Setting, State, noted}
+use Rattle.rendering_leaves.specs.NodeSettings.{NodeSetting, State, noted}
 use Rattle.rendering_leaves.specs.Values.{text_manner, frame, quote_before, quote_after}
 use Rattle.rendering_nodes.specs.Admission.{survey}
-use Rattle.rendering_nodes.specs.Content.{taken, told_apart, stage, entered, left, inside_macro, inside_group, inside_names, delimited, bare, tried, accepted, people_of, names_or_stand_in, content, contents, chosen, first_standing}
+use Rattle.rendering_nodes.specs.Content.{taken, disambiguated, stage, entered, left, inside_macro, inside_group, inside_names, delimited, bare, tried, accepted, people_of, names_or_substitute, content, contents, chosen, first_substitute}
 use Rattle.rendering_nodes.specs.Laws.{ContentsAreNested}
 use Rattle.rendering_nodes.proofs.PiecesFraming.{nested_frames, level_as, level_on, level_to, level_ended, EndAll, ends_none, ends_normal}
-use Rattle.rendering_nodes.proofs.LeavesFraming.{ends_quote_before, ends_quote_after, ends_names, KeepsOpen, keeps_put, keeps_leaf}
+use Rattle.rendering_nodes.proofs.LeavesFraming.{ends_quote_before, ends_quote_after, ends_names, KeepsOpen, keeps_append, keeps_leaf}
 
 keeps_on : (st middle done : State) → KeepsOpen st middle → KeepsOpen middle done → KeepsOpen st done
 keeps_on st middle done a b = level_on st.page.tokens middle.page.tokens done.page.tokens a b
@@ -31,32 +31,32 @@ keeps_element : (c : Context) (f : Frame) (before after : List Piece) (st done :
     → KeepsOpen st (left c f after done)
 keeps_element c f before after st done h k inside =
     let first = begun f st.page in
-    let next = all_down c.quotes before first in
-    let last = all_down c.quotes after done.page in
-    level_to st.page.tokens (ended c.quotes f last) (left c f after done).page (fold-append (put_down c.quotes) done.page after (end f ∷ []))
+    let next = append_pieces c.quotes before first in
+    let last = append_pieces c.quotes after done.page in
+    level_to st.page.tokens (ended c.quotes f last) (left c f after done).page (fold-append (append_piece c.quotes) done.page after (end f ∷ []))
     (level_ended c.quotes f st.page last
     (level_on first.tokens next.tokens last.tokens (h.on_page c.quotes first)
     (level_on next.tokens done.page.tokens last.tokens inside (k.on_page c.quotes done.page))))
 
-keeps_delimited : (c : Context) (s : Setting) (is_first : Bool) (st : State) → KeepsOpen st (delimited c s is_first st)
+keeps_delimited : (c : Context) (s : NodeSetting) (is_first : Bool) (st : State) → KeepsOpen st (delimited c s is_first st)
 keeps_delimited c s true st = level_as st.page.tokens
-keeps_delimited c s false st = keeps_put c (option_map_or (λ d. normal s.manner d ∷ []) s.delimiter []) st (some s.delimiter)
+keeps_delimited c s false st = keeps_append c (option_map_or (λ d. normal s.manner d ∷ []) s.delimiter []) st (some s.delimiter)
   where
     some : (o : Option (List ℕ)) → EndAll (option_map_or (λ d. normal s.manner d ∷ []) o [])
     some None = ends_none
     some (Some d) = ends_normal s.manner d
 
-keeps_names : (c : Context) (s : Setting) (h : NamesNode) (stand_in : State → State) (people : List Answered) (st : State)
-    → ((before : State) → KeepsOpen before (stand_in before)) → KeepsOpen st (names_or_stand_in c s h stand_in people st)
-keeps_names c s h stand_in [] st k =
-    keeps_element c (names_frame s.manner h []) [] [] st (stand_in (entered c (names_frame s.manner h []) [] st)) ends_none ends_none (k (entered c (names_frame s.manner h []) [] st))
-keeps_names c s h stand_in (a ∷ people) st k =
+keeps_names : (c : Context) (s : NodeSetting) (h : NamesNode) (substitute : State → State) (people : List Answered) (st : State)
+    → ((before : State) → KeepsOpen before (substitute before)) → KeepsOpen st (names_or_substitute c s h substitute people st)
+keeps_names c s h substitute [] st k =
+    keeps_element c (names_frame s.manner h []) [] [] st (substitute (entered c (names_frame s.manner h []) [] st)) ends_none ends_none (k (entered c (names_frame s.manner h []) [] st))
+keeps_names c s h substitute (a ∷ people) st k =
     let own = properties_by (node_options h s.options) c.properties.is_first (a ∷ people) in
-    let ps = names_pieces c.locales s.manner h s.options (told_apart c st.names own) (a ∷ people) in
-    keeps_put c ps st (ends_names c.locales s.manner h s.options (told_apart c st.names own) (a ∷ people))
+    let ps = names_pieces c.locales s.manner h s.options (disambiguated c st.names own) (a ∷ people) in
+    keeps_append c ps st (ends_names c.locales s.manner h s.options (disambiguated c st.names own) (a ∷ people))
 
 mutual
-  keeps_content : (c : Context) (outer : Option NamesNode) (s : Setting) (x : Node) (st : State) → KeepsOpen st (content c outer s x st)
+  keeps_content : (c : Context) (outer : Option NamesNode) (s : NodeSetting) (x : Node) (st : State) → KeepsOpen st (content c outer s x st)
   keeps_content c outer s (leaf l) st = keeps_leaf c s l st
   keeps_content c outer s (call name look) st = level_as st.page.tokens
   keeps_content c outer s (opened look xs) st =
@@ -69,13 +69,13 @@ mutual
       (keeps_contents c (inside_macro s look) true xs (entered c f before st))
   keeps_content c outer s (names h xs) st =
       let own = taken outer h in
-      keeps_names c s own (first_standing c own (inside_names s own) xs) (people_of c st h) st (keeps_standing c own (inside_names s own) xs)
+      keeps_names c s own (first_substitute c own (inside_names s own) xs) (people_of c st h) st (keeps_substitute c own (inside_names s own) xs)
   keeps_content c outer s (choose bs) st = keeps_chosen c s bs st
   keeps_content c outer s (group g xs) st =
       let f = frame s.manner None g.look in
       keeps_element c f [] [] st (contents c (inside_group s g) true xs (entered c f [] st)) ends_none ends_none (keeps_contents c (inside_group s g) true xs (entered c f [] st))
 
-  keeps_contents : (c : Context) (s : Setting) (is_first : Bool) (xs : Nodes) (st : State) → KeepsOpen st (contents c s is_first xs st)
+  keeps_contents : (c : Context) (s : NodeSetting) (is_first : Bool) (xs : Nodes) (st : State) → KeepsOpen st (contents c s is_first xs st)
   keeps_contents c s is_first no_nodes st = level_as st.page.tokens
   keeps_contents c s is_first (node x xs) st =
       let asked = survey (stage c s st) x in
@@ -87,22 +87,22 @@ mutual
       (keeps_either asked.is_admitted st done known (keeps_on st next done (keeps_delimited c s is_first known) (keeps_content c None s x next)) (level_as st.page.tokens))
       (keeps_contents c s (is_first && not asked.is_admitted) xs step)
 
-  keeps_chosen : (c : Context) (s : Setting) (bs : Branches) (st : State) → KeepsOpen st (chosen c s bs st)
+  keeps_chosen : (c : Context) (s : NodeSetting) (bs : Branches) (st : State) → KeepsOpen st (chosen c s bs st)
   keeps_chosen c s (otherwise xs) st = keeps_contents c s true xs st
   keeps_chosen c s (branch condition xs bs) st =
       let known = noted (asks_disambiguate condition) st in
       keeps_either (is_met c condition) st (contents c s true xs known) (chosen c s bs known) (keeps_contents c s true xs known) (keeps_chosen c s bs known)
 
-  keeps_standing : (c : Context) (h : NamesNode) (s : Setting) (xs : Nodes) (st : State) → KeepsOpen st (first_standing c h s xs st)
-  keeps_standing c h s no_nodes st = level_as st.page.tokens
-  keeps_standing c h s (node x xs) st =
+  keeps_substitute : (c : Context) (h : NamesNode) (s : NodeSetting) (xs : Nodes) (st : State) → KeepsOpen st (first_substitute c h s xs st)
+  keeps_substitute c h s no_nodes st = level_as st.page.tokens
+  keeps_substitute c h s (node x xs) st =
       let asked = survey (stage c s st) x in
       let known = noted asked.met st in
       let done = content c (Some h) s x (tried c s known) in
       let failed = noted (asked.met || asked.is_admitted && done.met_disambiguate) st in
-      keeps_either (asked.is_admitted && prints 0 done.page.tokens) st (accepted c s done) (first_standing c h s xs failed)
+      keeps_either (asked.is_admitted && prints 0 done.page.tokens) st (accepted c s done) (first_substitute c h s xs failed)
       (keeps_element c (bare s) [] [] known done ends_none ends_none (keeps_content c (Some h) s x (tried c s known)))
-      (keeps_standing c h s xs failed)
+      (keeps_substitute c h s xs failed)
 
 -- as many elements and marks are open after as before, so that nesting neither comes nor goes
 pub contents_nested : ContentsAreNested

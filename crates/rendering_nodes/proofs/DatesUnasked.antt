@@ -5,7 +5,7 @@ use Rattle.std.specs.Option.{option_map_or}
 use Rattle.rendering_context.specs.Answering.{date_answer}
 use Rattle.rendering_context.specs.Choosing.{is_met, asks_disambiguate}
 use Rattle.rendering_context.specs.Contexts.{Context}
-use Rattle.rendering_leaves.specs.Settings.{Form, whole, author_only, without_author, first_date_only, suffix_only, Setting, State}
+use Rattle.rendering_leaves.specs.NodeSettings.{SpecialForm, whole, author_only, without_author, first_date_only, suffix_only, NodeSetting, State}
 use Rattle.rendering_style.specs.Nodes as nodes
 use Rattle.rendering_style.specs.Nodes.{of_variable, of_term, of_value, Leaf, Node, Nodes, Branches, leaf, call, opened, names, choose, group, no_nodes, node, otherwise, branch}
 use Rattle.rendering_nodes.specs.Admission.{Stage, Survey, allows_date, asks_for_date, both, branch_survey, containing, group_survey, has_people, leaf_survey, names_survey, nothing, survey, surveys, variable_survey}
@@ -17,7 +17,7 @@ use Rattle.rendering_nodes.specs.declared.finding.Findings.{Findings}
 abbrev dated : Stage → Bool → Stage
 dated s b = record s { has_date = b }
 
-allowed : (c : Context) (form : Form) (a b : Bool) → asks_for_date form ≡ false → allows_date c a form ≡ allows_date c b form
+allowed : (c : Context) (form : SpecialForm) (a b : Bool) → asks_for_date form ≡ false → allows_date c a form ≡ allows_date c b form
 allowed c whole a b e = refl
 allowed c (author_only v) a b e = refl
 allowed c without_author a b e = refl
@@ -55,10 +55,10 @@ mutual
       λ i. both (record nothing { met = asks_disambiguate c }) (if is_met s.context c then surveys_same s a b xs e i else branch_same s a b bs e i)
 
 -- what was found then is found now: nothing else is printed no more, and the first date was printed as then, or it is not asked
-pub holds_dated : (c : Context) (s : Setting) (st : State) (k : Findings) (x : Node) → k.suppressed.now ≡ st.suppressed → k.has_date ≡ st.has_date → survey (stage_then c s.form k) x ≡ survey (stage c s st) x
+pub holds_dated : (c : Context) (s : NodeSetting) (st : State) (k : Findings) (x : Node) → k.suppressed.now ≡ st.suppressed → k.has_date ≡ st.has_date → survey (stage_then c s.form k) x ≡ survey (stage c s st) x
 holds_dated c s st k x suppressed date = λ i. survey (record { context = c; form = s.form; has_date = date i; suppressed = suppressed i }) x
 
-pub holds_unasked : (c : Context) (s : Setting) (st : State) (k : Findings) (x : Node) → k.suppressed.now ≡ st.suppressed → asks_for_date s.form ≡ false → survey (stage_then c s.form k) x ≡ survey (stage c s st) x
+pub holds_unasked : (c : Context) (s : NodeSetting) (st : State) (k : Findings) (x : Node) → k.suppressed.now ≡ st.suppressed → asks_for_date s.form ≡ false → survey (stage_then c s.form k) x ≡ survey (stage c s st) x
 holds_unasked c s st k x suppressed e =
     (λ i. survey (record { context = c; form = s.form; has_date = k.has_date; suppressed = suppressed i }) x)
     ∙ survey_same (stage c s st) k.has_date st.has_date x e

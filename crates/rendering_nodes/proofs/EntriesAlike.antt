@@ -16,10 +16,10 @@ use Rattle.rendering_names.specs.Names.{pluralizes, label_manner, names_pieces, 
 use Rattle.rendering_context.specs.Contexts.{Context}
 use Rattle.rendering_context.specs.Answering.{Answer, no_answer, pieces, address, count, ranges, own, is_missing, answer_to, date_answer}
 use Rattle.rendering_context.specs.Choosing.{asks_disambiguate}
-use Rattle.rendering_leaves.specs.Settings.{Form, whole, author_only, without_author, first_date_only, suffix_only, Setting, State, noted, put}
-use Rattle.rendering_leaves.specs.Values.{look_manner, text_manner, frame, quote_before, quote_after, answer_pieces, identified, label_letters, source_pieces, text_pieces, label_term, date_inside, date_frame, date_letters, day_pieces, suppressing, after_variable, leaf_put}
+use Rattle.rendering_leaves.specs.NodeSettings.{SpecialForm, whole, author_only, without_author, first_date_only, suffix_only, NodeSetting, State, noted, append}
+use Rattle.rendering_leaves.specs.Values.{look_manner, text_manner, frame, quote_before, quote_after, answer_pieces, identified, label_suffix, source_pieces, text_pieces, label_term, date_inside, date_frame, date_suffix, day_pieces, suppressing, after_variable, append_leaf}
 use Rattle.rendering_nodes.specs.Admission.{Survey, Stage, nothing, both, containing, words_survey, variable_survey, allows_variable, allows_date, are_some, has_people, names_survey, leaf_survey, group_survey, survey, surveys, branch_survey}
-use Rattle.rendering_nodes.specs.Content.{taken, told_apart, names_put, stage, entered, left, inside_macro, inside_group, inside_names, delimited, tried, accepted, people_of, names_or_stand_in, content, contents, chosen, first_standing}
+use Rattle.rendering_nodes.specs.Content.{taken, disambiguated, append_names, stage, entered, left, inside_macro, inside_group, inside_names, delimited, tried, accepted, people_of, names_or_substitute, content, contents, chosen, first_substitute}
 use Rattle.rendering_nodes.specs.Named.{joined_named, variable_named, named_in_source, named_in_leaf, named_in_tests, named_in, named, named_in_branches, always_named, AreAlike}
 use Rattle.rendering_nodes.specs.Laws.{with_answers, AlikeEntriesPrintAlike}
 use Rattle.rendering_nodes.proofs.AnswersAlike.{LabelsAlike, first_alike, others_alike, one_alike, printed_same, date_same, names_named, all_people_same, plural_same, met_same}
@@ -34,7 +34,7 @@ use Rattle.rendering_taxonomy.specs.declared.variable.Variable.TheVariants as va
 
 -- What asks the context for something else than answers is the same, whatever the entry answers.
 
-dates_allowed : (a b : Answers) (c : Context) (has_date : Bool) (form : Form) → allows_date (with_answers a c) has_date form ≡ allows_date (with_answers b c) has_date form
+dates_allowed : (a b : Answers) (c : Context) (has_date : Bool) (form : SpecialForm) → allows_date (with_answers a c) has_date form ≡ allows_date (with_answers b c) has_date form
 dates_allowed a b c has_date whole = refl
 dates_allowed a b c has_date (author_only v) = refl
 dates_allowed a b c has_date without_author = refl
@@ -61,20 +61,20 @@ label_term_same : (a b : Answers) (c : Context) (v : Variable) → label_term (w
 label_term_same a b c (variables.Number number.Locator) = refl
 label_term_same a b c v = refl
 
-inside_same : (a b : Answers) (c : Context) (m : Manner) (form : Form) (d : DateNode) (letters : List ℕ) (day : Date)
-    → date_inside (with_answers a c) m form d letters day ≡ date_inside (with_answers b c) m form d letters day
-inside_same a b c m suffix_only d letters day = refl
-inside_same a b c m form d letters day = refl
+inside_same : (a b : Answers) (c : Context) (m : Manner) (form : SpecialForm) (d : DateNode) (year_suffix : List ℕ) (day : Date)
+    → date_inside (with_answers a c) m form d year_suffix day ≡ date_inside (with_answers b c) m form d year_suffix day
+inside_same a b c m suffix_only d year_suffix day = refl
+inside_same a b c m form d year_suffix day = refl
 
-day_same : (a b : Answers) (c : Context) (s : Setting) (has_date : Bool) (d : DateNode) (o : Option Date) → day_pieces (with_answers a c) s has_date d o ≡ day_pieces (with_answers b c) s has_date d o
+day_same : (a b : Answers) (c : Context) (s : NodeSetting) (has_date : Bool) (d : DateNode) (o : Option Date) → day_pieces (with_answers a c) s has_date d o ≡ day_pieces (with_answers b c) s has_date d o
 day_same a b c s has_date d None = refl
-day_same a b c s has_date d (Some day) = ap (framed (date_frame s s.form d)) (inside_same a b c (look_manner s.manner d.look) s.form d (date_letters c has_date) day)
+day_same a b c s has_date d (Some day) = ap (framed (date_frame s s.form d)) (inside_same a b c (look_manner s.manner d.look) s.form d (date_suffix c has_date) day)
 
-told_same : (a b : Answers) (c : Context) (o : Option Properties) (said : Properties) → told_apart (with_answers a c) o said ≡ told_apart (with_answers b c) o said
-told_same a b c None said = refl
-told_same a b c (Some first) said = refl
+disambiguated_same : (a b : Answers) (c : Context) (o : Option Properties) (raised : Properties) → disambiguated (with_answers a c) o raised ≡ disambiguated (with_answers b c) o raised
+disambiguated_same a b c None raised = refl
+disambiguated_same a b c (Some first) raised = refl
 
-delimited_same : (a b : Answers) (c : Context) (s : Setting) (is_first : Bool) (st : State) → delimited (with_answers a c) s is_first st ≡ delimited (with_answers b c) s is_first st
+delimited_same : (a b : Answers) (c : Context) (s : NodeSetting) (is_first : Bool) (st : State) → delimited (with_answers a c) s is_first st ≡ delimited (with_answers b c) s is_first st
 delimited_same a b c s true st = refl
 delimited_same a b c s false st = refl
 
@@ -111,11 +111,11 @@ answered_same a b c vs m numbers form v l h =
 
 source_same : (a b : Answers) (c : Context) (vs : List Variable) (m : Manner) (source : TextSource) → LabelsAlike a b → AreAlike (named_in_source source) a b
     → source_pieces (with_answers a c) vs m source ≡ source_pieces (with_answers b c) vs m source
-source_same a b c vs m (of_variable v form) l h = ap (λ ps. identified m v ps ++ label_letters c m v) (answered_same a b c vs m number_forms.Numeric form v l h)
+source_same a b c vs m (of_variable v form) l h = ap (λ ps. identified m v ps ++ label_suffix c m v) (answered_same a b c vs m number_forms.Numeric form v l h)
 source_same a b c vs m (of_term name form plural) l h = refl
 source_same a b c vs m (of_value cs) l h = refl
 
-text_same : (a b : Answers) (c : Context) (s : Setting) (vs : List Variable) (source : TextSource) (look : TextLook) → LabelsAlike a b → AreAlike (named_in_source source) a b
+text_same : (a b : Answers) (c : Context) (s : NodeSetting) (vs : List Variable) (source : TextSource) (look : TextLook) → LabelsAlike a b → AreAlike (named_in_source source) a b
     → text_pieces (with_answers a c) s vs source look ≡ text_pieces (with_answers b c) s vs source look
 text_same a b c s vs source look l h =
     let m = text_manner s.manner look in
@@ -124,25 +124,25 @@ text_same a b c s vs source look l h =
     let after = quote_after_same a b c m look.quotes s.inside_quotes in
     λ i. framed (frame s.manner (Some metas.Text) look.look) (before i ++ inside i ++ after i)
 
-leaf_same : (a b : Answers) (c : Context) (s : Setting) (x : Leaf) (st : State) → LabelsAlike a b → AreAlike (named_in_leaf x) a b → leaf_put (with_answers a c) s x st ≡ leaf_put (with_answers b c) s x st
-leaf_same a b c s (nodes.text (of_variable v form) look) st l h = ap (λ ps. after_variable c s v (put c ps st)) (text_same a b c s st.suppressed (of_variable v form) look l h)
-leaf_same a b c s (nodes.text (of_term name form plural) look) st l h = ap (λ ps. put c ps st) (text_same a b c s st.suppressed (of_term name form plural) look l h)
-leaf_same a b c s (nodes.text (of_value cs) look) st l h = ap (λ ps. put c ps st) (text_same a b c s st.suppressed (of_value cs) look l h)
+leaf_same : (a b : Answers) (c : Context) (s : NodeSetting) (x : Leaf) (st : State) → LabelsAlike a b → AreAlike (named_in_leaf x) a b → append_leaf (with_answers a c) s x st ≡ append_leaf (with_answers b c) s x st
+leaf_same a b c s (nodes.text (of_variable v form) look) st l h = ap (λ ps. after_variable c s v (append c ps st)) (text_same a b c s st.suppressed (of_variable v form) look l h)
+leaf_same a b c s (nodes.text (of_term name form plural) look) st l h = ap (λ ps. append c ps st) (text_same a b c s st.suppressed (of_term name form plural) look l h)
+leaf_same a b c s (nodes.text (of_value cs) look) st l h = ap (λ ps. append c ps st) (text_same a b c s st.suppressed (of_value cs) look l h)
 leaf_same a b c s (nodes.number n) st l h =
     let m = look_manner s.manner n.look in
-    ap (λ ps. after_variable c s n.variable (put c (framed (frame s.manner (Some metas.Number) n.look) (identified m n.variable ps)) st))
+    ap (λ ps. after_variable c s n.variable (append c (framed (frame s.manner (Some metas.Number) n.look) (identified m n.variable ps)) st))
     (answered_same a b c st.suppressed m n.form lengths.Long n.variable l h)
 leaf_same a b c s (nodes.label v look) st l h =
     let name = label_term_same a b c v in
     let plural = plural_same a b c v (one_alike v a b h) in
-    λ i. put c (framed (frame s.manner (Some metas.Label) look.look)
+    λ i. append c (framed (frame s.manner (Some metas.Label) look.look)
     (normal (label_manner s.manner look) (term_text c.locales (name i) look.form (pluralizes look.plural (plural i))) ∷ [])) st
 leaf_same a b c s (nodes.date d) st l h =
     let day = date_same a b c st.suppressed d.variable (one_alike (variables.Date d.variable) a b h) in
-    let day_put : day_pieces (with_answers a c) s st.has_date d (date_answer (with_answers a c) st.suppressed d.variable)
+    let day_appended : day_pieces (with_answers a c) s st.has_date d (date_answer (with_answers a c) st.suppressed d.variable)
     ≡ day_pieces (with_answers b c) s st.has_date d (date_answer (with_answers b c) st.suppressed d.variable) =
     ap (day_pieces (with_answers a c) s st.has_date d) day ∙ day_same a b c s st.has_date d (date_answer (with_answers b c) st.suppressed d.variable) in
-    ap (λ ps. record (suppressing s (variables.Date d.variable) (put c ps st)) { has_date = true }) day_put
+    ap (λ ps. record (suppressing s (variables.Date d.variable) (append c ps st)) { has_date = true }) day_appended
 
 -- What is admitted.
 
@@ -176,24 +176,24 @@ mutual
       let rest = branches_same a b s bs l (others_alike (named xs) (named_in_branches bs) a b more) in
       λ i. both (record nothing { met = asks_disambiguate c }) (if met i then this i else rest i)
 
--- What is put down.
+-- What is appended.
 
-people_put_same : (a b : Answers) (c : Context) (s : Setting) (h : NamesNode) (said : Properties) (people : List Answered) (st : State)
-    → names_put (with_answers a c) s h said people st ≡ names_put (with_answers b c) s h said people st
-people_put_same a b c s h said people st =
-    ap (λ ps. record (put c (names_pieces c.locales s.manner h s.options ps people) st) {
-      names = (names_put c s h said people st).names;
-      suppressed = (names_put c s h said people st).suppressed;
-    }) (told_same a b c st.names said)
+append_people_same : (a b : Answers) (c : Context) (s : NodeSetting) (h : NamesNode) (raised : Properties) (people : List Answered) (st : State)
+    → append_names (with_answers a c) s h raised people st ≡ append_names (with_answers b c) s h raised people st
+append_people_same a b c s h raised people st =
+    ap (λ ps. record (append c (names_pieces c.locales s.manner h s.options ps people) st) {
+      names = (append_names c s h raised people st).names;
+      suppressed = (append_names c s h raised people st).suppressed;
+    }) (disambiguated_same a b c st.names raised)
 
-stood_in_same : (a b : Answers) (c : Context) (s : Setting) (h : NamesNode) (stand_in : State → State) (people : List Answered) (st : State)
-    → names_or_stand_in (with_answers a c) s h stand_in people st ≡ names_or_stand_in (with_answers b c) s h stand_in people st
-stood_in_same a b c s h stand_in [] st = refl
-stood_in_same a b c s h stand_in (p ∷ people) st =
-    people_put_same a b c s h (properties_by (node_options h s.options) c.properties.is_first (p ∷ people)) (p ∷ people) st
+substituted_same : (a b : Answers) (c : Context) (s : NodeSetting) (h : NamesNode) (substitute : State → State) (people : List Answered) (st : State)
+    → names_or_substitute (with_answers a c) s h substitute people st ≡ names_or_substitute (with_answers b c) s h substitute people st
+substituted_same a b c s h substitute [] st = refl
+substituted_same a b c s h substitute (p ∷ people) st =
+    append_people_same a b c s h (properties_by (node_options h s.options) c.properties.is_first (p ∷ people)) (p ∷ people) st
 
 mutual
-  content_same : (a b : Answers) (c : Context) (outer : Option NamesNode) (s : Setting) (x : Node) (st : State) → LabelsAlike a b → AreAlike (named_in x) a b
+  content_same : (a b : Answers) (c : Context) (outer : Option NamesNode) (s : NodeSetting) (x : Node) (st : State) → LabelsAlike a b → AreAlike (named_in x) a b
       → content (with_answers a c) outer s x st ≡ content (with_answers b c) outer s x st
   content_same a b c outer s (leaf x) st l h = leaf_same a b c s x st l h
   content_same a b c outer s (call name look) st l h = refl
@@ -205,17 +205,17 @@ mutual
       λ i. left c f (after i) (contents_same a b c (inside_macro s look) true xs (entered c f (before i) st) l h i)
   content_same a b c outer s (names hd xs) st l h =
       let here = names_named hd.variables in
-      let said = taken outer hd in
+      let raised = taken outer hd in
       let people = all_people_same a b c st.suppressed hd.variables (first_alike here (named xs) a b h) in
       let rest = others_alike here (named xs) a b h in
-      (λ i. names_or_stand_in (with_answers a c) s said (λ before. standing_same a b c said (inside_names s said) xs before l rest i) (people i) st)
-      ∙ stood_in_same a b c s said (first_standing (with_answers b c) said (inside_names s said) xs) (people_of (with_answers b c) st hd) st
+      (λ i. names_or_substitute (with_answers a c) s raised (λ before. substitute_same a b c raised (inside_names s raised) xs before l rest i) (people i) st)
+      ∙ substituted_same a b c s raised (first_substitute (with_answers b c) raised (inside_names s raised) xs) (people_of (with_answers b c) st hd) st
   content_same a b c outer s (choose bs) st l h = chosen_same a b c s bs st l h
   content_same a b c outer s (group g xs) st l h =
       let f = frame s.manner None g.look in
       λ i. left c f [] (contents_same a b c (inside_group s g) true xs (entered c f [] st) l h i)
 
-  pub contents_same : (a b : Answers) (c : Context) (s : Setting) (is_first : Bool) (xs : Nodes) (st : State) → LabelsAlike a b → AreAlike (named xs) a b
+  pub contents_same : (a b : Answers) (c : Context) (s : NodeSetting) (is_first : Bool) (xs : Nodes) (st : State) → LabelsAlike a b → AreAlike (named xs) a b
       → contents (with_answers a c) s is_first xs st ≡ contents (with_answers b c) s is_first xs st
   contents_same a b c s is_first no_nodes st l h = refl
   contents_same a b c s is_first (node x xs) st l h =
@@ -227,7 +227,7 @@ mutual
       else noted (asked i).met st)
       l (others_alike (named_in x) (named xs) a b h) i
 
-  chosen_same : (a b : Answers) (c : Context) (s : Setting) (bs : Branches) (st : State) → LabelsAlike a b → AreAlike (named_in_branches bs) a b
+  chosen_same : (a b : Answers) (c : Context) (s : NodeSetting) (bs : Branches) (st : State) → LabelsAlike a b → AreAlike (named_in_branches bs) a b
       → chosen (with_answers a c) s bs st ≡ chosen (with_answers b c) s bs st
   chosen_same a b c s (otherwise xs) st l h = contents_same a b c s true xs st l h
   chosen_same a b c s (branch condition xs bs) st l h =
@@ -239,10 +239,10 @@ mutual
       let rest = chosen_same a b c s bs known l (others_alike (named xs) (named_in_branches bs) a b more) in
       λ i. if met i then this i else rest i
 
-  standing_same : (a b : Answers) (c : Context) (hd : NamesNode) (s : Setting) (xs : Nodes) (st : State) → LabelsAlike a b → AreAlike (named xs) a b
-      → first_standing (with_answers a c) hd s xs st ≡ first_standing (with_answers b c) hd s xs st
-  standing_same a b c hd s no_nodes st l h = refl
-  standing_same a b c hd s (node x xs) st l h =
+  substitute_same : (a b : Answers) (c : Context) (hd : NamesNode) (s : NodeSetting) (xs : Nodes) (st : State) → LabelsAlike a b → AreAlike (named xs) a b
+      → first_substitute (with_answers a c) hd s xs st ≡ first_substitute (with_answers b c) hd s xs st
+  substitute_same a b c hd s no_nodes st l h = refl
+  substitute_same a b c hd s (node x xs) st l h =
       let here = first_alike (named_in x) (named xs) a b h in
       let rest = others_alike (named_in x) (named xs) a b h in
       let asked = survey_same a b (stage c s st) x l here in
@@ -250,7 +250,7 @@ mutual
       let done = content_same a b c (Some hd) s x (tried c s (noted (asked i).met st)) l here i in
       if (asked i).is_admitted && prints 0 done.page.tokens
       then accepted c s done
-      else standing_same a b c hd s xs (noted ((asked i).met || (asked i).is_admitted && done.met_disambiguate) st) l rest i
+      else substitute_same a b c hd s xs (noted ((asked i).met || (asked i).is_admitted && done.met_disambiguate) st) l rest i
 
 -- the label is among what every style names
 label_named : Contains always_named.variables (variables.Standard standard.CitationLabel)

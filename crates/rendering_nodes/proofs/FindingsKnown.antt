@@ -6,9 +6,9 @@ use Rattle.std.proofs.lemmas.List.{length-append}
 use Rattle.std.specs.Cmp.Lexicographic.{pointwise}
 use denote.Enum.Bare.{same_true}
 use Rattle.rendering_context.specs.Contexts.{Context}
-use Rattle.rendering_leaves.specs.Settings.{Form, Setting, State}
+use Rattle.rendering_leaves.specs.NodeSettings.{SpecialForm, NodeSetting, State}
 use Rattle.rendering_style.specs.Nodes.{Node, Nodes, node}
-use Rattle.rendering_taxonomy.proofs.Places.{Decides-names}
+use Rattle.rendering_taxonomy.proofs.Indices.{Decides-names}
 use Rattle.rendering_taxonomy.specs.contracts.variable.StandardVariable.{the_type as standard_type}
 use Rattle.rendering_taxonomy.specs.contracts.variable.NumberVariable.{the_type as number_type}
 use Rattle.rendering_taxonomy.specs.contracts.variable.DateVariable.{the_type as date_type}
@@ -70,7 +70,7 @@ parted f others own after v e =
     }
 
 -- of the first of nodes, that is known now, where a survey of it finds what it found
-pub found_first : (c : Context) (s : Setting) (st : State) (x : Node) (xs : Nodes) (k : Findings) (n : NodeFinding) (f : Finding) (others : List Finding)
+pub found_first : (c : Context) (s : NodeSetting) (st : State) (x : Node) (xs : Nodes) (k : Findings) (n : NodeFinding) (f : Finding) (others : List Finding)
     → survey (stage_then c s.form k) x ≡ survey (stage c s st) x → k.nodes.now ≡ f ∷ others
     → n.is_admitted ≡ f.is_admitted → n.met ≡ f.met → n.inside.has_date ≡ k.has_date → n.inside.suppressed.now ≡ k.suppressed.now → n.inside.nodes.now ≡ take f.inside others
     → AreFound c s.form k (node x xs) → IsFound c s st n x
@@ -86,7 +86,7 @@ found_first c s st x xs k n f others now is admitted met date suppressed inside 
     }
 
 -- of those after the first
-pub found_others : (c : Context) (form : Form) (x : Node) (xs : Nodes) (k n : Findings) (f : Finding) (others : List Finding)
+pub found_others : (c : Context) (form : SpecialForm) (x : Node) (xs : Nodes) (k n : Findings) (f : Finding) (others : List Finding)
     → k.nodes.now ≡ f ∷ others → n.has_date ≡ k.has_date → n.suppressed.now ≡ k.suppressed.now → n.nodes.now ≡ drop f.inside others
     → AreFound c form k (node x xs) → AreFound c form n xs
 found_others c form x xs k n f others is date suppressed nodes known =
@@ -97,11 +97,11 @@ found_others c form x xs k n f others is date suppressed nodes known =
     all_same n.nodes.now (found (stage_then c form n) xs) (nodes ∙ p.rest ∙ sym (ap (λ (t : Stage). found t xs) same))
 
 -- of nodes of which nothing is known
-pub none_found : (c : Context) (form : Form) (k : Findings) (xs : Nodes) → k.nodes.now ≡ [] → AreFound c form k xs
+pub none_found : (c : Context) (form : SpecialForm) (k : Findings) (xs : Nodes) → k.nodes.now ≡ [] → AreFound c form k xs
 none_found c form k xs none = subst (λ (l : List Finding). AreAll l (found (stage_then c form k) xs)) (sym none) tt
 
 -- what a survey of a node found is known of it
-pub finding_is : (c : Context) (s : Setting) (st : State) (n : NodeFinding) (m : Surveyed) (x : Node)
+pub finding_is : (c : Context) (s : NodeSetting) (st : State) (n : NodeFinding) (m : Surveyed) (x : Node)
     → n.is_admitted ≡ m.is_admitted → n.met ≡ m.met → n.inside.has_date ≡ m.has_date → n.inside.suppressed.now ≡ m.suppressed.items → n.inside.nodes.now ≡ m.inside.items
     → IsSurveyed c s st m x → IsFound c s st n x
 finding_is c s st n m x admitted met date suppressed inside is =
@@ -112,10 +112,10 @@ finding_is c s st n m x admitted met date suppressed inside is =
       inside = all_same n.inside.nodes.now (found_inside (stage_then c s.form n.inside) x) (inside ∙ is.inside ∙ sym (ap (λ (t : Stage). found_inside t x) same));
     }
 
--- what is put at a place is put before what follows it
-pub put_at : (items before inside : List Finding) (f : Finding) (place n : ℕ) (v : Survey)
-    → place ≡ length before → items ≡ before ++ f ∷ inside → n ≡ length items
-    → slice_set items place (record { is_admitted = v.is_admitted; met = v.met; inside = n - place - 1 }) ≡ before ++ with_finding v inside
-put_at items before inside f place n v at is count =
-    let some : n - place - 1 ≡ length inside = omega (arith, at, count ∙ ap length is ∙ length-append before (f ∷ inside)) in
+-- what is put at an index is put before what follows it
+pub appended_at : (items before inside : List Finding) (f : Finding) (index n : ℕ) (v : Survey)
+    → index ≡ length before → items ≡ before ++ f ∷ inside → n ≡ length items
+    → slice_set items index (record { is_admitted = v.is_admitted; met = v.met; inside = n - index - 1 }) ≡ before ++ with_finding v inside
+appended_at items before inside f index n v at is count =
+    let some : n - index - 1 ≡ length inside = omega (arith, at, count ∙ ap length is ∙ length-append before (f ∷ inside)) in
     (λ i. slice_set (is i) (at i) (record { is_admitted = v.is_admitted; met = v.met; inside = some i })) ∙ set-append_seam before f inside (record { is_admitted = v.is_admitted; met = v.met; inside = length inside })

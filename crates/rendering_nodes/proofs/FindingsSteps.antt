@@ -6,30 +6,30 @@ use Rattle.rendering_context.specs.Choosing.{is_met, asks_disambiguate}
 use Rattle.rendering_style.specs.Nodes as nodes
 use Rattle.rendering_style.specs.Nodes.{GroupNode, Leaf, NamesNode, Node, Nodes, Branches, TextLook, otherwise, branch, no_nodes, node}
 use Rattle.rendering_style.specs.Opening.{each_node, each_branch}
-use Rattle.rendering_style.specs.Views.{node_seen, nodes_seen}
-use Rattle.rendering_style.specs.declared.node.Node as seen
+use Rattle.rendering_style.specs.Views.{node_view, nodes_view}
+use Rattle.rendering_style.specs.declared.node.Node as viewed
 use Rattle.rendering_nodes.specs.Admission.{Stage, Survey, both, containing, group_survey, has_people, leaf_survey, names_survey, nothing, shuts_out, survey, surveys, variable_survey}
 use Rattle.rendering_nodes.specs.Findings.{Asked, all_asked, beside_people, branch_found, found, found_inside, next_asked, node_asked, with_finding}
 use Rattle.rendering_nodes.specs.Taken.{TakenNodes, taken, taken_after}
-use Rattle.rendering_nodes.specs.Views.{survey_by}
+use Rattle.rendering_nodes.specs.Views.{survey_view}
 use Rattle.rendering_nodes.specs.declared.finding.Finding.{Finding}
 use Rattle.rendering_nodes.specs.declared.survey.Survey as declared
 use Rattle.rendering_nodes.proofs.SurveySteps.{both_three, choose_taken, opened_taken, or_none}
 
 -- what is asked of a node is asked of one that is the same
 pub node_as : {E : Type 0} (r : Result declared.Survey E) (s : Stage) (before after : List Finding) (x y : Node) → x ≡ y
-    → IfOk r (λ v. (survey_by v, after) ≡ node_asked s before x) → IfOk r (λ v. (survey_by v, after) ≡ node_asked s before y)
+    → IfOk r (λ v. (survey_view v, after) ≡ node_asked s before x) → IfOk r (λ v. (survey_view v, after) ≡ node_asked s before y)
 node_as r s before after x y same =
-    IfOk-weaker r (λ v. (survey_by v, after) ≡ node_asked s before x) (λ v. (survey_by v, after) ≡ node_asked s before y) (λ v e. e ∙ ap (node_asked s before) same)
+    IfOk-weaker r (λ v. (survey_view v, after) ≡ node_asked s before x) (λ v. (survey_view v, after) ≡ node_asked s before y) (λ v e. e ∙ ap (node_asked s before) same)
 
 -- nothing is found inside a node that contains no others
 pub leaf_is : (s : Stage) (before : List Finding) (v : Survey) (l : Leaf) (y : Node) → y ≡ nodes.leaf l → v ≡ leaf_survey s l → (v, before) ≡ node_asked s before y
 leaf_is s before v l y same e = (λ i. (e i, sym (append-nil before) i)) ∙ ap (node_asked s before) (sym same)
 
 pub leaf_as : {E : Type 0} (r : Result declared.Survey E) (s : Stage) (before : List Finding) (l : Leaf) (y : Node) → y ≡ nodes.leaf l
-    → IfOk r (λ v. survey_by v ≡ leaf_survey s l) → IfOk r (λ v. (survey_by v, before) ≡ node_asked s before y)
+    → IfOk r (λ v. survey_view v ≡ leaf_survey s l) → IfOk r (λ v. (survey_view v, before) ≡ node_asked s before y)
 leaf_as r s before l y same =
-    IfOk-weaker r (λ v. survey_by v ≡ leaf_survey s l) (λ v. (survey_by v, before) ≡ node_asked s before y) (λ v e. leaf_is s before (survey_by v) l y same e)
+    IfOk-weaker r (λ v. survey_view v ≡ leaf_survey s l) (λ v. (survey_view v, before) ≡ node_asked s before y) (λ v e. leaf_is s before (survey_view v) l y same e)
 
 -- nor of a node that is never asked
 pub nothing_is : (s : Stage) (before : List Finding) (v : Survey) (y : Node) → survey s y ≡ nothing → found_inside s y ≡ [] → v ≡ nothing → (v, before) ≡ node_asked s before y
@@ -64,11 +64,11 @@ names_shut_out s before v h xs b out is so shut out_is e =
     ∙ ap (λ (p : Bool). (if p then variable_survey false else record (surveys s xs) { calls = true }, before ++ (if p then [] else found s xs))) (sym out_is ∙ shut)
     ∙ ap (λ (p : Bool). (names_survey s h p (surveys s xs), before ++ beside_people s h p (found s xs))) (sym so ∙ is)
 
--- what stands in for names
-pub names_stood_in : (s : Stage) (before after : List Finding) (v inside : Survey) (h : NamesNode) (xs : Nodes) (b out : Bool)
+-- the substitute of names
+pub names_substituted : (s : Stage) (before after : List Finding) (v inside : Survey) (h : NamesNode) (xs : Nodes) (b out : Bool)
     → b ≡ has_people s h → b ≡ false → out ≡ shuts_out s.form h → out ≡ false → v ≡ record inside { calls = true } → (inside, after) ≡ all_asked s before xs
     → (v, after) ≡ node_asked s before (nodes.names h xs)
-names_stood_in s before after v inside h xs b out is so shut clear e asked =
+names_substituted s before after v inside h xs b out is so shut clear e asked =
     (λ i. (e i, after))
     ∙ ap (λ (a : Asked). (record a.0 { calls = true }, a.1)) asked
     ∙ ap (λ (p : Bool). (if p then variable_survey false else record (surveys s xs) { calls = true }, before ++ (if p then [] else found s xs))) (sym clear ∙ shut)
@@ -107,16 +107,16 @@ pub next_is : (s : Stage) (before pushed after new : List Finding) (f : Finding)
     → pushed ≡ before ++ f ∷ [] → (v, after) ≡ node_asked s pushed x
     → ((inside : List Finding) → after ≡ before ++ f ∷ inside → new ≡ before ++ with_finding v inside)
     → (v, new) ≡ next_asked s before x
-next_is s before pushed after new f v x is asked put =
+next_is s before pushed after new f v x is asked append =
     let behind : after ≡ before ++ f ∷ found_inside s x =
     ap (λ (a : Asked). a.1) asked ∙ ap (λ l. l ++ found_inside s x) is ∙ append_assoc before (f ∷ []) (found_inside s x) in
     let same : v ≡ survey s x = ap (λ (a : Asked). a.0) asked in
-    λ i. (same i, (put (found_inside s x) behind ∙ ap (λ w. before ++ with_finding w (found_inside s x)) same) i)
+    λ i. (same i, (append (found_inside s x) behind ∙ ap (λ w. before ++ with_finding w (found_inside s x)) same) i)
 
--- its place is there
-pub next_there : (s : Stage) (before pushed after : List Finding) (f : Finding) (v : Survey) (x : Node) (place : ℕ)
-    → place ≡ length before → pushed ≡ before ++ f ∷ [] → (v, after) ≡ node_asked s pushed x → place < length after
-next_there s before pushed after f v x place at is asked =
+-- its index is there
+pub next_there : (s : Stage) (before pushed after : List Finding) (f : Finding) (v : Survey) (x : Node) (index : ℕ)
+    → index ≡ length before → pushed ≡ before ++ f ∷ [] → (v, after) ≡ node_asked s pushed x → index < length after
+next_there s before pushed after f v x index at is asked =
     let behind : after ≡ before ++ f ∷ found_inside s x =
     ap (λ (a : Asked). a.1) asked ∙ ap (λ l. l ++ found_inside s x) is ∙ append_assoc before (f ∷ []) (found_inside s x) in
     omega (arith, at, ap length behind ∙ length-append before (f ∷ found_inside s x))
@@ -132,21 +132,21 @@ several_on s before after sofar v x xs all asked e =
     ∙ e
 
 -- what is left of nodes is the next one and those after it
-pub left_is : (f : Node → Node) (xs : List seen.Node) (i : ℕ) (x : seen.Node) → i < length xs → x ≡ get_or xs i x
-    → each_node f (nodes_seen (drop i xs)) ≡ node (f (node_seen x)) (each_node f (nodes_seen (drop (i + 1) xs)))
+pub left_is : (f : Node → Node) (xs : List viewed.Node) (i : ℕ) (x : viewed.Node) → i < length xs → x ≡ get_or xs i x
+    → each_node f (nodes_view (drop i xs)) ≡ node (f (node_view x)) (each_node f (nodes_view (drop (i + 1) xs)))
 left_is f xs i x less is =
-    ap (λ (ys : List seen.Node). each_node f (nodes_seen ys)) (drop_more xs i x less)
-    ∙ ap (λ (y : seen.Node). node (f (node_seen y)) (each_node f (nodes_seen (drop (i + 1) xs)))) (sym is)
+    ap (λ (ys : List viewed.Node). each_node f (nodes_view ys)) (drop_more xs i x less)
+    ∙ ap (λ (y : viewed.Node). node (f (node_view y)) (each_node f (nodes_view (drop (i + 1) xs)))) (sym is)
 
 -- one more of those that are left
-pub several_more : (s : Stage) (f : Node → Node) (xs : List seen.Node) (i : ℕ) (x : seen.Node) (before after : List Finding) (sofar v w : Survey) (all : Asked)
-    → i < length xs → x ≡ get_or xs i x → (v, after) ≡ next_asked s before (f (node_seen x)) → w ≡ both sofar v
-    → (both sofar (surveys s (each_node f (nodes_seen (drop i xs)))), before ++ found s (each_node f (nodes_seen (drop i xs)))) ≡ all
-    → (both w (surveys s (each_node f (nodes_seen (drop (i + 1) xs)))), after ++ found s (each_node f (nodes_seen (drop (i + 1) xs)))) ≡ all
+pub several_more : (s : Stage) (f : Node → Node) (xs : List viewed.Node) (i : ℕ) (x : viewed.Node) (before after : List Finding) (sofar v w : Survey) (all : Asked)
+    → i < length xs → x ≡ get_or xs i x → (v, after) ≡ next_asked s before (f (node_view x)) → w ≡ both sofar v
+    → (both sofar (surveys s (each_node f (nodes_view (drop i xs)))), before ++ found s (each_node f (nodes_view (drop i xs)))) ≡ all
+    → (both w (surveys s (each_node f (nodes_view (drop (i + 1) xs)))), after ++ found s (each_node f (nodes_view (drop (i + 1) xs)))) ≡ all
 several_more s f xs i x before after sofar v w all less is asked same e =
-    let rest = each_node f (nodes_seen (drop (i + 1) xs)) in
+    let rest = each_node f (nodes_view (drop (i + 1) xs)) in
     ap (λ (y : Survey). (both y (surveys s rest), after ++ found s rest)) same
-    ∙ several_on s before after sofar v (f (node_seen x)) rest all asked
+    ∙ several_on s before after sofar v (f (node_view x)) rest all asked
     (ap (λ (ys : Nodes). (both sofar (surveys s ys), before ++ found s ys)) (sym (left_is f xs i x less is)) ∙ e)
 
 both_none : (v : Survey) → v ≡ both v nothing
@@ -158,11 +158,11 @@ both_none v = λ i. record {
 }
 
 -- none is left
-pub several_all : (s : Stage) (f : Node → Node) (xs : List seen.Node) (i : ℕ) (after : List Finding) (v : Survey) (all : Asked)
+pub several_all : (s : Stage) (f : Node → Node) (xs : List viewed.Node) (i : ℕ) (after : List Finding) (v : Survey) (all : Asked)
     → length xs ≤ i
-    → (both v (surveys s (each_node f (nodes_seen (drop i xs)))), after ++ found s (each_node f (nodes_seen (drop i xs)))) ≡ all
+    → (both v (surveys s (each_node f (nodes_view (drop i xs)))), after ++ found s (each_node f (nodes_view (drop i xs)))) ≡ all
     → (v, after) ≡ all
 several_all s f xs i after v all past e =
     (λ k. (both_none v k, sym (append-nil after) k))
-    ∙ sym (at_drop_all (λ (ys : List seen.Node). (both v (surveys s (each_node f (nodes_seen ys))), after ++ found s (each_node f (nodes_seen ys)))) xs i past)
+    ∙ sym (at_drop_all (λ (ys : List viewed.Node). (both v (surveys s (each_node f (nodes_view ys))), after ++ found s (each_node f (nodes_view ys)))) xs i past)
     ∙ e

@@ -1,4 +1,4 @@
--- What leaves and names put down ends what it begins.
+-- What leaves and names append ends what it begins.
 use Rattle.std.proofs.Common.{◌≡◌, ◌+◌, ℕ, Bool, true, false, ◌==◌, List, [], ◌∷◌, ◌++◌, length, take, refl, ◌∙◌, Option, Some, None}
 use Rattle.std.specs.Prelude.{if◌then◌else◌, ◌-◌, ◌&&◌, ◌||◌, bytes_eq, drop, nat_le, nat_lt, zip}
 use Rattle.std.specs.List.{flat_map, enumerate_from}
@@ -21,13 +21,13 @@ use Rattle.rendering_style.specs.Options.{NameOptions}
 use Rattle.rendering_style.specs.Nodes.{LabelLook, TextSource, of_variable, of_term, of_value, TextLook, NumberNode, DateNode, NamesNode, Leaf}
 use Rattle.rendering_style.specs.Nodes as nodes
 use Rattle.rendering_names.specs.Names as names
-use Rattle.rendering_names.specs.Names.{NameStyle, Placed, names_pieces}
+use Rattle.rendering_names.specs.Names.{NameStyle, IndexedPerson, names_pieces}
 use Rattle.rendering_names.specs.Persons.{comma_and_space, person_text}
 use Rattle.rendering_people.specs.Properties.{VariableProperties, Properties, all_shown}
 use Rattle.rendering_context.specs.Contexts.{Context}
 use Rattle.rendering_context.specs.Answering.{Answer, no_answer, pieces, address, count, ranges, own, answer_to, asked_for, ranges_text, date_answer, is_plural_variable}
-use Rattle.rendering_leaves.specs.Settings.{with_variable, Form, suffix_only, Setting, State, put}
-use Rattle.rendering_leaves.specs.Values.{look_manner, text_manner, frame, open_term, close_term, quote_before, quote_after, meaning, answer_pieces, identified, is_label_variable, is_number_variable, label_letters, label_term, own_letters, source_pieces, text_pieces, number_pieces, label_pieces, date_inside, date_frame, date_letters, day_pieces, shape_of, suppressing, using, after_variable, leaf_put}
+use Rattle.rendering_leaves.specs.NodeSettings.{with_variable, SpecialForm, suffix_only, NodeSetting, State, append}
+use Rattle.rendering_leaves.specs.Values.{look_manner, text_manner, frame, open_term, close_term, quote_before, quote_after, meaning, answer_pieces, identified, is_label_variable, is_number_variable, label_suffix, label_term, own_year_suffix, source_pieces, text_pieces, number_pieces, label_pieces, date_inside, date_frame, date_suffix, day_pieces, shape_of, suppressing, using, after_variable, append_leaf}
 use Rattle.rendering_taxonomy.specs.Variables.{is_variable}
 use Rattle.rendering_taxonomy.specs.declared.date.LongShortForm.TheVariants as lengths
 use Rattle.rendering_taxonomy.specs.declared.number.NumberForm.{NumberForm}
@@ -67,18 +67,18 @@ ends_identified m (variables.Number number.CitationNumber) ps h = ends_meaning m
 ends_identified m (variables.Standard standard.CitationLabel) ps h = ends_meaning m metas.CitationLabel ps h
 ends_identified m v ps h = h
 
-ends_label_letters : (c : Context) (m : Manner) (v : Variable) → EndAll (label_letters c m v)
-ends_label_letters c m v = ends_either (is_label_variable v) (normal m (own_letters c) ∷ []) [] (ends_normal m (own_letters c)) ends_none
+ends_label_suffix : (c : Context) (m : Manner) (v : Variable) → EndAll (label_suffix c m v)
+ends_label_suffix c m v = ends_either (is_label_variable v) (normal m (own_year_suffix c) ∷ []) [] (ends_normal m (own_year_suffix c)) ends_none
 
 ends_source : (c : Context) (vs : List Variable) (m : Manner) (source : TextSource) → EndAll (source_pieces c vs m source)
 ends_source c vs m (of_variable v form) =
     let answer = answer_pieces c m number_forms.Numeric (answer_to c vs form v) in
-    ends_both (identified m v answer) (label_letters c m v)
-    (ends_identified m v answer (ends_answer c m number_forms.Numeric (answer_to c vs form v))) (ends_label_letters c m v)
+    ends_both (identified m v answer) (label_suffix c m v)
+    (ends_identified m v answer (ends_answer c m number_forms.Numeric (answer_to c vs form v))) (ends_label_suffix c m v)
 ends_source c vs m (of_term name form plural) = ends_normal m (term_text c.locales name form plural)
 ends_source c vs m (of_value cs) = ends_normal m cs
 
-ends_text : (c : Context) (s : Setting) (vs : List Variable) (source : TextSource) (look : TextLook) → EndAll (text_pieces c s vs source look)
+ends_text : (c : Context) (s : NodeSetting) (vs : List Variable) (source : TextSource) (look : TextLook) → EndAll (text_pieces c s vs source look)
 ends_text c s vs source look =
     let m = text_manner s.manner look in
     let before = quote_before c m look.quotes s.inside_quotes in
@@ -88,14 +88,14 @@ ends_text c s vs source look =
     ends_framed (frame s.manner (Some metas.Text) look.look) ((before ++ inside) ++ after)
     (ends_both (before ++ inside) after begins (ends_quote_after c m look.quotes s.inside_quotes))
 
-ends_number : (c : Context) (s : Setting) (vs : List Variable) (n : NumberNode) → EndAll (number_pieces c s vs n)
+ends_number : (c : Context) (s : NodeSetting) (vs : List Variable) (n : NumberNode) → EndAll (number_pieces c s vs n)
 ends_number c s vs n =
     let m = look_manner s.manner n.look in
     let answer = answer_pieces c m n.form (answer_to c vs lengths.Long n.variable) in
     ends_framed (frame s.manner (Some metas.Number) n.look) (identified m n.variable answer)
     (ends_identified m n.variable answer (ends_answer c m n.form (answer_to c vs lengths.Long n.variable)))
 
-ends_label : (c : Context) (s : Setting) (v : Variable) (l : LabelLook) → EndAll (label_pieces c s v l)
+ends_label : (c : Context) (s : NodeSetting) (v : Variable) (l : LabelLook) → EndAll (label_pieces c s v l)
 ends_label c s v l =
     let cs = term_text c.locales (label_term c v) l.form (names.pluralizes l.plural (is_plural_variable c v)) in
     ends_framed (frame s.manner (Some metas.Label) l.look) (normal (names.label_manner s.manner l) cs ∷ []) (ends_normal (names.label_manner s.manner l) cs)
@@ -114,50 +114,50 @@ ends_joined : (between : List Piece) (pss : List (List Piece)) → EndAll betwee
 ends_joined between [] h k = ends_none
 ends_joined between (ps ∷ pss) h k = ends_both ps (dates.each_after between pss) k.0 (ends_each_after between pss h k.1)
 
-ends_part : (m : Manner) (letters : List ℕ) (p : DatePart) (cs : List ℕ) → EndAll (dates.text_pieces m letters p cs)
-ends_part m letters p cs =
+ends_part : (m : Manner) (year_suffix : List ℕ) (p : DatePart) (cs : List ℕ) → EndAll (dates.text_pieces m year_suffix p cs)
+ends_part m year_suffix p cs =
     let pm = dates.part_manner m p in
-    let more = normal pm (dates.letters_of p.form letters) ∷ [] in
-    ends_framed (dates.part_frame m p) (normal pm cs ∷ more) (ends_more (normal pm cs) more (ends_normal pm cs) (ends_normal pm (dates.letters_of p.form letters)))
+    let more = normal pm (dates.year_suffix_of p.form year_suffix) ∷ [] in
+    ends_framed (dates.part_frame m p) (normal pm cs ∷ more) (ends_more (normal pm cs) more (ends_normal pm cs) (ends_normal pm (dates.year_suffix_of p.form year_suffix)))
 
 one_if : (b : Bool) (ps : List Piece) (pss : List (List Piece)) → EndAll ps → EndEach pss → EndEach ((if b then ps ∷ [] else []) ++ pss)
 one_if true ps pss h k = (h, k)
 one_if false ps pss h k = k
 
-ends_parts : (ls : List Locale) (m : Manner) (letters : List ℕ) (d : Date) (ps : List DatePart) → EndEach (flat_map (dates.part_pieces ls m letters d) ps)
-ends_parts ls m letters d [] = tt
-ends_parts ls m letters d (p ∷ ps) =
+ends_parts : (ls : List Locale) (m : Manner) (year_suffix : List ℕ) (d : Date) (ps : List DatePart) → EndEach (flat_map (dates.part_pieces ls m year_suffix d) ps)
+ends_parts ls m year_suffix d [] = tt
+ends_parts ls m year_suffix d (p ∷ ps) =
     let cs = dates.part_text ls d p.form in
-    one_if (is_filled cs) (dates.text_pieces m letters p cs) (flat_map (dates.part_pieces ls m letters d) ps) (ends_part m letters p cs) (ends_parts ls m letters d ps)
+    one_if (is_filled cs) (dates.text_pieces m year_suffix p cs) (flat_map (dates.part_pieces ls m year_suffix d) ps) (ends_part m year_suffix p cs) (ends_parts ls m year_suffix d ps)
 
-ends_side : (ls : List Locale) (m : Manner) (shape : DateShape) (letters : List ℕ) (d : Date) → EndAll (dates.side_pieces ls m shape letters d)
-ends_side ls m shape letters d =
-    ends_joined (normal m shape.delimiter ∷ []) (flat_map (dates.part_pieces ls m letters d) shape.parts) (ends_normal m shape.delimiter) (ends_parts ls m letters d shape.parts)
+ends_side : (ls : List Locale) (m : Manner) (shape : DateShape) (year_suffix : List ℕ) (d : Date) → EndAll (dates.side_pieces ls m shape year_suffix d)
+ends_side ls m shape year_suffix d =
+    ends_joined (normal m shape.delimiter ∷ []) (flat_map (dates.part_pieces ls m year_suffix d) shape.parts) (ends_normal m shape.delimiter) (ends_parts ls m year_suffix d shape.parts)
 
-ends_sides : (ls : List Locale) (m : Manner) (shape : DateShape) (letters : List ℕ) (first last : Date) → EndAll (dates.both_pieces ls m shape letters first last)
-ends_sides ls m shape letters first last =
+ends_sides : (ls : List Locale) (m : Manner) (shape : DateShape) (year_suffix : List ℕ) (first last : Date) → EndAll (dates.both_pieces ls m shape year_suffix first last)
+ends_sides ls m shape year_suffix first last =
     let one = dates.side_pieces ls m shape [] first in
     let dash = normal m dates.dash ∷ [] in
-    let other = dates.side_pieces ls m shape letters last in
+    let other = dates.side_pieces ls m shape year_suffix last in
     let begins = ends_both one dash (ends_side ls m shape [] first) (ends_normal m dates.dash) in
-    ends_either (bytes_eq (dates.side_text ls m shape first) (dates.side_text ls m shape last)) (dates.side_pieces ls m shape letters first) ((one ++ dash) ++ other)
-    (ends_side ls m shape letters first) (ends_both (one ++ dash) other begins (ends_side ls m shape letters last))
+    ends_either (bytes_eq (dates.side_text ls m shape first) (dates.side_text ls m shape last)) (dates.side_pieces ls m shape year_suffix first) ((one ++ dash) ++ other)
+    (ends_side ls m shape year_suffix first) (ends_both (one ++ dash) other begins (ends_side ls m shape year_suffix last))
 
-ends_to : (ls : List Locale) (m : Manner) (shape : DateShape) (letters : List ℕ) (d : Date) (e : Option DateEnd) → EndAll (dates.ended_pieces ls m shape letters d e)
-ends_to ls m shape letters d None = ends_side ls m shape letters d
-ends_to ls m shape letters d (Some (On y month day)) = ends_sides ls m shape letters d (dates.last_side d y month day)
-ends_to ls m shape letters d (Some Open) =
-    ends_both (dates.side_pieces ls m shape letters d) (normal m dates.dash ∷ []) (ends_side ls m shape letters d) (ends_normal m dates.dash)
+ends_to : (ls : List Locale) (m : Manner) (shape : DateShape) (year_suffix : List ℕ) (d : Date) (e : Option DateEnd) → EndAll (dates.ended_pieces ls m shape year_suffix d e)
+ends_to ls m shape year_suffix d None = ends_side ls m shape year_suffix d
+ends_to ls m shape year_suffix d (Some (On y month day)) = ends_sides ls m shape year_suffix d (dates.last_side d y month day)
+ends_to ls m shape year_suffix d (Some Open) =
+    ends_both (dates.side_pieces ls m shape year_suffix d) (normal m dates.dash ∷ []) (ends_side ls m shape year_suffix d) (ends_normal m dates.dash)
 
-ends_inside : (c : Context) (m : Manner) (form : Form) (d : DateNode) (letters : List ℕ) (day : Date) → EndAll (date_inside c m form d letters day)
-ends_inside c m suffix_only d letters day = ends_normal m letters
-ends_inside c m form d letters day = ends_to c.locales m (cut_to d.parts (shape_of c d)) letters day day.end
+ends_inside : (c : Context) (m : Manner) (form : SpecialForm) (d : DateNode) (year_suffix : List ℕ) (day : Date) → EndAll (date_inside c m form d year_suffix day)
+ends_inside c m suffix_only d year_suffix day = ends_normal m year_suffix
+ends_inside c m form d year_suffix day = ends_to c.locales m (cut_to d.parts (shape_of c d)) year_suffix day day.end
 
-ends_day : (c : Context) (s : Setting) (has_date : Bool) (d : DateNode) (o : Option Date) → EndAll (day_pieces c s has_date d o)
+ends_day : (c : Context) (s : NodeSetting) (has_date : Bool) (d : DateNode) (o : Option Date) → EndAll (day_pieces c s has_date d o)
 ends_day c s has_date d None = ends_none
 ends_day c s has_date d (Some day) =
-    ends_framed (date_frame s s.form d) (date_inside c (look_manner s.manner d.look) s.form d (date_letters c has_date) day)
-    (ends_inside c (look_manner s.manner d.look) s.form d (date_letters c has_date) day)
+    ends_framed (date_frame s s.form d) (date_inside c (look_manner s.manner d.look) s.form d (date_suffix c has_date) day)
+    (ends_inside c (look_manner s.manner d.look) s.form d (date_suffix c has_date) day)
 
 -- names
 ends_before_last : (m : Manner) (o : NameOptions) (n : ℕ) (cs : List ℕ) → EndAll (names.before_last_by m o n cs)
@@ -171,20 +171,20 @@ ends_before_name ls m o n i =
     ends_either (i == 0) [] (if i + 1 == n then last else other) ends_none
     (ends_either (i + 1 == n) last other (ends_before_last m o n (names.and_text ls o.and_term)) (ends_normal m (names.delimiter_by o)))
 
-ends_placed : (s : NameStyle) (v : NameVariable) (p : Placed) → EndAll (names.placed_pieces s v p)
-ends_placed s v p =
+ends_indexed : (s : NameStyle) (v : NameVariable) (p : IndexedPerson) → EndAll (names.indexed_pieces s v p)
+ends_indexed s v p =
     let m : Manner = record s.manner { formatting = changed s.look.formatting s.manner.formatting } in
     let cs = person_text s.options (names.inverts s.options.name_as_sort_order p.0) (p.1).0 (p.1).1 in
     let f : Frame = record { display = None; meta = Some (metas.Name v p.0); manner = s.manner; prefix = s.look.prefix; suffix = s.look.suffix } in
     ends_framed f (normal m cs ∷ []) (ends_normal m cs)
 
-ends_shown : (s : NameStyle) (v : NameVariable) (n : ℕ) (ps : List Placed) → EndAll (names.shown_pieces s v n ps)
+ends_shown : (s : NameStyle) (v : NameVariable) (n : ℕ) (ps : List IndexedPerson) → EndAll (names.shown_pieces s v n ps)
 ends_shown s v n ps =
-    ends_each (λ (p : Placed). names.before_name s.locales s.manner s.options n p.0 ++ names.placed_pieces s v p)
-    (λ p. ends_both (names.before_name s.locales s.manner s.options n p.0) (names.placed_pieces s v p) (ends_before_name s.locales s.manner s.options n p.0) (ends_placed s v p)) ps
+    ends_each (λ (p : IndexedPerson). names.before_name s.locales s.manner s.options n p.0 ++ names.indexed_pieces s v p)
+    (λ p. ends_both (names.before_name s.locales s.manner s.options n p.0) (names.indexed_pieces s v p) (ends_before_name s.locales s.manner s.options n p.0) (ends_indexed s v p)) ps
 
-ends_last : (s : NameStyle) (v : NameVariable) (n : ℕ) (ps : List Placed) → EndAll (names.last_pieces s v n ps)
-ends_last s v n ps = ends_each (names.placed_pieces s v) (ends_placed s v) (drop (n - 1) ps)
+ends_last : (s : NameStyle) (v : NameVariable) (n : ℕ) (ps : List IndexedPerson) → EndAll (names.last_pieces s v n ps)
+ends_last s v n ps = ends_each (names.indexed_pieces s v) (ends_indexed s v) (drop (n - 1) ps)
 
 ends_et_al : (s : NameStyle) (shown : ℕ) (cs : List ℕ) → EndAll (names.et_al_by s shown cs)
 ends_et_al s shown [] = ends_none
@@ -194,7 +194,7 @@ ends_after_ellipsis : (s : NameStyle) (ps : List Piece) → EndAll ps → EndAll
 ends_after_ellipsis s ps h =
     ends_more _ _ (ends_normal s.manner (names.delimiter_by s.options)) (ends_more _ _ (ends_normal s.manner names.ellipsis) (ends_more _ _ (ends_normal s.manner (32 ∷ [])) h))
 
-ends_rest : (s : NameStyle) (v : NameVariable) (n shown : ℕ) (ps : List Placed) → EndAll (names.rest_pieces s v n shown ps)
+ends_rest : (s : NameStyle) (v : NameVariable) (n shown : ℕ) (ps : List IndexedPerson) → EndAll (names.rest_pieces s v n shown ps)
 ends_rest s v n shown ps =
     let last = names.after_ellipsis s (names.last_pieces s v n ps) in
     let others = names.et_al_pieces s shown in
@@ -203,7 +203,7 @@ ends_rest s v n shown ps =
     (ends_after_ellipsis s (names.last_pieces s v n ps) (ends_last s v n ps))
     (ends_et_al s shown (term_text s.locales (terms.Other (names.et_al_term s.et_al.name)) term_forms.Long false)))
 
-ends_list : (s : NameStyle) (v : NameVariable) (shown : ℕ) (ps : List Placed) → EndAll (names.list_pieces s v shown ps)
+ends_list : (s : NameStyle) (v : NameVariable) (shown : ℕ) (ps : List IndexedPerson) → EndAll (names.list_pieces s v shown ps)
 ends_list s v shown ps =
     ends_both (names.shown_pieces s v (length ps) (take shown ps)) (names.rest_pieces s v (length ps) shown ps)
     (ends_shown s v (length ps) (take shown ps)) (ends_rest s v (length ps) shown ps)
@@ -231,14 +231,14 @@ ends_before_people m h i =
     let cs = unwrap_or h.delimiter comma_and_space in
     ends_either (i == 0) [] (normal m cs ∷ []) ends_none (ends_normal m cs)
 
-ends_placed_variable : (s : NameStyle) (h : NamesNode) (p : ℕ × (VariableProperties × Answered)) → EndAll (names.placed_variable s h p)
-ends_placed_variable s h p =
+ends_indexed_variable : (s : NameStyle) (h : NamesNode) (p : ℕ × (VariableProperties × Answered)) → EndAll (names.indexed_variable s h p)
+ends_indexed_variable s h p =
     ends_both (names.before_people s.manner h p.0) (names.variable_pieces s h p.1) (ends_before_people s.manner h p.0) (ends_variable s h p.1)
 
 ends_people : (s : NameStyle) (h : NamesNode) (ps : Properties) (people : List Answered) → EndAll (names.people_pieces s h ps people)
 ends_people s h ps people =
-    ends_either (names.is_count s.options.form) (normal s.manner (decimal (all_shown ps)) ∷ []) (flat_map (names.placed_variable s h) (enumerate_from 0 (zip ps people)))
-    (ends_normal s.manner (decimal (all_shown ps))) (ends_each (names.placed_variable s h) (ends_placed_variable s h) (enumerate_from 0 (zip ps people)))
+    ends_either (names.is_count s.options.form) (normal s.manner (decimal (all_shown ps)) ∷ []) (flat_map (names.indexed_variable s h) (enumerate_from 0 (zip ps people)))
+    (ends_normal s.manner (decimal (all_shown ps))) (ends_each (names.indexed_variable s h) (ends_indexed_variable s h) (enumerate_from 0 (zip ps people)))
 
 pub ends_names : (ls : List Locale) (m : Manner) (h : NamesNode) (around : NameOptions) (ps : Properties) (people : List Answered) → EndAll (names_pieces ls m h around ps people)
 ends_names ls m h around ps people =
@@ -249,38 +249,38 @@ ends_names ls m h around ps people =
 abbrev pub KeepsOpen : State → State → Type 0
 KeepsOpen st done = AreLevel st.page.tokens done.page.tokens
 
-pub keeps_put : (c : Context) (ps : List Piece) (st : State) → EndAll ps → KeepsOpen st (put c ps st)
-keeps_put c ps st h = h.on_page c.quotes st.page
+pub keeps_append : (c : Context) (ps : List Piece) (st : State) → EndAll ps → KeepsOpen st (append c ps st)
+keeps_append c ps st h = h.on_page c.quotes st.page
 
 page_if : (b : Bool) (x y : State) (p : Page) → x.page ≡ p → y.page ≡ p → (if b then x else y).page ≡ p
 page_if true x y p e f = e
 page_if false x y p e f = f
 
-page_suppressing : (s : Setting) (v : Variable) (st : State) → (suppressing s v st).page ≡ st.page
-page_suppressing s v st = page_if s.stands_in (record st { suppressed = with_variable st.suppressed v }) st st.page refl refl
+page_suppressing : (s : NodeSetting) (v : Variable) (st : State) → (suppressing s v st).page ≡ st.page
+page_suppressing s v st = page_if s.in_substitute (record st { suppressed = with_variable st.suppressed v }) st st.page refl refl
 
 page_using : (c : Context) (v : Variable) (st : State) → (using c v st).page ≡ st.page
 page_using c v st =
     page_if c.is_bibliography st (record st { used = record { label = st.used.label || is_label_variable v; number = st.used.number || is_number_variable v } }) st.page refl refl
 
-page_after : (c : Context) (s : Setting) (v : Variable) (st : State) → (after_variable c s v st).page ≡ st.page
+page_after : (c : Context) (s : NodeSetting) (v : Variable) (st : State) → (after_variable c s v st).page ≡ st.page
 page_after c s v st =
     page_using c v (if is_variable v (asked_for c v) then suppressing s v st else st)
     ∙ page_if (is_variable v (asked_for c v)) (suppressing s v st) st st.page (page_suppressing s v st) refl
 
-keeps_after : (c : Context) (s : Setting) (v : Variable) (ps : List Piece) (st : State) → EndAll ps → KeepsOpen st (after_variable c s v (put c ps st))
-keeps_after c s v ps st h = level_to st.page.tokens (put c ps st).page (after_variable c s v (put c ps st)).page (page_after c s v (put c ps st)) (keeps_put c ps st h)
+keeps_after : (c : Context) (s : NodeSetting) (v : Variable) (ps : List Piece) (st : State) → EndAll ps → KeepsOpen st (after_variable c s v (append c ps st))
+keeps_after c s v ps st h = level_to st.page.tokens (append c ps st).page (after_variable c s v (append c ps st)).page (page_after c s v (append c ps st)) (keeps_append c ps st h)
 
-pub keeps_leaf : (c : Context) (s : Setting) (l : Leaf) (st : State) → KeepsOpen st (leaf_put c s l st)
+pub keeps_leaf : (c : Context) (s : NodeSetting) (l : Leaf) (st : State) → KeepsOpen st (append_leaf c s l st)
 keeps_leaf c s (nodes.text (of_variable v form) look) st =
     keeps_after c s v (text_pieces c s st.suppressed (of_variable v form) look) st (ends_text c s st.suppressed (of_variable v form) look)
 keeps_leaf c s (nodes.text (of_term name form plural) look) st =
-    keeps_put c (text_pieces c s st.suppressed (of_term name form plural) look) st (ends_text c s st.suppressed (of_term name form plural) look)
-keeps_leaf c s (nodes.text (of_value cs) look) st = keeps_put c (text_pieces c s st.suppressed (of_value cs) look) st (ends_text c s st.suppressed (of_value cs) look)
+    keeps_append c (text_pieces c s st.suppressed (of_term name form plural) look) st (ends_text c s st.suppressed (of_term name form plural) look)
+keeps_leaf c s (nodes.text (of_value cs) look) st = keeps_append c (text_pieces c s st.suppressed (of_value cs) look) st (ends_text c s st.suppressed (of_value cs) look)
 keeps_leaf c s (nodes.number n) st = keeps_after c s n.variable (number_pieces c s st.suppressed n) st (ends_number c s st.suppressed n)
-keeps_leaf c s (nodes.label v look) st = keeps_put c (label_pieces c s v look) st (ends_label c s v look)
+keeps_leaf c s (nodes.label v look) st = keeps_append c (label_pieces c s v look) st (ends_label c s v look)
 keeps_leaf c s (nodes.date d) st =
     let answer = date_answer c st.suppressed d.variable in
     let ps = day_pieces c s st.has_date d answer in
-    level_to st.page.tokens (put c ps st).page (suppressing s (variables.Date d.variable) (put c ps st)).page
-    (page_suppressing s (variables.Date d.variable) (put c ps st)) (keeps_put c ps st (ends_day c s st.has_date d answer))
+    level_to st.page.tokens (append c ps st).page (suppressing s (variables.Date d.variable) (append c ps st)).page
+    (page_suppressing s (variables.Date d.variable) (append c ps st)) (keeps_append c ps st (ends_day c s st.has_date d answer))

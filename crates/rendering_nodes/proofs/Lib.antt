@@ -9,11 +9,11 @@ pub mod SurveySteps
 pub mod ContentSteps
 pub mod SuffixSteps
 pub mod ElementsSteps
-pub mod OpenedPut
-pub mod StandingPut
+pub mod OpenedAppended
+pub mod SubstituteSteps
 pub mod DatesUnasked
 pub mod PeopleThere
 pub mod LocatorsLacked
 pub mod FindingsKnown
 pub mod FindingsSteps
-pub mod FindingsPut
+pub mod FindingsAppended

@@ -14,8 +14,8 @@ use Rattle.rendering_taxonomy.specs.declared.formatting.Formatting.{Formatting}
 use Rattle.rendering_tree.specs.Laws.{says_something, Bracket, of_mark, of_element, closes_mark, closes_element, are_nested}
 use Rattle.rendering_tree.specs.Metas.{Meta}
 use Rattle.rendering_tree.specs.Tokens.{Token, letter, formula, link, transparent, opening, closing, mark, unmark, with_letters, without_letters, with_letter_before, last_text}
-use Rattle.rendering_page.specs.Pages.{Page, Manner, Quotes, Frame, in_manner, appended, punctuated, quote_at_end, normal_put, verbatim_put, quote_put, suffix_put, first_token, last_token, before_mark, before_prefix, prints, begun, closed_off, ended}
-use Rattle.rendering_page.specs.Pieces.{Piece, normal, close_quote, linked, own_locator, end, put_down, all_down, framed, chunk_by, chunk_piece, chunk_pieces}
+use Rattle.rendering_page.specs.Pages.{Page, Manner, Quotes, Frame, in_manner, appended, punctuated, quote_at_end, append_normal, append_verbatim, append_quote, append_suffix, first_token, last_token, before_mark, before_prefix, prints, begun, closed_off, ended}
+use Rattle.rendering_page.specs.Pieces.{Piece, normal, close_quote, linked, own_locator, end, append_piece, append_pieces, framed, chunk_by, chunk_piece, chunk_pieces}
 use Rattle.rendering_page.specs.Tail.{is_punctuation, begins_close, trailing, closed_up, ends_in, without_end, unrepeated, remaining}
 
 -- where elements and marks begin and end on a page
@@ -128,22 +128,22 @@ frames_punctuated m c cs None p = frames_appended m (c ∷ cs) p
 frames_punctuated m c cs (Some q) p =
     frames_appended m cs (record p { tokens = with_letter_before (length q) c p.tokens }) ∙ frames_inside (length q) c p.tokens
 
-frames_normal : (quotes : Quotes) (m : Manner) (cs : List ℕ) (p : Page) → frames_of (normal_put quotes m cs p).tokens ≡ frames_of p.tokens
+frames_normal : (quotes : Quotes) (m : Manner) (cs : List ℕ) (p : Page) → frames_of (append_normal quotes m cs p).tokens ≡ frames_of p.tokens
 frames_normal quotes m [] p = refl
 frames_normal quotes m (c ∷ cs) p =
     page_either (p.after_quote && is_punctuation c) (punctuated m c cs (quote_at_end quotes p.tokens) p) (appended m (c ∷ cs) p) (frames_of p.tokens)
     (frames_punctuated m c cs (quote_at_end quotes p.tokens) p) (frames_appended m (c ∷ cs) p)
 
-frames_verbatim : (f : Formatting) (cs : List ℕ) (p : Page) → frames_of (verbatim_put f cs p).tokens ≡ frames_of p.tokens
+frames_verbatim : (f : Formatting) (cs : List ℕ) (p : Page) → frames_of (append_verbatim f cs p).tokens ≡ frames_of p.tokens
 frames_verbatim f [] p = refl
 frames_verbatim f (c ∷ cs) p = frames_letters f (c ∷ cs) p.tokens
 
-frames_quote : (quotes : Quotes) (m : Manner) (cs : List ℕ) (p : Page) → frames_of (quote_put quotes m cs p).tokens ≡ frames_of p.tokens
+frames_quote : (quotes : Quotes) (m : Manner) (cs : List ℕ) (p : Page) → frames_of (append_quote quotes m cs p).tokens ≡ frames_of p.tokens
 frames_quote quotes m [] p = refl
 frames_quote quotes m (c ∷ cs) p = frames_normal quotes m (c ∷ cs) p
 
-frames_suffix : (quotes : Quotes) (m : Manner) (cs : List ℕ) (p : Page) → frames_of (suffix_put quotes m cs p).tokens ≡ frames_of p.tokens
-frames_suffix quotes m cs p = page_either (ends_in cs (last_text p.tokens)) p (normal_put quotes m cs p) (frames_of p.tokens) refl (frames_normal quotes m cs p)
+frames_suffix : (quotes : Quotes) (m : Manner) (cs : List ℕ) (p : Page) → frames_of (append_suffix quotes m cs p).tokens ≡ frames_of p.tokens
+frames_suffix quotes m cs p = page_either (ends_in cs (last_text p.tokens)) p (append_normal quotes m cs p) (frames_of p.tokens) refl (frames_normal quotes m cs p)
 
 -- frames after which the same are open as after others, in whatever stands around, and which are cut back as far
 pub record LevelFrames (ts us : List Token) : Type 0 where
@@ -220,10 +220,10 @@ first_gone (Some d) None ts = refl
 first_gone (Some d) (Some m) ts = refl
 
 ended_by : (b : Bool) (quotes : Quotes) (f : Frame) (ts : List Token) (q : Page) → LevelFrames (frames_begun f (frames_of ts)) (frames_of q.tokens)
-    → AreLevel ts (if b then closed_off f (suffix_put quotes f.manner f.suffix (record q { tokens = unmark ∷ q.tokens }))
+    → AreLevel ts (if b then closed_off f (append_suffix quotes f.manner f.suffix (record q { tokens = unmark ∷ q.tokens }))
     else record q { tokens = before_prefix (before_mark 0 q.tokens) }).tokens
 ended_by true quotes f ts q h =
-    let suffixed = suffix_put quotes f.manner f.suffix (record q { tokens = unmark ∷ q.tokens }) in
+    let suffixed = append_suffix quotes f.manner f.suffix (record q { tokens = unmark ∷ q.tokens }) in
     let e : frames_of (last_token f.display f.meta ∷ suffixed.tokens) ≡ last_token f.display f.meta ∷ unmark ∷ frames_of q.tokens =
     last_frames f.display f.meta suffixed.tokens
     ∙ ap (λ (us : List Token). last_token f.display f.meta ∷ us) (frames_suffix quotes f.manner f.suffix (record q { tokens = unmark ∷ q.tokens })) in
@@ -235,7 +235,7 @@ ended_by false quotes f ts q h =
     ∙ ap before_prefix (frames_before_mark 0 q.tokens ∙ h.marks 0)
     ∙ first_gone f.display f.meta (frames_of ts))
 
--- after an element that was put down whole or cut back the same is open as before it
+-- after an element that was appended whole or cut back the same is open as before it
 pub level_ended : (quotes : Quotes) (f : Frame) (p q : Page) → AreLevel (begun f p).tokens q.tokens → AreLevel p.tokens (ended quotes f q).tokens
 level_ended quotes f p q h =
     let e = begun_frames f p in
@@ -249,22 +249,22 @@ level_to ts p q e h =
 
 -- pieces that end what they begin
 pub record EndAll (ps : List Piece) : Type 0 where
-  pub on_page : (quotes : Quotes) (p : Page) → AreLevel p.tokens (all_down quotes ps p).tokens
+  pub on_page : (quotes : Quotes) (p : Page) → AreLevel p.tokens (append_pieces quotes ps p).tokens
 
 pub ends_none : EndAll []
 ends_none = record { on_page = λ quotes p. level_as p.tokens }
 
 pub ends_more : (x : Piece) (ps : List Piece) → EndAll (x ∷ []) → EndAll ps → EndAll (x ∷ ps)
 ends_more x ps a b = record {
-  on_page = λ quotes p. level_on p.tokens (put_down quotes p x).tokens (all_down quotes ps (put_down quotes p x)).tokens (a.on_page quotes p) (b.on_page quotes (put_down quotes p x));
+  on_page = λ quotes p. level_on p.tokens (append_piece quotes p x).tokens (append_pieces quotes ps (append_piece quotes p x)).tokens (a.on_page quotes p) (b.on_page quotes (append_piece quotes p x));
 }
 
 pub ends_both : (ps qs : List Piece) → EndAll ps → EndAll qs → EndAll (ps ++ qs)
 ends_both ps qs a b = record {
   on_page = λ quotes p.
-      let middle = all_down quotes ps p in
-      level_to p.tokens (all_down quotes qs middle) (all_down quotes (ps ++ qs) p) (fold-append (put_down quotes) p ps qs)
-      (level_on p.tokens middle.tokens (all_down quotes qs middle).tokens (a.on_page quotes p) (b.on_page quotes middle));
+      let middle = append_pieces quotes ps p in
+      level_to p.tokens (append_pieces quotes qs middle) (append_pieces quotes (ps ++ qs) p) (fold-append (append_piece quotes) p ps qs)
+      (level_on p.tokens middle.tokens (append_pieces quotes qs middle).tokens (a.on_page quotes p) (b.on_page quotes middle));
 }
 
 pub ends_either : (b : Bool) (ps qs : List Piece) → EndAll ps → EndAll qs → EndAll (if b then ps else qs)
@@ -272,10 +272,10 @@ ends_either true ps qs e f = e
 ends_either false ps qs e f = f
 
 pub ends_normal : (m : Manner) (cs : List ℕ) → EndAll (normal m cs ∷ [])
-ends_normal m cs = record { on_page = λ quotes p. level p.tokens (normal_put quotes m cs p).tokens (frames_normal quotes m cs p) }
+ends_normal m cs = record { on_page = λ quotes p. level p.tokens (append_normal quotes m cs p).tokens (frames_normal quotes m cs p) }
 
 pub ends_quote : (m : Manner) (cs : List ℕ) → EndAll (close_quote m cs ∷ [])
-ends_quote m cs = record { on_page = λ quotes p. level p.tokens (quote_put quotes m cs p).tokens (frames_quote quotes m cs p) }
+ends_quote m cs = record { on_page = λ quotes p. level p.tokens (append_quote quotes m cs p).tokens (frames_quote quotes m cs p) }
 
 pub ends_link : (f : Formatting) (cs url : List ℕ) → EndAll (linked f cs url ∷ [])
 ends_link f cs url = record { on_page = λ quotes p. level_as p.tokens }
@@ -285,7 +285,7 @@ ends_locator f n = record { on_page = λ quotes p. level_as p.tokens }
 
 pub ends_chunk : (kind : ChunkKind) (m : Manner) (cs : List ℕ) → EndAll (chunk_by kind m cs ∷ [])
 ends_chunk kinds.Normal m cs = ends_normal m cs
-ends_chunk kinds.Verbatim m cs = record { on_page = λ quotes p. level p.tokens (verbatim_put m.formatting cs p).tokens (frames_verbatim m.formatting cs p) }
+ends_chunk kinds.Verbatim m cs = record { on_page = λ quotes p. level p.tokens (append_verbatim m.formatting cs p).tokens (frames_verbatim m.formatting cs p) }
 ends_chunk kinds.Math m cs = record { on_page = λ quotes p. level_as p.tokens }
 
 pub ends_chunks : (m : Manner) (cs : List Chunk) → EndAll (chunk_pieces m cs)
@@ -295,8 +295,8 @@ ends_chunks m (c ∷ cs) = ends_more (chunk_piece m c) (chunk_pieces m cs) (ends
 pub ends_framed : (f : Frame) (ps : List Piece) → EndAll ps → EndAll (framed f ps)
 ends_framed f ps h = record {
   on_page = λ quotes p.
-      let inside = all_down quotes ps (begun f p) in
-      level_to p.tokens (ended quotes f inside) (all_down quotes (framed f ps) p) (fold-append (put_down quotes) (begun f p) ps (end f ∷ []))
+      let inside = append_pieces quotes ps (begun f p) in
+      level_to p.tokens (ended quotes f inside) (append_pieces quotes (framed f ps) p) (fold-append (append_piece quotes) (begun f p) ps (end f ∷ []))
       (level_ended quotes f p inside (h.on_page quotes (begun f p)));
 }
 

@@ -8,7 +8,7 @@ use Rattle.literature_values.specs.declared.date.Date.{Date}
 use Rattle.rendering_style.specs.Nodes.{TextSource, of_variable, of_term, of_value, NamesNode, GroupNode, Leaf, Node, Nodes, Branches, leaf, call, opened, names, choose, group, no_nodes, node, otherwise, branch}
 use Rattle.rendering_style.specs.Nodes as nodes
 use Rattle.rendering_context.specs.Contexts.{Context}
-use Rattle.rendering_leaves.specs.Settings.{noted}
+use Rattle.rendering_leaves.specs.NodeSettings.{noted}
 use Rattle.rendering_context.specs.Answering.{no_answer, is_missing, answer_of, asked_for, exchanged_for, answer_to, people_answer, with_people, all_people}
 use Rattle.rendering_context.specs.Choosing.{is_met}
 use Rattle.rendering_nodes.specs.Admission.{Survey, Stage, variable_survey, allows_variable, allows_date, shuts_out, are_some, names_survey, leaf_survey, survey, surveys, branch_survey}

@@ -8,7 +8,7 @@ use Rattle.rendering_page.specs.Pages.{is_filled}
 use Rattle.rendering_style.specs.Nodes.{TextSource, of_variable, of_term, of_value, TextLook, NumberNode, DateNode, NamesNode, Leaf, Node, Nodes, Branches, leaf, call, opened, names, choose, group, no_nodes, node, otherwise, branch}
 use Rattle.rendering_style.specs.Nodes as nodes
 use Rattle.rendering_context.specs.Contexts.{Context}
-use Rattle.rendering_leaves.specs.Settings.{Form, whole, author_only, without_author, first_date_only, suffix_only}
+use Rattle.rendering_leaves.specs.NodeSettings.{SpecialForm, whole, author_only, without_author, first_date_only, suffix_only}
 use Rattle.rendering_context.specs.Answering.{answer_to, is_missing, date_answer, all_people}
 use Rattle.rendering_context.specs.Choosing.{is_met, asks_disambiguate}
 use Rattle.rendering_taxonomy.specs.declared.date.LongShortForm.TheVariants as lengths
@@ -52,20 +52,20 @@ variable_survey admitted = record { is_admitted = admitted; calls = true; is_ans
 abbrev pub containing : Bool → Survey → Survey
 containing admitted inside = record inside { is_admitted = admitted; is_answered = admitted }
 
--- the variables of locators and of letters after a year
+-- the variables of locators and of a year suffix
 abbrev pub is_locator_variable : Variable → Bool
 is_locator_variable v = is_variable v (variables.Number number.Locator)
 
--- whether a variable is the letters after a year
+-- whether a variable is the year suffix
 abbrev pub is_suffix_variable : Variable → Bool
 is_suffix_variable v = is_variable v (variables.Standard standard.YearSuffix)
 
--- whether a node of a variable is printed where letters and locators alone are
+-- whether a node of a variable is printed where the year suffix and locators alone are
 abbrev pub is_with_suffix : Variable → Bool
 is_with_suffix v = is_locator_variable v || is_suffix_variable v
 
 -- whether a form lets the node of a variable stand that is no date and no names
-abbrev pub allows_variable : Form → Variable → Bool
+abbrev pub allows_variable : SpecialForm → Variable → Bool
 allows_variable whole v = true
 allows_variable (author_only a) v = false
 allows_variable without_author v = true
@@ -73,16 +73,16 @@ allows_variable first_date_only v = is_with_suffix v
 allows_variable suffix_only v = is_with_suffix v
 
 -- whether it lets words stand
-abbrev pub allows_words : Form → Bool
+abbrev pub allows_words : SpecialForm → Bool
 allows_words whole = true
 allows_words (author_only a) = false
 allows_words without_author = true
 allows_words first_date_only = false
 allows_words suffix_only = false
 
--- Whether it lets a date stand: the first one, where the first alone is wanted; and where letters alone are, the first one, whose letters
--- these are if the style does not print them by themselves.
-abbrev pub allows_date : Context → Bool → Form → Bool
+-- Whether it lets a date stand: the first one, where the first alone is wanted; and where the year suffix alone is, the first one, whose
+-- suffix these are if the style does not print them by themselves.
+abbrev pub allows_date : Context → Bool → SpecialForm → Bool
 allows_date c has_date whole = true
 allows_date c has_date (author_only a) = false
 allows_date c has_date without_author = true
@@ -90,7 +90,7 @@ allows_date c has_date first_date_only = not has_date
 allows_date c has_date suffix_only = not has_date && not c.has_suffix_node
 
 -- whether it is asked in a form if the first date was printed
-abbrev pub asks_for_date : Form → Bool
+abbrev pub asks_for_date : SpecialForm → Bool
 asks_for_date whole = false
 asks_for_date (author_only a) = false
 asks_for_date without_author = false
@@ -102,22 +102,22 @@ abbrev pub is_of : NameVariable → NamesNode → Bool
 is_of v h = list_any (is_name_variable v) h.variables
 
 -- whether it lets names stand
-abbrev pub allows_names : Form → NamesNode → Bool
+abbrev pub allows_names : SpecialForm → NamesNode → Bool
 allows_names whole h = true
 allows_names (author_only v) h = is_of v h
 allows_names without_author h = not (is_of name.Author h)
 allows_names first_date_only h = false
 allows_names suffix_only h = false
 
--- whether a form shuts names out with all that stands in for them
-abbrev pub shuts_out : Form → NamesNode → Bool
+-- whether a form shuts names out with all of their substitute
+abbrev pub shuts_out : SpecialForm → NamesNode → Bool
 shuts_out without_author h = is_of name.Author h
 shuts_out form h = false
 
 -- How far a call has come: what it prints from and in which form, whether the first date was printed, and which variables are not printed again.
 pub record Stage : Type 0 where
   pub context : Context
-  pub form : Form
+  pub form : SpecialForm
   pub has_date : Bool
   pub suppressed : List Variable
 
@@ -138,7 +138,7 @@ leaf_survey s (nodes.number n) = variable_survey (is_there s n.variable && allow
 leaf_survey s (nodes.label v look) = words_survey (is_there s v && allows_variable s.form v)
 leaf_survey s (nodes.date d) = variable_survey (option_map_or (λ day. true) (date_answer s.context s.suppressed d.variable) false && allows_date s.context s.has_date s.form)
 
--- Of names: with people they are asked themselves, without people all that stands in for them is.
+-- Of names: with people they are asked themselves, without people all of their substitute is.
 abbrev pub names_survey : Stage → NamesNode → Bool → Survey → Survey
 names_survey s h true inside = variable_survey (allows_names s.form h)
 names_survey s h false inside = if shuts_out s.form h then variable_survey false else record inside { calls = true }

@@ -10,102 +10,102 @@ use Rattle.rendering_people.specs.Properties.{Properties, raised_to}
 use Rattle.rendering_names.specs.Names.{completed, names_frame, names_manner, names_pieces, node_options, properties_by}
 use Rattle.rendering_context.specs.Cites.{names_of}
 use Rattle.rendering_context.specs.Contexts.{Context}
-use Rattle.rendering_leaves.specs.Settings.{with_variable, Setting, State, put, noted}
+use Rattle.rendering_leaves.specs.NodeSettings.{with_variable, NodeSetting, State, append, noted}
 use Rattle.rendering_context.specs.Answering.{all_people}
 use Rattle.rendering_context.specs.Choosing.{is_met, asks_disambiguate}
 use Rattle.rendering_nodes.specs.Admission.{Stage, survey}
-use Rattle.rendering_leaves.specs.Values.{look_manner, text_manner, frame, quote_before, quote_after, leaf_put}
+use Rattle.rendering_leaves.specs.Values.{look_manner, text_manner, frame, quote_before, quote_after, append_leaf}
 use Rattle.rendering_taxonomy.specs.declared.variable.Variable.TheVariants as variables
 
--- what a names node says of names, whether or not it stands in
+-- what a names node says of names, whether or not it is a substitute
 abbrev pub taken : Option NamesNode → NamesNode → NamesNode
 taken None h = h
 taken (Some outer) h = completed outer h
 
--- Of the first names that are printed more may be printed than the options say, to tell cites apart.
-abbrev pub told_apart : Context → Option Properties → Properties → Properties
-told_apart c None own = raised_to (names_of c.properties.disambiguation) own
-told_apart c (Some first) own = own
+-- Of the first names that are printed more may be printed than the options say, to disambiguate cites.
+abbrev pub disambiguated : Context → Option Properties → Properties → Properties
+disambiguated c None own = raised_to (names_of c.properties.disambiguation) own
+disambiguated c (Some first) own = own
 
 -- names with people
-abbrev pub names_put : Context → Setting → NamesNode → Properties → List Answered → State → State
-names_put c s h own people st =
-    record (put c (names_pieces c.locales s.manner h s.options (told_apart c st.names own) people) st) {
+abbrev pub append_names : Context → NodeSetting → NamesNode → Properties → List Answered → State → State
+append_names c s h own people st =
+    record (append c (names_pieces c.locales s.manner h s.options (disambiguated c st.names own) people) st) {
       names = Some (unwrap_or st.names own);
-      suppressed = if s.stands_in then fold (λ vs (a : Answered). with_variable vs (variables.Name a.1)) st.suppressed people else st.suppressed;
+      suppressed = if s.in_substitute then fold (λ vs (a : Answered). with_variable vs (variables.Name a.1)) st.suppressed people else st.suppressed;
     }
 
 -- names with people, by the options of the node and those around it
-abbrev pub people_put : Context → Setting → NamesNode → List Answered → State → State
-people_put c s h people st = names_put c s h (properties_by (node_options h s.options) c.properties.is_first people) people st
+abbrev pub append_people : Context → NodeSetting → NamesNode → List Answered → State → State
+append_people c s h people st = append_names c s h (properties_by (node_options h s.options) c.properties.is_first people) people st
 
 -- how far a call has come at a state
-abbrev pub stage : Context → Setting → State → Stage
+abbrev pub stage : Context → NodeSetting → State → Stage
 stage c s st = record { context = c; form = s.form; has_date = st.has_date; suppressed = st.suppressed }
 
 -- an element begins, with a quote where it stands in quotes, and ends
 abbrev pub entered : Context → Frame → List Piece → State → State
-entered c f quote st = put c (begin f ∷ quote) st
+entered c f quote st = append c (begin f ∷ quote) st
 
 -- an element ends, after its close quote
 abbrev pub left : Context → Frame → List Piece → State → State
-left c f quote st = put c (quote ++ end f ∷ []) st
+left c f quote st = append c (quote ++ end f ∷ []) st
 
 -- inside an opened macro: it has no delimiter from around, and quotes in quotes are of the other kind
-abbrev pub inside_macro : Setting → TextLook → Setting
+abbrev pub inside_macro : NodeSetting → TextLook → NodeSetting
 inside_macro s look = record s { manner = text_manner s.manner look; delimiter = None; inside_quotes = if look.quotes then not s.inside_quotes else s.inside_quotes }
 
 -- inside a group
-abbrev pub inside_group : Setting → GroupNode → Setting
+abbrev pub inside_group : NodeSetting → GroupNode → NodeSetting
 inside_group s g = record s { manner = look_manner s.manner g.look; delimiter = g.delimiter }
 
--- inside a names node whose people are stood in for
-abbrev pub inside_names : Setting → NamesNode → Setting
-inside_names s h = record s { manner = names_manner s.manner h; stands_in = true }
+-- inside a names node with a substitute
+abbrev pub inside_names : NodeSetting → NamesNode → NodeSetting
+inside_names s h = record s { manner = names_manner s.manner h; in_substitute = true }
 
 -- what stands between the children of the group around, before all but the first
-abbrev pub delimited : Context → Setting → Bool → State → State
+abbrev pub delimited : Context → NodeSetting → Bool → State → State
 delimited c s true st = st
-delimited c s false st = put c (option_map_or (λ d. normal s.manner d ∷ []) s.delimiter []) st
+delimited c s false st = append c (option_map_or (λ d. normal s.manner d ∷ []) s.delimiter []) st
 
--- round what stands in for names: nothing but where it begins and ends
-abbrev pub bare : Setting → Frame
+-- round the substitute of names: nothing but where it begins and ends
+abbrev pub bare : NodeSetting → Frame
 bare s = record { display = None; meta = None; manner = s.manner; prefix = []; suffix = [] }
 
 -- something begins that is undone if it prints nothing
-abbrev pub tried : Context → Setting → State → State
-tried c s st = put c (begin (bare s) ∷ []) st
+abbrev pub tried : Context → NodeSetting → State → State
+tried c s st = append c (begin (bare s) ∷ []) st
 
 -- it has printed something
-abbrev pub accepted : Context → Setting → State → State
-accepted c s st = put c (end (bare s) ∷ []) st
+abbrev pub accepted : Context → NodeSetting → State → State
+accepted c s st = append c (end (bare s) ∷ []) st
 
 -- the people of a names node
 abbrev pub people_of : Context → State → NamesNode → List Answered
 people_of c st h = all_people c st.suppressed h.variables
 
--- names with people, or the element of the node with what stands in for them
-abbrev pub names_or_stand_in : Context → Setting → NamesNode → (State → State) → List Answered → State → State
-names_or_stand_in c s h stand_in [] st = left c (names_frame s.manner h []) [] (stand_in (entered c (names_frame s.manner h []) [] st))
-names_or_stand_in c s h stand_in (a ∷ people) st = people_put c s h (a ∷ people) st
+-- names with people, or the element of the node with their substitute
+abbrev pub names_or_substitute : Context → NodeSetting → NamesNode → (State → State) → List Answered → State → State
+names_or_substitute c s h substitute [] st = left c (names_frame s.manner h []) [] (substitute (entered c (names_frame s.manner h []) [] st))
+names_or_substitute c s h substitute (a ∷ people) st = append_people c s h (a ∷ people) st
 
 abbrev mutual
-  -- A node. It is told which names node it stands in for directly, what is handed down, and what was put down before it.
-  pub content : Context → Option NamesNode → Setting → Node → State → State
-  content c outer s (leaf l) st = leaf_put c s l st
+  -- A node. It is told which names node it is directly a substitute of, what is handed down, and what was appended before it.
+  pub content : Context → Option NamesNode → NodeSetting → Node → State → State
+  content c outer s (leaf l) st = append_leaf c s l st
   content c outer s (call name look) st = st
   content c outer s (opened look xs) st =
       left c (frame s.manner (Some metas.Text) look.look) (quote_after c (text_manner s.manner look) look.quotes s.inside_quotes)
       (contents c (inside_macro s look) true xs
       (entered c (frame s.manner (Some metas.Text) look.look) (quote_before c (text_manner s.manner look) look.quotes s.inside_quotes) st))
   content c outer s (names h xs) st =
-      names_or_stand_in c s (taken outer h) (first_standing c (taken outer h) (inside_names s (taken outer h)) xs) (people_of c st h) st
+      names_or_substitute c s (taken outer h) (first_substitute c (taken outer h) (inside_names s (taken outer h)) xs) (people_of c st h) st
   content c outer s (choose bs) st = chosen c s bs st
   content c outer s (group g xs) st =
       left c (frame s.manner None g.look) [] (contents c (inside_group s g) true xs (entered c (frame s.manner None g.look) [] st))
 
-  -- Nodes one after the other, of which those that are admitted are put down, with the delimiter before each but the first of them.
-  pub contents : Context → Setting → Bool → Nodes → State → State
+  -- Nodes one after the other, of which those that are admitted are appended, with the delimiter before each but the first of them.
+  pub contents : Context → NodeSetting → Bool → Nodes → State → State
   contents c s is_first no_nodes st = st
   contents c s is_first (node x xs) st =
       let asked = survey (stage c s st) x in
@@ -113,20 +113,20 @@ abbrev mutual
       (if asked.is_admitted then content c None s x (delimited c s is_first (noted asked.met st)) else noted asked.met st)
 
   -- the branch that is taken
-  pub chosen : Context → Setting → Branches → State → State
+  pub chosen : Context → NodeSetting → Branches → State → State
   chosen c s (otherwise xs) st = contents c s true xs st
   chosen c s (branch condition xs bs) st =
       if is_met c condition
       then contents c s true xs (noted (asks_disambiguate condition) st)
       else chosen c s bs (noted (asks_disambiguate condition) st)
 
-  -- The first node that prints something stands in. Of one that prints nothing nothing remains but that it was asked whether the cite
-  -- is like others.
-  pub first_standing : Context → NamesNode → Setting → Nodes → State → State
-  first_standing c h s no_nodes st = st
-  first_standing c h s (node x xs) st =
+  -- The first node that prints something is the substitute. Of one that prints nothing nothing remains but that it was asked whether the
+  -- cite is like others.
+  pub first_substitute : Context → NamesNode → NodeSetting → Nodes → State → State
+  first_substitute c h s no_nodes st = st
+  first_substitute c h s (node x xs) st =
       let asked = survey (stage c s st) x in
       let done = content c (Some h) s x (tried c s (noted asked.met st)) in
       if asked.is_admitted && prints 0 done.page.tokens
       then accepted c s done
-      else first_standing c h s xs (noted (asked.met || asked.is_admitted && done.met_disambiguate) st)
+      else first_substitute c h s xs (noted (asked.met || asked.is_admitted && done.met_disambiguate) st)

@@ -3,8 +3,8 @@ use Rattle.std.specs.Prelude.{◌≡◌, Bool, true, false, List, [], ◌∷◌,
 use Rattle.rendering_style.specs.Nodes.{NamesNode, Node, Nodes, Branches, leaf, call, opened, names, choose, group, no_nodes, node, otherwise, branch}
 use Rattle.rendering_context.specs.Contexts.{Context}
 use Rattle.rendering_context.specs.Choosing.{is_met}
-use Rattle.rendering_leaves.specs.Settings.{Form, State}
-use Rattle.rendering_leaves.specs.Settings as settings
+use Rattle.rendering_leaves.specs.NodeSettings.{SpecialForm, State}
+use Rattle.rendering_leaves.specs.NodeSettings as settings
 use Rattle.rendering_nodes.specs.Admission.{Survey, Stage, has_people, shuts_out, survey, surveys}
 use Rattle.rendering_nodes.specs.Content.{stage}
 use Rattle.rendering_nodes.specs.declared.finding.Finding.{Finding}
@@ -20,10 +20,10 @@ with_finding v inside = record { is_admitted = v.is_admitted; met = v.met; insid
 abbrev pub nothing_found : Finding
 nothing_found = record { is_admitted = false; met = false; inside = 0 }
 
--- nothing is asked of stand-ins beside people, nor where names are shut out
+-- nothing is asked of substitutes beside people, nor where names are shut out
 abbrev pub beside_people : Stage → NamesNode → Bool → List Finding → List Finding
-beside_people s h true stand_ins = []
-beside_people s h false stand_ins = if shuts_out s.form h then [] else stand_ins
+beside_people s h true substitutes = []
+beside_people s h false substitutes = if shuts_out s.form h then [] else substitutes
 
 abbrev mutual
   -- what is found of the nodes inside a node
@@ -67,25 +67,25 @@ AreAll [] all = ⊤
 AreAll (f ∷ fs) all = f ∷ fs ≡ all
 
 -- how far the call had come
-abbrev pub stage_then : Context → Form → Findings → Stage
+abbrev pub stage_then : Context → SpecialForm → Findings → Stage
 stage_then c form k = record { context = c; form = form; has_date = k.has_date; suppressed = k.suppressed.now }
 
 -- what is known of nodes is what was found then
-abbrev pub AreFound : Context → Form → Findings → Nodes → Type 0
+abbrev pub AreFound : Context → SpecialForm → Findings → Nodes → Type 0
 AreFound c form k xs = AreAll k.nodes.now (found (stage_then c form k) xs)
 
 -- the same of the nodes inside a node
-abbrev pub AreFoundInside : Context → Form → Findings → Node → Type 0
+abbrev pub AreFoundInside : Context → SpecialForm → Findings → Node → Type 0
 AreFoundInside c form k x = AreAll k.nodes.now (found_inside (stage_then c form k) x)
 
 -- what is known of a node is what is found now
-pub record IsFound (c : Context) (s : settings.Setting) (st : State) (n : NodeFinding) (x : Node) : Type 0 where
+pub record IsFound (c : Context) (s : settings.NodeSetting) (st : State) (n : NodeFinding) (x : Node) : Type 0 where
   pub is_admitted : n.is_admitted ≡ (survey (stage c s st) x).is_admitted
   pub met : n.met ≡ (survey (stage c s st) x).met
   pub inside : AreFoundInside c s.form n.inside x
 
 -- what a survey of a node found is what is found now
-pub record IsSurveyed (c : Context) (s : settings.Setting) (st : State) (n : Surveyed) (x : Node) : Type 0 where
+pub record IsSurveyed (c : Context) (s : settings.NodeSetting) (st : State) (n : Surveyed) (x : Node) : Type 0 where
   pub is_admitted : n.is_admitted ≡ (survey (stage c s st) x).is_admitted
   pub met : n.met ≡ (survey (stage c s st) x).met
   pub has_date : n.has_date ≡ st.has_date

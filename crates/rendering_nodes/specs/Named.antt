@@ -99,7 +99,7 @@ pub record AreAlike (n : Named) (a b : Answers) : Type 0 where
   pub variables : (v : Variable) → Contains n.variables v → AnswerAlike a b v
   pub kinds : (k : Kind) → Contains n.kinds k → a.kind k ≡ b.kind k
 
--- whether a leaf prints the letters after a year by themselves
+-- whether a leaf prints the year suffix by itself
 abbrev pub is_suffix_leaf : Leaf → Bool
 is_suffix_leaf (nodes.text (of_variable v form) look) = is_suffix_variable v
 is_suffix_leaf l = false

@@ -2,34 +2,34 @@
 use Rattle.std.specs.Prelude.{List}
 use Rattle.rendering_entries.specs.Answers.{Answers}
 use Rattle.rendering_context.specs.Contexts.{Context}
-use Rattle.rendering_context.specs.Views.{context_by}
-use Rattle.rendering_leaves.specs.Views.{form_by}
+use Rattle.rendering_context.specs.Views.{context_view}
+use Rattle.rendering_leaves.specs.Views.{form_view}
 use Rattle.rendering_style.specs.Styles.{Macro}
-use Rattle.rendering_style.specs.StyleViews.{style_seen}
-use Rattle.rendering_style.specs.Views.{nodes_seen}
+use Rattle.rendering_style.specs.StyleViews.{style_view}
+use Rattle.rendering_style.specs.Views.{nodes_view}
 use Rattle.rendering_nodes.specs.Admission as admission
 use Rattle.rendering_nodes.specs.Taken.{TakenNodes}
 use Rattle.rendering_nodes.specs.declared.choice.Taken.{Taken}
-use Rattle.rendering_nodes.specs.declared.stage.Stage.{Stage}
+use Rattle.rendering_nodes.specs.declared.leaf_surveys.Stage.{Stage}
 use Rattle.rendering_nodes.specs.declared.survey.Survey.{Survey}
-use Rattle.rendering_nodes.specs.declared.walk.Walk.{Walk}
+use Rattle.rendering_nodes.specs.declared.style_walk.Walk.{Walk}
 
 -- what is asked of nodes
-abbrev pub survey_by : Survey → admission.Survey
-survey_by v = record { is_admitted = v.is_admitted; calls = v.calls; is_answered = v.is_answered; met = v.met }
+abbrev pub survey_view : Survey → admission.Survey
+survey_view v = record { is_admitted = v.is_admitted; calls = v.calls; is_answered = v.is_answered; met = v.met }
 
 -- what nodes are printed from, with what the entry answers
 abbrev pub walk_context : Answers → Walk → Context
-walk_context a w = context_by a w.context
+walk_context a w = context_view a w.context
 
 -- the macros that nodes call
 abbrev pub macros_of : Walk → List Macro
-macros_of w = (style_seen w.style.now).macros
+macros_of w = (style_view w.style.now).macros
 
 -- how far a call has come, with what the entry answers
-abbrev pub stage_by : Answers → Stage → admission.Stage
-stage_by a s = record { context = context_by a s.walk.now.context; form = form_by s.form; has_date = s.has_date; suppressed = s.suppressed.now }
+abbrev pub stage_view : Answers → Stage → admission.Stage
+stage_view a s = record { context = context_view a s.walk.now.context; form = form_view s.form; has_date = s.has_date; suppressed = s.suppressed.now }
 
 -- the nodes of the branch that is taken, and whether it was asked on the way if the cite is like others
-abbrev pub taken_by : Taken → TakenNodes
-taken_by t = (nodes_seen t.nodes.now, t.met)
+abbrev pub taken_view : Taken → TakenNodes
+taken_view t = (nodes_view t.nodes.now, t.met)

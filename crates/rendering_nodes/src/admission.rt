@@ -3,14 +3,14 @@
 
 ghost use Rattle.std.specs.Prelude.{◌≡◌, suc, map, IfOk};
 ghost use Rattle.rendering_nodes.specs.Findings.{all_asked, next_asked, node_asked};
-ghost use Rattle.rendering_nodes.specs.Views.{macros_of, stage_by, survey_by};
+ghost use Rattle.rendering_nodes.specs.Views.{macros_of, stage_view, survey_view};
 ghost use Rattle.rendering_style.specs.Nodes as nodes;
 ghost use Rattle.rendering_style.specs.Opening.{each_branch, each_node, macro_named, open_node, part};
-ghost use Rattle.rendering_style.specs.Views.{branch_seen, branches_of, names_seen, node_seen, nodes_seen, text_seen, text_look_seen};
+ghost use Rattle.rendering_style.specs.Views.{branch_view, branches_of, names_node_view, node_view, nodes_view, text_node_view, text_look_view};
 
 use crate::finding::{Finding, push_nothing_found, put_finding};
-use crate::forms::{allows_names, shuts_out};
-use crate::stage::Stage;
+use crate::form_admission::{allows_names, shuts_out};
+use crate::leaf_surveys::Stage;
 use crate::survey::Survey;
 use rendering_entries::EntryLike;
 use rendering_style::{ChooseBranch, Names, Node, Text, TextTarget};
@@ -26,7 +26,9 @@ impl<'a> Stage<'_, '_, 'a> {
         nodes: &'a [Node],
         findings: &mut Vec<Finding>,
     ) -> Result<Survey, AllocError>
-        ensures { IfOk result (λ v. (survey_by v, findings.new.items) ≡ all_asked (stage_by (E.answers entry.now) self.now) findings.old.items (each_node (open_node levels (macros_of self.now.walk.now)) (nodes_seen nodes.now))) }
+        ensures { IfOk result (λ v. (survey_view v, findings.new.items)
+            ≡ all_asked (stage_view (E.answers entry.now) self.now) findings.old.items
+            (each_node (open_node levels (macros_of self.now.walk.now)) (nodes_view nodes.now))) }
     {
         let mut found = Survey::nothing();
         for node in nodes {
@@ -45,12 +47,14 @@ impl<'a> Stage<'_, '_, 'a> {
         node: &'a Node,
         findings: &mut Vec<Finding>,
     ) -> Result<Survey, AllocError>
-        ensures { IfOk result (λ v. (survey_by v, findings.new.items) ≡ next_asked (stage_by (E.answers entry.now) self.now) findings.old.items (open_node levels (macros_of self.now.walk.now) (node_seen node.now))) }
+        ensures { IfOk result (λ v. (survey_view v, findings.new.items)
+            ≡ next_asked (stage_view (E.answers entry.now) self.now) findings.old.items
+            (open_node levels (macros_of self.now.walk.now) (node_view node.now))) }
     {
-        let place = findings.len();
+        let index = findings.len();
         push_nothing_found(findings)?;
         let survey = self.survey_node(entry, levels, node, findings)?;
-        put_finding(findings, place, survey);
+        put_finding(findings, index, survey);
         Ok(survey)
     }
 
@@ -63,7 +67,9 @@ impl<'a> Stage<'_, '_, 'a> {
         node: &'a Node,
         findings: &mut Vec<Finding>,
     ) -> Result<Survey, AllocError>
-        ensures { IfOk result (λ v. (survey_by v, findings.new.items) ≡ node_asked (stage_by (E.answers entry.now) self.now) findings.old.items (open_node levels (macros_of self.now.walk.now) (node_seen node.now))) }
+        ensures { IfOk result (λ v. (survey_view v, findings.new.items)
+            ≡ node_asked (stage_view (E.answers entry.now) self.now) findings.old.items
+            (open_node levels (macros_of self.now.walk.now) (node_view node.now))) }
     {
         if levels == 0 {
             return Ok(Survey::nothing());
@@ -99,7 +105,10 @@ impl<'a> Stage<'_, '_, 'a> {
         text: &'a Text,
         findings: &mut Vec<Finding>,
     ) -> Result<Survey, AllocError>
-        ensures { IfOk result (λ v. (survey_by v, findings.new.items) ≡ node_asked (stage_by (E.answers entry.now) self.now) findings.old.items (open_node (suc levels) (macros_of self.now.walk.now) (text_seen text.now.target (text_look_seen text.now.look)))) }
+        ensures { IfOk result (λ v. (survey_view v, findings.new.items)
+            ≡ node_asked (stage_view (E.answers entry.now) self.now) findings.old.items
+            (open_node (suc levels) (macros_of self.now.walk.now)
+            (text_node_view text.now.target (text_look_view text.now.look)))) }
     {
         match &text.target {
             TextTarget::Variable(variable, form) => self.survey_variable(entry, *variable, *form),
@@ -118,7 +127,10 @@ impl<'a> Stage<'_, '_, 'a> {
         name: &'a str,
         findings: &mut Vec<Finding>,
     ) -> Result<Survey, AllocError>
-        ensures { IfOk result (λ v. (look : nodes.TextLook) → (survey_by v, findings.new.items) ≡ node_asked (stage_by (E.answers entry.now) self.now) findings.old.items (part (open_node levels (macros_of self.now.walk.now)) name.now look (macro_named (macros_of self.now.walk.now) name.now))) }
+        ensures { IfOk result (λ v. (look : nodes.TextLook) → (survey_view v, findings.new.items)
+            ≡ node_asked (stage_view (E.answers entry.now) self.now) findings.old.items
+            (part (open_node levels (macros_of self.now.walk.now)) name.now look
+            (macro_named (macros_of self.now.walk.now) name.now))) }
     {
         match self.walk.style.macro_named(name) {
             Some(nodes) => {
@@ -129,7 +141,7 @@ impl<'a> Stage<'_, '_, 'a> {
         }
     }
 
-    /// Of names: with people they are asked themselves, without people all that stands in for them is.
+    /// Of names: with people they are asked themselves, without people all of their substitute is.
     #[cycle(surveys)]
     fn survey_names<E: EntryLike>(
         &self,
@@ -139,7 +151,10 @@ impl<'a> Stage<'_, '_, 'a> {
         substitute: &'a [Node],
         findings: &mut Vec<Finding>,
     ) -> Result<Survey, AllocError>
-        ensures { IfOk result (λ v. (survey_by v, findings.new.items) ≡ node_asked (stage_by (E.answers entry.now) self.now) findings.old.items (nodes.names (names_seen names.now) (each_node (open_node levels (macros_of self.now.walk.now)) (nodes_seen substitute.now)))) }
+        ensures { IfOk result (λ v. (survey_view v, findings.new.items)
+            ≡ node_asked (stage_view (E.answers entry.now) self.now) findings.old.items
+            (nodes.names (names_node_view names.now) (each_node
+            (open_node levels (macros_of self.now.walk.now)) (nodes_view substitute.now)))) }
     {
         if self.has_people(entry, names)? {
             return Ok(Survey::of_variable(allows_names(self.form, names)));
@@ -148,7 +163,7 @@ impl<'a> Stage<'_, '_, 'a> {
             return Ok(Survey::of_variable(false));
         }
         let inside = self.survey_all(entry, levels, substitute, findings)?;
-        Ok(inside.of_stand_ins())
+        Ok(inside.of_substitute())
     }
 
     /// Of the branch that is taken.
@@ -161,7 +176,10 @@ impl<'a> Stage<'_, '_, 'a> {
         otherwise: &'a [Node],
         findings: &mut Vec<Finding>,
     ) -> Result<Survey, AllocError>
-        ensures { IfOk result (λ v. (survey_by v, findings.new.items) ≡ node_asked (stage_by (E.answers entry.now) self.now) findings.old.items (nodes.choose (each_branch (open_node levels (macros_of self.now.walk.now)) (branches_of (map branch_seen branches.now) (nodes_seen otherwise.now))))) }
+        ensures { IfOk result (λ v. (survey_view v, findings.new.items)
+            ≡ node_asked (stage_view (E.answers entry.now) self.now) findings.old.items
+            (nodes.choose (each_branch (open_node levels (macros_of self.now.walk.now))
+            (branches_of (map branch_view branches.now) (nodes_view otherwise.now))))) }
     {
         let taken = self.walk.taken(entry, branches, otherwise)?;
         let inside = self.survey_all(entry, levels, taken.nodes, findings)?;

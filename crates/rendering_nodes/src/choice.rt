@@ -2,10 +2,10 @@
 
 ghost use Rattle.std.specs.Prelude.{◌≡◌, map, IfOk};
 ghost use Rattle.rendering_nodes.specs.Taken.{taken};
-ghost use Rattle.rendering_nodes.specs.Views.{taken_by, walk_context};
-ghost use Rattle.rendering_style.specs.Views.{branch_seen, branches_of, nodes_seen};
+ghost use Rattle.rendering_nodes.specs.Views.{taken_view, walk_context};
+ghost use Rattle.rendering_style.specs.Views.{branch_view, branches_of, nodes_view};
 
-use crate::walk::Walk;
+use crate::style_walk::Walk;
 use rendering_context::asks_disambiguate;
 use rendering_entries::EntryLike;
 use rendering_style::{ChooseBranch, Node};
@@ -27,7 +27,9 @@ impl<'a> Walk<'_, 'a> {
         branches: &'a [ChooseBranch],
         otherwise: &'a [Node],
     ) -> Result<Taken<'a>, AllocError>
-        ensures { IfOk result (λ t. taken_by t ≡ taken (walk_context (E.answers entry.now) self.now) (branches_of (map branch_seen branches.now) (nodes_seen otherwise.now))) }
+        ensures { IfOk result (λ t. taken_view t
+            ≡ taken (walk_context (E.answers entry.now) self.now)
+            (branches_of (map branch_view branches.now) (nodes_view otherwise.now))) }
     {
         let mut met = false;
         for branch in branches {

@@ -4,24 +4,24 @@
 ghost use Rattle.std.specs.Prelude.{◌≡◌, suc, map, true, IfOk, IfSome, OnOk, Option, Some};
 ghost use Rattle.std.specs.Option.{option_map};
 ghost use Rattle.rendering_entries.specs.Answers.{Answers};
-ghost use Rattle.rendering_leaves.specs.Settings.{noted};
-ghost use Rattle.rendering_leaves.specs.Views.{setting_by};
-ghost use Rattle.rendering_names.specs.Views.{node_by};
-ghost use Rattle.rendering_nodes.specs.Content.{accepted, content, contents, first_standing, tried};
+ghost use Rattle.rendering_leaves.specs.NodeSettings.{noted};
+ghost use Rattle.rendering_leaves.specs.Views.{setting_view};
+ghost use Rattle.rendering_names.specs.Views.{names_parts_view};
+ghost use Rattle.rendering_nodes.specs.Content.{accepted, content, contents, first_substitute, tried};
 ghost use Rattle.rendering_nodes.specs.Findings.{AreFound, AreFoundInside, IsFound, IsSurveyed};
-ghost use Rattle.rendering_nodes.specs.Turns.{is_next, next_put, settled, standing_put, stands, stood_in};
+ghost use Rattle.rendering_nodes.specs.Turns.{is_next, append_next, settled, append_substitute, is_substitute, substituted};
 ghost use Rattle.rendering_nodes.specs.Views.{macros_of, walk_context};
 ghost use Rattle.rendering_page.specs.Pages.{prints};
 ghost use Rattle.rendering_style.specs.Nodes as nodes;
 ghost use Rattle.rendering_style.specs.Opening.{each_branch, each_node, macro_named, open_node, part};
-ghost use Rattle.rendering_style.specs.Views.{branch_seen, branches_of, group_seen, names_seen, node_seen, nodes_seen, text_seen, text_look_seen};
+ghost use Rattle.rendering_style.specs.Views.{branch_view, branches_of, group_node_view, names_node_view, node_view, nodes_view, text_node_view, text_look_view};
 
 use crate::finding::{Findings, NodeFinding, Surveyed};
-use crate::inside::{inside_group, inside_macro, inside_names, taken};
-use crate::walk::Walk;
+use crate::inner_settings::{inside_group, inside_macro, inside_names, taken};
+use crate::style_walk::Walk;
 use rendering_entries::EntryLike;
 use rendering_leaves::{
-    Setting, State, push_date, push_label, push_number, push_term, push_value, push_variable,
+    NodeSetting, State, push_date, push_label, push_number, push_term, push_value, push_variable,
 };
 use rendering_names::NamesParts;
 use rendering_style::{ChooseBranch, Group, Names, Node, Text, TextLook, TextTarget};
@@ -34,12 +34,14 @@ impl<'a> Walk<'_, 'a> {
     pub(crate) fn push_unsurveyed<E: EntryLike>(
         &self,
         entry: &'a E,
-        setting: &Setting<'a>,
+        setting: &NodeSetting<'a>,
         levels: usize,
         nodes: &'a [Node],
         state: &mut State<'a>,
     ) -> Result<(), AllocError>
-        ensures { OnOk result (state.new ≡ contents (walk_context (E.answers entry.now) self.now) (setting_by setting.now) true (each_node (open_node levels (macros_of self.now)) (nodes_seen nodes.now)) state.old) }
+        ensures { OnOk result (state.new
+            ≡ contents (walk_context (E.answers entry.now) self.now) (setting_view setting.now) true
+            (each_node (open_node levels (macros_of self.now)) (nodes_view nodes.now)) state.old) }
     {
         self.push_all(entry, setting, levels, nodes, Findings::nothing(), state)
     }
@@ -49,14 +51,18 @@ impl<'a> Walk<'_, 'a> {
     fn push_all<E: EntryLike>(
         &self,
         entry: &'a E,
-        setting: &Setting<'a>,
+        setting: &NodeSetting<'a>,
         levels: usize,
         nodes: &'a [Node],
         findings: Findings<'_>,
         state: &mut State<'a>,
     ) -> Result<(), AllocError>
-        requires { AreFound (walk_context (E.answers entry.now) self.now) (setting_by setting.now).form findings (each_node (open_node levels (macros_of self.now)) (nodes_seen nodes.now)) }
-        ensures { OnOk result (state.new ≡ contents (walk_context (E.answers entry.now) self.now) (setting_by setting.now) true (each_node (open_node levels (macros_of self.now)) (nodes_seen nodes.now)) state.old) }
+        requires { AreFound (walk_context (E.answers entry.now) self.now)
+            (setting_view setting.now).form findings
+            (each_node (open_node levels (macros_of self.now)) (nodes_view nodes.now)) }
+        ensures { OnOk result (state.new
+            ≡ contents (walk_context (E.answers entry.now) self.now) (setting_view setting.now) true
+            (each_node (open_node levels (macros_of self.now)) (nodes_view nodes.now)) state.old) }
     {
         let mut is_first = true;
         let mut rest = findings;
@@ -76,16 +82,22 @@ impl<'a> Walk<'_, 'a> {
     fn push_next<E: EntryLike>(
         &self,
         entry: &'a E,
-        setting: &Setting<'a>,
+        setting: &NodeSetting<'a>,
         levels: usize,
         is_first: bool,
         node: &'a Node,
         finding: Option<NodeFinding<'_>>,
         state: &mut State<'a>,
     ) -> Result<bool, AllocError>
-        requires { IfSome finding (λ n. IsFound (walk_context (E.answers entry.now) self.now) (setting_by setting.now) state.old n (open_node levels (macros_of self.now) (node_seen node.now))) }
-        ensures admitted { IfOk result (λ b. b ≡ is_next (walk_context (E.answers entry.now) self.now) (setting_by setting.now) (open_node levels (macros_of self.now) (node_seen node.now)) state.old) }
-        ensures state { OnOk result (state.new ≡ next_put (walk_context (E.answers entry.now) self.now) (setting_by setting.now) is_first (open_node levels (macros_of self.now) (node_seen node.now)) state.old) }
+        requires { IfSome finding (λ n. IsFound (walk_context (E.answers entry.now) self.now)
+            (setting_view setting.now) state.old n
+            (open_node levels (macros_of self.now) (node_view node.now))) }
+        ensures admitted { IfOk result (λ b. b
+            ≡ is_next (walk_context (E.answers entry.now) self.now) (setting_view setting.now)
+            (open_node levels (macros_of self.now) (node_view node.now)) state.old) }
+        ensures state { OnOk result (state.new
+            ≡ append_next (walk_context (E.answers entry.now) self.now) (setting_view setting.now)
+            is_first (open_node levels (macros_of self.now) (node_view node.now)) state.old) }
     {
         match finding {
             Some(finding) => {
@@ -104,16 +116,21 @@ impl<'a> Walk<'_, 'a> {
     fn push_found<E: EntryLike>(
         &self,
         entry: &'a E,
-        setting: &Setting<'a>,
+        setting: &NodeSetting<'a>,
         levels: usize,
         is_first: bool,
         node: &'a Node,
         finding: NodeFinding<'_>,
         state: &mut State<'a>,
     ) -> Result<bool, AllocError>
-        requires { IsFound (walk_context (E.answers entry.now) self.now) (setting_by setting.now) state.old finding (open_node levels (macros_of self.now) (node_seen node.now)) }
-        ensures admitted { IfOk result (λ b. b ≡ is_next (walk_context (E.answers entry.now) self.now) (setting_by setting.now) (open_node levels (macros_of self.now) (node_seen node.now)) state.old) }
-        ensures state { OnOk result (state.new ≡ next_put (walk_context (E.answers entry.now) self.now) (setting_by setting.now) is_first (open_node levels (macros_of self.now) (node_seen node.now)) state.old) }
+        requires { IsFound (walk_context (E.answers entry.now) self.now) (setting_view setting.now)
+            state.old finding (open_node levels (macros_of self.now) (node_view node.now)) }
+        ensures admitted { IfOk result (λ b. b
+            ≡ is_next (walk_context (E.answers entry.now) self.now) (setting_view setting.now)
+            (open_node levels (macros_of self.now) (node_view node.now)) state.old) }
+        ensures state { OnOk result (state.new
+            ≡ append_next (walk_context (E.answers entry.now) self.now) (setting_view setting.now)
+            is_first (open_node levels (macros_of self.now) (node_view node.now)) state.old) }
     {
         if !finding.admits(state) {
             return Ok(false);
@@ -127,12 +144,14 @@ impl<'a> Walk<'_, 'a> {
     fn surveyed<E: EntryLike>(
         &self,
         entry: &'a E,
-        setting: &Setting<'a>,
+        setting: &NodeSetting<'a>,
         levels: usize,
         node: &'a Node,
         state: &State<'a>,
     ) -> Result<Surveyed, AllocError>
-        ensures { IfOk result (λ n. IsSurveyed (walk_context (E.answers entry.now) self.now) (setting_by setting.now) state.now n (open_node levels (macros_of self.now) (node_seen node.now))) }
+        ensures { IfOk result (λ n. IsSurveyed (walk_context (E.answers entry.now) self.now)
+            (setting_view setting.now) state.now n
+            (open_node levels (macros_of self.now) (node_view node.now))) }
     {
         let mut inside = Vec::new(self.context.alloc);
         let stage = self.stage(setting.form, state);
@@ -146,20 +165,24 @@ impl<'a> Walk<'_, 'a> {
         })
     }
 
-    /// Prints a node. `outer` are the names for which it stands in directly.
+    /// Prints a node. `outer` are the names whose substitute it stands in directly.
     #[cycle(contents)]
     fn push_node<E: EntryLike>(
         &self,
         entry: &'a E,
-        setting: &Setting<'a>,
+        setting: &NodeSetting<'a>,
         levels: usize,
         outer: Option<&NamesParts<'a>>,
         node: &'a Node,
         findings: Findings<'_>,
         state: &mut State<'a>,
     ) -> Result<(), AllocError>
-        requires { AreFoundInside (walk_context (E.answers entry.now) self.now) (setting_by setting.now).form findings (open_node levels (macros_of self.now) (node_seen node.now)) }
-        ensures { OnOk result (state.new ≡ content (walk_context (E.answers entry.now) self.now) (option_map (λ n. node_by n.now) outer.entry) (setting_by setting.now) (open_node levels (macros_of self.now) (node_seen node.now)) state.old) }
+        requires { AreFoundInside (walk_context (E.answers entry.now) self.now)
+            (setting_view setting.now).form findings
+            (open_node levels (macros_of self.now) (node_view node.now)) }
+        ensures { OnOk result (state.new ≡ content (walk_context (E.answers entry.now) self.now)
+            (option_map (λ n. names_parts_view n.now) outer.entry) (setting_view setting.now)
+            (open_node levels (macros_of self.now) (node_view node.now)) state.old) }
     {
         if levels == 0 {
             return Ok(());
@@ -203,14 +226,19 @@ impl<'a> Walk<'_, 'a> {
     fn push_text<E: EntryLike>(
         &self,
         entry: &'a E,
-        setting: &Setting<'a>,
+        setting: &NodeSetting<'a>,
         levels: usize,
         text: &'a Text,
         findings: Findings<'_>,
         state: &mut State<'a>,
     ) -> Result<(), AllocError>
-        requires { AreFoundInside (walk_context (E.answers entry.now) self.now) (setting_by setting.now).form findings (open_node (suc levels) (macros_of self.now) (text_seen text.now.target (text_look_seen text.now.look))) }
-        ensures { (outer : Option nodes.NamesNode) → OnOk result (state.new ≡ content (walk_context (E.answers entry.now) self.now) outer (setting_by setting.now) (open_node (suc levels) (macros_of self.now) (text_seen text.now.target (text_look_seen text.now.look))) state.old) }
+        requires { AreFoundInside (walk_context (E.answers entry.now) self.now)
+            (setting_view setting.now).form findings (open_node (suc levels) (macros_of self.now)
+            (text_node_view text.now.target (text_look_view text.now.look))) }
+        ensures { (outer : Option nodes.NamesNode)
+            → OnOk result (state.new ≡ content (walk_context (E.answers entry.now) self.now) outer
+            (setting_view setting.now) (open_node (suc levels) (macros_of self.now)
+            (text_node_view text.now.target (text_look_view text.now.look))) state.old) }
     {
         let look = &text.look;
         match &text.target {
@@ -234,15 +262,20 @@ impl<'a> Walk<'_, 'a> {
     fn push_macro<E: EntryLike>(
         &self,
         entry: &'a E,
-        setting: &Setting<'a>,
+        setting: &NodeSetting<'a>,
         levels: usize,
         name: &'a str,
         look: &'a TextLook,
         findings: Findings<'_>,
         state: &mut State<'a>,
     ) -> Result<(), AllocError>
-        requires { AreFoundInside (walk_context (E.answers entry.now) self.now) (setting_by setting.now).form findings (part (open_node levels (macros_of self.now)) name.now (text_look_seen look.now) (macro_named (macros_of self.now) name.now)) }
-        ensures { (outer : Option nodes.NamesNode) → OnOk result (state.new ≡ content (walk_context (E.answers entry.now) self.now) outer (setting_by setting.now) (part (open_node levels (macros_of self.now)) name.now (text_look_seen look.now) (macro_named (macros_of self.now) name.now)) state.old) }
+        requires { AreFoundInside (walk_context (E.answers entry.now) self.now)
+            (setting_view setting.now).form findings (part (open_node levels (macros_of self.now))
+            name.now (text_look_view look.now) (macro_named (macros_of self.now) name.now)) }
+        ensures { (outer : Option nodes.NamesNode)
+            → OnOk result (state.new ≡ content (walk_context (E.answers entry.now) self.now) outer
+            (setting_view setting.now) (part (open_node levels (macros_of self.now)) name.now
+            (text_look_view look.now) (macro_named (macros_of self.now) name.now)) state.old) }
     {
         let Some(nodes) = self.style.macro_named(name) else {
             return Ok(());
@@ -258,15 +291,20 @@ impl<'a> Walk<'_, 'a> {
     fn push_group<E: EntryLike>(
         &self,
         entry: &'a E,
-        setting: &Setting<'a>,
+        setting: &NodeSetting<'a>,
         levels: usize,
         group: &'a Group,
         children: &'a [Node],
         findings: Findings<'_>,
         state: &mut State<'a>,
     ) -> Result<(), AllocError>
-        requires { AreFound (walk_context (E.answers entry.now) self.now) (setting_by setting.now).form findings (each_node (open_node levels (macros_of self.now)) (nodes_seen children.now)) }
-        ensures { (outer : Option nodes.NamesNode) → OnOk result (state.new ≡ content (walk_context (E.answers entry.now) self.now) outer (setting_by setting.now) (nodes.group (group_seen group.now) (each_node (open_node levels (macros_of self.now)) (nodes_seen children.now))) state.old) }
+        requires { AreFound (walk_context (E.answers entry.now) self.now)
+            (setting_view setting.now).form findings
+            (each_node (open_node levels (macros_of self.now)) (nodes_view children.now)) }
+        ensures { (outer : Option nodes.NamesNode)
+            → OnOk result (state.new ≡ content (walk_context (E.answers entry.now) self.now) outer
+            (setting_view setting.now) (nodes.group (group_node_view group.now) (each_node
+            (open_node levels (macros_of self.now)) (nodes_view children.now))) state.old) }
     {
         self.begin_group(setting, group, state)?;
         let inside = inside_group(setting, group);
@@ -279,27 +317,33 @@ impl<'a> Walk<'_, 'a> {
     fn push_choose<E: EntryLike>(
         &self,
         entry: &'a E,
-        setting: &Setting<'a>,
+        setting: &NodeSetting<'a>,
         levels: usize,
         branches: &'a [ChooseBranch],
         otherwise: &'a [Node],
         findings: Findings<'_>,
         state: &mut State<'a>,
     ) -> Result<(), AllocError>
-        requires { AreFoundInside (walk_context (E.answers entry.now) self.now) (setting_by setting.now).form findings (nodes.choose (each_branch (open_node levels (macros_of self.now)) (branches_of (map branch_seen branches.now) (nodes_seen otherwise.now)))) }
-        ensures { (outer : Option nodes.NamesNode) → OnOk result (state.new ≡ content (walk_context (E.answers entry.now) self.now) outer (setting_by setting.now) (nodes.choose (each_branch (open_node levels (macros_of self.now)) (branches_of (map branch_seen branches.now) (nodes_seen otherwise.now)))) state.old) }
+        requires { AreFoundInside (walk_context (E.answers entry.now) self.now)
+            (setting_view setting.now).form findings
+            (nodes.choose (each_branch (open_node levels (macros_of self.now))
+            (branches_of (map branch_view branches.now) (nodes_view otherwise.now)))) }
+        ensures { (outer : Option nodes.NamesNode) → OnOk result (state.new
+            ≡ content (walk_context (E.answers entry.now) self.now) outer (setting_view setting.now)
+            (nodes.choose (each_branch (open_node levels (macros_of self.now))
+            (branches_of (map branch_view branches.now) (nodes_view otherwise.now)))) state.old) }
     {
         let taken = self.taken(entry, branches, otherwise)?;
         state.note(taken.met);
         self.push_all(entry, setting, levels, taken.nodes, findings, state)
     }
 
-    /// Prints names with people, or what stands in for them.
+    /// Prints names with people, or their substitute.
     #[cycle(contents)]
     fn push_names<E: EntryLike>(
         &self,
         entry: &'a E,
-        setting: &Setting<'a>,
+        setting: &NodeSetting<'a>,
         levels: usize,
         outer: Option<&NamesParts<'a>>,
         names: &'a Names,
@@ -307,8 +351,13 @@ impl<'a> Walk<'_, 'a> {
         findings: Findings<'_>,
         state: &mut State<'a>,
     ) -> Result<(), AllocError>
-        requires { AreFound (walk_context (E.answers entry.now) self.now) (setting_by setting.now).form findings (each_node (open_node levels (macros_of self.now)) (nodes_seen substitute.now)) }
-        ensures { OnOk result (state.new ≡ content (walk_context (E.answers entry.now) self.now) (option_map (λ n. node_by n.now) outer.entry) (setting_by setting.now) (nodes.names (names_seen names.now) (each_node (open_node levels (macros_of self.now)) (nodes_seen substitute.now))) state.old) }
+        requires { AreFound (walk_context (E.answers entry.now) self.now)
+            (setting_view setting.now).form findings
+            (each_node (open_node levels (macros_of self.now)) (nodes_view substitute.now)) }
+        ensures { OnOk result (state.new ≡ content (walk_context (E.answers entry.now) self.now)
+            (option_map (λ n. names_parts_view n.now) outer.entry)
+            (setting_view setting.now) (nodes.names (names_node_view names.now) (each_node
+            (open_node levels (macros_of self.now)) (nodes_view substitute.now))) state.old) }
     {
         let variables = names.variables.as_slice();
         let people = self
@@ -316,25 +365,31 @@ impl<'a> Walk<'_, 'a> {
             .people(entry, state.suppressed.as_slice(), variables)?;
         let parts = taken(outer, names);
         if people.is_empty() {
-            return self.push_stand_in(entry, setting, levels, &parts, substitute, findings, state);
+            return self.push_substitute(
+                entry, setting, levels, &parts, substitute, findings, state,
+            );
         }
         self.push_people(setting, &parts, people.as_slice(), state)
     }
 
-    /// Prints the element of names, with what stands in for them.
+    /// Prints the element of names, with their substitute.
     #[cycle(contents)]
-    fn push_stand_in<E: EntryLike>(
+    fn push_substitute<E: EntryLike>(
         &self,
         entry: &'a E,
-        setting: &Setting<'a>,
+        setting: &NodeSetting<'a>,
         levels: usize,
         names: &NamesParts<'a>,
         substitute: &'a [Node],
         findings: Findings<'_>,
         state: &mut State<'a>,
     ) -> Result<(), AllocError>
-        requires { AreFound (walk_context (E.answers entry.now) self.now) (setting_by setting.now).form findings (each_node (open_node levels (macros_of self.now)) (nodes_seen substitute.now)) }
-        ensures { OnOk result (state.new ≡ stood_in (walk_context (E.answers entry.now) self.now) (setting_by setting.now) (node_by names.now) (each_node (open_node levels (macros_of self.now)) (nodes_seen substitute.now)) state.old) }
+        requires { AreFound (walk_context (E.answers entry.now) self.now)
+            (setting_view setting.now).form findings
+            (each_node (open_node levels (macros_of self.now)) (nodes_view substitute.now)) }
+        ensures { OnOk result (state.new ≡ substituted (walk_context (E.answers entry.now) self.now)
+            (setting_view setting.now) (names_parts_view names.now) (each_node
+            (open_node levels (macros_of self.now)) (nodes_view substitute.now)) state.old) }
     {
         self.begin_names(setting, names, state)?;
         let inside = inside_names(setting, names);
@@ -347,20 +402,25 @@ impl<'a> Walk<'_, 'a> {
     fn push_first<E: EntryLike>(
         &self,
         entry: &'a E,
-        setting: &Setting<'a>,
+        setting: &NodeSetting<'a>,
         levels: usize,
         names: &NamesParts<'a>,
         substitute: &'a [Node],
         findings: Findings<'_>,
         state: &mut State<'a>,
     ) -> Result<(), AllocError>
-        requires { AreFound (walk_context (E.answers entry.now) self.now) (setting_by setting.now).form findings (each_node (open_node levels (macros_of self.now)) (nodes_seen substitute.now)) }
-        ensures { OnOk result (state.new ≡ first_standing (walk_context (E.answers entry.now) self.now) (node_by names.now) (setting_by setting.now) (each_node (open_node levels (macros_of self.now)) (nodes_seen substitute.now)) state.old) }
+        requires { AreFound (walk_context (E.answers entry.now) self.now)
+            (setting_view setting.now).form findings
+            (each_node (open_node levels (macros_of self.now)) (nodes_view substitute.now)) }
+        ensures { OnOk result (state.new
+            ≡ first_substitute (walk_context (E.answers entry.now) self.now)
+            (names_parts_view names.now) (setting_view setting.now) (each_node
+            (open_node levels (macros_of self.now)) (nodes_view substitute.now)) state.old) }
     {
         let mut rest = findings;
         for node in substitute {
             let finding = rest.take_first(setting.form, state);
-            if self.push_standing(entry, setting, levels, names, node, finding, state)? {
+            if self.push_substitute_node(entry, setting, levels, names, node, finding, state)? {
                 return Ok(());
             }
         }
@@ -370,19 +430,27 @@ impl<'a> Walk<'_, 'a> {
     /// Prints a node, if it prints something, and returns whether it does. It is asked where nothing is known of it. Of one that prints
     /// nothing nothing remains but that it was asked if the cite is like others.
     #[cycle(contents)]
-    fn push_standing<E: EntryLike>(
+    fn push_substitute_node<E: EntryLike>(
         &self,
         entry: &'a E,
-        setting: &Setting<'a>,
+        setting: &NodeSetting<'a>,
         levels: usize,
         names: &NamesParts<'a>,
         node: &'a Node,
         finding: Option<NodeFinding<'_>>,
         state: &mut State<'a>,
     ) -> Result<bool, AllocError>
-        requires { IfSome finding (λ n. IsFound (walk_context (E.answers entry.now) self.now) (setting_by setting.now) state.old n (open_node levels (macros_of self.now) (node_seen node.now))) }
-        ensures printed { IfOk result (λ b. b ≡ stands (walk_context (E.answers entry.now) self.now) (node_by names.now) (setting_by setting.now) (open_node levels (macros_of self.now) (node_seen node.now)) state.old) }
-        ensures state { OnOk result (state.new ≡ standing_put (walk_context (E.answers entry.now) self.now) (node_by names.now) (setting_by setting.now) (open_node levels (macros_of self.now) (node_seen node.now)) state.old) }
+        requires { IfSome finding (λ n. IsFound (walk_context (E.answers entry.now) self.now)
+            (setting_view setting.now) state.old n
+            (open_node levels (macros_of self.now) (node_view node.now))) }
+        ensures printed { IfOk result (λ b. b
+            ≡ is_substitute (walk_context (E.answers entry.now) self.now)
+            (names_parts_view names.now) (setting_view setting.now)
+            (open_node levels (macros_of self.now) (node_view node.now)) state.old) }
+        ensures state { OnOk result (state.new
+            ≡ append_substitute (walk_context (E.answers entry.now) self.now)
+            (names_parts_view names.now) (setting_view setting.now)
+            (open_node levels (macros_of self.now) (node_view node.now)) state.old) }
     {
         match finding {
             Some(finding) => {
@@ -401,16 +469,23 @@ impl<'a> Walk<'_, 'a> {
     fn push_tried<E: EntryLike>(
         &self,
         entry: &'a E,
-        setting: &Setting<'a>,
+        setting: &NodeSetting<'a>,
         levels: usize,
         names: &NamesParts<'a>,
         node: &'a Node,
         finding: NodeFinding<'_>,
         state: &mut State<'a>,
     ) -> Result<bool, AllocError>
-        requires { IsFound (walk_context (E.answers entry.now) self.now) (setting_by setting.now) state.old finding (open_node levels (macros_of self.now) (node_seen node.now)) }
-        ensures printed { IfOk result (λ b. b ≡ stands (walk_context (E.answers entry.now) self.now) (node_by names.now) (setting_by setting.now) (open_node levels (macros_of self.now) (node_seen node.now)) state.old) }
-        ensures state { OnOk result (state.new ≡ standing_put (walk_context (E.answers entry.now) self.now) (node_by names.now) (setting_by setting.now) (open_node levels (macros_of self.now) (node_seen node.now)) state.old) }
+        requires { IsFound (walk_context (E.answers entry.now) self.now) (setting_view setting.now)
+            state.old finding (open_node levels (macros_of self.now) (node_view node.now)) }
+        ensures printed { IfOk result (λ b. b
+            ≡ is_substitute (walk_context (E.answers entry.now) self.now)
+            (names_parts_view names.now) (setting_view setting.now)
+            (open_node levels (macros_of self.now) (node_view node.now)) state.old) }
+        ensures state { OnOk result (state.new
+            ≡ append_substitute (walk_context (E.answers entry.now) self.now)
+            (names_parts_view names.now) (setting_view setting.now)
+            (open_node levels (macros_of self.now) (node_view node.now)) state.old) }
     {
         if !finding.admits(state) {
             return Ok(false);
@@ -419,20 +494,25 @@ impl<'a> Walk<'_, 'a> {
         self.accept(setting, done, state)
     }
 
-    /// What a call has printed once a node is printed that stands in for names.
+    /// What a call has printed once a node is printed that is a substitute for names.
     #[cycle(contents)]
     fn tried<E: EntryLike>(
         &self,
         entry: &'a E,
-        setting: &Setting<'a>,
+        setting: &NodeSetting<'a>,
         levels: usize,
         names: &NamesParts<'a>,
         node: &'a Node,
         findings: Findings<'_>,
         state: &State<'a>,
     ) -> Result<State<'a>, AllocError>
-        requires { AreFoundInside (walk_context (E.answers entry.now) self.now) (setting_by setting.now).form findings (open_node levels (macros_of self.now) (node_seen node.now)) }
-        ensures { IfOk result (λ done. done ≡ content (walk_context (E.answers entry.now) self.now) (Some (node_by names.now)) (setting_by setting.now) (open_node levels (macros_of self.now) (node_seen node.now)) (tried (walk_context (E.answers entry.now) self.now) (setting_by setting.now) state.now)) }
+        requires { AreFoundInside (walk_context (E.answers entry.now) self.now)
+            (setting_view setting.now).form findings
+            (open_node levels (macros_of self.now) (node_view node.now)) }
+        ensures { IfOk result (λ done. done ≡ content (walk_context (E.answers entry.now) self.now)
+            (Some (names_parts_view names.now)) (setting_view setting.now)
+            (open_node levels (macros_of self.now) (node_view node.now)) (tried
+            (walk_context (E.answers entry.now) self.now) (setting_view setting.now) state.now)) }
     {
         let mut done = state.copied()?;
         self.begin_bare(setting, &mut done)?;
@@ -452,12 +532,13 @@ impl<'a> Walk<'_, 'a> {
     /// asked there if the cite is like others.
     fn accept(
         &self,
-        setting: &Setting<'a>,
+        setting: &NodeSetting<'a>,
         done: State<'a>,
         state: &mut State<'a>,
     ) -> Result<bool, AllocError>
         ensures printed { IfOk result (λ b. b ≡ prints 0 done.entry.page.tokens) }
-        ensures state { (a : Answers) → OnOk result (state.new ≡ settled (walk_context a self.now) (setting_by setting.now) done.entry state.old) }
+        ensures state { (a : Answers) → OnOk result (state.new
+            ≡ settled (walk_context a self.now) (setting_view setting.now) done.entry state.old) }
     {
         if !has_printed_in(&done) {
             note_met(&done, state);
@@ -469,8 +550,9 @@ impl<'a> Walk<'_, 'a> {
     }
 
     /// The element of what was tried ends.
-    fn ended(&self, setting: &Setting<'a>, done: State<'a>) -> Result<State<'a>, AllocError>
-        ensures { (a : Answers) → IfOk result (λ s. s ≡ accepted (walk_context a self.now) (setting_by setting.now) done.entry) }
+    fn ended(&self, setting: &NodeSetting<'a>, done: State<'a>) -> Result<State<'a>, AllocError>
+        ensures { (a : Answers) → IfOk result (λ s. s
+            ≡ accepted (walk_context a self.now) (setting_view setting.now) done.entry) }
     {
         let mut done = done;
         self.end_bare(setting, &mut done)?;

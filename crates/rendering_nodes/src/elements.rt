@@ -3,18 +3,18 @@
 ghost use Rattle.std.specs.Prelude.{◌≡◌, ◌∷◌, [], None, Some, OnOk};
 ghost use Rattle.rendering_entries.specs.Answers.{Answers};
 ghost use Rattle.rendering_leaves.specs.Values.{frame, quote_after, quote_before, text_manner};
-ghost use Rattle.rendering_leaves.specs.Views.{setting_by};
+ghost use Rattle.rendering_leaves.specs.Views.{setting_view};
 ghost use Rattle.rendering_names.specs.Names.{names_frame};
-ghost use Rattle.rendering_names.specs.Views.{node_by};
+ghost use Rattle.rendering_names.specs.Views.{names_parts_view};
 ghost use Rattle.rendering_nodes.specs.Content.{accepted, bare, delimited, entered, left, tried};
 ghost use Rattle.rendering_nodes.specs.Views.{walk_context};
-ghost use Rattle.rendering_page.specs.Views.{frame as frame_seen};
-ghost use Rattle.rendering_style.specs.Views.{group_seen, text_look_seen};
+ghost use Rattle.rendering_page.specs.Views.{frame_view};
+ghost use Rattle.rendering_style.specs.Views.{group_node_view, text_look_view};
 ghost use Rattle.rendering_tree.specs.Metas as metas;
 
-use crate::walk::Walk;
+use crate::style_walk::Walk;
 use rendering_leaves::{
-    Setting, State, frame_of, push_quote_after, push_quote_before, text_manner,
+    NodeSetting, State, frame_of, push_quote_after, push_quote_before, text_manner,
 };
 use rendering_names::NamesParts;
 use rendering_page::Frame;
@@ -23,14 +23,15 @@ use rendering_tree::ElemMeta;
 use std::alloc::AllocError;
 
 impl<'a> Walk<'_, 'a> {
-    /// Puts down what stands between the children of the group around, before all but the first.
+    /// Appends what stands between the children of the group around, before all but the first.
     pub(crate) fn push_delimiter(
         &self,
-        setting: &Setting<'a>,
+        setting: &NodeSetting<'a>,
         is_first: bool,
         state: &mut State<'a>,
     ) -> Result<(), AllocError>
-        ensures { (a : Answers) → OnOk result (state.new ≡ delimited (walk_context a self.now) (setting_by setting.now) is_first state.old) }
+        ensures { (a : Answers) → OnOk result (state.new
+            ≡ delimited (walk_context a self.now) (setting_view setting.now) is_first state.old) }
     {
         match (is_first, setting.delimiter) {
             (false, Some(delimiter)) => {
@@ -45,11 +46,14 @@ impl<'a> Walk<'_, 'a> {
     /// Begins the element of a macro, with the quote before it where it stands in quotes.
     pub(crate) fn begin_macro(
         &self,
-        setting: &Setting<'a>,
+        setting: &NodeSetting<'a>,
         look: &'a TextLook,
         state: &mut State<'a>,
     ) -> Result<(), AllocError>
-        ensures { (a : Answers) → OnOk result (state.new ≡ entered (walk_context a self.now) (frame (setting_by setting.now).manner (Some metas.Text) (text_look_seen look.now).look) (quote_before (walk_context a self.now) (text_manner (setting_by setting.now).manner (text_look_seen look.now)) look.now.quotes setting.now.inside_quotes) state.old) }
+        ensures { (a : Answers) → OnOk result (state.new ≡ entered (walk_context a self.now) (frame
+            (setting_view setting.now).manner (Some metas.Text) (text_look_view look.now).look)
+            (quote_before (walk_context a self.now) (text_manner (setting_view setting.now).manner
+            (text_look_view look.now)) look.now.quotes setting.now.inside_quotes) state.old) }
     {
         let frame = frame_of(setting.manner, &look.look);
         let manner = text_manner(setting.manner, look);
@@ -66,11 +70,14 @@ impl<'a> Walk<'_, 'a> {
     /// Ends the element of a macro, with the quote after it.
     pub(crate) fn end_macro(
         &self,
-        setting: &Setting<'a>,
+        setting: &NodeSetting<'a>,
         look: &'a TextLook,
         state: &mut State<'a>,
     ) -> Result<(), AllocError>
-        ensures { (a : Answers) → OnOk result (state.new ≡ left (walk_context a self.now) (frame (setting_by setting.now).manner (Some metas.Text) (text_look_seen look.now).look) (quote_after (walk_context a self.now) (text_manner (setting_by setting.now).manner (text_look_seen look.now)) look.now.quotes setting.now.inside_quotes) state.old) }
+        ensures { (a : Answers) → OnOk result (state.new ≡ left (walk_context a self.now) (frame
+            (setting_view setting.now).manner (Some metas.Text) (text_look_view look.now).look)
+            (quote_after (walk_context a self.now) (text_manner (setting_view setting.now).manner
+            (text_look_view look.now)) look.now.quotes setting.now.inside_quotes) state.old) }
     {
         let frame = frame_of(setting.manner, &look.look);
         let manner = text_manner(setting.manner, look);
@@ -87,11 +94,12 @@ impl<'a> Walk<'_, 'a> {
     /// Begins the element of a group.
     pub(crate) fn begin_group(
         &self,
-        setting: &Setting<'a>,
+        setting: &NodeSetting<'a>,
         group: &'a Group,
         state: &mut State<'a>,
     ) -> Result<(), AllocError>
-        ensures { (a : Answers) → OnOk result (state.new ≡ entered (walk_context a self.now) (frame (setting_by setting.now).manner None (group_seen group.now).look) [] state.old) }
+        ensures { (a : Answers) → OnOk result (state.new ≡ entered (walk_context a self.now) (frame
+            (setting_view setting.now).manner None (group_node_view group.now).look) [] state.old) }
     {
         let frame = frame_of(setting.manner, &group.look);
         state.page.begin(&frame)
@@ -100,38 +108,43 @@ impl<'a> Walk<'_, 'a> {
     /// Ends the element of a group.
     pub(crate) fn end_group(
         &self,
-        setting: &Setting<'a>,
+        setting: &NodeSetting<'a>,
         group: &'a Group,
         state: &mut State<'a>,
     ) -> Result<(), AllocError>
-        ensures { (a : Answers) → OnOk result (state.new ≡ left (walk_context a self.now) (frame (setting_by setting.now).manner None (group_seen group.now).look) [] state.old) }
+        ensures { (a : Answers) → OnOk result (state.new ≡ left (walk_context a self.now) (frame
+            (setting_view setting.now).manner None (group_node_view group.now).look) [] state.old) }
     {
         let frame = frame_of(setting.manner, &group.look);
         state.page.end(self.context.quotes, &frame)
     }
 
-    /// Begins the element of names for which others stand in.
+    /// Begins the element of names with a substitute.
     pub(crate) fn begin_names(
         &self,
-        setting: &Setting<'a>,
+        setting: &NodeSetting<'a>,
         names: &NamesParts<'a>,
         state: &mut State<'a>,
     ) -> Result<(), AllocError>
-        ensures { (a : Answers) → OnOk result (state.new ≡ entered (walk_context a self.now) (names_frame (setting_by setting.now).manner (node_by names.now) []) [] state.old) }
+        ensures { (a : Answers) → OnOk result (state.new ≡ entered (walk_context a self.now)
+            (names_frame (setting_view setting.now).manner (names_parts_view names.now) [])
+            [] state.old) }
     {
         let frame = frame_of(setting.manner, names.look);
         let meta = ElemMeta::Names(Vec::new(self.context.alloc));
         state.page.begin_element(&frame, meta)
     }
 
-    /// Ends the element of names for which others stand in.
+    /// Ends the element of names with a substitute.
     pub(crate) fn end_names(
         &self,
-        setting: &Setting<'a>,
+        setting: &NodeSetting<'a>,
         names: &NamesParts<'a>,
         state: &mut State<'a>,
     ) -> Result<(), AllocError>
-        ensures { (a : Answers) → OnOk result (state.new ≡ left (walk_context a self.now) (names_frame (setting_by setting.now).manner (node_by names.now) []) [] state.old) }
+        ensures { (a : Answers) → OnOk result (state.new ≡ left (walk_context a self.now)
+            (names_frame (setting_view setting.now).manner (names_parts_view names.now) [])
+            [] state.old) }
     {
         let frame = frame_of(setting.manner, names.look);
         state.page.end_element(self.context.quotes, &frame)
@@ -140,10 +153,11 @@ impl<'a> Walk<'_, 'a> {
     /// Begins what is undone if it prints nothing.
     pub(crate) fn begin_bare(
         &self,
-        setting: &Setting<'a>,
+        setting: &NodeSetting<'a>,
         state: &mut State<'a>,
     ) -> Result<(), AllocError>
-        ensures { (a : Answers) → OnOk result (state.new ≡ tried (walk_context a self.now) (setting_by setting.now) state.old) }
+        ensures { (a : Answers) → OnOk result (state.new
+            ≡ tried (walk_context a self.now) (setting_view setting.now) state.old) }
     {
         state.page.begin(&bare(setting))
     }
@@ -151,10 +165,11 @@ impl<'a> Walk<'_, 'a> {
     /// Ends what has printed something.
     pub(crate) fn end_bare(
         &self,
-        setting: &Setting<'a>,
+        setting: &NodeSetting<'a>,
         state: &mut State<'a>,
     ) -> Result<(), AllocError>
-        ensures { (a : Answers) → OnOk result (state.new ≡ accepted (walk_context a self.now) (setting_by setting.now) state.old) }
+        ensures { (a : Answers) → OnOk result (state.new
+            ≡ accepted (walk_context a self.now) (setting_view setting.now) state.old) }
     {
         state.page.end(self.context.quotes, &bare(setting))
     }
@@ -162,8 +177,8 @@ impl<'a> Walk<'_, 'a> {
 
 /// An element of which there is nothing but where it begins and ends.
 #[tactic(auto, using(rendering_locale::proofs::LookupTexts::no_characters))]
-fn bare<'a>(setting: &Setting<'a>) -> Frame<'a>
-    ensures { frame_seen result ≡ bare (setting_by setting.now) }
+fn bare<'a>(setting: &NodeSetting<'a>) -> Frame<'a>
+    ensures { frame_view result ≡ bare (setting_view setting.now) }
 {
     Frame {
         display: None,

@@ -2,17 +2,17 @@
 
 ghost use Rattle.std.specs.Prelude.{◌≡◌, ◌∷◌, ◌++◌, ◌<◌, [], true, drop, length, take, List, IfSome, OnOk};
 ghost use Rattle.rendering_context.specs.Contexts.{Context};
-ghost use Rattle.rendering_leaves.specs.Settings as settings;
-ghost use Rattle.rendering_leaves.specs.Views.{form_by};
+ghost use Rattle.rendering_leaves.specs.NodeSettings as settings;
+ghost use Rattle.rendering_leaves.specs.Views.{form_view};
 ghost use Rattle.rendering_nodes.specs.Admission.{asks_for_date, survey};
 ghost use Rattle.rendering_nodes.specs.Content.{stage};
 ghost use Rattle.rendering_nodes.specs.Findings.{AreFound, IsFound, IsSurveyed, nothing_found, stage_then, with_finding};
 ghost use Rattle.rendering_nodes.specs.Turns.{asked, is_next};
-ghost use Rattle.rendering_nodes.specs.Views.{survey_by};
+ghost use Rattle.rendering_nodes.specs.Views.{survey_view};
 ghost use Rattle.rendering_style.specs.Nodes.{Node, Nodes, node};
 
 use crate::survey::Survey;
-use rendering_leaves::{Form, State};
+use rendering_leaves::{SpecialForm, State};
 use rendering_taxonomy::Variable;
 use std::alloc::AllocError;
 
@@ -62,7 +62,8 @@ pub(crate) struct Surveyed {
 impl Surveyed {
     /// What is known of the node.
     pub(crate) fn finding(&self) -> NodeFinding<'_>
-        ensures { (c : Context) (s : settings.Setting) (st : settings.State) (x : Node) → IsSurveyed c s st self.now x → IsFound c s st result x }
+        ensures { (c : Context) (s : settings.NodeSetting) (st : settings.State) (x : Node)
+            → IsSurveyed c s st self.now x → IsFound c s st result x }
     {
         NodeFinding {
             is_admitted: self.is_admitted,
@@ -79,8 +80,10 @@ impl Surveyed {
 impl NodeFinding<'_> {
     /// Whether the node is admitted. It is noted whether it was asked on the way if the cite is like others.
     pub(crate) fn admits(&self, state: &mut State<'_>) -> bool
-        ensures admitted { (c : Context) (s : settings.Setting) (x : Node) → IsFound c s state.old self.now x → result ≡ is_next c s x state.old }
-        ensures state { (c : Context) (s : settings.Setting) (x : Node) → IsFound c s state.old self.now x → state.new ≡ asked c s x state.old }
+        ensures admitted { (c : Context) (s : settings.NodeSetting) (x : Node)
+            → IsFound c s state.old self.now x → result ≡ is_next c s x state.old }
+        ensures state { (c : Context) (s : settings.NodeSetting) (x : Node)
+            → IsFound c s state.old self.now x → state.new ≡ asked c s x state.old }
     {
         state.note(self.met);
         self.is_admitted
@@ -102,9 +105,16 @@ impl<'t> Findings<'t> {
     /// Takes what is known of the first node, and returns it unless the call has come further. What is known of the nodes after it
     /// remains.
     #[inline(always)]
-    pub(crate) fn take_first(&mut self, form: Form, state: &State<'_>) -> Option<NodeFinding<'t>>
-        ensures first { (c : Context) (s : settings.Setting) (x : Node) (xs : Nodes) → s.form ≡ form_by form → AreFound c s.form self.old (node x xs) → IfSome result (λ n. IsFound c s state.now n x) }
-        ensures others { (c : Context) (s : settings.Setting) (x : Node) (xs : Nodes) → AreFound c s.form self.old (node x xs) → AreFound c s.form self.new xs }
+    pub(crate) fn take_first(
+        &mut self,
+        form: SpecialForm,
+        state: &State<'_>,
+    ) -> Option<NodeFinding<'t>>
+        ensures first { (c : Context) (s : settings.NodeSetting) (x : Node) (xs : Nodes)
+            → s.form ≡ form_view form → AreFound c s.form self.old (node x xs)
+            → IfSome result (λ n. IsFound c s state.now n x) }
+        ensures others { (c : Context) (s : settings.NodeSetting) (x : Node) (xs : Nodes)
+            → AreFound c s.form self.old (node x xs) → AreFound c s.form self.new xs }
     {
         let Some((first, others)) = self.nodes.split_first() else {
             return None;
@@ -126,8 +136,10 @@ impl<'t> Findings<'t> {
 
     /// Whether the call has come no further, as far as nodes are asked for it in the form.
     #[tactic(auto, using(crate::proofs::DatesUnasked::holds_dated, crate::proofs::DatesUnasked::holds_unasked))]
-    fn hold(&self, form: Form, state: &State<'_>) -> bool
-        ensures { (c : Context) (s : settings.Setting) (x : Node) → s.form ≡ form_by form → result ≡ true → survey (stage_then c s.form self.now) x ≡ survey (stage c s state.now) x }
+    fn hold(&self, form: SpecialForm, state: &State<'_>) -> bool
+        ensures { (c : Context) (s : settings.NodeSetting) (x : Node)
+            → s.form ≡ form_view form → result ≡ true
+            → survey (stage_then c s.form self.now) x ≡ survey (stage c s state.now) x }
     {
         if !are_same(self.suppressed, state.suppressed.as_slice()) {
             return false;
@@ -137,12 +149,12 @@ impl<'t> Findings<'t> {
 }
 
 /// Whether it is asked in a form if the first date was printed.
-fn asks_for_date(form: Form) -> bool
-    ensures { result ≡ asks_for_date (form_by form) }
+fn asks_for_date(form: SpecialForm) -> bool
+    ensures { result ≡ asks_for_date (form_view form) }
 {
     match form {
-        Form::Whole | Form::AuthorOnly(_) | Form::WithoutAuthor => false,
-        Form::FirstDateOnly | Form::SuffixOnly => true,
+        SpecialForm::Whole | SpecialForm::AuthorOnly(_) | SpecialForm::WithoutAuthor => false,
+        SpecialForm::FirstDateOnly | SpecialForm::SuffixOnly => true,
     }
 }
 
@@ -192,13 +204,15 @@ fn split(findings: &[Finding], count: usize) -> (&[Finding], &[Finding])
     findings.split_at(count.min(findings.len()))
 }
 
-/// Writes what a survey found of a node at its place, which is followed by what was found of those inside it.
-pub(crate) fn put_finding(findings: &mut Vec<Finding>, place: usize, survey: Survey)
-    requires { place < length findings.old.items }
-    ensures { (before : List Finding) (f : Finding) (inside : List Finding) → place ≡ length before → findings.old.items ≡ before ++ f ∷ inside → findings.new.items ≡ before ++ with_finding (survey_by survey) inside }
+/// Writes what a survey found of a node at its index, which is followed by what was found of those inside it.
+pub(crate) fn put_finding(findings: &mut Vec<Finding>, index: usize, survey: Survey)
+    requires { index < length findings.old.items }
+    ensures { (before : List Finding) (f : Finding) (inside : List Finding)
+        → index ≡ length before → findings.old.items ≡ before ++ f ∷ inside
+        → findings.new.items ≡ before ++ with_finding (survey_view survey) inside }
 {
-    let inside = findings.len() - place - 1;
-    findings[place] = Finding {
+    let inside = findings.len() - index - 1;
+    findings[index] = Finding {
         is_admitted: survey.is_admitted,
         met: survey.met,
         inside,

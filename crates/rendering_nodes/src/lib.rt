@@ -6,18 +6,18 @@ mod choice;
 mod content;
 mod elements;
 mod finding;
-mod forms;
-mod inside;
+mod form_admission;
+mod inner_settings;
+mod leaf_surveys;
 mod node_laws;
 mod people;
-mod stage;
+mod style_walk;
 mod suffix;
 mod survey;
-mod walk;
 
 pub use node_laws::{
     alike_entries_print_alike, contents_are_nested, unanswered_groups_add_nothing,
 };
+pub use style_walk::Walk;
 pub use suffix::has_suffix;
 pub use survey::Survey;
-pub use walk::Walk;

@@ -8,7 +8,7 @@ pub fn unanswered_groups_add_nothing()
     ensures { UnansweredGroupsAddNothing }
 {}
 
-/// What is put down on a properly nested page leaves it so.
+/// What is appended to a properly nested page leaves it so.
 #[tactic(auto, using(crate::proofs::ContentsNested::contents_nested))]
 pub fn contents_are_nested()
     ensures { ContentsAreNested }

@@ -4,19 +4,19 @@ ghost use Rattle.std.specs.Prelude.{◌≡◌, Some, fold, IfOk, OnOk};
 ghost use Rattle.std.specs.Option.{unwrap_or};
 ghost use Rattle.rendering_context.specs.Cites.{names_of};
 ghost use Rattle.rendering_entries.specs.Answers.{Answers};
-ghost use Rattle.rendering_leaves.specs.Settings.{put, with_variable};
-ghost use Rattle.rendering_leaves.specs.Views.{setting_by};
+ghost use Rattle.rendering_leaves.specs.NodeSettings.{append, with_variable};
+ghost use Rattle.rendering_leaves.specs.Views.{setting_view};
 ghost use Rattle.rendering_names.specs.Names.{names_pieces, node_options};
 ghost use Rattle.rendering_people.specs.Properties.{raised_to};
-ghost use Rattle.rendering_people.specs.Views.{all_answered};
-ghost use Rattle.rendering_names.specs.Views.{node_by, options_by};
-ghost use Rattle.rendering_nodes.specs.Content.{names_put, people_put, told_apart};
+ghost use Rattle.rendering_people.specs.Views.{all_lent_answered_view};
+ghost use Rattle.rendering_names.specs.Views.{names_parts_view, resolved_options_view};
+ghost use Rattle.rendering_nodes.specs.Content.{append_names, append_people, disambiguated};
 ghost use Rattle.rendering_nodes.specs.Views.{walk_context};
 ghost use Rattle.rendering_tree.specs.Metas.{Answered as SomePeople};
 
-use crate::walk::Walk;
+use crate::style_walk::Walk;
 use rendering_context::DisambiguateState;
-use rendering_leaves::{Setting, State};
+use rendering_leaves::{NodeSetting, State};
 use rendering_names::{NameSetting, NamesParts, ResolvedNameOptions, properties_by, push_names};
 use rendering_people::{Answered, NameDisambiguationProperties};
 use rendering_taxonomy::Variable;
@@ -26,12 +26,14 @@ impl<'s, 'a> Walk<'s, 'a> {
     /// Prints names with people, by the options of the node and those around it.
     pub(crate) fn push_people(
         &self,
-        setting: &Setting<'a>,
+        setting: &NodeSetting<'a>,
         names: &NamesParts<'a>,
         people: &[Answered<'_>],
         state: &mut State<'a>,
     ) -> Result<(), AllocError>
-        ensures { (a : Answers) → OnOk result (state.new ≡ people_put (walk_context a self.now) (setting_by setting.now) (node_by names.now) (all_answered people.now) state.old) }
+        ensures { (a : Answers) → OnOk result (state.new
+            ≡ append_people (walk_context a self.now) (setting_view setting.now)
+            (names_parts_view names.now) (all_lent_answered_view people.now) state.old) }
     {
         let options = names.options(&setting.options);
         let is_first = self.context.properties.is_first;
@@ -39,41 +41,49 @@ impl<'s, 'a> Walk<'s, 'a> {
         self.push_own(setting, names, &options, own, people, state)
     }
 
-    /// Prints names with people, of which so much is printed by the options. It is remembered of the first names, and in a stand-in the
+    /// Prints names with people, of which so much is printed by the options. It is remembered of the first names, and in a substitute the
     /// people are not printed again.
     fn push_own(
         &self,
-        setting: &Setting<'a>,
+        setting: &NodeSetting<'a>,
         names: &NamesParts<'a>,
         options: &ResolvedNameOptions<'a>,
         own: NameDisambiguationProperties,
         people: &[Answered<'_>],
         state: &mut State<'a>,
     ) -> Result<(), AllocError>
-        requires { options_by options.now ≡ node_options (node_by names.now) (setting_by setting.now).options }
-        ensures { (a : Answers) → OnOk result (state.new ≡ names_put (walk_context a self.now) (setting_by setting.now) (node_by names.now) own (all_answered people.now) state.old) }
+        requires { resolved_options_view options.now
+            ≡ node_options (names_parts_view names.now) (setting_view setting.now).options }
+        ensures { (a : Answers) → OnOk result (state.new
+            ≡ append_names (walk_context a self.now) (setting_view setting.now)
+            (names_parts_view names.now) own (all_lent_answered_view people.now) state.old) }
     {
-        self.push_told_apart(setting, names, options, &own, people, state)?;
+        self.push_disambiguated(setting, names, options, &own, people, state)?;
         remember(own, state);
-        if setting.stands_in {
+        if setting.in_substitute {
             return suppress_people(people, state);
         }
         Ok(())
     }
 
-    /// Prints names with people. Of the first names that are printed more may be printed than the options say, to tell cites
-    /// apart.
-    fn push_told_apart(
+    /// Prints names with people. Of the first names that are printed more may be printed than the options say, to disambiguate
+    /// cites.
+    fn push_disambiguated(
         &self,
-        setting: &Setting<'a>,
+        setting: &NodeSetting<'a>,
         names: &NamesParts<'a>,
         options: &ResolvedNameOptions<'a>,
         own: &NameDisambiguationProperties,
         people: &[Answered<'_>],
         state: &mut State<'a>,
     ) -> Result<(), AllocError>
-        requires { options_by options.now ≡ node_options (node_by names.now) (setting_by setting.now).options }
-        ensures { (a : Answers) → OnOk result (state.new ≡ put (walk_context a self.now) (names_pieces (walk_context a self.now).locales (setting_by setting.now).manner (node_by names.now) (setting_by setting.now).options (told_apart (walk_context a self.now) state.old.names own.now) (all_answered people.now)) state.old) }
+        requires { resolved_options_view options.now
+            ≡ node_options (names_parts_view names.now) (setting_view setting.now).options }
+        ensures { (a : Answers) → OnOk result (state.new ≡ append (walk_context a self.now)
+            (names_pieces (walk_context a self.now).locales (setting_view setting.now).manner
+            (names_parts_view names.now) (setting_view setting.now).options
+            (disambiguated (walk_context a self.now) state.old.names own.now)
+            (all_lent_answered_view people.now)) state.old) }
     {
         if state.names.is_some() {
             return self.push_shown(setting, names, options, own, people, state);
@@ -89,7 +99,7 @@ impl<'s, 'a> Walk<'s, 'a> {
     /// Prints names with people, of which more may be printed elsewhere.
     fn push_raised(
         &self,
-        setting: &Setting<'a>,
+        setting: &NodeSetting<'a>,
         names: &NamesParts<'a>,
         options: &ResolvedNameOptions<'a>,
         own: &NameDisambiguationProperties,
@@ -97,8 +107,12 @@ impl<'s, 'a> Walk<'s, 'a> {
         people: &[Answered<'_>],
         state: &mut State<'a>,
     ) -> Result<(), AllocError>
-        requires { options_by options.now ≡ node_options (node_by names.now) (setting_by setting.now).options }
-        ensures { (a : Answers) → OnOk result (state.new ≡ put (walk_context a self.now) (names_pieces (walk_context a self.now).locales (setting_by setting.now).manner (node_by names.now) (setting_by setting.now).options (raised_to others.now own.now) (all_answered people.now)) state.old) }
+        requires { resolved_options_view options.now
+            ≡ node_options (names_parts_view names.now) (setting_view setting.now).options }
+        ensures { (a : Answers) → OnOk result (state.new ≡ append (walk_context a self.now)
+            (names_pieces (walk_context a self.now).locales (setting_view setting.now).manner
+            (names_parts_view names.now) (setting_view setting.now).options
+            (raised_to others.now own.now) (all_lent_answered_view people.now)) state.old) }
     {
         let raised = own.raised_to(self.context.alloc, others)?;
         self.push_shown(setting, names, options, &raised, people, state)
@@ -107,23 +121,27 @@ impl<'s, 'a> Walk<'s, 'a> {
     /// Prints names with people, of which so much is printed.
     fn push_shown(
         &self,
-        setting: &Setting<'a>,
+        setting: &NodeSetting<'a>,
         names: &NamesParts<'a>,
         options: &ResolvedNameOptions<'a>,
         shown: &NameDisambiguationProperties,
         people: &[Answered<'_>],
         state: &mut State<'a>,
     ) -> Result<(), AllocError>
-        requires { options_by options.now ≡ node_options (node_by names.now) (setting_by setting.now).options }
-        ensures { (a : Answers) → OnOk result (state.new ≡ put (walk_context a self.now) (names_pieces (walk_context a self.now).locales (setting_by setting.now).manner (node_by names.now) (setting_by setting.now).options shown.now (all_answered people.now)) state.old) }
+        requires { resolved_options_view options.now
+            ≡ node_options (names_parts_view names.now) (setting_view setting.now).options }
+        ensures { (a : Answers) → OnOk result (state.new ≡ append (walk_context a self.now)
+            (names_pieces (walk_context a self.now).locales (setting_view setting.now).manner
+            (names_parts_view names.now) (setting_view setting.now).options shown.now
+            (all_lent_answered_view people.now)) state.old) }
     {
-        let place = NameSetting {
+        let index = NameSetting {
             alloc: self.context.alloc,
             quotes: self.context.quotes,
             locales: self.context.locales,
             manner: setting.manner,
         };
-        push_names(&mut state.page, &place, names, options, shown, people)
+        push_names(&mut state.page, &index, names, options, shown, people)
     }
 }
 
@@ -138,7 +156,7 @@ fn remember(own: NameDisambiguationProperties, state: &mut State<'_>)
 
 /// The variables of people are not printed again.
 fn suppress_people(people: &[Answered<'_>], state: &mut State<'_>) -> Result<(), AllocError>
-    ensures { OnOk result (state.new ≡ record state.old { suppressed = fold (λ vs (a : SomePeople). with_variable vs (Variable.Name a.1)) state.old.suppressed (all_answered people.now) }) }
+    ensures { OnOk result (state.new ≡ record state.old { suppressed = fold (λ vs (a : SomePeople). with_variable vs (Variable.Name a.1)) state.old.suppressed (all_lent_answered_view people.now) }) }
 {
     for answered in people {
         state.suppress(Variable::Name(answered.variable))?;

@@ -2,7 +2,7 @@
 
 ghost use Rattle.std.specs.Prelude.{◌≡◌, true};
 ghost use Rattle.rendering_nodes.specs.Admission.{nothing, both, words_survey, variable_survey, containing, group_survey};
-ghost use Rattle.rendering_nodes.specs.Views.{survey_by};
+ghost use Rattle.rendering_nodes.specs.Views.{survey_view};
 
 /// What is asked of nodes before they are printed.
 #[derive(Clone, Copy, Debug, PartialEq, Eq)]
@@ -20,7 +20,7 @@ pub struct Survey {
 impl Survey {
     /// Of no node.
     pub(crate) fn nothing() -> Survey
-        ensures { survey_by result ≡ nothing }
+        ensures { survey_view result ≡ nothing }
     {
         Survey {
             is_admitted: false,
@@ -32,7 +32,7 @@ impl Survey {
 
     /// Of a node that prints words of its own.
     pub(crate) fn of_words(is_admitted: bool) -> Survey
-        ensures { survey_by result ≡ words_survey is_admitted }
+        ensures { survey_view result ≡ words_survey is_admitted }
     {
         Survey {
             is_admitted,
@@ -44,7 +44,7 @@ impl Survey {
 
     /// Of a node that prints the answer to a variable.
     pub(crate) fn of_variable(is_admitted: bool) -> Survey
-        ensures { survey_by result ≡ variable_survey is_admitted }
+        ensures { survey_view result ≡ variable_survey is_admitted }
     {
         Survey {
             is_admitted,
@@ -56,7 +56,7 @@ impl Survey {
 
     /// Of these nodes and of others.
     pub(crate) fn with(self, others: Survey) -> Survey
-        ensures { survey_by result ≡ both (survey_by self) (survey_by others) }
+        ensures { survey_view result ≡ both (survey_view self) (survey_view others) }
     {
         Survey {
             is_admitted: self.is_admitted || others.is_admitted,
@@ -68,7 +68,7 @@ impl Survey {
 
     /// Of the macro that these nodes are of.
     pub(crate) fn of_macro(self) -> Survey
-        ensures { survey_by result ≡ containing self.is_admitted (survey_by self) }
+        ensures { survey_view result ≡ containing self.is_admitted (survey_view self) }
     {
         Survey {
             is_answered: self.is_admitted,
@@ -78,7 +78,7 @@ impl Survey {
 
     /// Of the group that these nodes are in: it prints nothing where they call variables and none has an answer.
     pub(crate) fn of_group(self) -> Survey
-        ensures { survey_by result ≡ group_survey (survey_by self) }
+        ensures { survey_view result ≡ group_survey (survey_view self) }
     {
         let is_admitted = self.is_admitted && !(self.calls && !self.is_answered);
         Survey {
@@ -88,9 +88,9 @@ impl Survey {
         }
     }
 
-    /// Of the names that these nodes stand in for.
-    pub(crate) fn of_stand_ins(self) -> Survey
-        ensures { survey_by result ≡ record (survey_by self) { calls = true } }
+    /// Of the names whose substitute these nodes are.
+    pub(crate) fn of_substitute(self) -> Survey
+        ensures { survey_view result ≡ record (survey_view self) { calls = true } }
     {
         Survey {
             calls: true,
@@ -100,7 +100,7 @@ impl Survey {
 
     /// Of these nodes in a branch, before which it was asked, or not, if the cite is like others.
     pub(crate) fn after_tests(self, met: bool) -> Survey
-        ensures { survey_by result ≡ both (record nothing { met = met }) (survey_by self) }
+        ensures { survey_view result ≡ both (record nothing { met = met }) (survey_view self) }
     {
         Survey {
             met: met || self.met,

@@ -2,5 +2,5 @@ pub mod DigitsAscii
 pub mod NumbersEndings
 pub mod NumbersSeparators
 pub mod NumbersValues
-pub mod LettersValues
+pub mod SuffixesAndLabelsValues
 pub mod YearsValues

@@ -1,4 +1,4 @@
--- Looking up in a list from a place on.
+-- Looking up in a list from an index on.
 use Rattle.std.proofs.Common.{◌≡◌, ℕ, ◌+◌, ◌<◌, Bool, true, cond, List, map, length, get_or, drop, Some, sym, ap, ◌∙◌}
 use Rattle.std.specs.Map.{lookup}
 use Rattle.std.proofs.lemmas.List.{at_drop_more}

@@ -1,3 +1,3 @@
 pub mod Numbers
-pub mod Letters
+pub mod SuffixesAndLabels
 pub mod Years

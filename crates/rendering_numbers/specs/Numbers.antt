@@ -70,7 +70,7 @@ value_text o form (Set ns) = flat_map (linked_by o form) ns
 abbrev pub numeral_by : Ordinals → NumberForm → Numeral → List ℕ
 numeral_by o form n = affix_text n.prefix ++ value_text o form n.value ++ affix_text n.suffix
 
--- a text in place of a number is as it is
+-- a text instead of a number is as it is
 abbrev pub numeral_or_text : Ordinals → NumberForm → ValueOrText Numeral → List ℕ
 numeral_or_text o form (as_value n) = numeral_by o form n
 numeral_or_text o form (as_text cs) = cs

@@ -7,9 +7,9 @@ ghost use Rattle.std.specs.Option.{option_map};
 ghost use Rattle.std.specs.Str.{chars};
 ghost use Rattle.laws.specs.Text.{characters};
 ghost use Rattle.literature_numbers.specs.NumericText.{separator_text, affix_text};
-ghost use Rattle.literature_numbers.specs.Views.{value as value_seen, numeral as numeral_seen};
-ghost use Rattle.literature_values.specs.TypedViews.{value_or_text};
-ghost use Rattle.rendering_locale.specs.Views.{ordinals_seen};
+ghost use Rattle.literature_numbers.specs.Views.{numeric_value_view, numeral_view};
+ghost use Rattle.literature_values.specs.TypedViews.{typed_view};
+ghost use Rattle.rendering_locale.specs.Views.{ordinals_view};
 ghost use Rattle.rendering_numbers.specs.Numbers.{ending_of, ending_of_two, ordinal_ending, ordinal_text, roman_digits, roman_text, roman_or_digits, number_text, value_text, linked_by, numeral_by, numeral_or_text};
 
 use crate::digits::push_signed;
@@ -20,7 +20,7 @@ use std::alloc::AllocError;
 use std::fmt::Write;
 use texts::{push_character, push_text};
 
-/// Appends a number, or the text that stands in its place.
+/// Appends a number, or the text that stands instead of it.
 ///
 /// # Errors
 /// Out of memory alone.
@@ -30,7 +30,8 @@ pub fn push_numeral_or_text(
     form: NumberForm,
     number: &MaybeTyped<Numeric>,
 ) -> Result<(), AllocError>
-    ensures { OnOk result (characters out.new ≡ characters out.old ++ numeral_or_text (ordinals_seen ordinals.now) form (value_or_text numeral_seen number.now)) }
+    ensures { OnOk result (characters out.new ≡ characters out.old
+        ++ numeral_or_text (ordinals_view ordinals.now) form (typed_view numeral_view number.now)) }
 {
     match number {
         MaybeTyped::Typed(numeral) => push_numeral(out, ordinals, form, numeral),
@@ -48,7 +49,8 @@ pub fn push_numeral(
     form: NumberForm,
     numeral: &Numeric,
 ) -> Result<(), AllocError>
-    ensures { OnOk result (characters out.new ≡ characters out.old ++ numeral_by (ordinals_seen ordinals.now) form (numeral_seen numeral.now)) }
+    ensures { OnOk result (characters out.new ≡ characters out.old
+        ++ numeral_by (ordinals_view ordinals.now) form (numeral_view numeral.now)) }
 {
     push_affix(out, &numeral.prefix)?;
     push_value(out, ordinals, form, &numeral.value)?;
@@ -57,7 +59,8 @@ pub fn push_numeral(
 
 /// Appends the letters, where there are any.
 fn push_affix(out: &mut String, letters: &Option<String>) -> Result<(), AllocError>
-    ensures { OnOk result (characters out.new ≡ characters out.old ++ affix_text (option_map characters letters.now)) }
+    ensures { OnOk result (characters out.new
+        ≡ characters out.old ++ affix_text (option_map characters letters.now)) }
 {
     match letters {
         Some(letters) => push_text(out, letters.as_str()),
@@ -75,7 +78,8 @@ pub fn push_value(
     form: NumberForm,
     value: &NumericValue,
 ) -> Result<(), AllocError>
-    ensures { OnOk result (characters out.new ≡ characters out.old ++ value_text (ordinals_seen ordinals.now) form (value_seen value.now)) }
+    ensures { OnOk result (characters out.new ≡ characters out.old
+        ++ value_text (ordinals_view ordinals.now) form (numeric_value_view value.now)) }
 {
     match value {
         NumericValue::Number(number) => push_number(out, ordinals, form, *number),
@@ -90,7 +94,8 @@ fn push_set(
     form: NumberForm,
     numbers: &[(i32, Option<NumericDelimiter>)],
 ) -> Result<(), AllocError>
-    ensures { OnOk result (characters out.new ≡ characters out.old ++ flat_map (linked_by (ordinals_seen ordinals.now) form) numbers.now) }
+    ensures { OnOk result (characters out.new ≡ characters out.old
+        ++ flat_map (linked_by (ordinals_view ordinals.now) form) numbers.now) }
 {
     for linked in numbers {
         push_linked(out, ordinals, form, *linked)?;
@@ -105,7 +110,8 @@ fn push_linked(
     form: NumberForm,
     linked: (i32, Option<NumericDelimiter>),
 ) -> Result<(), AllocError>
-    ensures { OnOk result (characters out.new ≡ characters out.old ++ linked_by (ordinals_seen ordinals.now) form linked) }
+    ensures { OnOk result (characters out.new
+        ≡ characters out.old ++ linked_by (ordinals_view ordinals.now) form linked) }
 {
     push_number(out, ordinals, form, linked.0)?;
     push_separator(out, linked.1)
@@ -131,7 +137,8 @@ pub fn push_number(
     form: NumberForm,
     number: i32,
 ) -> Result<(), AllocError>
-    ensures { OnOk result (characters out.new ≡ characters out.old ++ number_text (ordinals_seen ordinals.now) form number) }
+    ensures { OnOk result (characters out.new
+        ≡ characters out.old ++ number_text (ordinals_view ordinals.now) form number) }
 {
     match form {
         NumberForm::Numeric => push_signed(out, number),
@@ -145,7 +152,8 @@ pub fn push_number(
 /// # Errors
 /// Out of memory alone.
 pub fn push_ordinal(out: &mut String, ordinals: &Ordinals, number: i32) -> Result<(), AllocError>
-    ensures { OnOk result (characters out.new ≡ characters out.old ++ ordinal_text (ordinals_seen ordinals.now) number) }
+    ensures { OnOk result (characters out.new
+        ≡ characters out.old ++ ordinal_text (ordinals_view ordinals.now) number) }
 {
     push_signed(out, number)?;
     push_text(out, ordinal_ending(ordinals, number.unsigned_abs()))
@@ -153,7 +161,7 @@ pub fn push_ordinal(out: &mut String, ordinals: &Ordinals, number: i32) -> Resul
 
 /// The ending of a number: that of its last two digits, else of its last one, else of all others.
 fn ordinal_ending(ordinals: &Ordinals, number: u32) -> &str
-    ensures { chars result.now ≡ ordinal_ending (ordinals_seen ordinals.now) number }
+    ensures { chars result.now ≡ ordinal_ending (ordinals_view ordinals.now) number }
 {
     if let Some(ending) = ending_of_two(ordinals, number % 100) {
         return ending;
@@ -166,7 +174,8 @@ fn ordinal_ending(ordinals: &Ordinals, number: u32) -> &str
 
 /// The ending of the last two digits, where they are ten or more.
 fn ending_of_two(ordinals: &Ordinals, number: u32) -> Option<&str>
-    ensures { option_map (λ s. chars s.now) result ≡ ending_of_two number (ordinals_seen ordinals.now) }
+    ensures { option_map (λ s. chars s.now) result
+        ≡ ending_of_two number (ordinals_view ordinals.now) }
 {
     if number < 10 {
         return None;
@@ -176,7 +185,7 @@ fn ending_of_two(ordinals: &Ordinals, number: u32) -> Option<&str>
 
 /// The ending under a number.
 fn ending_of(ordinals: &Ordinals, number: u32) -> Option<&str>
-    ensures { option_map (λ s. chars s.now) result ≡ ending_of number (ordinals_seen ordinals.now) }
+    ensures { option_map (λ s. chars s.now) result ≡ ending_of number (ordinals_view ordinals.now) }
 {
     for ending in &ordinals.endings {
         if u32::from(ending.number) == number {
@@ -217,7 +226,8 @@ fn push_roman_digit(
     five: char,
     ten: char,
 ) -> Result<(), AllocError>
-    ensures { OnOk result (characters out.new ≡ characters out.old ++ slice_index_or (roman_digits one five ten) digit []) }
+    ensures { OnOk result (characters out.new
+        ≡ characters out.old ++ slice_index_or (roman_digits one five ten) digit []) }
 {
     match digit {
         1 => push_letters(out, &[one]),

@@ -21,7 +21,8 @@ pub fn push_year(
     ad: &str,
     bc: &str,
 ) -> Result<(), AllocError>
-    ensures { OnOk result (characters out.new ≡ characters out.old ++ year_text year short (chars ad.now) (chars bc.now)) }
+    ensures { OnOk result (characters out.new
+        ≡ characters out.old ++ year_text year short (chars ad.now) (chars bc.now)) }
 {
     if year < 1 {
         push_digits(out, year.unsigned_abs() + 1)?;
@@ -32,7 +33,8 @@ pub fn push_year(
 
 /// Appends a year from 1 on.
 fn push_year_since(out: &mut String, year: u32, short: bool, ad: &str) -> Result<(), AllocError>
-    ensures { OnOk result (characters out.new ≡ characters out.old ++ year_since year short (chars ad.now)) }
+    ensures { OnOk result (characters out.new
+        ≡ characters out.old ++ year_since year short (chars ad.now)) }
 {
     if year < 1000 {
         push_digits(out, year)?;

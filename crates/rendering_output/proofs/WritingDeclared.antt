@@ -36,6 +36,6 @@ writes_declared took w b ds xs v c es u same p e q =
     let whole = subst (λ (x : List ℕ). WritesCharacters took w x u) (sym (spaced_after-append b xs es)) both in
     subst (λ (x : List (List ℕ)). WritesCharacters took w (spaced_after b (x ++ es)) u) same whole
 
--- five lists in a row
+-- five lists one after the other
 pub five-in_a_row : (a b c d e : List (List ℕ)) → a ++ (b ++ (c ++ (d ++ e))) ≡ a ++ b ++ c ++ d ++ e
 five-in_a_row a b c d e = sym (append_assoc (a ++ b ++ c) d e ∙ (append_assoc (a ++ b) c (d ++ e) ∙ append_assoc a b (c ++ (d ++ e))))

@@ -3,7 +3,7 @@ use Rattle.std.proofs.Common.{◌≡◌, ℕ, suc, ◌<◌, Bool, true, false, n
 use Rattle.std.specs.Char.{is_ascii}
 use Rattle.std.specs.List.{list_all}
 use Rattle.std.specs.Str.{chars, IsUtf8}
-use Rattle.laws.specs.Runs.{front_of, after, Bars}
+use Rattle.laws.specs.Runs.{prefix_of, after, Bars}
 use Rattle.laws.proofs.Runs.{bars-after, length-after}
 use Rattle.rendering_output.specs.Writing.{escaped, escaped_character, has_name, stands_as_it_is, LeavesEscaped, WritesCharacters}
 use Rattle.rendering_output.proofs.WritingCalls.{writes_ascii, writes_more, writes_nothing, writes_text}
@@ -33,12 +33,12 @@ name_ascii c e = by_tests (c == 38) (c == 60) (c == 62) (c == 34) e
     by_tests false false false false e = absurd (true≢false (sym e))
 
 -- a text is a run without names, and what follows it
-escaped-run : (cs : List ℕ) → escaped cs ≡ front_of stands_as_it_is cs ++ escaped (after stands_as_it_is cs)
+escaped-run : (cs : List ℕ) → escaped cs ≡ prefix_of stands_as_it_is cs ++ escaped (after stands_as_it_is cs)
 escaped-run [] = refl
 escaped-run (c ∷ cs) = by_test (escaped-run cs) (stands_as_it_is c) refl
   where
-    by_test : escaped cs ≡ front_of stands_as_it_is cs ++ escaped (after stands_as_it_is cs) → (b : Bool) → stands_as_it_is c ≡ b
-        → escaped_character c ++ escaped cs ≡ cond b (c ∷ front_of stands_as_it_is cs) [] ++ escaped (cond b (after stands_as_it_is cs) (c ∷ cs))
+    by_test : escaped cs ≡ prefix_of stands_as_it_is cs ++ escaped (after stands_as_it_is cs) → (b : Bool) → stands_as_it_is c ≡ b
+        → escaped_character c ++ escaped cs ≡ cond b (c ∷ prefix_of stands_as_it_is cs) [] ++ escaped (cond b (after stands_as_it_is cs) (c ∷ cs))
     by_test more true e = ap (λ (x : List ℕ). x ++ escaped cs) (as_it_is c e) ∙ ap (λ (x : List ℕ). c ∷ x) more
     by_test more false e = refl
 
@@ -64,12 +64,12 @@ is_shorter ds c es fs first rest =
 
 module _ {W : Type 0} (took : W → List ℕ → W → Type 0) where
   -- a run
-  pub run_written : (w : W) (text run rest : List ℕ) (v : W) → IsUtf8 run → chars run ≡ front_of stands_as_it_is (chars text) → chars rest ≡ after stands_as_it_is (chars text)
+  pub run_written : (w : W) (text run rest : List ℕ) (v : W) → IsUtf8 run → chars run ≡ prefix_of stands_as_it_is (chars text) → chars rest ≡ after stands_as_it_is (chars text)
       → took w run v → LeavesEscaped took w (chars text) v (chars rest)
-  run_written w text run rest v utf8 front follows t = λ u written.
+  run_written w text run rest v utf8 prefix follows t = λ u written.
       let whole : chars run ++ escaped (chars rest) ≡ escaped (chars text) =
-      ap (λ (x : List ℕ). x ++ escaped (chars rest)) front
-      ∙ ap (λ (x : List ℕ). front_of stands_as_it_is (chars text) ++ escaped x) follows
+      ap (λ (x : List ℕ). x ++ escaped (chars rest)) prefix
+      ∙ ap (λ (x : List ℕ). prefix_of stands_as_it_is (chars text) ++ escaped x) follows
       ∙ sym (escaped-run (chars text)) in
       subst (λ (cs : List ℕ). WritesCharacters took w cs u) whole (writes_more took w (chars run) v (escaped (chars rest)) u (writes_text took w run v utf8 t) written)
 

@@ -104,7 +104,7 @@ abbrev pub decoration_declared : TextDecoration → List (List ℕ)
 decoration_declared decorations.None = []
 decoration_declared decorations.Underline = codes "text-decoration: underline;" ∷ []
 
--- of the place on the line
+-- of the position on the line
 abbrev pub align_declared : VerticalAlign → List (List ℕ)
 align_declared aligns.None = []
 align_declared aligns.Sup = codes "vertical-align: super;" ∷ []

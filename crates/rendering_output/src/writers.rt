@@ -19,7 +19,8 @@ impl BufWriteFormat {
         formatting: Formatting,
         text: &str,
     ) -> fmt::Result
-        ensures { OnOk result (WritesTags W.write_str_gives self w.old (spanned formatting (chars text.now)) w.new) }
+        ensures { OnOk result
+            (WritesTags W.write_str_gives self w.old (spanned formatting (chars text.now)) w.new) }
     {
         let mut target = WriterTarget::new(w);
         self.push_text(&mut target, formatting, text);
@@ -31,7 +32,8 @@ impl BufWriteFormat {
     /// # Errors
     /// An error of the writer, after which some of the text may have been written.
     pub fn write_markup<W: fmt::Write>(self, w: &mut W, text: &str) -> fmt::Result
-        ensures { OnOk result (WritesTags W.write_str_gives self w.old (words (chars text.now) ∷ []) w.new) }
+        ensures { OnOk result
+            (WritesTags W.write_str_gives self w.old (words (chars text.now) ∷ []) w.new) }
     {
         let mut target = WriterTarget::new(w);
         self.push_markup(&mut target, text);
@@ -49,7 +51,8 @@ impl BufWriteFormat {
         text: &str,
         url: &str,
     ) -> fmt::Result
-        ensures { OnOk result (WritesTags W.write_str_gives self w.old (linked formatting (chars text.now) (chars url.now)) w.new) }
+        ensures { OnOk result (WritesTags W.write_str_gives self w.old
+            (linked formatting (chars text.now) (chars url.now)) w.new) }
     {
         let mut target = WriterTarget::new(w);
         self.push_link(&mut target, formatting, text, url);

@@ -26,7 +26,8 @@ pub enum BufWriteFormat {
 impl BufWriteFormat {
     /// Hands a text that looks so to the target.
     pub fn push_text<T: TextTarget>(self, target: &mut T, formatting: Formatting, text: &str)
-        ensures { WritesTags T.takes self target.old (spanned formatting (chars text.now)) target.new }
+        ensures { WritesTags T.takes self target.old
+            (spanned formatting (chars text.now)) target.new }
     {
         if is_plain(formatting) {
             return self.push_markup(target, text);
@@ -54,14 +55,15 @@ impl BufWriteFormat {
         text: &str,
         url: &str,
     )
-        ensures { WritesTags T.takes self target.old (linked formatting (chars text.now) (chars url.now)) target.new }
+        ensures { WritesTags T.takes self target.old
+            (linked formatting (chars text.now) (chars url.now)) target.new }
     {
         self.push_anchor(target, url);
         self.push_text(target, formatting, text);
         self.push_anchor_end(target);
     }
 
-    /// Hands the beginning of an element to the target.
+    /// Hands the start of an element to the target.
     pub fn push_start<T: TextTarget>(self, target: &mut T, display: Option<Display>)
         ensures { WritesTags T.takes self target.old (begun display) target.new }
     {
@@ -124,7 +126,7 @@ impl BufWriteFormat {
     }
 }
 
-/// Whether characters look as they do where nothing is said of them.
+/// Whether characters look as they do where nothing is specified for them.
 fn is_plain(formatting: Formatting) -> bool
     ensures { result ≡ looks_like formatting plain }
 {
@@ -176,7 +178,8 @@ fn push_escaped<T: TextTarget>(target: &mut T, text: &str)
 
 /// Hands over the characters before the first that has a name, in one go, and gives back what follows them.
 fn push_run<'t, T: TextTarget>(target: &mut T, text: &'t str) -> &'t str
-    ensures written { LeavesEscaped T.takes target.old (chars text.now) target.new (chars result.now) }
+    ensures written { LeavesEscaped T.takes target.old
+        (chars text.now) target.new (chars result.now) }
     ensures rest { chars result.now ≡ after stands_as_it_is (chars text.now) }
 {
     let (run, rest) = split_run(text, AsItIs);
@@ -234,7 +237,8 @@ fn push_declaration<T: TextTarget>(
     is_after: bool,
     declaration: Option<&str>,
 ) -> bool
-    ensures written { WritesCharacters T.takes target.old (spaced_after is_after (declared declaration.entry)) target.new }
+    ensures written { WritesCharacters T.takes target.old
+        (spaced_after is_after (declared declaration.entry)) target.new }
     ensures any { result ≡ (is_after || is_filled (declared declaration.entry)) }
 {
     match declaration {
@@ -248,7 +252,8 @@ fn push_declaration<T: TextTarget>(
 
 /// Hands over a declaration after others or as the first.
 fn push_next<T: TextTarget>(target: &mut T, is_after: bool, text: &str)
-    ensures { WritesCharacters T.takes target.old (spaced_after is_after (chars text.now ∷ [])) target.new }
+    ensures { WritesCharacters T.takes target.old
+        (spaced_after is_after (chars text.now ∷ [])) target.new }
 {
     push_space(target, is_after);
     target.push_str(text);
@@ -305,7 +310,7 @@ fn decoration_declared(decoration: TextDecoration) -> Option<&'static str>
     }
 }
 
-/// What is declared for a place on the line.
+/// What is declared for a position on the line.
 fn align_declared(align: VerticalAlign) -> Option<&'static str>
     ensures { declared result ≡ align_declared align }
 {

@@ -9,10 +9,10 @@ use Rattle.rendering_taxonomy.specs.Formats.{looks_like}
 use Rattle.rendering_taxonomy.specs.declared.formatting.Formatting.{Formatting}
 use Rattle.rendering_tree.specs.Tokens.{Token, letter, with_letters}
 use Rattle.rendering_tree.specs.Trees.{Child, Children, Text, Elem, Markup, Link, Transparent, nothing, before, Nest, before_text, take_token}
-use Rattle.rendering_tree.specs.Views.{child, row}
+use Rattle.rendering_tree.specs.Views.{child_view, children_view}
 use Rattle.rendering_tree.specs.declared.element.ElemChild.{ElemChild}
 use Rattle.rendering_page.specs.Building.{backwards, joined, joins, text_before, text_on}
-use Rattle.rendering_page.specs.Views.{letters}
+use Rattle.rendering_page.specs.Views.{words_view}
 use Rattle.rendering_page.specs.declared.piece.Words.{Words}
 use Rattle.rendering_page.proofs.ViewsLetters.{like_itself}
 
@@ -27,12 +27,12 @@ text_before-append f [] ds xs = refl
 text_before-append f (c ∷ cs) ds xs = ap (before_text f c) (text_before-append f cs ds xs)
 
 -- a part more of a text
-pub joined_push : (ps : List Words) (w : Words) → joined (ps ++ w ∷ []) ≡ letters w ++ joined ps
-joined_push ps w = ap (flat_map letters) (reverse-append ps (w ∷ []))
+pub joined_push : (ps : List Words) (w : Words) → joined (ps ++ w ∷ []) ≡ words_view w ++ joined ps
+joined_push ps w = ap (flat_map words_view) (reverse-append ps (w ∷ []))
 
 -- a child more
-pub backwards_push : (xs : List ElemChild) (x : ElemChild) → backwards (xs ++ x ∷ []) ≡ before (child x) (backwards xs)
-backwards_push xs x = ap row (reverse-append xs (x ∷ []))
+pub backwards_push : (xs : List ElemChild) (x : ElemChild) → backwards (xs ++ x ∷ []) ≡ before (child_view x) (backwards xs)
+backwards_push xs x = ap children_view (reverse-append xs (x ∷ []))
 
 joins_itself : (f : Formatting) (c : ℕ) (cs : List ℕ) (xs : Children) → before_text f c (before (Text f cs) xs) ≡ before (Text f (c ∷ cs)) xs
 joins_itself f c cs xs = ap (λ b. if b then before (Text f (c ∷ cs)) xs else before (Text f (c ∷ [])) (before (Text f cs) xs)) (like_itself f)
@@ -91,15 +91,15 @@ nothing_of [] e = refl
 nothing_of (c ∷ cs) e = absurd (true≢false e)
 
 -- a part more, after which those stand that were read
-pub part_more : (w old u v : Words) (ps qs : List Words) → v ≡ w → u ≡ old → qs ≡ ps ++ u ∷ [] → letters v ++ joined qs ≡ letters w ++ (letters old ++ joined ps)
+pub part_more : (w old u v : Words) (ps qs : List Words) → v ≡ w → u ≡ old → qs ≡ ps ++ u ∷ [] → words_view v ++ joined qs ≡ words_view w ++ (words_view old ++ joined ps)
 part_more w old u v ps qs is was e =
-    ap (λ x. letters x ++ joined qs) is ∙ ap (λ cs. letters w ++ cs) (ap joined e ∙ joined_push ps u ∙ ap (λ x. letters x ++ joined ps) was)
+    ap (λ x. words_view x ++ joined qs) is ∙ ap (λ cs. words_view w ++ cs) (ap joined e ∙ joined_push ps u ∙ ap (λ x. words_view x ++ joined ps) was)
 
 -- where none was read last
-pub part_none : (w old u v : Words) (ps : List Words) (s : Bor (List ℕ)) → v ≡ w → u ≡ old → chars s.now ≡ letters u → is_filled (chars s.now) ≡ false → letters v ++ joined ps ≡ letters w ++ (letters old ++ joined ps)
+pub part_none : (w old u v : Words) (ps : List Words) (s : Bor (List ℕ)) → v ≡ w → u ≡ old → chars s.now ≡ words_view u → is_filled (chars s.now) ≡ false → words_view v ++ joined ps ≡ words_view w ++ (words_view old ++ joined ps)
 part_none w old u v ps s is was same none =
-    ap (λ x. letters x ++ joined ps) is
-    ∙ ap (λ cs. letters w ++ cs) (sym (ap (λ cs. cs ++ joined ps) (ap letters (sym was) ∙ sym same ∙ nothing_of (chars s.now) none)))
+    ap (λ x. words_view x ++ joined ps) is
+    ∙ ap (λ cs. words_view w ++ cs) (sym (ap (λ cs. cs ++ joined ps) (ap words_view (sym was) ∙ sym same ∙ nothing_of (chars s.now) none)))
 
 -- fewer than two children stand in order
 pub short_reversed : (xs : List ElemChild) → length xs < 2 → xs ≡ reverse xs

@@ -49,9 +49,9 @@ trimmed_letters f (c ∷ cs) ts xs =
     ∙ trimmed_letters f cs (letter f c ∷ ts) (c ∷ xs)
     ∙ rest_more f c (drop_trailing_whitespace cs) (is_whitespace c) ts xs refl
 
-rest_said : (f : Formatting) (ds : List ℕ) (ts us : List Token) → (if is_filled ds then with_letters f ds ts else us) ≡ with_letters f ds (if not (is_filled ds) then us else ts)
-rest_said f [] ts us = refl
-rest_said f (d ∷ ds) ts us = refl
+rest_is : (f : Formatting) (ds : List ℕ) (ts us : List Token) → (if is_filled ds then with_letters f ds ts else us) ≡ with_letters f ds (if not (is_filled ds) then us else ts)
+rest_is f [] ts us = refl
+rest_is f (d ∷ ds) ts us = refl
 
 -- a text at the end of a page
 pub trimmed_piece : (f : Formatting) (cs ds : List ℕ) (b : Bool) (ts : List Token) (xs : List ℕ) → ds ≡ drop_trailing_whitespace cs → b ≡ not (is_filled ds)
@@ -59,7 +59,7 @@ pub trimmed_piece : (f : Formatting) (cs ds : List ℕ) (b : Bool) (ts : List To
 trimmed_piece f cs ds b ts xs e is =
     trimmed_letters f cs ts xs
     ∙ ap (λ ds. rest_of f ds ts xs) (sym e)
-    ∙ rest_said f ds ts (without_letters (blanks xs) ts)
+    ∙ rest_is f ds ts (without_letters (blanks xs) ts)
     ∙ ap (λ b. with_letters f ds (if b then without_letters (blanks xs) ts else ts)) (sym is)
 
 -- how many characters of white space a text ends with

@@ -20,14 +20,14 @@ cut_all f [] ts n m e = ap (λ k. without_letters k ts) (let same : m ≡ n = om
 cut_all f (c ∷ cs) ts n m e = cut_all f cs (letter f c ∷ ts) (suc n) m (let same : length cs + suc n ≡ m = omega (arith, e) in same)
 
 -- a text is cut from its end
-pub cut_letters : (f : Formatting) (cs front back : List ℕ) (count missing : ℕ) (ts : List Token) → IsCut cs count front back missing
-    → without_letters count (with_letters f cs ts) ≡ with_letters f front (without_letters missing ts)
-cut_letters f cs front back count zero ts h =
+pub cut_letters : (f : Formatting) (cs leading back : List ℕ) (count missing : ℕ) (ts : List Token) → IsCut cs count leading back missing
+    → without_letters count (with_letters f cs ts) ≡ with_letters f leading (without_letters missing ts)
+cut_letters f cs leading back count zero ts h =
     ap (λ xs. without_letters count (with_letters f xs ts)) h.parts
-    ∙ ap (without_letters count) (letters_append f front back ts)
-    ∙ cut_all f back (with_letters f front ts) 0 count h.long
-cut_letters f cs front back count (suc n) ts h =
-    let none : front ≡ [] = h.all (let some : 0 < suc n = omega arith in some) in
+    ∙ ap (without_letters count) (letters_append f leading back ts)
+    ∙ cut_all f back (with_letters f leading ts) 0 count h.long
+cut_letters f cs leading back count (suc n) ts h =
+    let none : leading ≡ [] = h.all (let some : 0 < suc n = omega arith in some) in
     ap (λ xs. without_letters count (with_letters f xs ts)) (h.parts ∙ ap (λ xs. xs ++ back) none)
     ∙ cut_all f back ts (suc n) count h.long
     ∙ ap (λ xs. with_letters f xs (without_letters (suc n) ts)) (sym none)
@@ -38,23 +38,23 @@ before_all f [] c ts n m e = ap (λ k. with_letter_before k c ts) (let same : m 
 before_all f (d ∷ cs) c ts n m e = before_all f cs c (letter f d ∷ ts) (suc n) m (let same : length cs + suc (suc n) ≡ m = omega (arith, e) in same)
 
 -- a character goes before the last ones of a text
-pub before_letters : (f : Formatting) (cs front back : List ℕ) (c count : ℕ) (ts : List Token) → 0 < count → IsCut cs count front back 0
-    → with_letter_before count c (with_letters f cs ts) ≡ with_letters f (c ∷ back) (with_letters f front ts)
-before_letters f cs front [] c count ts some h = absurd (let no : count ≡ 0 = omega (arith, h.long) in let never : ⊥ = omega (arith, no, some) in never)
-before_letters f cs front (d ∷ back) c count ts some h =
+pub before_letters : (f : Formatting) (cs leading back : List ℕ) (c count : ℕ) (ts : List Token) → 0 < count → IsCut cs count leading back 0
+    → with_letter_before count c (with_letters f cs ts) ≡ with_letters f (c ∷ back) (with_letters f leading ts)
+before_letters f cs leading [] c count ts some h = absurd (let no : count ≡ 0 = omega (arith, h.long) in let never : ⊥ = omega (arith, no, some) in never)
+before_letters f cs leading (d ∷ back) c count ts some h =
     ap (λ xs. with_letter_before count c (with_letters f xs ts)) h.parts
-    ∙ ap (with_letter_before count c) (letters_append f front (d ∷ back) ts)
-    ∙ before_all f back c (letter f d ∷ with_letters f front ts) 0 count (let same : length back + 1 ≡ count = omega (arith, h.long) in same)
+    ∙ ap (with_letter_before count c) (letters_append f leading (d ∷ back) ts)
+    ∙ before_all f back c (letter f d ∷ with_letters f leading ts) 0 count (let same : length back + 1 ≡ count = omega (arith, h.long) in same)
 
 -- or before a text and some of what stands before it
-pub before_text : (f : Formatting) (cs front back : List ℕ) (c count missing : ℕ) (ts : List Token) → 0 < missing → IsCut cs count front back missing
+pub before_text : (f : Formatting) (cs leading back : List ℕ) (c count missing : ℕ) (ts : List Token) → 0 < missing → IsCut cs count leading back missing
     → with_letter_before count c (with_letters f cs ts) ≡ with_letters f cs (with_letter_before missing c ts)
-before_text f cs front back c count zero ts some h = absurd (let never : ⊥ = omega (arith, some) in never)
-before_text f cs front back c count (suc n) ts some h =
+before_text f cs leading back c count zero ts some h = absurd (let never : ⊥ = omega (arith, some) in never)
+before_text f cs leading back c count (suc n) ts some h =
     let all : cs ≡ back = h.parts ∙ ap (λ xs. xs ++ back) (h.all some) in
     before_all f cs c ts n count (let same : length cs + suc n ≡ count = ap (λ xs. length xs + suc n) all ∙ h.long in same)
 
--- two cuts of one text at one place
+-- two cuts of one text at one index
 pub same_cut : (cs a b c d : List ℕ) (count missing : ℕ) → IsCut cs count a b 0 → IsCut cs count c d missing → c ≡ a
 same_cut cs a b c d count missing h k =
     let one : length cs ≡ length a + length b = ap length h.parts ∙ length-append a b in
@@ -70,11 +70,11 @@ same_cut cs a b c d count missing h k =
         omega (arith, e, one, two, h.long, k.long, empty)
 
 -- a text that is cut where its last characters begin
-pub cut_here : (bs front rest back : List ℕ) (count missing : ℕ) → IsUtf8 front → bs ≡ front ++ rest → chars bs ≡ chars front ++ back
-    → length back + missing ≡ count → missing ≡ 0 → IsCut (chars bs) count (chars front) (chars rest) missing
-cut_here bs front rest back count missing u e said long none =
-    let parts : chars bs ≡ chars front ++ chars rest = ap chars e ∙ chars-append front rest u in
-    let same : chars rest ≡ back = append_cancel_left (chars front) (chars rest) back (sym parts ∙ said) in
+pub cut_here : (bs leading rest back : List ℕ) (count missing : ℕ) → IsUtf8 leading → bs ≡ leading ++ rest → chars bs ≡ chars leading ++ back
+    → length back + missing ≡ count → missing ≡ 0 → IsCut (chars bs) count (chars leading) (chars rest) missing
+cut_here bs leading rest back count missing u e known long none =
+    let parts : chars bs ≡ chars leading ++ chars rest = ap chars e ∙ chars-append leading rest u in
+    let same : chars rest ≡ back = append_cancel_left (chars leading) (chars rest) back (sym parts ∙ known) in
     record {
       parts = parts;
       long = ap (λ (xs : List ℕ). length xs + missing) same ∙ long;

@@ -1,4 +1,4 @@
--- Texts of which characters are taken off, at the front or at the end.
+-- Texts of which characters are taken off, at the start or at the end.
 use Rattle.std.proofs.Common.{◌≡◌, ◌<◌, ◌≤◌, ℕ, true, true≢false, List, [], ◌∷◌, ◌++◌, length, take, sym, ap, subst, ◌∙◌, arith, Option, Some, None}
 use Rattle.std.specs.Prelude.{encode_utf8, IfSome, IfNone, MatchOption}
 use Rattle.std.specs.Str.{chars, IsUtf8, IsCharBoundary}
@@ -17,16 +17,16 @@ some_byte [] e = absurd (true≢false (sym e ∙ ap is_filled chars-nil))
 some_byte (b ∷ bs) e = omega arith
 
 -- the last character is taken off
-pub popped : (bs front : List ℕ) (r : Option ℕ) → IsUtf8 bs → IsUtf8 front
-    → IfSome r (λ c. bs ≡ front ++ encode_utf8 c) → IfNone r (length bs ≡ 0) → length front ≤ length bs
-    → MatchOption r ((chars bs ≡ []) × (chars front ≡ [])) (λ c. chars bs ≡ chars front ++ c ∷ [])
-popped bs front None u v some none low = (nothing_spelled bs none, nothing_spelled front (omega (arith, none, low)))
-popped bs front (Some c) u v some none low = last_character bs front c u v some
+pub popped : (bs leading : List ℕ) (r : Option ℕ) → IsUtf8 bs → IsUtf8 leading
+    → IfSome r (λ c. bs ≡ leading ++ encode_utf8 c) → IfNone r (length bs ≡ 0) → length leading ≤ length bs
+    → MatchOption r ((chars bs ≡ []) × (chars leading ≡ [])) (λ c. chars bs ≡ chars leading ++ c ∷ [])
+popped bs leading None u v some none low = (nothing_spelled bs none, nothing_spelled leading (omega (arith, none, low)))
+popped bs leading (Some c) u v some none low = last_character bs leading c u v some
 
 -- the first character is taken off
 pub first_taken : (bs rest : List ℕ) (d c : ℕ) (cs : List ℕ) → IsUtf8 bs → bs ≡ encode_utf8 d ++ rest → chars bs ≡ c ∷ cs → chars rest ≡ cs
 first_taken bs rest d c cs u e f = let g : d ∷ chars rest ≡ c ∷ cs = sym (chars_past_char bs rest d u e) ∙ f in cc
 
 -- a text within a text ends where that may be cut
-pub ends_within : (bs front : List ℕ) → IsUtf8 bs → IsUtf8 front → front ≡ take (length front) bs → length front ≤ length bs → IsCharBoundary bs (length front)
-ends_within bs front u v e low = IsCharBoundary-from_take bs (length front) u low (subst IsUtf8 e v)
+pub ends_within : (bs leading : List ℕ) → IsUtf8 bs → IsUtf8 leading → leading ≡ take (length leading) bs → length leading ≤ length bs → IsCharBoundary bs (length leading)
+ends_within bs leading u v e low = IsCharBoundary-from_take bs (length leading) u low (subst IsUtf8 e v)

@@ -4,11 +4,11 @@ pub mod ViewsLetters
 pub mod CutsEnds
 pub mod CursorsBackwards
 pub mod CursorsTrimming
-pub mod CursorsPlaces
+pub mod CursorsIndices
 pub mod TailEnds
 pub mod PagesMarks
-pub mod PagesPutting
-pub mod ShownPages
+pub mod PagesAppending
+pub mod PageCharactersPages
 pub mod BuildingReading
 pub mod BuildingLevels
 pub mod CutsTexts

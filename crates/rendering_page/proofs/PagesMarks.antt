@@ -10,7 +10,7 @@ use Rattle.std.proofs.lemmas.Bool.{false≢true}
 use Rattle.rendering_page.specs.Marks.{before_open, begins_nothing, closes, first_part, is_first, is_something, known_to_print, opens, prints_itself, with_part}
 use Rattle.rendering_page.specs.Pages.{prints, before_mark, before_prefix, is_begun}
 use Rattle.rendering_page.specs.Tail.{stripped}
-use Rattle.rendering_page.specs.Views.{letters, put, tokens_of}
+use Rattle.rendering_page.specs.Views.{words_view, with_piece, pieces_view}
 use Rattle.rendering_page.specs.declared.piece.Piece.{Piece}
 use Rattle.rendering_page.specs.declared.piece.Piece.TheVariants as pieces
 use Rattle.rendering_page.proofs.ViewsPieces.{tokens_more, tokens_push}
@@ -27,8 +27,8 @@ prints_letters f (c ∷ cs) n ts =
     prints_letters f cs n (letter f c ∷ ts) ∙ or_turned (list_any (λ c. not (is_whitespace c)) cs) (not (is_whitespace c)) (prints n ts)
 
 -- a piece that prints
-pub printed : (p : Piece) (n : ℕ) (ts : List Token) → prints_itself p ≡ true → prints n (put ts p) ≡ true
-printed (pieces.Text f w) n ts e = prints_letters f (letters w) n ts ∙ ap (λ b. b || prints n ts) e
+pub printed : (p : Piece) (n : ℕ) (ts : List Token) → prints_itself p ≡ true → prints n (with_piece ts p) ≡ true
+printed (pieces.Text f w) n ts e = prints_letters f (words_view w) n ts ∙ ap (λ b. b || prints n ts) e
 printed (pieces.Markup w) n ts e = refl
 printed (pieces.Link l) n ts e = refl
 printed (pieces.Transparent f k) n ts e = refl
@@ -44,10 +44,10 @@ printed pieces.Mark n ts e = cc
 printed pieces.Unmark n ts e = cc
 
 -- one that does not, where all its marks are passed; of the marks n those that begin in it are taken, and those that end in it come to them
-pub printed_before : (p : Piece) (n k : ℕ) (ts : List Token) → prints_itself p ≡ false → k + opens p ≡ n + closes p → prints n (put ts p) ≡ prints k ts
+pub printed_before : (p : Piece) (n k : ℕ) (ts : List Token) → prints_itself p ≡ false → k + opens p ≡ n + closes p → prints n (with_piece ts p) ≡ prints k ts
 printed_before (pieces.Text f w) n k ts e h =
     let same : n ≡ k = omega (arith, h) in
-    prints_letters f (letters w) n ts ∙ ap (λ b. b || prints n ts) e ∙ ap (λ j. prints j ts) same
+    prints_letters f (words_view w) n ts ∙ ap (λ b. b || prints n ts) e ∙ ap (λ j. prints j ts) same
 printed_before (pieces.Markup w) n k ts e h = cc
 printed_before (pieces.Link l) n k ts e h = cc
 printed_before (pieces.Transparent f i) n k ts e h = cc
@@ -59,13 +59,13 @@ printed_before (pieces.MadeOpening d m) n k ts e h =
     ap (λ j. prints j ts) same
 printed_before (pieces.Begin d m) n k ts e h =
     let more : n ≡ suc k = omega (arith, h) in
-    ap (λ j. prints j (put ts (pieces.Begin d m))) more
+    ap (λ j. prints j (with_piece ts (pieces.Begin d m))) more
 printed_before (pieces.MadeBegin d m) n k ts e h =
     let more : n ≡ suc k = omega (arith, h) in
-    ap (λ j. prints j (put ts (pieces.MadeBegin d m))) more
+    ap (λ j. prints j (with_piece ts (pieces.MadeBegin d m))) more
 printed_before pieces.BareBegin n k ts e h =
     let more : n ≡ suc (suc k) = omega (arith, h) in
-    ap (λ j. prints j (put ts pieces.BareBegin)) more
+    ap (λ j. prints j (with_piece ts pieces.BareBegin)) more
 printed_before pieces.End n k ts e h =
     let more : suc n ≡ k = omega (arith, h) in
     ap (λ j. prints j ts) more
@@ -77,13 +77,13 @@ printed_before pieces.Closing n k ts e h =
     ap (λ j. prints j ts) same
 printed_before pieces.Mark n k ts e h =
     let more : n ≡ suc k = omega (arith, h) in
-    ap (λ j. prints j (put ts pieces.Mark)) more
+    ap (λ j. prints j (with_piece ts pieces.Mark)) more
 printed_before pieces.Unmark n k ts e h =
     let more : suc n ≡ k = omega (arith, h) in
     ap (λ j. prints j ts) more
 
 -- one that has a mark more than are passed
-pub open_in : (p : Piece) (n : ℕ) (ts : List Token) → n < opens p → prints n (put ts p) ≡ false
+pub open_in : (p : Piece) (n : ℕ) (ts : List Token) → n < opens p → prints n (with_piece ts p) ≡ false
 open_in (pieces.Begin d m) zero ts h = refl
 open_in (pieces.Begin d m) (suc n) ts h = absurd (omega (arith, h))
 open_in (pieces.MadeBegin d m) zero ts h = refl
@@ -126,16 +126,16 @@ before_closing zero ts = refl
 before_closing (suc n) ts = refl
 
 -- what stands before the mark where the marks of a piece are passed
-pub before_passed : (p : Piece) (n k : ℕ) (ts : List Token) → k + opens p ≡ n + closes p → before_mark n (put ts p) ≡ before_mark k ts
+pub before_passed : (p : Piece) (n k : ℕ) (ts : List Token) → k + opens p ≡ n + closes p → before_mark n (with_piece ts p) ≡ before_mark k ts
 before_passed (pieces.Text f w) n k ts h =
     let same : n ≡ k = omega (arith, h) in
-    before_mark_letters f (letters w) n ts ∙ ap (λ j. before_mark j ts) same
+    before_mark_letters f (words_view w) n ts ∙ ap (λ j. before_mark j ts) same
 before_passed (pieces.Markup w) n k ts h =
     let same : n ≡ k = omega (arith, h) in
-    before_formula n (letters w) ts ∙ ap (λ j. before_mark j ts) same
+    before_formula n (words_view w) ts ∙ ap (λ j. before_mark j ts) same
 before_passed (pieces.Link l) n k ts h =
     let same : n ≡ k = omega (arith, h) in
-    before_link n l.value.formatting (letters l.value.text) (letters l.value.url) ts ∙ ap (λ j. before_mark j ts) same
+    before_link n l.value.formatting (words_view l.value.text) (words_view l.value.url) ts ∙ ap (λ j. before_mark j ts) same
 before_passed (pieces.Transparent f i) n k ts h =
     let same : n ≡ k = omega (arith, h) in
     before_transparent n f i ts ∙ ap (λ j. before_mark j ts) same
@@ -153,19 +153,19 @@ before_passed (pieces.MadeOpening d m) (suc n) k ts h =
     ap (λ j. before_mark j ts) same
 before_passed (pieces.Begin d m) n zero ts h =
     let more : n ≡ suc zero = omega (arith, h) in
-    ap (λ j. before_mark j (put ts (pieces.Begin d m))) more
+    ap (λ j. before_mark j (with_piece ts (pieces.Begin d m))) more
 before_passed (pieces.Begin d m) n (suc k) ts h =
     let more : n ≡ suc (suc k) = omega (arith, h) in
-    ap (λ j. before_mark j (put ts (pieces.Begin d m))) more
+    ap (λ j. before_mark j (with_piece ts (pieces.Begin d m))) more
 before_passed (pieces.MadeBegin d m) n zero ts h =
     let more : n ≡ suc zero = omega (arith, h) in
-    ap (λ j. before_mark j (put ts (pieces.MadeBegin d m))) more
+    ap (λ j. before_mark j (with_piece ts (pieces.MadeBegin d m))) more
 before_passed (pieces.MadeBegin d m) n (suc k) ts h =
     let more : n ≡ suc (suc k) = omega (arith, h) in
-    ap (λ j. before_mark j (put ts (pieces.MadeBegin d m))) more
+    ap (λ j. before_mark j (with_piece ts (pieces.MadeBegin d m))) more
 before_passed pieces.BareBegin n k ts h =
     let more : n ≡ suc (suc k) = omega (arith, h) in
-    ap (λ j. before_mark j (put ts pieces.BareBegin)) more
+    ap (λ j. before_mark j (with_piece ts pieces.BareBegin)) more
 before_passed pieces.End n k ts h =
     let more : suc n ≡ k = omega (arith, h) in
     before_closing n (unmark ∷ ts) ∙ ap (λ j. before_mark j ts) more
@@ -177,13 +177,13 @@ before_passed pieces.Closing n k ts h =
     before_closing n ts ∙ ap (λ j. before_mark j ts) same
 before_passed pieces.Mark n k ts h =
     let more : n ≡ suc k = omega (arith, h) in
-    ap (λ j. before_mark j (put ts pieces.Mark)) more
+    ap (λ j. before_mark j (with_piece ts pieces.Mark)) more
 before_passed pieces.Unmark n k ts h =
     let more : suc n ≡ k = omega (arith, h) in
     ap (λ j. before_mark j ts) more
 
 -- what stands before a mark of a piece that is open
-pub before_opened : (p : Piece) (n : ℕ) (ts : List Token) → n < opens p → before_mark n (put ts p) ≡ with_part ts (before_open p n)
+pub before_opened : (p : Piece) (n : ℕ) (ts : List Token) → n < opens p → before_mark n (with_piece ts p) ≡ with_part ts (before_open p n)
 before_opened (pieces.Begin d m) zero ts h = refl
 before_opened (pieces.Begin d m) (suc n) ts h = absurd (omega (arith, h))
 before_opened (pieces.MadeBegin d m) zero ts h = refl
@@ -204,8 +204,8 @@ before_opened pieces.BareEnd n ts h = absurd (omega (arith, h))
 before_opened pieces.Closing n ts h = absurd (omega (arith, h))
 before_opened pieces.Unmark n ts h = absurd (omega (arith, h))
 
--- what stands before the first mark of a piece, or before the beginning of an element
-pub before_first : (p : Piece) (ts : List Token) → is_first p ≡ true → before_prefix (put ts p) ≡ with_part ts (first_part p)
+-- what stands before the first mark of a piece, or before the start of an element
+pub before_first : (p : Piece) (ts : List Token) → is_first p ≡ true → before_prefix (with_piece ts p) ≡ with_part ts (first_part p)
 before_first pieces.Mark ts h = refl
 before_first (pieces.Opening d m) ts h = refl
 before_first (pieces.MadeOpening d m) ts h = refl
@@ -222,7 +222,7 @@ before_first pieces.Closing ts h = cc
 before_first pieces.Unmark ts h = cc
 
 -- one piece more
-pub put_more : (ps : List Piece) (i j : ℕ) (p : Piece) (n : ℕ) → i + 1 ≡ j → j ≤ length ps → p ≡ get_or ps i p → prints n (tokens_of (take j ps)) ≡ prints n (put (tokens_of (take i ps)) p)
+pub put_more : (ps : List Piece) (i j : ℕ) (p : Piece) (n : ℕ) → i + 1 ≡ j → j ≤ length ps → p ≡ get_or ps i p → prints n (pieces_view (take j ps)) ≡ prints n (with_piece (pieces_view (take i ps)) p)
 put_more ps i j p n next low at = ap (prints n) (tokens_more ps i j p next low at)
 
 before_prefix_letters : (f : Formatting) (cs : List ℕ) (ts : List Token) → before_prefix (with_letters f cs ts) ≡ before_prefix ts
@@ -230,8 +230,8 @@ before_prefix_letters f [] ts = refl
 before_prefix_letters f (c ∷ cs) ts = before_prefix_letters f cs (letter f c ∷ ts)
 
 -- what an element does not begin with
-pub prefix_goes_on : (p : Piece) (ts : List Token) → is_first p ≡ false → before_prefix (put ts p) ≡ before_prefix ts
-prefix_goes_on (pieces.Text f w) ts e = before_prefix_letters f (letters w) ts
+pub prefix_goes_on : (p : Piece) (ts : List Token) → is_first p ≡ false → before_prefix (with_piece ts p) ≡ before_prefix ts
+prefix_goes_on (pieces.Text f w) ts e = before_prefix_letters f (words_view w) ts
 prefix_goes_on (pieces.Opening d m) ts e = cc
 prefix_goes_on (pieces.MadeOpening d m) ts e = cc
 prefix_goes_on (pieces.Begin d m) ts e = cc
@@ -247,28 +247,28 @@ prefix_goes_on pieces.Closing ts e = refl
 prefix_goes_on pieces.Unmark ts e = refl
 
 -- the last piece is taken off
-pub taken_off : (change : List Token → List Token) (ps qs : List Piece) (p : Piece) → qs ≡ ps ++ p ∷ [] → change (tokens_of qs) ≡ change (put (tokens_of ps) p)
-taken_off change ps qs p e = ap (λ rs. change (tokens_of rs)) e ∙ ap change (tokens_push ps p)
+pub taken_off : (change : List Token → List Token) (ps qs : List Piece) (p : Piece) → qs ≡ ps ++ p ∷ [] → change (pieces_view qs) ≡ change (with_piece (pieces_view ps) p)
+taken_off change ps qs p e = ap (λ rs. change (pieces_view rs)) e ∙ ap change (tokens_push ps p)
 
 -- where a piece has the mark that is looked for, what of it stands before that mark is left
-pub cut_in : (ps qs : List Piece) (p : Piece) (n : ℕ) (part : Option Piece) (ts : List Token) → qs ≡ ps ++ p ∷ [] → n < opens p → part ≡ before_open p n → before_mark n (tokens_of qs) ≡ ts
-    → with_part (tokens_of ps) part ≡ ts
+pub cut_in : (ps qs : List Piece) (p : Piece) (n : ℕ) (part : Option Piece) (ts : List Token) → qs ≡ ps ++ p ∷ [] → n < opens p → part ≡ before_open p n → before_mark n (pieces_view qs) ≡ ts
+    → with_part (pieces_view ps) part ≡ ts
 cut_in ps qs p n part ts last low is known =
-    ap (with_part (tokens_of ps)) is ∙ sym (before_opened p n (tokens_of ps) low) ∙ sym (taken_off (before_mark n) ps qs p last) ∙ known
+    ap (with_part (pieces_view ps)) is ∙ sym (before_opened p n (pieces_view ps) low) ∙ sym (taken_off (before_mark n) ps qs p last) ∙ known
 
 -- where it has not, the mark is looked for before it
-pub cut_before : (ps qs : List Piece) (p : Piece) (n k : ℕ) (ts : List Token) → qs ≡ ps ++ p ∷ [] → k + opens p ≡ n + closes p → before_mark n (tokens_of qs) ≡ ts → before_mark k (tokens_of ps) ≡ ts
-cut_before ps qs p n k ts last marks known = sym (taken_off (before_mark n) ps qs p last ∙ before_passed p n k (tokens_of ps) marks) ∙ known
+pub cut_before : (ps qs : List Piece) (p : Piece) (n k : ℕ) (ts : List Token) → qs ≡ ps ++ p ∷ [] → k + opens p ≡ n + closes p → before_mark n (pieces_view qs) ≡ ts → before_mark k (pieces_view ps) ≡ ts
+cut_before ps qs p n k ts last marks known = sym (taken_off (before_mark n) ps qs p last ∙ before_passed p n k (pieces_view ps) marks) ∙ known
 
 -- where an element begins with a piece, what of it stands before is left
-pub cut_first : (ps qs : List Piece) (p : Piece) (part : Option Piece) (ts : List Token) → qs ≡ ps ++ p ∷ [] → is_first p ≡ true → part ≡ first_part p → before_prefix (tokens_of qs) ≡ ts
-    → with_part (tokens_of ps) part ≡ ts
+pub cut_first : (ps qs : List Piece) (p : Piece) (part : Option Piece) (ts : List Token) → qs ≡ ps ++ p ∷ [] → is_first p ≡ true → part ≡ first_part p → before_prefix (pieces_view qs) ≡ ts
+    → with_part (pieces_view ps) part ≡ ts
 cut_first ps qs p part ts last first is known =
-    ap (with_part (tokens_of ps)) is ∙ sym (before_first p (tokens_of ps) first) ∙ sym (taken_off before_prefix ps qs p last) ∙ known
+    ap (with_part (pieces_view ps)) is ∙ sym (before_first p (pieces_view ps) first) ∙ sym (taken_off before_prefix ps qs p last) ∙ known
 
 -- where it does not, it begins before
-pub cut_more : (ps qs : List Piece) (p : Piece) (ts : List Token) → qs ≡ ps ++ p ∷ [] → is_first p ≡ false → before_prefix (tokens_of qs) ≡ ts → before_prefix (tokens_of ps) ≡ ts
-cut_more ps qs p ts last none known = sym (taken_off before_prefix ps qs p last ∙ prefix_goes_on p (tokens_of ps) none) ∙ known
+pub cut_more : (ps qs : List Piece) (p : Piece) (ts : List Token) → qs ≡ ps ++ p ∷ [] → is_first p ≡ false → before_prefix (pieces_view qs) ≡ ts → before_prefix (pieces_view ps) ≡ ts
+cut_more ps qs p ts last none known = sym (taken_off before_prefix ps qs p last ∙ prefix_goes_on p (pieces_view ps) none) ∙ known
 
 begun_still : (f : Formatting) (cs : List ℕ) (ts : List Token) → is_begun ts ≡ true → is_begun (with_letters f cs ts) ≡ true
 begun_still f [] ts e = e
@@ -278,33 +278,33 @@ begun_letters : (f : Formatting) (cs : List ℕ) (ts : List Token) → is_begun 
 begun_letters f [] ts = refl
 begun_letters f (c ∷ cs) ts = begun_still f cs (letter f c ∷ ts) refl
 
-pub begun_put : (p : Piece) (ts : List Token) → is_begun (put ts p) ≡ (is_something p || is_begun ts)
-begun_put (pieces.Text f w) ts = begun_letters f (letters w) ts
-begun_put (pieces.Markup w) ts = refl
-begun_put (pieces.Link l) ts = refl
-begun_put (pieces.Transparent f n) ts = refl
-begun_put (pieces.Opening d m) ts = refl
-begun_put (pieces.MadeOpening d m) ts = refl
-begun_put (pieces.Begin d m) ts = refl
-begun_put (pieces.MadeBegin d m) ts = refl
-begun_put pieces.BareBegin ts = refl
-begun_put pieces.End ts = refl
-begun_put pieces.BareEnd ts = refl
-begun_put pieces.Closing ts = refl
-begun_put pieces.Mark ts = refl
-begun_put pieces.Unmark ts = refl
+pub append_begun : (p : Piece) (ts : List Token) → is_begun (with_piece ts p) ≡ (is_something p || is_begun ts)
+append_begun (pieces.Text f w) ts = begun_letters f (words_view w) ts
+append_begun (pieces.Markup w) ts = refl
+append_begun (pieces.Link l) ts = refl
+append_begun (pieces.Transparent f n) ts = refl
+append_begun (pieces.Opening d m) ts = refl
+append_begun (pieces.MadeOpening d m) ts = refl
+append_begun (pieces.Begin d m) ts = refl
+append_begun (pieces.MadeBegin d m) ts = refl
+append_begun pieces.BareBegin ts = refl
+append_begun pieces.End ts = refl
+append_begun pieces.BareEnd ts = refl
+append_begun pieces.Closing ts = refl
+append_begun pieces.Mark ts = refl
+append_begun pieces.Unmark ts = refl
 
 or_none : (b : Bool) → (b || false) ≡ b
 or_none true = refl
 or_none false = refl
 
-begun_from : (ps : List Piece) (ts : List Token) → is_begun (fold put ts ps) ≡ (list_any is_something ps || is_begun ts)
+begun_from : (ps : List Piece) (ts : List Token) → is_begun (fold with_piece ts ps) ≡ (list_any is_something ps || is_begun ts)
 begun_from [] ts = refl
 begun_from (p ∷ ps) ts =
-    begun_from ps (put ts p) ∙ ap (λ b. list_any is_something ps || b) (begun_put p ts) ∙ or_turned (list_any is_something ps) (is_something p) (is_begun ts)
+    begun_from ps (with_piece ts p) ∙ ap (λ b. list_any is_something ps || b) (append_begun p ts) ∙ or_turned (list_any is_something ps) (is_something p) (is_begun ts)
 
--- something was put down by one of the pieces
-pub begun_any : (ps : List Piece) → list_any is_something ps ≡ is_begun (tokens_of ps)
+-- something was appended by one of the pieces
+pub begun_any : (ps : List Piece) → list_any is_something ps ≡ is_begun (pieces_view ps)
 begun_any ps = sym (begun_from ps [] ∙ or_none (list_any is_something ps))
 
 or_true : (a b : Bool) → b ≡ true → (a || b) ≡ true
@@ -330,8 +330,8 @@ prints_more (suc m) zero (mark ∷ ts) h e = absurd (omega (arith, h))
 prints_more (suc m) (suc n) (mark ∷ ts) h e = prints_more m n ts (omega (arith, h)) e
 
 -- and it does after a piece with which nothing begins
-still_prints : (p : Piece) (ts : List Token) → begins_nothing p ≡ true → prints 0 ts ≡ true → prints 0 (put ts p) ≡ true
-still_prints (pieces.Text f w) ts g e = prints_letters f (letters w) 0 ts ∙ or_true (list_any (λ c. not (is_whitespace c)) (letters w)) (prints 0 ts) e
+still_prints : (p : Piece) (ts : List Token) → begins_nothing p ≡ true → prints 0 ts ≡ true → prints 0 (with_piece ts p) ≡ true
+still_prints (pieces.Text f w) ts g e = prints_letters f (words_view w) 0 ts ∙ or_true (list_any (λ c. not (is_whitespace c)) (words_view w)) (prints 0 ts) e
 still_prints (pieces.Markup w) ts g e = refl
 still_prints (pieces.Link l) ts g e = refl
 still_prints (pieces.Transparent f k) ts g e = refl
@@ -347,9 +347,9 @@ still_prints pieces.Mark ts g e = cc
 still_prints pieces.Unmark ts g e = prints_more 0 1 ts (omega arith) e
 
 -- what is known stays known after such a piece
-pub known_push : (b : Bool) (ps qs : List Piece) (p : Piece) → begins_nothing p ≡ true → known_to_print b (tokens_of ps) ≡ true → qs ≡ ps ++ p ∷ [] → known_to_print b (tokens_of qs) ≡ true
+pub known_push : (b : Bool) (ps qs : List Piece) (p : Piece) → begins_nothing p ≡ true → known_to_print b (pieces_view ps) ≡ true → qs ≡ ps ++ p ∷ [] → known_to_print b (pieces_view qs) ≡ true
 known_push false ps qs p g e f = refl
-known_push true ps qs p g e f = ap (λ rs. prints 0 (tokens_of rs)) f ∙ ap (prints 0) (tokens_push ps p) ∙ still_prints p (tokens_of ps) g e
+known_push true ps qs p g e f = ap (λ rs. prints 0 (pieces_view rs)) f ∙ ap (prints 0) (tokens_push ps p) ∙ still_prints p (pieces_view ps) g e
 
 -- a text prints that does not begin with white space, where no full stops go
 pub known_by : (strips w b : Bool) (f : Formatting) (c : ℕ) (cs : List ℕ) (ts : List Token) → w ≡ is_whitespace c → b ≡ (not strips && not w)

@@ -10,16 +10,16 @@ use Rattle.rendering_tree.specs.Tokens.{Token, last_backwards, last_text}
 use Rattle.rendering_page.specs.Cursors.{begins}
 use Rattle.rendering_page.specs.Tail.{ends_in}
 
-pub end_found : (end cs : List ℕ) → ends_in end cs ≡ true → (front : List ℕ) × (cs ≡ front ++ end)
+pub end_found : (end cs : List ℕ) → ends_in end cs ≡ true → (leading : List ℕ) × (cs ≡ leading ++ end)
 end_found end cs h =
     let n = length cs - length end in
     let same : end ≡ drop n cs = (bytes_eq-Decides end (drop n cs)).0 h in
     (take n cs, sym (take-append-drop n cs) ∙ ap (λ (x : List ℕ). take n cs ++ x) (sym same))
 
-pub end_there : (end cs front : List ℕ) → cs ≡ front ++ end → ends_in end cs ≡ true
-end_there end cs front e =
-    let long : length cs - length end ≡ length front = omega (arith, ap length e, length-append front end) in
-    (bytes_eq-Decides end (drop (length cs - length end) cs)).1 (sym (ap (λ (n : ℕ). drop n cs) long ∙ ap (drop (length front)) e ∙ drop-append_seam front end))
+pub end_there : (end cs leading : List ℕ) → cs ≡ leading ++ end → ends_in end cs ≡ true
+end_there end cs leading e =
+    let long : length cs - length end ≡ length leading = omega (arith, ap length e, length-append leading end) in
+    (bytes_eq-Decides end (drop (length cs - length end) cs)).1 (sym (ap (λ (n : ℕ). drop n cs) long ∙ ap (drop (length leading)) e ∙ drop-append_seam leading end))
 
 -- a text ends in nothing
 pub nothing_ends : (end cs : List ℕ) → is_filled end ≡ false → true ≡ ends_in end cs

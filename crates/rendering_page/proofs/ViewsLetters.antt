@@ -6,7 +6,7 @@ use Rattle.std.proofs.lemmas.List.{reverse-append}
 use Rattle.laws.specs.Text.{is_filled}
 use Rattle.rendering_taxonomy.specs.Formats.{looks_like}
 use Rattle.rendering_taxonomy.specs.declared.formatting.Formatting.{Formatting}
-use Rattle.rendering_taxonomy.proofs.Places.{Decides-looks_like}
+use Rattle.rendering_taxonomy.proofs.Indices.{Decides-looks_like}
 use Rattle.rendering_tree.specs.Tokens.{Token, letter, with_letters, alike_from, last_backwards}
 use Rattle.rendering_page.specs.Cursors.{backwards_from, parts}
 

@@ -4,9 +4,9 @@ use Rattle.std.specs.List.{flat_map}
 use Rattle.rendering_taxonomy.specs.declared.formatting.Formatting.{Formatting}
 use Rattle.rendering_taxonomy.specs.Formats.{looks_like}
 use Rattle.rendering_tree.specs.Trees.{Child, Children, Text, nothing, before, Nest, before_text}
-use Rattle.rendering_tree.specs.Views.{row}
+use Rattle.rendering_tree.specs.Views.{children_view}
 use Rattle.rendering_tree.specs.declared.element.ElemChild.{ElemChild}
-use Rattle.rendering_page.specs.Views.{letters}
+use Rattle.rendering_page.specs.Views.{words_view}
 use Rattle.rendering_page.specs.declared.builder.Builder.{Builder}
 use Rattle.rendering_page.specs.declared.piece.Words.{Words}
 
@@ -20,26 +20,26 @@ abbrev pub text_on : Formatting → List ℕ → Child → Children → Children
 text_on f cs (Text g ds) xs = if looks_like f g then before (Text g (cs ++ ds)) xs else before (Text f cs) (before (Text g ds) xs)
 text_on f cs x xs = before (Text f cs) (before x xs)
 
--- texts in a row, of which the last stands first
+-- texts one after the other, of which the last stands first
 abbrev pub joined : List Words → List ℕ
-joined parts = flat_map letters (reverse parts)
+joined parts = flat_map words_view (reverse parts)
 
 -- children of which the last stands first
 abbrev pub backwards : List ElemChild → Children
-backwards xs = row (reverse xs)
+backwards xs = children_view (reverse xs)
 
--- the children from a place on
+-- the children from an index on
 abbrev pub level : ℕ → List ElemChild → Children
 level start xs = backwards (drop start xs)
 
--- the children of elements around, which begin at these places, the innermost first
+-- the children of elements around, which begin at these indices, the innermost first
 abbrev pub levels : List ElemChild → List ℕ → List Children
 levels xs [] = []
 levels xs (start ∷ starts) = level start xs ∷ levels (take start xs) starts
 
 -- the text that is being read
 abbrev pub text_read : Builder → List ℕ
-text_read b = letters b.words ++ joined b.after.items
+text_read b = words_view b.words ++ joined b.after.items
 
 -- what was read
 abbrev pub nest_of : Builder → Nest
@@ -62,7 +62,7 @@ abbrev pub joins : Formatting → Children → Bool
 joins f nothing = false
 joins f (before x xs) = joins_child f x
 
--- the children from a place on with a text before them, and those before that place
+-- the children from an index on with a text before them, and those before that index
 abbrev pub IsJoined : Formatting → List ℕ → ℕ → List ElemChild → List ElemChild → Type 0
 IsJoined f cs start xs ys = (level start ys ≡ text_before f cs (level start xs)) × (take start ys ≡ take start xs) × (start ≤ length ys)
 

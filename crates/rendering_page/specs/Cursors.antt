@@ -5,9 +5,9 @@ use Rattle.std.specs.Char.{is_whitespace}
 use Rattle.rendering_taxonomy.specs.Formats.{looks_like}
 use Rattle.rendering_taxonomy.specs.declared.formatting.Formatting.{Formatting}
 use Rattle.rendering_tree.specs.Tokens.{Token, alike_from, last_backwards, without_letters, with_letter_before}
-use Rattle.rendering_page.specs.Views.{letters, put}
-use Rattle.rendering_page.specs.declared.cutting.Place.{Place}
-use Rattle.rendering_page.specs.declared.cutting.Place.TheVariants as places
+use Rattle.rendering_page.specs.Views.{words_view, with_piece}
+use Rattle.rendering_page.specs.declared.cutting.CutPoint.{CutPoint}
+use Rattle.rendering_page.specs.declared.cutting.CutPoint.TheVariants as cuts
 use Rattle.rendering_page.specs.declared.piece.Piece.{Piece}
 use Rattle.rendering_page.specs.declared.piece.Piece.TheVariants as pieces
 
@@ -37,22 +37,22 @@ abbrev pub trimmed_from : Option Formatting → List Token → List Token
 trimmed_from met ts = without_letters (blanks (backwards_from met ts)) ts
 
 -- a character goes before the last ones of a page, of which a piece is the last
-abbrev pub placed : ℕ → Place → (List Token → List Token) → List Token → List Token
-placed c (places.Here q) piece ts = put (piece ts) q
-placed c (places.Before n) piece ts = piece (with_letter_before n c ts)
+abbrev pub with_cut : ℕ → CutPoint → (List Token → List Token) → List Token → List Token
+with_cut c (cuts.Here q) piece ts = with_piece (piece ts) q
+with_cut c (cuts.Before n) piece ts = piece (with_letter_before n c ts)
 
 -- what of a piece is text
 abbrev pub text_of : Piece → List ℕ
-text_of (pieces.Text f w) = letters w
+text_of (pieces.Text f w) = words_view w
 text_of p = []
 
 -- what a piece shows of itself
 abbrev pub shown_of : Piece → List ℕ
-shown_of (pieces.Text f w) = letters w
-shown_of (pieces.Markup w) = letters w
-shown_of (pieces.Link l) = letters l.value.text
+shown_of (pieces.Text f w) = words_view w
+shown_of (pieces.Markup w) = words_view w
+shown_of (pieces.Link l) = words_view l.value.text
 shown_of p = []
 
--- the characters of a text, and of the pieces from a place on
+-- the characters of a text, and of the pieces from an index on
 abbrev pub to_come : List Piece → ℕ → List ℕ → List ℕ
-to_come ps place cs = cs ++ flat_map shown_of (drop place ps)
+to_come ps index cs = cs ++ flat_map shown_of (drop index ps)

@@ -1,7 +1,7 @@
 pub mod Tail
 pub mod Pages
 pub mod Pieces
-pub mod Shown
+pub mod PageCharacters
 pub mod Views
 pub mod Cuts
 pub mod Cursors

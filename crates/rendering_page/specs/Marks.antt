@@ -5,13 +5,13 @@ use Rattle.std.specs.List.{list_any}
 use Rattle.laws.specs.Text.{is_filled}
 use Rattle.rendering_tree.specs.Tokens.{Token}
 use Rattle.rendering_page.specs.Pages.{prints}
-use Rattle.rendering_page.specs.Views.{letters, put}
+use Rattle.rendering_page.specs.Views.{words_view, with_piece}
 use Rattle.rendering_page.specs.declared.piece.Piece.{Piece}
 use Rattle.rendering_page.specs.declared.piece.Piece.TheVariants as pieces
 
 -- whether a piece prints more than white space
 abbrev pub prints_itself : Piece → Bool
-prints_itself (pieces.Text f w) = list_any (λ c. not (is_whitespace c)) (letters w)
+prints_itself (pieces.Text f w) = list_any (λ c. not (is_whitespace c)) (words_view w)
 prints_itself (pieces.Markup w) = true
 prints_itself (pieces.Link l) = true
 prints_itself (pieces.Transparent f n) = true
@@ -32,9 +32,9 @@ closes pieces.End = 1
 closes pieces.BareEnd = 2
 closes p = 0
 
--- whether it is something that was put down, and not only marked
+-- whether it is something that was appended, and not only marked
 abbrev pub is_something : Piece → Bool
-is_something (pieces.Text f w) = is_filled (letters w)
+is_something (pieces.Text f w) = is_filled (words_view w)
 is_something pieces.BareBegin = false
 is_something pieces.BareEnd = false
 is_something pieces.Mark = false
@@ -62,10 +62,10 @@ first_part p = None
 abbrev pub before_open : Piece → ℕ → Option Piece
 before_open p n = if n == 0 then first_part p else None
 
--- a part of a piece after what was put down, if there is one
+-- a part of a piece after what was appended, if there is one
 abbrev pub with_part : List Token → Option Piece → List Token
 with_part ts None = ts
-with_part ts (Some p) = put ts p
+with_part ts (Some p) = with_piece ts p
 
 -- whether nothing begins with a piece
 abbrev pub begins_nothing : Piece → Bool

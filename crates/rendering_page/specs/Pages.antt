@@ -1,4 +1,4 @@
--- Pages: what was put down so far, and what putting down the next thing makes of it.
+-- Pages: what was appended so far, and what appending the next thing makes of it.
 use Rattle.std.specs.Prelude.{ℕ, zero, suc, Bool, true, false, not, ◌==◌, ◌&&◌, ◌||◌, List, [], ◌∷◌, length, find, if◌then◌else◌, Option, Some, None}
 use Rattle.std.specs.Char.{is_whitespace}
 pub use Rattle.laws.specs.Text.{is_filled}
@@ -9,16 +9,16 @@ use Rattle.rendering_page.specs.Tail.{is_punctuation, ends_in, remaining, stripp
 use Rattle.rendering_taxonomy.specs.declared.formatting.Display.{Display}
 use Rattle.rendering_taxonomy.specs.declared.formatting.Formatting.{Formatting}
 
--- What was put down, the last token first; and whether the close quote of a quoted node was the last text to be put down.
+-- What was appended, the last token first; and whether the close quote of a quoted node was the last text to be appended.
 pub record Page : Type 0 where
   pub tokens : List Token
   pub after_quote : Bool
 
--- a page on which nothing was put down
+-- a page to which nothing was appended
 abbrev pub empty_page : Page
 empty_page = record { tokens = []; after_quote = false }
 
--- How the texts of a node are put down: how they look, and whether their full stops go.
+-- How the texts of a node are appended: how they look, and whether their full stops go.
 pub record Manner : Type 0 where
   pub formatting : Formatting
   pub strips_periods : Bool
@@ -31,7 +31,7 @@ Quotes = List (List ℕ)
 abbrev pub quote_at_end : Quotes → List Token → Option (List ℕ)
 quote_at_end quotes ts = find (λ q. is_filled q && ends_in q (last_text ts)) quotes
 
--- a text as it is put down in a manner
+-- a text as it is appended in a manner
 abbrev pub in_manner : Manner → List ℕ → List ℕ
 in_manner m cs = if m.strips_periods then stripped cs else cs
 
@@ -39,35 +39,35 @@ in_manner m cs = if m.strips_periods then stripped cs else cs
 abbrev pub appended : Manner → List ℕ → Page → Page
 appended m cs p = record { tokens = with_letters m.formatting (in_manner m cs) (remaining cs p.tokens); after_quote = false }
 
--- a first character goes inside a quote that ends the last text, and what follows it is put down; without one all is
+-- a first character goes inside a quote that ends the last text, and what follows it is appended; without one all is
 abbrev pub punctuated : Manner → ℕ → List ℕ → Option (List ℕ) → Page → Page
 punctuated m c cs None p = appended m (c ∷ cs) p
 punctuated m c cs (Some q) p = appended m cs (record p { tokens = with_letter_before (length q) c p.tokens })
 
 -- an ordinary text: its first character goes inside a quote after which it stands, if it is punctuation; an empty text is none
-abbrev pub normal_put : Quotes → Manner → List ℕ → Page → Page
-normal_put quotes m [] p = p
-normal_put quotes m (c ∷ cs) p = if p.after_quote && is_punctuation c then punctuated m c cs (quote_at_end quotes p.tokens) p else appended m (c ∷ cs) p
+abbrev pub append_normal : Quotes → Manner → List ℕ → Page → Page
+append_normal quotes m [] p = p
+append_normal quotes m (c ∷ cs) p = if p.after_quote && is_punctuation c then punctuated m c cs (quote_at_end quotes p.tokens) p else appended m (c ∷ cs) p
 
--- a text that is put down as it is; an empty text is none
-abbrev pub verbatim_put : Formatting → List ℕ → Page → Page
-verbatim_put f [] p = p
-verbatim_put f (c ∷ cs) p = record { tokens = with_letters f (c ∷ cs) p.tokens; after_quote = false }
+-- a text that is appended as it is; an empty text is none
+abbrev pub append_verbatim : Formatting → List ℕ → Page → Page
+append_verbatim f [] p = p
+append_verbatim f (c ∷ cs) p = record { tokens = with_letters f (c ∷ cs) p.tokens; after_quote = false }
 
--- what is no text is put down as it is
-abbrev pub token_put : Token → Page → Page
-token_put t p = record { tokens = t ∷ p.tokens; after_quote = false }
+-- what is no text is appended as it is
+abbrev pub append_token : Token → Page → Page
+append_token t p = record { tokens = t ∷ p.tokens; after_quote = false }
 
 -- a close quote, after which punctuation may go inside
-abbrev pub quote_put : Quotes → Manner → List ℕ → Page → Page
-quote_put quotes m [] p = p
-quote_put quotes m (c ∷ cs) p = record (normal_put quotes m (c ∷ cs) p) { after_quote = true }
+abbrev pub append_quote : Quotes → Manner → List ℕ → Page → Page
+append_quote quotes m [] p = p
+append_quote quotes m (c ∷ cs) p = record (append_normal quotes m (c ∷ cs) p) { after_quote = true }
 
 -- a suffix, unless the last text ends with it
-abbrev pub suffix_put : Quotes → Manner → List ℕ → Page → Page
-suffix_put quotes m suffix p = if ends_in suffix (last_text p.tokens) then p else normal_put quotes m suffix p
+abbrev pub append_suffix : Quotes → Manner → List ℕ → Page → Page
+append_suffix quotes m suffix p = if ends_in suffix (last_text p.tokens) then p else append_normal quotes m suffix p
 
--- An element: its display and what it stands for, how its affixes are put down, and these.
+-- An element: its display and what it stands for, how its affixes are appended, and these.
 pub record Frame : Type 0 where
   pub display : Option Display
   pub meta : Option Meta
@@ -85,7 +85,7 @@ abbrev pub last_token : Option Display → Option Meta → Token
 last_token None None = unmark
 last_token d m = closing
 
--- whether more was put down after the last mark that is open than white space and the beginnings and ends of elements; so
+-- whether more was appended after the last mark that is open than white space and the starts and ends of elements; so
 -- many marks that are closed have still to be passed
 abbrev pub prints : ℕ → List Token → Bool
 prints n [] = false
@@ -114,7 +114,7 @@ before_prefix (opening d m ∷ ts) = ts
 before_prefix (mark ∷ ts) = ts
 before_prefix (t ∷ ts) = before_prefix ts
 
--- an element begins: its prefix is put down as it is, and what it contains begins with a mark
+-- an element begins: its prefix is appended as it is, and what it contains begins with a mark
 abbrev pub begun : Frame → Page → Page
 begun f p = record p { tokens = mark ∷ with_letters f.manner.formatting f.prefix (first_token f.display f.meta ∷ p.tokens) }
 
@@ -130,17 +130,17 @@ end_token false = unmark
 -- what an element contains ends with its suffix, and then the element
 abbrev pub ended_as : Quotes → Manner → List ℕ → Bool → Page → Page
 ended_as quotes m suffix is_element p =
-    let q = suffix_put quotes m suffix (record p { tokens = unmark ∷ p.tokens }) in
+    let q = append_suffix quotes m suffix (record p { tokens = unmark ∷ p.tokens }) in
     record q { tokens = end_token is_element ∷ q.tokens }
 
--- an element ends: with its suffix, or, where it prints nothing, by going whole
+-- an element ends with its suffix, or, where it prints nothing, is removed with its affixes
 abbrev pub ended : Quotes → Frame → Page → Page
 ended quotes f p =
     if prints 0 p.tokens
-    then closed_off f (suffix_put quotes f.manner f.suffix (record p { tokens = unmark ∷ p.tokens }))
+    then closed_off f (append_suffix quotes f.manner f.suffix (record p { tokens = unmark ∷ p.tokens }))
     else record p { tokens = before_prefix (before_mark 0 p.tokens) }
 
--- whether anything was put down
+-- whether anything was appended
 abbrev pub is_begun : List Token → Bool
 is_begun [] = false
 is_begun (mark ∷ ts) = is_begun ts
@@ -152,6 +152,6 @@ abbrev pub ends_spaced : List ℕ → Bool
 ends_spaced [] = false
 ends_spaced (c ∷ cs) = c == 32 || c == 160
 
--- a space after all elements, unless nothing was put down or the last text ends in one
-abbrev pub space_put : Page → Page
-space_put p = if not (is_begun p.tokens) || ends_spaced (last_backwards p.tokens) then p else verbatim_put plain (32 ∷ []) p
+-- a space after all elements, unless nothing was appended or the last text ends in one
+abbrev pub append_space : Page → Page
+append_space p = if not (is_begun p.tokens) || ends_spaced (last_backwards p.tokens) then p else append_verbatim plain (32 ∷ []) p

@@ -1,14 +1,14 @@
--- What values come to before it is known where they stand: pieces that are put down one after the other.
+-- What values come to before it is known where they stand: pieces that are appended one after the other.
 use Rattle.std.specs.Prelude.{ℕ, List, [], ◌∷◌, ◌++◌, map, fold}
 use Rattle.literature_values.specs.TextViews.{Chunk}
 use Rattle.literature_values.specs.declared.text.ChunkKind.{ChunkKind}
 use Rattle.literature_values.specs.declared.text.ChunkKind.TheVariants as kinds
 use Rattle.rendering_tree.specs.Tokens as tokens
-use Rattle.rendering_page.specs.Pages.{Page, Manner, Quotes, Frame, normal_put, verbatim_put, token_put, quote_put, begun, ended}
+use Rattle.rendering_page.specs.Pages.{Page, Manner, Quotes, Frame, append_normal, append_verbatim, append_token, append_quote, begun, ended}
 use Rattle.rendering_taxonomy.specs.declared.formatting.Formatting.{Formatting}
 
 -- An ordinary text; a text as it is; a close quote; a formula; a link from a text to an address; a locator of the caller's own, by
--- the place of its cite; where an element begins and ends.
+-- the index of its cite; where an element begins and ends.
 pub data Piece : Type 0 where
   normal : Manner → List ℕ → Piece
   verbatim : Formatting → List ℕ → Piece
@@ -19,20 +19,20 @@ pub data Piece : Type 0 where
   begin : Frame → Piece
   end : Frame → Piece
 
--- a piece is put down
-abbrev pub put_down : Quotes → Page → Piece → Page
-put_down quotes p (normal m cs) = normal_put quotes m cs p
-put_down quotes p (verbatim f cs) = verbatim_put f cs p
-put_down quotes p (close_quote m cs) = quote_put quotes m cs p
-put_down quotes p (math cs) = token_put (tokens.formula cs) p
-put_down quotes p (linked f cs url) = token_put (tokens.link f cs url) p
-put_down quotes p (own_locator f n) = token_put (tokens.transparent f n) p
-put_down quotes p (begin f) = begun f p
-put_down quotes p (end f) = ended quotes f p
+-- a piece is appended
+abbrev pub append_piece : Quotes → Page → Piece → Page
+append_piece quotes p (normal m cs) = append_normal quotes m cs p
+append_piece quotes p (verbatim f cs) = append_verbatim f cs p
+append_piece quotes p (close_quote m cs) = append_quote quotes m cs p
+append_piece quotes p (math cs) = append_token (tokens.formula cs) p
+append_piece quotes p (linked f cs url) = append_token (tokens.link f cs url) p
+append_piece quotes p (own_locator f n) = append_token (tokens.transparent f n) p
+append_piece quotes p (begin f) = begun f p
+append_piece quotes p (end f) = ended quotes f p
 
 -- one after the other
-abbrev pub all_down : Quotes → List Piece → Page → Page
-all_down quotes ps p = fold (put_down quotes) p ps
+abbrev pub append_pieces : Quotes → List Piece → Page → Page
+append_pieces quotes ps p = fold (append_piece quotes) p ps
 
 -- an element round pieces
 abbrev pub framed : Frame → List Piece → List Piece

@@ -1,4 +1,4 @@
--- What a text does to the last text before it is put down. Texts are characters; a page has its last token first.
+-- What a text does to the last text before it is appended. Texts are characters; a page has its last token first.
 use Rattle.std.specs.Prelude.{ℕ, ◌-◌, Bool, true, false, not, ◌==◌, ◌&&◌, ◌||◌, List, [], ◌∷◌, length, drop, if◌then◌else◌}
 use Rattle.std.specs.List.{list_any}
 use Rattle.std.specs.Char.{is_whitespace}

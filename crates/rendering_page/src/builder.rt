@@ -7,9 +7,9 @@ ghost use Rattle.laws.specs.Text.{characters, is_filled};
 ghost use Rattle.rendering_taxonomy.specs.declared.formatting.Display.{Display};
 ghost use Rattle.rendering_tree.specs.Tokens.{Token};
 ghost use Rattle.rendering_tree.specs.Trees.{Children, Text as TextOf, Markup as MarkupOf, Link as LinkOf, Transparent as TransparentOf, Elem as ElemOf, element_read, nothing, before, take_token, tree_of};
-ghost use Rattle.rendering_tree.specs.Views.{child, meaning, tree};
+ghost use Rattle.rendering_tree.specs.Views.{child_view, meta_view, tree_view};
 ghost use Rattle.rendering_page.specs.Building.{IsJoined, IsWithin, backwards, joined, joins, joins_child, level, nest_of, next_start, text_before, text_on, text_read};
-ghost use Rattle.rendering_page.specs.Views.{letters, put, tokens_of};
+ghost use Rattle.rendering_page.specs.Views.{words_view, with_piece, pieces_view};
 
 use crate::piece::{Link, Piece, Words, looks_like, no_words};
 use rendering_taxonomy::{Display, Formatting};
@@ -37,7 +37,7 @@ pub(crate) struct Builder<'a> {
 
 /// The tree of a page.
 pub(crate) fn build(mut pieces: Vec<Piece<'_>>) -> Result<ElemChildren, AllocError>
-    ensures { IfOk result (λ t. tree t ≡ tree_of (tokens_of pieces.entry.items)) }
+    ensures { IfOk result (λ t. tree_view t ≡ tree_of (pieces_view pieces.entry.items)) }
 {
     let mut builder = Builder::new(*pieces.allocator())?;
     while let Some(piece) = pieces.pop() {
@@ -67,7 +67,9 @@ impl<'a> Builder<'a> {
     /// Reads the piece before.
     fn take(&mut self, piece: Piece<'a>) -> Result<(), AllocError>
         requires { IsWithin self.old }
-        ensures read { OnOk result ((ts : List Token) → fold take_token (nest_of self.old) (put ts piece.entry) ≡ fold take_token (nest_of self.new) ts) }
+        ensures read { OnOk result ((ts : List Token)
+            → fold take_token (nest_of self.old) (with_piece ts piece.entry)
+            ≡ fold take_token (nest_of self.new) ts) }
         ensures within { OnOk result (IsWithin self.new) }
     {
         match piece {
@@ -92,7 +94,8 @@ impl<'a> Builder<'a> {
     /// Reads a formula.
     fn take_markup(&mut self, text: Words<'a>) -> Result<(), AllocError>
         requires { IsWithin self.old }
-        ensures read { OnOk result (nest_of self.new ≡ (record (nest_of self.old) { inside = before (MarkupOf (letters text.entry)) (nest_of self.old).inside })) }
+        ensures read { OnOk result (nest_of self.new ≡ (record (nest_of self.old)
+            { inside = before (MarkupOf (words_view text.entry)) (nest_of self.old).inside })) }
         ensures within { OnOk result (IsWithin self.new) }
     {
         let text = owned_words(*self.children.allocator(), text)?;
@@ -102,7 +105,7 @@ impl<'a> Builder<'a> {
     /// Reads a link.
     fn take_link(&mut self, link: Box<Link<'a>>) -> Result<(), AllocError>
         requires { IsWithin self.old }
-        ensures read { OnOk result (nest_of self.new ≡ (record (nest_of self.old) { inside = before (LinkOf link.entry.value.formatting (letters link.entry.value.text) (letters link.entry.value.url)) (nest_of self.old).inside })) }
+        ensures read { OnOk result (nest_of self.new ≡ (record (nest_of self.old) { inside = before (LinkOf link.entry.value.formatting (words_view link.entry.value.text) (words_view link.entry.value.url)) (nest_of self.old).inside })) }
         ensures within { OnOk result (IsWithin self.new) }
     {
         let link = owned_link(*self.children.allocator(), Box::into_inner(link))?;
@@ -116,7 +119,8 @@ impl<'a> Builder<'a> {
         cite_idx: usize,
     ) -> Result<(), AllocError>
         requires { IsWithin self.old }
-        ensures read { OnOk result (nest_of self.new ≡ (record (nest_of self.old) { inside = before (TransparentOf formatting cite_idx) (nest_of self.old).inside })) }
+        ensures read { OnOk result (nest_of self.new ≡ (record (nest_of self.old)
+            { inside = before (TransparentOf formatting cite_idx) (nest_of self.old).inside })) }
         ensures within { OnOk result (IsWithin self.new) }
     {
         self.take_child(ElemChild::Transparent {
@@ -128,7 +132,7 @@ impl<'a> Builder<'a> {
     /// Reads a text; an empty one is none.
     fn take_words(&mut self, formatting: Formatting, words: Words<'a>) -> Result<(), AllocError>
         requires { IsWithin self.old }
-        ensures read { OnOk result (nest_of self.new ≡ (record (nest_of self.old) { inside = text_before formatting (letters words.entry) (nest_of self.old).inside })) }
+        ensures read { OnOk result (nest_of self.new ≡ (record (nest_of self.old) { inside = text_before formatting (words_view words.entry) (nest_of self.old).inside })) }
         ensures within { OnOk result (IsWithin self.new) }
     {
         if !has_text(words.as_str()) {
@@ -160,7 +164,8 @@ impl<'a> Builder<'a> {
     /// Reads a child that is no text.
     fn take_child(&mut self, part: ElemChild) -> Result<(), AllocError>
         requires { IsWithin self.old }
-        ensures read { OnOk result (nest_of self.new ≡ (record (nest_of self.old) { inside = before (child part) (nest_of self.old).inside })) }
+        ensures read { OnOk result (nest_of self.new ≡ (record (nest_of self.old)
+            { inside = before (child_view part) (nest_of self.old).inside })) }
         ensures within { OnOk result (IsWithin self.new) }
     {
         self.end_text()?;
@@ -171,7 +176,8 @@ impl<'a> Builder<'a> {
     /// Reads where an element ends.
     fn take_closing(&mut self) -> Result<(), AllocError>
         requires { IsWithin self.old }
-        ensures read { OnOk result (nest_of self.new ≡ (record { inside = nothing; around = (nest_of self.old).inside ∷ (nest_of self.old).around })) }
+        ensures read { OnOk result (nest_of self.new ≡ (record
+            { inside = nothing; around = (nest_of self.old).inside ∷ (nest_of self.old).around })) }
         ensures within { OnOk result (IsWithin self.new) }
     {
         self.end_text()?;
@@ -188,7 +194,9 @@ impl<'a> Builder<'a> {
         meta: Option<&ElemMeta>,
     ) -> Result<(), AllocError>
         requires { IsWithin self.old }
-        ensures read { OnOk result (nest_of self.new ≡ element_read display (option_map (λ e. meaning e.now) meta.entry) (nest_of self.old).inside (nest_of self.old).around) }
+        ensures read { OnOk result (nest_of self.new
+            ≡ element_read display (option_map (λ e. meta_view e.now) meta.entry)
+            (nest_of self.old).inside (nest_of self.old).around) }
         ensures within { OnOk result (IsWithin self.new) }
     {
         self.take_opening(display, owned_meaning(meta)?)
@@ -201,7 +209,8 @@ impl<'a> Builder<'a> {
         meta: ElemMeta,
     ) -> Result<(), AllocError>
         requires { IsWithin self.old }
-        ensures read { OnOk result (nest_of self.new ≡ element_read display (Some (meaning meta)) (nest_of self.old).inside (nest_of self.old).around) }
+        ensures read { OnOk result (nest_of self.new ≡ element_read display
+            (Some (meta_view meta)) (nest_of self.old).inside (nest_of self.old).around) }
         ensures within { OnOk result (IsWithin self.new) }
     {
         self.take_opening(display, Some(meta))
@@ -214,7 +223,8 @@ impl<'a> Builder<'a> {
         meta: Option<ElemMeta>,
     ) -> Result<(), AllocError>
         requires { IsWithin self.old }
-        ensures read { OnOk result (nest_of self.new ≡ element_read display (option_map meaning meta) (nest_of self.old).inside (nest_of self.old).around) }
+        ensures read { OnOk result (nest_of self.new ≡ element_read display
+            (option_map meta_view meta) (nest_of self.old).inside (nest_of self.old).around) }
         ensures within { OnOk result (IsWithin self.new) }
     {
         self.end_text()?;
@@ -259,7 +269,7 @@ impl<'a> Builder<'a> {
     /// The tree, once all is read.
     fn finish(mut self) -> Result<ElemChildren, AllocError>
         requires { IsWithin self }
-        ensures { IfOk result (λ t. tree t ≡ (nest_of self.entry).inside) }
+        ensures { IfOk result (λ t. tree_view t ≡ (nest_of self.entry).inside) }
     {
         self.put_read()?;
         let start = self.start;
@@ -270,7 +280,8 @@ impl<'a> Builder<'a> {
 
 /// A link from a text to an address.
 fn owned_link(alloc: Global, link: Link<'_>) -> Result<ElemChild, AllocError>
-    ensures { IfOk result (λ c. child c ≡ LinkOf link.entry.formatting (letters link.entry.text) (letters link.entry.url)) }
+    ensures { IfOk result (λ c. child_view c
+        ≡ LinkOf link.entry.formatting (words_view link.entry.text) (words_view link.entry.url)) }
 {
     let Link {
         formatting,
@@ -288,7 +299,7 @@ fn owned_link(alloc: Global, link: Link<'_>) -> Result<ElemChild, AllocError>
 
 /// A text in memory of its own, copied where it is borrowed.
 fn owned_words(alloc: Global, words: Words<'_>) -> Result<String, AllocError>
-    ensures { IfOk result (λ s. characters s ≡ letters words.entry) }
+    ensures { IfOk result (λ s. characters s ≡ words_view words.entry) }
 {
     match words {
         Words::Borrowed(text) => owned(alloc, text),
@@ -298,7 +309,7 @@ fn owned_words(alloc: Global, words: Words<'_>) -> Result<String, AllocError>
 
 /// A text in memory of its own that others are appended to.
 fn owned_with_room(alloc: Global, words: Words<'_>) -> Result<String, AllocError>
-    ensures { IfOk result (λ s. characters s ≡ letters words.entry) }
+    ensures { IfOk result (λ s. characters s ≡ words_view words.entry) }
 {
     match words {
         Words::Borrowed(text) => copied_with_room(alloc, text),
@@ -328,7 +339,8 @@ fn pop_start(around: &mut Vec<usize>, end: usize) -> usize
 
 /// An element with children of which the last stands first.
 fn element(display: Option<Display>, meta: Option<ElemMeta>, children: Vec<ElemChild>) -> ElemChild
-    ensures { child result ≡ ElemOf display (option_map meaning meta) (backwards children.items) }
+    ensures { child_view result
+        ≡ ElemOf display (option_map meta_view meta) (backwards children.items) }
 {
     ElemChild::Elem(Elem {
         children: ElemChildren(in_order(children)),
@@ -352,7 +364,8 @@ fn in_order(children: Vec<ElemChild>) -> Vec<ElemChild>
 
 /// A copy of what an element stands for.
 fn owned_meaning(meta: Option<&ElemMeta>) -> Result<Option<ElemMeta>, AllocError>
-    ensures { IfOk result (λ m. option_map meaning m ≡ option_map (λ e. meaning e.now) meta.entry) }
+    ensures { IfOk result (λ m. option_map meta_view m
+        ≡ option_map (λ e. meta_view e.now) meta.entry) }
 {
     match meta {
         Some(meta) => Ok(Some(meta.clone()?)),
@@ -362,7 +375,8 @@ fn owned_meaning(meta: Option<&ElemMeta>) -> Result<Option<ElemMeta>, AllocError
 
 /// Joins a part of a text with those after it, which are taken out. A first part that was made is not copied.
 fn join(alloc: Global, first: Words<'_>, after: &mut Vec<Words<'_>>) -> Result<String, AllocError>
-    ensures text { IfOk result (λ s. characters s ≡ letters first.entry ++ joined after.old.items) }
+    ensures text { IfOk result (λ s. characters s
+        ≡ words_view first.entry ++ joined after.old.items) }
     ensures none { OnOk result (after.new.items ≡ []) }
 {
     if after.is_empty() {
@@ -375,11 +389,12 @@ fn join(alloc: Global, first: Words<'_>, after: &mut Vec<Words<'_>>) -> Result<S
     Ok(text)
 }
 
-/// Lets a text stand before the children from a place on, of which the last stands first; it is joined with one that looks like it.
+/// Lets a text stand before the children from an index on, of which the last stands first; it is joined with one that looks like it.
 fn put_text(children: &mut Vec<ElemChild>, start: usize, text: Formatted) -> Result<(), AllocError>
     requires filled { is_filled (characters text.text) ≡ true }
     requires within { start ≤ length children.old.items }
-    ensures { OnOk result (IsJoined text.formatting (characters text.text) start children.old.items children.new.items) }
+    ensures { OnOk result (IsJoined text.formatting
+        (characters text.text) start children.old.items children.new.items) }
 {
     if joins_last(children, start, text.formatting) {
         return join_last(children, text);
@@ -388,7 +403,7 @@ fn put_text(children: &mut Vec<ElemChild>, start: usize, text: Formatted) -> Res
     Ok(())
 }
 
-/// Whether a text that looks so joins the child from a place on that was read last.
+/// Whether a text that looks so joins the child from an index on that was read last.
 fn joins_last(children: &Vec<ElemChild>, start: usize, formatting: Formatting) -> bool
     requires { start ≤ length children.now.items }
     ensures joins { result ≡ joins formatting (level start children.now.items) }
@@ -402,7 +417,7 @@ fn joins_last(children: &Vec<ElemChild>, start: usize, formatting: Formatting) -
 
 /// Whether a text that looks so joins a child: that is a text that looks like it.
 fn joins_child(part: &ElemChild, formatting: Formatting) -> bool
-    ensures { result ≡ joins_child formatting (child part.now) }
+    ensures { result ≡ joins_child formatting (child_view part.now) }
 {
     match part {
         ElemChild::Text(text) => looks_like(formatting, text.formatting),
@@ -412,7 +427,11 @@ fn joins_child(part: &ElemChild, formatting: Formatting) -> bool
 
 /// Joins a text with the child that was read last, which looks like it.
 fn join_last(children: &mut Vec<ElemChild>, text: Formatted) -> Result<(), AllocError>
-    ensures { (start : ℕ) → is_filled (characters text.text) ≡ true → start < length children.old.items → joins text.formatting (level start children.old.items) ≡ true → OnOk result (IsJoined text.formatting (characters text.text) start children.old.items children.new.items) }
+    ensures { (start : ℕ) → is_filled (characters text.text) ≡ true
+        → start < length children.old.items
+        → joins text.formatting (level start children.old.items) ≡ true
+        → OnOk result (IsJoined text.formatting
+        (characters text.text) start children.old.items children.new.items) }
 {
     match children.pop() {
         Some(next) => {
@@ -425,7 +444,9 @@ fn join_last(children: &mut Vec<ElemChild>, text: Formatted) -> Result<(), Alloc
 
 /// A text joined with a child that looks like it.
 fn joined_child(text: Formatted, next: ElemChild) -> Result<ElemChild, AllocError>
-    ensures { joins_child text.formatting (child next) ≡ true → IfOk result (λ x. (xs : Children) → before (child x) xs ≡ text_on text.formatting (characters text.text) (child next) xs) }
+    ensures { joins_child text.formatting (child_view next) ≡ true
+        → IfOk result (λ x. (xs : Children) → before (child_view x) xs
+        ≡ text_on text.formatting (characters text.text) (child_view next) xs) }
 {
     match next {
         ElemChild::Text(next) => joined_text(text, next),
@@ -435,7 +456,8 @@ fn joined_child(text: Formatted, next: ElemChild) -> Result<ElemChild, AllocErro
 
 /// A text joined with one after it that looks like it.
 fn joined_text(text: Formatted, next: Formatted) -> Result<ElemChild, AllocError>
-    ensures { IfOk result (λ x. child x ≡ TextOf next.formatting (characters text.text ++ characters next.text)) }
+    ensures { IfOk result (λ x. child_view x
+        ≡ TextOf next.formatting (characters text.text ++ characters next.text)) }
 {
     let Formatted {
         text,

@@ -2,13 +2,13 @@
 
 ghost use Rattle.std.specs.Prelude.{◌≡◌, List, IfOk};
 ghost use Rattle.rendering_tree.specs.Tokens.{Token};
-ghost use Rattle.rendering_page.specs.Views.{letters, link_token, put, tokens_of};
+ghost use Rattle.rendering_page.specs.Views.{words_view, link_view, with_piece, pieces_view};
 
 use crate::piece::{Link, Piece, Words};
 use std::alloc::AllocError;
 
 impl<'a> Clone for Words<'a> {
-    ghost is_clone = { λ v w. letters w ≡ letters v };
+    ghost is_clone = { λ v w. words_view w ≡ words_view v };
 
     fn clone(&self) -> Result<Words<'a>, AllocError> {
         match self {
@@ -19,7 +19,7 @@ impl<'a> Clone for Words<'a> {
 }
 
 impl<'a> Clone for Link<'a> {
-    ghost is_clone = { λ l k. link_token k ≡ link_token l };
+    ghost is_clone = { λ l k. link_view k ≡ link_view l };
 
     fn clone(&self) -> Result<Link<'a>, AllocError> {
         Ok(Link {
@@ -31,7 +31,7 @@ impl<'a> Clone for Link<'a> {
 }
 
 impl<'a> Clone for Piece<'a> {
-    ghost is_clone = { λ p q. (ts : List Token) → put ts q ≡ put ts p };
+    ghost is_clone = { λ p q. (ts : List Token) → with_piece ts q ≡ with_piece ts p };
 
     fn clone(&self) -> Result<Piece<'a>, AllocError> {
         match self {
@@ -76,7 +76,7 @@ impl<'a> Clone for Piece<'a> {
 
 /// A copy of pieces.
 pub(crate) fn copied_pieces<'a>(pieces: &Vec<Piece<'a>>) -> Result<Vec<Piece<'a>>, AllocError>
-    ensures { IfOk result (λ v. tokens_of v.items ≡ tokens_of pieces.now.items) }
+    ensures { IfOk result (λ v. pieces_view v.items ≡ pieces_view pieces.now.items) }
 {
     let mut copies = Vec::with_capacity(*pieces.allocator(), pieces.len())?;
     for piece in pieces {

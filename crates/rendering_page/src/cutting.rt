@@ -5,11 +5,11 @@ ghost use Rattle.std.specs.Str.{chars, drop_trailing_whitespace};
 ghost use Rattle.laws.specs.Text.{is_filled};
 ghost use Rattle.rendering_tree.specs.Tokens.{last_text, with_letter_before, with_letters, without_letters};
 ghost use Rattle.rendering_page.specs.Tail.{trailing};
-ghost use Rattle.rendering_page.specs.Views.{letters, put, tokens_of};
+ghost use Rattle.rendering_page.specs.Views.{words_view, with_piece, pieces_view};
 ghost use Rattle.rendering_page.specs.Cuts.{IsCut};
-ghost use Rattle.rendering_page.specs.Cursors.{blanks, placed, text_of, trimmed_from};
+ghost use Rattle.rendering_page.specs.Cursors.{blanks, with_cut, text_of, trimmed_from};
 
-use crate::backwards::text_in;
+use crate::page_end::text_in;
 use crate::piece::{Piece, Words, split_last};
 use rendering_taxonomy::Formatting;
 use std::alloc::{AllocError, Global};
@@ -17,7 +17,7 @@ use texts::{empty_text, has_text, push_character, push_text};
 
 /// Cuts the last characters of a page, so many of them.
 pub(crate) fn cut(pieces: &mut Vec<Piece<'_>>, count: usize)
-    ensures { tokens_of pieces.new.items ≡ without_letters count (tokens_of pieces.old.items) }
+    ensures { pieces_view pieces.new.items ≡ without_letters count (pieces_view pieces.old.items) }
 {
     let mut rest = count;
     let mut i = pieces.len();
@@ -32,7 +32,8 @@ pub(crate) fn cut(pieces: &mut Vec<Piece<'_>>, count: usize)
 
 /// Cuts so many characters of a piece, at most all. Returns how many are missing.
 fn cut_piece(piece: &mut Piece<'_>, count: usize) -> usize
-    ensures { (ts : _) → without_letters count (put ts piece.old) ≡ put (without_letters result ts) piece.new }
+    ensures { (ts : _) → without_letters count (with_piece ts piece.old)
+        ≡ with_piece (without_letters result ts) piece.new }
 {
     match piece {
         Piece::Text { words, .. } => words.cut(count),
@@ -42,7 +43,8 @@ fn cut_piece(piece: &mut Piece<'_>, count: usize) -> usize
 
 /// Cuts the white space at the end of the last text.
 pub(crate) fn trim_end(pieces: &mut Vec<Piece<'_>>)
-    ensures { tokens_of pieces.new.items ≡ without_letters (trailing (last_text (tokens_of pieces.old.items))) (tokens_of pieces.old.items) }
+    ensures { pieces_view pieces.new.items ≡ without_letters
+        (trailing (last_text (pieces_view pieces.old.items))) (pieces_view pieces.old.items) }
 {
     let mut met = None;
     let mut i = pieces.len();
@@ -57,7 +59,8 @@ pub(crate) fn trim_end(pieces: &mut Vec<Piece<'_>>)
 /// Cuts the white space at the end of a piece, as far as it is part of the last text. Returns whether more may stand before it;
 /// `met` is how the characters of that text look, once one was met.
 fn trim_piece(piece: &mut Piece<'_>, met: &mut Option<Formatting>) -> bool
-    ensures { (ts : _) → trimmed_from met.old (put ts piece.old) ≡ put (if result then trimmed_from met.new ts else ts) piece.new }
+    ensures { (ts : _) → trimmed_from met.old (with_piece ts piece.old)
+        ≡ with_piece (if result then trimmed_from met.new ts else ts) piece.new }
 {
     if text_in(piece, met).is_none() {
         return false;
@@ -67,7 +70,9 @@ fn trim_piece(piece: &mut Piece<'_>, met: &mut Option<Formatting>) -> bool
 
 /// Cuts the white space at the end of a piece's text. Returns whether nothing of that is left.
 fn trim_text(piece: &mut Piece<'_>) -> bool
-    ensures { (xs : _) (ts : _) → without_letters (blanks (reverse (text_of piece.old) ++ xs)) (put ts piece.old) ≡ put (if result then without_letters (blanks xs) ts else ts) piece.new }
+    ensures { (xs : _) (ts : _)
+        → without_letters (blanks (reverse (text_of piece.old) ++ xs)) (with_piece ts piece.old)
+        ≡ with_piece (if result then without_letters (blanks xs) ts else ts) piece.new }
 {
     match piece {
         Piece::Text { words, .. } => trim_words(words),
@@ -77,8 +82,8 @@ fn trim_text(piece: &mut Piece<'_>) -> bool
 
 /// Cuts the white space at the end of a text. Returns whether nothing of it is left.
 fn trim_words(words: &mut Words<'_>) -> bool
-    ensures text { letters words.new ≡ drop_trailing_whitespace (letters words.old) }
-    ensures empty { result ≡ not (is_filled (letters words.new)) }
+    ensures text { words_view words.new ≡ drop_trailing_whitespace (words_view words.old) }
+    ensures empty { result ≡ not (is_filled (words_view words.new)) }
 {
     words.trim_end();
     !has_text(words.as_str())
@@ -86,7 +91,7 @@ fn trim_words(words: &mut Words<'_>) -> bool
 
 /// Where a character goes.
 #[derive(Drop)]
-pub(crate) enum Place<'a> {
+pub(crate) enum CutPoint<'a> {
     /// Before the last of a piece's characters, which it stands before in a piece of its own.
     Here(Piece<'a>),
     /// Before so many characters of the pieces before.
@@ -99,7 +104,8 @@ pub(crate) fn put_before(
     count: usize,
     c: char,
 ) -> Result<(), AllocError>
-    ensures { OnOk result (tokens_of pieces.new.items ≡ with_letter_before count c (tokens_of pieces.old.items)) }
+    ensures { OnOk result (pieces_view pieces.new.items
+        ≡ with_letter_before count c (pieces_view pieces.old.items)) }
 {
     let alloc = *pieces.allocator();
     let mut rest = count;
@@ -110,11 +116,11 @@ pub(crate) fn put_before(
         }
         i -= 1;
         match put_within(alloc, &mut pieces[i], rest, c)? {
-            Place::Here(piece) => {
+            CutPoint::Here(piece) => {
                 pieces.insert(i + 1, piece)?;
                 return Ok(());
             }
-            Place::Before(missing) => rest = missing,
+            CutPoint::Before(missing) => rest = missing,
         }
     }
     Ok(())
@@ -127,17 +133,18 @@ fn put_within<'a>(
     piece: &mut Piece<'a>,
     count: usize,
     c: char,
-) -> Result<Place<'a>, AllocError>
+) -> Result<CutPoint<'a>, AllocError>
     requires { 0 < count }
-    ensures { IfOk result (λ p. (ts : _) → with_letter_before count c (put ts piece.old) ≡ placed c p (λ us. put us piece.new) ts) }
+    ensures { IfOk result (λ p. (ts : _) → with_letter_before count c (with_piece ts piece.old)
+        ≡ with_cut c p (λ us. with_piece us piece.new) ts) }
 {
     let Piece::Text { formatting, .. } = piece else {
-        return Ok(Place::Before(count));
+        return Ok(CutPoint::Before(count));
     };
     let formatting = *formatting;
     match piece {
         Piece::Text { words, .. } => put_within_words(alloc, formatting, words, count, c),
-        _ => Ok(Place::Before(count)),
+        _ => Ok(CutPoint::Before(count)),
     }
 }
 
@@ -148,19 +155,21 @@ fn put_within_words<'a>(
     words: &mut Words<'a>,
     count: usize,
     c: char,
-) -> Result<Place<'a>, AllocError>
+) -> Result<CutPoint<'a>, AllocError>
     requires { 0 < count }
-    ensures { IfOk result (λ p. (ts : _) → with_letter_before count c (with_letters formatting (letters words.old) ts) ≡ placed c p (λ us. with_letters formatting (letters words.new) us) ts) }
+    ensures { IfOk result (λ p. (ts : _)
+        → with_letter_before count c (with_letters formatting (words_view words.old) ts)
+        ≡ with_cut c p (λ us. with_letters formatting (words_view words.new) us) ts) }
 {
     let (back, missing) = back_of(words.as_str(), count);
     if missing > 0 {
-        return Ok(Place::Before(missing));
+        return Ok(CutPoint::Before(missing));
     }
     let mut text = empty_text(alloc);
     push_character(&mut text, c)?;
     push_text(&mut text, back)?;
     words.cut(count);
-    Ok(Place::Here(Piece::Text {
+    Ok(CutPoint::Here(Piece::Text {
         formatting,
         words: Words::Made(text),
     }))
@@ -168,17 +177,17 @@ fn put_within_words<'a>(
 
 /// The last characters of a text, so many or all of them, and how many are missing.
 fn back_of(text: &str, count: usize) -> (&str, usize)
-    ensures { (front : _) × IsCut (chars text.now) count front (chars result.0.now) result.1 }
+    ensures { (leading : _) × IsCut (chars text.now) count leading (chars result.0.now) result.1 }
 {
-    let mut front = text;
+    let mut leading = text;
     let mut missing = count;
     while missing > 0 {
-        let Some((_, before)) = split_last(front) else {
+        let Some((_, before)) = split_last(leading) else {
             return (text, missing);
         };
-        front = before;
+        leading = before;
         missing -= 1;
     }
-    let (_, back) = text.split_at(front.len());
+    let (_, back) = text.split_at(leading.len());
     (back, missing)
 }

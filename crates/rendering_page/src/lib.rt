@@ -1,17 +1,17 @@
-//! The page on which the texts of a citation are put down, one after the other, and the tree that is made of it.
+//! The page to which the texts of a citation are appended, one after the other, and the tree that is made of it.
 #![tactic(auto)]
 
-mod backwards;
+mod appending;
 mod builder;
 mod copies;
 mod cutting;
 mod manner;
 mod marks;
 mod page;
+mod page_characters;
+mod page_end;
 mod piece;
 mod plain;
-mod putting;
-mod shown;
 mod tail;
 
 pub use manner::{Frame, Manner};

@@ -1,9 +1,9 @@
-//! How texts and elements are put down.
+//! How texts and elements are appended.
 
 use rendering_taxonomy::{Display, Formatting};
 use rendering_tree::ElemMeta;
 
-/// How the texts of a node are put down.
+/// How the texts of a node are appended.
 #[derive(Clone, Copy)]
 pub struct Manner {
     /// How they look.
@@ -19,9 +19,9 @@ pub struct Frame<'a> {
     pub display: Option<Display>,
     /// What it stands for. An element without this and without a display is no part of the tree, but has affixes.
     pub meta: Option<&'a ElemMeta>,
-    /// How its affixes are put down.
+    /// How its affixes are appended.
     pub manner: Manner,
-    /// The text before what it contains, put down as it is.
+    /// The text before what it contains, appended as it is.
     pub prefix: &'a str,
     /// The text after what it contains, an ordinary text; none where the last text ends with it.
     pub suffix: &'a str,

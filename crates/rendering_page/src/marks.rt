@@ -7,7 +7,7 @@ ghost use Rattle.rendering_page.specs.Marks as specs;
 ghost use Rattle.rendering_page.specs.Marks.{before_open, closes, first_part, known_to_print, opens, prints_itself, with_part};
 ghost use Rattle.rendering_page.specs.Pages.{before_mark, before_prefix, in_manner, is_begun, prints};
 ghost use Rattle.rendering_page.specs.Views as views;
-ghost use Rattle.rendering_page.specs.Views.{letters, tokens_of};
+ghost use Rattle.rendering_page.specs.Views.{words_view, pieces_view};
 ghost use Rattle.rendering_tree.specs.Tokens.{Token, with_letters};
 
 use crate::manner::Manner;
@@ -17,7 +17,7 @@ use texts::has_text;
 
 /// Whether what began last has printed anything but white space.
 pub(crate) fn prints(pieces: &Vec<Piece<'_>>) -> bool
-    ensures { result ≡ prints 0 (tokens_of pieces.now.items) }
+    ensures { result ≡ prints 0 (pieces_view pieces.now.items) }
 {
     let mut closed: usize = 0;
     let mut i = pieces.len();
@@ -38,7 +38,8 @@ pub(crate) fn prints(pieces: &Vec<Piece<'_>>) -> bool
 
 /// Cuts all from the mark on where what began last begins.
 pub(crate) fn cut_to_mark(pieces: &mut Vec<Piece<'_>>) -> Result<(), AllocError>
-    ensures { OnOk result (tokens_of pieces.new.items ≡ before_mark 0 (tokens_of pieces.old.items)) }
+    ensures { OnOk result (pieces_view pieces.new.items
+        ≡ before_mark 0 (pieces_view pieces.old.items)) }
 {
     let mut closed: usize = 0;
     while let Some(piece) = pieces.pop() {
@@ -53,7 +54,8 @@ pub(crate) fn cut_to_mark(pieces: &mut Vec<Piece<'_>>) -> Result<(), AllocError>
 
 /// Cuts all from where an element begins on of which there is only the prefix.
 pub(crate) fn cut_prefix(pieces: &mut Vec<Piece<'_>>) -> Result<(), AllocError>
-    ensures { OnOk result (tokens_of pieces.new.items ≡ before_prefix (tokens_of pieces.old.items)) }
+    ensures { OnOk result (pieces_view pieces.new.items
+        ≡ before_prefix (pieces_view pieces.old.items)) }
 {
     while let Some(piece) = pieces.pop() {
         if is_first(&piece) {
@@ -65,7 +67,8 @@ pub(crate) fn cut_prefix(pieces: &mut Vec<Piece<'_>>) -> Result<(), AllocError>
 
 /// Puts a part of a piece back, if there is one.
 fn put_part<'a>(pieces: &mut Vec<Piece<'a>>, part: Option<Piece<'a>>) -> Result<(), AllocError>
-    ensures { OnOk result (tokens_of pieces.new.items ≡ with_part (tokens_of pieces.old.items) part.entry) }
+    ensures { OnOk result (pieces_view pieces.new.items
+        ≡ with_part (pieces_view pieces.old.items) part.entry) }
 {
     match part {
         Some(part) => {
@@ -146,7 +149,7 @@ fn prints_itself(piece: &Piece<'_>) -> bool
 
 /// Whether a text is more than white space.
 fn prints_words(words: &Words<'_>) -> bool
-    ensures { result ≡ list_any (λ c. not (is_whitespace c)) (letters words.now) }
+    ensures { result ≡ list_any (λ c. not (is_whitespace c)) (words_view words.now) }
 {
     words.as_str().chars().any(|c| !c.is_whitespace())
 }
@@ -154,19 +157,21 @@ fn prints_words(words: &Words<'_>) -> bool
 /// Whether a text is known to print by the character that it begins with, without a look at the others.
 #[tactic(auto, using(crate::proofs::PagesMarks::known_by))]
 pub(crate) fn is_known_by(manner: Manner, first: char) -> bool
-    ensures { (cs : List ℕ) (ts : List Token) → known_to_print result (with_letters manner.formatting (in_manner (views.manner manner) (first ∷ cs)) ts) ≡ true }
+    ensures { (cs : List ℕ) (ts : List Token) → known_to_print result
+        (with_letters manner.formatting (in_manner (views.manner_view manner) (first ∷ cs)) ts)
+        ≡ true }
 {
     !manner.strips_periods && !first.is_whitespace()
 }
 
-/// Whether anything was put down.
+/// Whether anything was appended.
 pub(crate) fn is_begun(pieces: &[Piece<'_>]) -> bool
-    ensures { result ≡ is_begun (tokens_of pieces.now) }
+    ensures { result ≡ is_begun (pieces_view pieces.now) }
 {
     pieces.iter().any(|piece| is_something(piece))
 }
 
-/// Whether a piece is something that was put down, and not only marked.
+/// Whether a piece is something that was appended, and not only marked.
 fn is_something(piece: &Piece<'_>) -> bool
     ensures { result ≡ specs.is_something piece.now }
 {

@@ -3,29 +3,29 @@
 ghost use Rattle.std.specs.Prelude.{◌≡◌, ◌++◌, true, false, List, ℕ, OnOk, IfOk, Some, map};
 ghost use Rattle.std.specs.Str.{bytes_eq, chars};
 ghost use Rattle.laws.specs.Text.{characters, is_filled};
-ghost use Rattle.literature_values.specs.TextViews.{chunk as chunk_of, chunks as chunks_of};
+ghost use Rattle.literature_values.specs.TextViews.{chunk_view as chunk_of, chunks_view as chunks_of};
 ghost use Rattle.rendering_tree.specs.Metas.{Meta};
 ghost use Rattle.rendering_tree.specs.Tokens.{formula, link, transparent};
 ghost use Rattle.rendering_tree.specs.Trees.{tree_of};
-ghost use Rattle.rendering_tree.specs.Views.{meaning, tree};
+ghost use Rattle.rendering_tree.specs.Views.{meta_view, tree_view};
 ghost use Rattle.rendering_page.specs.Marks.{begins_nothing};
-ghost use Rattle.rendering_page.specs.Pages.{Manner as Manners, Quotes, before_mark, before_prefix, begun, empty_page, ended, ended_as, normal_put, prints, quote_put, space_put, token_put, verbatim_put};
-ghost use Rattle.rendering_page.specs.Pieces.{all_down, chunk_by, chunk_piece, chunk_pieces, put_down};
-ghost use Rattle.rendering_page.specs.Shown.{page_text};
+ghost use Rattle.rendering_page.specs.Pages.{Manner as Manners, Quotes, before_mark, before_prefix, begun, empty_page, ended, ended_as, append_normal, prints, append_quote, append_space, append_token, append_verbatim};
+ghost use Rattle.rendering_page.specs.Pieces.{append_pieces, chunk_by, chunk_piece, chunk_pieces, append_piece};
+ghost use Rattle.rendering_page.specs.PageCharacters.{page_text};
 ghost use Rattle.rendering_page.specs.Views as views;
-ghost use Rattle.rendering_page.specs.Views.{letters, quotes_of};
+ghost use Rattle.rendering_page.specs.Views.{words_view, quotes_view};
 
-use crate::backwards::{ends_in, ends_spaced};
+use crate::appending::{
+    append, append_after_quote, append_words, begin, begin_made, is_element, last_piece,
+    last_pieces, push_piece,
+};
 use crate::builder::build;
 use crate::copies::copied_pieces;
 use crate::manner::{Frame, Manner};
 use crate::marks::{cut_prefix, cut_to_mark, is_begun, is_known_by, prints};
+use crate::page_characters::{push_shown, show_the_same};
+use crate::page_end::{ends_in, ends_spaced};
 use crate::piece::{Link, Piece, Words};
-use crate::putting::{
-    append, append_after_quote, begin, begin_made, is_element, last_piece, last_pieces, push_piece,
-    put_words,
-};
-use crate::shown::{push_shown, show_the_same};
 use crate::tail::is_punctuation;
 use literature_values::{ChunkKind, ChunkedString, StringChunk};
 use rendering_taxonomy::Formatting;
@@ -34,11 +34,11 @@ use std::alloc::{AllocError, Global};
 use std::marker::Model;
 use texts::{has_text, split_first};
 
-/// A page on which texts and elements are put down, one after the other.
+/// A page to which texts and elements are appended, one after the other.
 ///
 /// An ordinary text changes the end of the text that is last: the characters at the end of the page that look alike, whatever
 /// begins or ends after them. White space at its end goes before white space and `. , ] )`; an end that a text without letters
-/// would repeat goes; and after a close quote a first `. , ; ! ?` goes inside it. Texts that are put down as they are change
+/// would repeat goes; and after a close quote a first `. , ; ! ?` goes inside it. Texts that are appended as they are change
 /// nothing, and after a formula, a link or a locator of the caller's own there is no last text. `quotes` are the close quotes
 /// inside which punctuation goes, in the order in which they are tried; none where it stays outside.
 ///
@@ -59,11 +59,13 @@ impl<'a> Model for Page<'a> {
 
     ghost use Rattle.std.specs.Prelude.{◌≡◌, true};
     ghost use Rattle.rendering_page.specs.Marks.{known_to_print};
-    ghost use Rattle.rendering_page.specs.Views.{tokens_of};
+    ghost use Rattle.rendering_page.specs.Views.{pieces_view};
 
-    ghost view = { λ p. record { tokens = tokens_of p.pieces.items; after_quote = p.after_quote } };
+    ghost view = { λ p.
+        record { tokens = pieces_view p.pieces.items; after_quote = p.after_quote } };
 
-    ghost invariant = { λ p. known_to_print p.is_known_to_print (tokens_of p.pieces.items) ≡ true };
+    ghost invariant = { λ p. known_to_print p.is_known_to_print (pieces_view p.pieces.items)
+        ≡ true };
 }
 
 impl<'a> Clone for Page<'a> {
@@ -83,7 +85,7 @@ impl<'a> Clone for Page<'a> {
 }
 
 impl<'a> Page<'a> {
-    /// A page on which nothing was put down.
+    /// A page to which nothing was appended.
     pub fn new(alloc: Global) -> Page<'a>
         ensures { result ≡ empty_page }
     {
@@ -94,7 +96,7 @@ impl<'a> Page<'a> {
         }
     }
 
-    /// Puts an ordinary text down; an empty one is none.
+    /// Appends an ordinary text; an empty one is none.
     ///
     /// # Errors
     /// Out of memory.
@@ -104,12 +106,13 @@ impl<'a> Page<'a> {
         manner: Manner,
         text: &'a str,
     ) -> Result<(), AllocError>
-        ensures { OnOk result (self.new ≡ normal_put (quotes_of quotes.now) (views.manner manner) (chars text.now) self.old) }
+        ensures { OnOk result (self.new ≡ append_normal (quotes_view quotes.now)
+            (views.manner_view manner) (chars text.now) self.old) }
     {
-        self.put(quotes, manner, Words::Borrowed(text))
+        self.append_text(quotes, manner, Words::Borrowed(text))
     }
 
-    /// Puts an ordinary text down that was made; an empty one is none.
+    /// Appends an ordinary text that was made; an empty one is none.
     ///
     /// # Errors
     /// Out of memory.
@@ -119,22 +122,23 @@ impl<'a> Page<'a> {
         manner: Manner,
         text: String,
     ) -> Result<(), AllocError>
-        ensures { OnOk result (self.new ≡ normal_put (quotes_of quotes.now) (views.manner manner) (characters text) self.old) }
+        ensures { OnOk result (self.new ≡ append_normal (quotes_view quotes.now)
+            (views.manner_view manner) (characters text) self.old) }
     {
-        self.put(quotes, manner, Words::Made(text))
+        self.append_text(quotes, manner, Words::Made(text))
     }
 
-    /// Puts a text down as it is; an empty one is none.
+    /// Appends a text as it is; an empty one is none.
     ///
     /// # Errors
     /// Out of memory.
     pub fn push_verbatim(&mut self, formatting: Formatting, text: &'a str) -> Result<(), AllocError>
-        ensures { OnOk result (self.new ≡ verbatim_put formatting (chars text.now) self.old) }
+        ensures { OnOk result (self.new ≡ append_verbatim formatting (chars text.now) self.old) }
     {
-        self.put_verbatim(formatting, Words::Borrowed(text))
+        self.append_verbatim_text(formatting, Words::Borrowed(text))
     }
 
-    /// Puts the close quote of a node down, an ordinary text; punctuation that is put down next goes inside. An empty one is none.
+    /// Appends the close quote of a node, an ordinary text; punctuation that is appended next goes inside. An empty one is none.
     ///
     /// # Errors
     /// Out of memory.
@@ -144,7 +148,8 @@ impl<'a> Page<'a> {
         manner: Manner,
         text: &'a str,
     ) -> Result<(), AllocError>
-        ensures { OnOk result (self.new ≡ quote_put (quotes_of quotes.now) (views.manner manner) (chars text.now) self.old) }
+        ensures { OnOk result (self.new ≡ append_quote (quotes_view quotes.now)
+            (views.manner_view manner) (chars text.now) self.old) }
     {
         if has_text(text) {
             self.push_text(quotes, manner, text)?;
@@ -153,17 +158,17 @@ impl<'a> Page<'a> {
         Ok(())
     }
 
-    /// Puts a formula down.
+    /// Appends a formula.
     ///
     /// # Errors
     /// Out of memory.
     pub fn push_markup(&mut self, text: &'a str) -> Result<(), AllocError>
-        ensures { OnOk result (self.new ≡ token_put (formula (chars text.now)) self.old) }
+        ensures { OnOk result (self.new ≡ append_token (formula (chars text.now)) self.old) }
     {
         self.push(Piece::Markup(Words::Borrowed(text)))
     }
 
-    /// Puts a link from a text to an address down.
+    /// Appends a link from a text to an address.
     ///
     /// # Errors
     /// Out of memory.
@@ -173,12 +178,13 @@ impl<'a> Page<'a> {
         text: &'a str,
         url: &'a str,
     ) -> Result<(), AllocError>
-        ensures { OnOk result (self.new ≡ token_put (link formatting (chars text.now) (chars url.now)) self.old) }
+        ensures { OnOk result (self.new
+            ≡ append_token (link formatting (chars text.now) (chars url.now)) self.old) }
     {
-        self.put_link(formatting, Words::Borrowed(text), Words::Borrowed(url))
+        self.append_link(formatting, Words::Borrowed(text), Words::Borrowed(url))
     }
 
-    /// Puts a link from a text to an address down that were made.
+    /// Appends a link from a text to an address that were made.
     ///
     /// # Errors
     /// Out of memory.
@@ -188,12 +194,13 @@ impl<'a> Page<'a> {
         text: String,
         url: String,
     ) -> Result<(), AllocError>
-        ensures { OnOk result (self.new ≡ token_put (link formatting (characters text) (characters url)) self.old) }
+        ensures { OnOk result (self.new
+            ≡ append_token (link formatting (characters text) (characters url)) self.old) }
     {
-        self.put_link(formatting, Words::Made(text), Words::Made(url))
+        self.append_link(formatting, Words::Made(text), Words::Made(url))
     }
 
-    /// Puts a locator of the caller's own down, by the place of its cite in its request, from zero.
+    /// Appends a locator of the caller's own, by the index of its cite in its request, from zero.
     ///
     /// # Errors
     /// Out of memory.
@@ -202,7 +209,7 @@ impl<'a> Page<'a> {
         formatting: Formatting,
         cite_idx: usize,
     ) -> Result<(), AllocError>
-        ensures { OnOk result (self.new ≡ token_put (transparent formatting cite_idx) self.old) }
+        ensures { OnOk result (self.new ≡ append_token (transparent formatting cite_idx) self.old) }
     {
         self.push(Piece::Transparent {
             formatting,
@@ -215,7 +222,7 @@ impl<'a> Page<'a> {
     /// # Errors
     /// Out of memory.
     pub fn begin(&mut self, frame: &Frame<'a>) -> Result<(), AllocError>
-        ensures { OnOk result (self.new ≡ begun (views.frame frame.now) self.old) }
+        ensures { OnOk result (self.new ≡ begun (views.frame_view frame.now) self.old) }
     {
         self.is_known_to_print = false;
         begin(&mut self.pieces, frame)
@@ -226,7 +233,8 @@ impl<'a> Page<'a> {
     /// # Errors
     /// Out of memory.
     pub fn begin_element(&mut self, frame: &Frame<'a>, meta: ElemMeta) -> Result<(), AllocError>
-        ensures { OnOk result (self.new ≡ begun (record (views.frame frame.now) { meta = Some (meaning meta) }) self.old) }
+        ensures { OnOk result (self.new ≡ begun
+            (record (views.frame_view frame.now) { meta = Some (meta_view meta) }) self.old) }
     {
         self.is_known_to_print = false;
         begin_made(&mut self.pieces, frame, meta)
@@ -237,7 +245,8 @@ impl<'a> Page<'a> {
     /// # Errors
     /// Out of memory.
     pub fn end(&mut self, quotes: &[&str], frame: &Frame<'a>) -> Result<(), AllocError>
-        ensures { OnOk result (self.new ≡ ended (quotes_of quotes.now) (views.frame frame.now) self.old) }
+        ensures { OnOk result (self.new
+            ≡ ended (quotes_view quotes.now) (views.frame_view frame.now) self.old) }
     {
         if !self.finds_printed() {
             return self.undo();
@@ -254,7 +263,8 @@ impl<'a> Page<'a> {
     /// # Errors
     /// Out of memory.
     pub fn end_element(&mut self, quotes: &[&str], frame: &Frame<'a>) -> Result<(), AllocError>
-        ensures { (m : Meta) → OnOk result (self.new ≡ ended (quotes_of quotes.now) (record (views.frame frame.now) { meta = Some m }) self.old) }
+        ensures { (m : Meta) → OnOk result (self.new ≡ ended (quotes_view quotes.now)
+            (record (views.frame_view frame.now) { meta = Some m }) self.old) }
     {
         if !self.finds_printed() {
             return self.undo();
@@ -265,13 +275,13 @@ impl<'a> Page<'a> {
         self.end_as(quotes, frame.manner, frame.suffix, true)
     }
 
-    /// A space at the end, in characters as they look of themselves and after all elements. There is none where nothing was put
-    /// down, and none where the last text ends in a space, be it one that does not break.
+    /// A space at the end, in characters as they look of themselves and after all elements. There is none where nothing was
+    /// appended, and none where the last text ends in a space, be it one that does not break.
     ///
     /// # Errors
     /// Out of memory.
     pub fn ensure_space(&mut self) -> Result<(), AllocError>
-        ensures { OnOk result (self.new ≡ space_put self.old) }
+        ensures { OnOk result (self.new ≡ append_space self.old) }
     {
         if !is_begun(&self.pieces) || ends_spaced(&self.pieces) {
             return Ok(());
@@ -279,7 +289,7 @@ impl<'a> Page<'a> {
         self.push_verbatim(Formatting::plain(), " ")
     }
 
-    /// Puts a text down in pieces: formulas, texts as they are, and ordinary texts.
+    /// Appends a text in pieces: formulas, texts as they are, and ordinary texts.
     ///
     /// # Errors
     /// Out of memory.
@@ -289,7 +299,8 @@ impl<'a> Page<'a> {
         manner: Manner,
         chunks: &'a [StringChunk],
     ) -> Result<(), AllocError>
-        ensures { OnOk result (self.new ≡ all_down (quotes_of quotes.now) (chunk_pieces (views.manner manner) (map chunk_of chunks.now)) self.old) }
+        ensures { OnOk result (self.new ≡ append_pieces (quotes_view quotes.now)
+            (chunk_pieces (views.manner_view manner) (map chunk_of chunks.now)) self.old) }
     {
         for chunk in chunks {
             self.push_chunk(quotes, manner, chunk)?;
@@ -297,7 +308,7 @@ impl<'a> Page<'a> {
         Ok(())
     }
 
-    /// Puts a text down in pieces that were made.
+    /// Appends a text in pieces that were made.
     ///
     /// # Errors
     /// Out of memory.
@@ -307,7 +318,8 @@ impl<'a> Page<'a> {
         manner: Manner,
         chunks: ChunkedString,
     ) -> Result<(), AllocError>
-        ensures { OnOk result (self.new ≡ all_down (quotes_of quotes.now) (chunk_pieces (views.manner manner) (chunks_of chunks)) self.old) }
+        ensures { OnOk result (self.new ≡ append_pieces (quotes_view quotes.now)
+            (chunk_pieces (views.manner_view manner) (chunks_of chunks)) self.old) }
     {
         for chunk in chunks.0 {
             self.push_made_chunk(quotes, manner, chunk)?;
@@ -334,7 +346,8 @@ impl<'a> Page<'a> {
     /// # Errors
     /// Out of memory.
     pub fn push_to(&self, output: &mut String) -> Result<(), AllocError>
-        ensures { OnOk result (characters output.new ≡ characters output.old ++ page_text self.now.tokens) }
+        ensures { OnOk result (characters output.new
+            ≡ characters output.old ++ page_text self.now.tokens) }
     {
         push_shown(output, &self.pieces)
     }
@@ -344,7 +357,7 @@ impl<'a> Page<'a> {
     /// # Errors
     /// Out of memory.
     pub fn into_tree(self) -> Result<ElemChildren, AllocError>
-        ensures { IfOk result (λ t. tree t ≡ tree_of self.entry.tokens) }
+        ensures { IfOk result (λ t. tree_view t ≡ tree_of self.entry.tokens) }
     {
         let Page {
             pieces,
@@ -365,9 +378,15 @@ impl<'a> Page<'a> {
         self.is_known_to_print
     }
 
-    /// Puts an ordinary text down.
-    fn put(&mut self, quotes: &[&str], manner: Manner, words: Words<'a>) -> Result<(), AllocError>
-        ensures { OnOk result (self.new ≡ normal_put (quotes_of quotes.now) (views.manner manner) (letters words.entry) self.old) }
+    /// Appends an ordinary text.
+    fn append_text(
+        &mut self,
+        quotes: &[&str],
+        manner: Manner,
+        words: Words<'a>,
+    ) -> Result<(), AllocError>
+        ensures { OnOk result (self.new ≡ append_normal (quotes_view quotes.now)
+            (views.manner_view manner) (words_view words.entry) self.old) }
     {
         let Some((first, _)) = split_first(words.as_str()) else {
             return Ok(());
@@ -383,9 +402,10 @@ impl<'a> Page<'a> {
         Ok(())
     }
 
-    /// Puts down what is no text.
+    /// Appends what is no text.
     fn push(&mut self, piece: Piece<'a>) -> Result<(), AllocError>
-        ensures { OnOk result ((self.new.tokens ≡ views.put self.old.tokens piece.entry) × (self.new.after_quote ≡ false)) }
+        ensures { OnOk result ((self.new.tokens ≡ views.with_piece self.old.tokens piece.entry)
+            × (self.new.after_quote ≡ false)) }
     {
         self.is_known_to_print = false;
         push_piece(&mut self.pieces, piece)?;
@@ -393,79 +413,89 @@ impl<'a> Page<'a> {
         Ok(())
     }
 
-    /// Puts down a piece with which nothing begins.
+    /// Appends a piece with which nothing begins.
     #[tactic(auto, using(crate::proofs::PagesMarks::known_push))]
     fn push_end(&mut self, piece: Piece<'a>) -> Result<(), AllocError>
         requires { begins_nothing piece ≡ true }
-        ensures { OnOk result (self.new ≡ record self.old { tokens = views.put self.old.tokens piece.entry }) }
+        ensures { OnOk result (self.new
+            ≡ record self.old { tokens = views.with_piece self.old.tokens piece.entry }) }
     {
         push_piece(&mut self.pieces, piece)?;
         Ok(())
     }
 
-    /// Puts a piece of a text down.
+    /// Appends a piece of a text.
     fn push_chunk(
         &mut self,
         quotes: &[&str],
         manner: Manner,
         chunk: &'a StringChunk,
     ) -> Result<(), AllocError>
-        ensures { OnOk result (self.new ≡ put_down (quotes_of quotes.now) self.old (chunk_piece (views.manner manner) (chunk_of chunk.now))) }
+        ensures { OnOk result (self.new ≡ append_piece (quotes_view quotes.now) self.old
+            (chunk_piece (views.manner_view manner) (chunk_of chunk.now))) }
     {
         let words = Words::Borrowed(chunk.value.as_str());
-        self.put_chunk(quotes, manner, chunk.kind, words)
+        self.append_chunk(quotes, manner, chunk.kind, words)
     }
 
-    /// Puts a piece of a text down that was made.
+    /// Appends a piece of a text that was made.
     fn push_made_chunk(
         &mut self,
         quotes: &[&str],
         manner: Manner,
         chunk: StringChunk,
     ) -> Result<(), AllocError>
-        ensures { OnOk result (self.new ≡ put_down (quotes_of quotes.now) self.old (chunk_piece (views.manner manner) (chunk_of chunk))) }
+        ensures { OnOk result (self.new ≡ append_piece (quotes_view quotes.now) self.old
+            (chunk_piece (views.manner_view manner) (chunk_of chunk))) }
     {
         let StringChunk { value, kind } = chunk;
-        self.put_chunk(quotes, manner, kind, Words::Made(value))
+        self.append_chunk(quotes, manner, kind, Words::Made(value))
     }
 
-    /// Puts a piece of a text down by its kind.
-    fn put_chunk(
+    /// Appends a piece of a text by its kind.
+    fn append_chunk(
         &mut self,
         quotes: &[&str],
         manner: Manner,
         kind: ChunkKind,
         words: Words<'a>,
     ) -> Result<(), AllocError>
-        ensures { OnOk result (self.new ≡ put_down (quotes_of quotes.now) self.old (chunk_by kind (views.manner manner) (letters words.entry))) }
+        ensures { OnOk result (self.new ≡ append_piece (quotes_view quotes.now) self.old
+            (chunk_by kind (views.manner_view manner) (words_view words.entry))) }
     {
         match kind {
-            ChunkKind::Normal => self.put(quotes, manner, words),
-            ChunkKind::Verbatim => self.put_verbatim(manner.formatting, words),
+            ChunkKind::Normal => self.append_text(quotes, manner, words),
+            ChunkKind::Verbatim => self.append_verbatim_text(manner.formatting, words),
             ChunkKind::Math => self.push(Piece::Markup(words)),
         }
     }
 
-    /// Puts a text down as it is.
-    fn put_verbatim(&mut self, formatting: Formatting, words: Words<'a>) -> Result<(), AllocError>
-        ensures { OnOk result (self.new ≡ verbatim_put formatting (letters words.entry) self.old) }
+    /// Appends a text as it is.
+    fn append_verbatim_text(
+        &mut self,
+        formatting: Formatting,
+        words: Words<'a>,
+    ) -> Result<(), AllocError>
+        ensures { OnOk result (self.new
+            ≡ append_verbatim formatting (words_view words.entry) self.old) }
     {
         if has_text(words.as_str()) {
             self.is_known_to_print = false;
-            put_words(&mut self.pieces, formatting, words)?;
+            append_words(&mut self.pieces, formatting, words)?;
             self.after_quote = false;
         }
         Ok(())
     }
 
-    /// Puts a link from a text to an address down.
-    fn put_link(
+    /// Appends a link from a text to an address.
+    fn append_link(
         &mut self,
         formatting: Formatting,
         text: Words<'a>,
         url: Words<'a>,
     ) -> Result<(), AllocError>
-        ensures { OnOk result (self.new ≡ token_put (link formatting (letters text.entry) (letters url.entry)) self.old) }
+        ensures { OnOk result (self.new ≡ append_token
+            (link formatting (words_view text.entry) (words_view url.entry)) self.old) }
     {
         let link = Link {
             formatting,
@@ -486,7 +516,8 @@ impl<'a> Page<'a> {
         suffix: &'a str,
         is_element: bool,
     ) -> Result<(), AllocError>
-        ensures { OnOk result (self.new ≡ ended_as (quotes_of quotes.now) (views.manner manner) (chars suffix.now) is_element self.old) }
+        ensures { OnOk result (self.new ≡ ended_as (quotes_view quotes.now)
+            (views.manner_view manner) (chars suffix.now) is_element self.old) }
     {
         if ends_in(&self.pieces, suffix) {
             return self.push_end(last_pieces(is_element));
@@ -497,16 +528,18 @@ impl<'a> Page<'a> {
     }
 
     /// Ends what an element without a suffix contains that has printed something, and the element.
-    #[tactic(auto, using(crate::proofs::PagesPutting::ended_without))]
+    #[tactic(auto, using(crate::proofs::PagesAppending::ended_without))]
     fn end_without_suffix(&mut self, is_element: bool) -> Result<(), AllocError>
-        ensures { (quotes : Quotes) (m : Manners) (suffix : List ℕ) → is_filled suffix ≡ false → OnOk result (self.new ≡ ended_as quotes m suffix is_element self.old) }
+        ensures { (quotes : Quotes) (m : Manners) (suffix : List ℕ) → is_filled suffix ≡ false
+            → OnOk result (self.new ≡ ended_as quotes m suffix is_element self.old) }
     {
         self.push_end(last_pieces(is_element))
     }
 
     /// Takes the element off that was begun last, with its prefix.
     fn undo(&mut self) -> Result<(), AllocError>
-        ensures { OnOk result (self.new ≡ record self.old { tokens = before_prefix (before_mark 0 self.old.tokens) }) }
+        ensures { OnOk result (self.new
+            ≡ record self.old { tokens = before_prefix (before_mark 0 self.old.tokens) }) }
     {
         self.is_known_to_print = false;
         cut_to_mark(&mut self.pieces)?;

@@ -4,7 +4,7 @@ ghost use Rattle.std.specs.Prelude.{◌≡◌, ◌∷◌, ◌++◌, [], IfSome, 
 ghost use Rattle.std.specs.Str.{chars, drop_trailing_whitespace, IsUtf8};
 ghost use Rattle.laws.specs.Text.{characters};
 ghost use Rattle.rendering_taxonomy.specs.Formats.{looks_like};
-ghost use Rattle.rendering_page.specs.Views.{letters};
+ghost use Rattle.rendering_page.specs.Views.{words_view};
 ghost use Rattle.rendering_page.specs.Cuts.{IsCut};
 
 use rendering_taxonomy::{Display, Formatting};
@@ -38,7 +38,7 @@ pub(crate) enum Piece<'a> {
     Markup(Words<'a>),
     /// A link from a text to an address.
     Link(Box<Link<'a>>),
-    /// A locator of the caller's own, by the place of its cite.
+    /// A locator of the caller's own, by the index of its cite.
     Transparent {
         formatting: Formatting,
         cite_idx: usize,
@@ -80,7 +80,7 @@ pub(crate) enum Piece<'a> {
 impl<'a> Words<'a> {
     /// The text.
     pub(crate) fn as_str(&self) -> &str
-        ensures { chars result.now ≡ letters self.now }
+        ensures { chars result.now ≡ words_view self.now }
     {
         match self {
             Words::Borrowed(text) => text,
@@ -90,7 +90,7 @@ impl<'a> Words<'a> {
 
     /// The text without its first character.
     pub(crate) fn without_first(self) -> Words<'a>
-        ensures { (c : _) (cs : _) → letters self.entry ≡ c ∷ cs → letters result ≡ cs }
+        ensures { (c : _) (cs : _) → words_view self.entry ≡ c ∷ cs → words_view result ≡ cs }
     {
         match self {
             Words::Borrowed(text) => Words::Borrowed(rest_of(text)),
@@ -100,7 +100,8 @@ impl<'a> Words<'a> {
 
     /// Takes the last character off.
     fn pop(&mut self) -> Option<char>
-        ensures { MatchOption result ((letters self.old ≡ []) × (letters self.new ≡ [])) (λ c. letters self.old ≡ letters self.new ++ c ∷ []) }
+        ensures { MatchOption result ((words_view self.old ≡ []) × (words_view self.new ≡ [])) (λ c.
+            words_view self.old ≡ words_view self.new ++ c ∷ []) }
     {
         match self {
             Words::Borrowed(text) => pop_borrowed(text),
@@ -110,7 +111,7 @@ impl<'a> Words<'a> {
 
     /// Takes so many characters off the end, at most all. Returns how many are missing.
     pub(crate) fn cut(&mut self, count: usize) -> usize
-        ensures { (back : _) × IsCut (letters self.old) count (letters self.new) back result }
+        ensures { (back : _) × IsCut (words_view self.old) count (words_view self.new) back result }
     {
         let mut missing = count;
         while missing > 0 {
@@ -124,7 +125,7 @@ impl<'a> Words<'a> {
 
     /// Takes the white space off the end.
     pub(crate) fn trim_end(&mut self)
-        ensures { letters self.new ≡ drop_trailing_whitespace (letters self.old) }
+        ensures { words_view self.new ≡ drop_trailing_whitespace (words_view self.old) }
     {
         match self {
             Words::Borrowed(text) => trim_borrowed(text),
@@ -135,7 +136,7 @@ impl<'a> Words<'a> {
 
 /// No text.
 pub(crate) fn no_words<'a>() -> Words<'a>
-    ensures { letters result ≡ [] }
+    ensures { words_view result ≡ [] }
 {
     Words::Borrowed("")
 }
@@ -162,8 +163,9 @@ fn rest_of_made(mut text: String) -> String
 
 /// The last character, and what stands before it.
 pub(crate) fn split_last(text: &str) -> Option<(char, &str)>
-    ensures chars { MatchOption result (chars text.now ≡ []) (λ x. chars text.now ≡ chars x.1.now ++ x.0 ∷ []) }
-    ensures front { IfSome result (λ x. x.1.now ≡ take (length x.1.now) text.now) }
+    ensures chars { MatchOption result (chars text.now ≡ []) (λ x. chars text.now
+        ≡ chars x.1.now ++ x.0 ∷ []) }
+    ensures leading { IfSome result (λ x. x.1.now ≡ take (length x.1.now) text.now) }
     ensures utf8 { IfSome result (λ x. IsUtf8 x.1.now) }
 {
     let mut chars = text.chars();
@@ -173,17 +175,19 @@ pub(crate) fn split_last(text: &str) -> Option<(char, &str)>
 
 /// Takes the last character off a text.
 fn pop_borrowed<'a>(text: &mut &'a str) -> Option<char>
-    ensures { MatchOption result ((chars text.old.now ≡ []) × (chars text.new.now ≡ [])) (λ c. chars text.old.now ≡ chars text.new.now ++ c ∷ []) }
+    ensures { MatchOption result ((chars text.old.now ≡ []) × (chars text.new.now ≡ [])) (λ c.
+        chars text.old.now ≡ chars text.new.now ++ c ∷ []) }
 {
     let whole = *text;
-    let (c, front) = split_last(whole)?;
-    *text = front;
+    let (c, leading) = split_last(whole)?;
+    *text = leading;
     Some(c)
 }
 
 /// Takes the last character off a text.
 fn pop_made(text: &mut String) -> Option<char>
-    ensures { MatchOption result ((characters text.old ≡ []) × (characters text.new ≡ [])) (λ c. characters text.old ≡ characters text.new ++ c ∷ []) }
+    ensures { MatchOption result ((characters text.old ≡ []) × (characters text.new ≡ [])) (λ c.
+        characters text.old ≡ characters text.new ++ c ∷ []) }
 {
     text.pop()
 }
@@ -191,7 +195,7 @@ fn pop_made(text: &mut String) -> Option<char>
 /// A text without the white space at its end.
 pub(crate) fn trimmed(text: &str) -> &str
     ensures value { chars result.now ≡ drop_trailing_whitespace (chars text.now) }
-    ensures front { result.now ≡ take (length result.now) text.now }
+    ensures leading { result.now ≡ take (length result.now) text.now }
 {
     text.trim_end()
 }

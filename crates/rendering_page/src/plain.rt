@@ -1,17 +1,17 @@
 //! How texts look of themselves.
 
 ghost use Rattle.std.specs.Prelude.{◌≡◌};
-ghost use Rattle.rendering_page.specs.Shown.{plainly};
-ghost use Rattle.rendering_page.specs.Views.{manner};
+ghost use Rattle.rendering_page.specs.PageCharacters.{plainly};
+ghost use Rattle.rendering_page.specs.Views.{manner_view};
 
 use crate::manner::Manner;
 use rendering_taxonomy::{
     FontStyle, FontVariant, FontWeight, Formatting, TextDecoration, VerticalAlign,
 };
 
-/// How texts are put down that look as they do of themselves.
+/// How texts are appended that look as they do of themselves.
 pub fn plainly() -> Manner
-    ensures { manner result ≡ plainly }
+    ensures { manner_view result ≡ plainly }
 {
     Manner {
         formatting: Formatting {

@@ -1,4 +1,4 @@
-//! What a text does to the last text before it is put down.
+//! What a text does to the last text before it is appended.
 
 ghost use Rattle.std.specs.Prelude.{◌≡◌, IfOk, length};
 ghost use Rattle.std.specs.List.{list_any};
@@ -6,17 +6,18 @@ ghost use Rattle.std.specs.Char.Unicode.Alphabetic.{is_alphabetic};
 ghost use Rattle.std.specs.Str.{chars};
 ghost use Rattle.laws.specs.Text.{characters};
 ghost use Rattle.rendering_page.specs.Tail as specs;
-ghost use Rattle.rendering_page.specs.Views.{tokens_of};
+ghost use Rattle.rendering_page.specs.Views.{pieces_view};
 
-use crate::backwards::ends_in;
 use crate::cutting::{cut, trim_end};
+use crate::page_end::ends_in;
 use crate::piece::{Piece, trimmed};
 use std::alloc::{AllocError, Global};
 use texts::{empty_text, has_text, push_character, split_first};
 
 /// Cuts from the last text what goes before the next one.
 pub(crate) fn make_room(pieces: &mut Vec<Piece<'_>>, next: &str)
-    ensures { tokens_of pieces.new.items ≡ specs.remaining (chars next.now) (tokens_of pieces.old.items) }
+    ensures { pieces_view pieces.new.items
+        ≡ specs.remaining (chars next.now) (pieces_view pieces.old.items) }
 {
     close_up(pieces, next);
     drop_repeated(pieces, next);
@@ -24,7 +25,8 @@ pub(crate) fn make_room(pieces: &mut Vec<Piece<'_>>, next: &str)
 
 /// Cuts the white space at the end of the last text, where the next one begins with white space or closes something.
 fn close_up(pieces: &mut Vec<Piece<'_>>, next: &str)
-    ensures { tokens_of pieces.new.items ≡ specs.closed_up (chars next.now) (tokens_of pieces.old.items) }
+    ensures { pieces_view pieces.new.items
+        ≡ specs.closed_up (chars next.now) (pieces_view pieces.old.items) }
 {
     if begins_close(next) {
         trim_end(pieces);
@@ -33,7 +35,8 @@ fn close_up(pieces: &mut Vec<Piece<'_>>, next: &str)
 
 /// Cuts the end of the last text that the next one, a text without letters, would repeat.
 fn drop_repeated(pieces: &mut Vec<Piece<'_>>, next: &str)
-    ensures { tokens_of pieces.new.items ≡ specs.unrepeated (chars next.now) (tokens_of pieces.old.items) }
+    ensures { pieces_view pieces.new.items
+        ≡ specs.unrepeated (chars next.now) (pieces_view pieces.old.items) }
 {
     if !has_letters(next) {
         drop_end(pieces, trimmed(next));
@@ -43,7 +46,8 @@ fn drop_repeated(pieces: &mut Vec<Piece<'_>>, next: &str)
 /// Cuts that end of the last text, where it has it.
 #[tactic(auto, using(crate::proofs::CutsEnds::no_end))]
 fn drop_end(pieces: &mut Vec<Piece<'_>>, end: &str)
-    ensures { tokens_of pieces.new.items ≡ specs.without_end (chars end.now) (tokens_of pieces.old.items) }
+    ensures { pieces_view pieces.new.items
+        ≡ specs.without_end (chars end.now) (pieces_view pieces.old.items) }
 {
     if !has_text(end) {
         return;

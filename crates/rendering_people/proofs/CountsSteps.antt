@@ -1,4 +1,4 @@
--- Elements changed one after the other, and rows compared from the front on.
+-- Elements changed one after the other, and runs compared from the start on.
 use Rattle.std.proofs.Common.{arith, ◌≡◌, ℕ, ◌+◌, ◌<◌, ◌≤◌, Bool, true, false, ◌||◌, List, [], ◌∷◌, ◌++◌, map, length, take, drop, get_or, refl, sym, ap, ◌∙◌}
 use Rattle.std.specs.Prelude.{slice_set}
 use Rattle.std.specs.List.{list_any}
@@ -9,21 +9,21 @@ use Rattle.rendering_taxonomy.specs.NameForms.{rank}
 use Rattle.rendering_taxonomy.specs.declared.name.DisambiguatedNameForm.{DisambiguatedNameForm}
 use Rattle.rendering_taxonomy.specs.declared.name.DisambiguatedNameForm.TheVariants as forms
 
-front : {X : Type 0} (f : X → X) (xs : List X) (i : ℕ) → i < length xs → length (map f (take i xs)) ≡ i
-front f xs i low = let le : i ≤ length xs = omega arith in length-map (take i xs) f ∙ length-take-le i xs le
+leading : {X : Type 0} (f : X → X) (xs : List X) (i : ℕ) → i < length xs → length (map f (take i xs)) ≡ i
+leading f xs i low = let le : i ≤ length xs = omega arith in length-map (take i xs) f ∙ length-take-le i xs le
 
 -- the next element is as it was
 next_is : {X : Type 0} (f : X → X) (xs ys : List X) (i : ℕ) (d : X) → i < length xs → ys ≡ map f (take i xs) ++ drop i xs → get_or ys i d ≡ get_or xs i d
 next_is f xs ys i d low is =
     ap (λ zs. get_or zs i d) (is ∙ ap (λ zs. map f (take i xs) ++ zs) (drop_more xs i d low))
-    ∙ get_or_at (map f (take i xs)) (get_or xs i d) (drop (i + 1) xs) d i (front f xs i low)
+    ∙ get_or_at (map f (take i xs)) (get_or xs i d) (drop (i + 1) xs) d i (leading f xs i low)
 
 -- it is changed
 pub changed_more : {X : Type 0} (f : X → X) (xs ys : List X) (i : ℕ) (d y : X) → i < length xs → ys ≡ map f (take i xs) ++ drop i xs → y ≡ f (get_or ys i d)
     → slice_set ys i y ≡ map f (take (i + 1) xs) ++ drop (i + 1) xs
 changed_more f xs ys i d y low is new =
     (λ k. slice_set ((is ∙ ap (λ zs. map f (take i xs) ++ zs) (drop_more xs i d low)) k) i ((new ∙ ap f (next_is f xs ys i d low is)) k))
-    ∙ set_at (map f (take i xs)) (get_or xs i d) (drop (i + 1) xs) (f (get_or xs i d)) i (front f xs i low)
+    ∙ set_at (map f (take i xs)) (get_or xs i d) (drop (i + 1) xs) (f (get_or xs i d)) i (leading f xs i low)
     ∙ sym (append_assoc (map f (take i xs)) (f (get_or xs i d) ∷ []) (drop (i + 1) xs))
     ∙ ap (λ zs. zs ++ drop (i + 1) xs) (sym (map_more f xs i d low))
 
@@ -41,7 +41,7 @@ pub or_false : (a b : Bool) → b ≡ false → a ≡ (a || b)
 or_false true b e = refl
 or_false false b e = sym e
 
--- a row that goes on is above one that has ended
+-- a run that goes on is above one that has ended
 pub above_end : (fs gs : List DisambiguatedNameForm) (i : ℕ) → i < length fs → gs ≡ [] → is_above (map rank (drop i fs)) (map rank gs) ≡ true
 above_end fs gs i low none =
     ap (λ hs. is_above (map rank (drop i fs)) (map rank hs)) none

@@ -87,7 +87,7 @@ shown-within (c ∷ cs) all =
     second_true true b e = e
     second_true false b e = absurd cc
 
--- one form changes in the row
+-- one form changes in the run
 take-set : (n : ℕ) (fs : Forms) (i : ℕ) (f : DisambiguatedNameForm) → i < n → take n (slice_set fs i f) ≡ slice_set (take n fs) i f
 take-set zero fs i f low = absurd (omega arith)
 take-set (suc n) [] i f low = refl
@@ -98,7 +98,7 @@ pub cut-set : (i : ℕ) (f : DisambiguatedNameForm) (cs : List PeopleCount) (fs 
 cut-set i f [] fs e = refl
 cut-set i f (c ∷ cs) fs e =
     ap (λ n. cond (nat_lt i n) changed_here (c_shown ∷ with_form (i - n) f (cut cs (drop c.people fs)))) (first_fits c.people (all_people cs) fs e)
-    ∙ by_place (cut-set (i - c.people) f cs (drop c.people fs) (others_fit c.people (all_people cs) fs e)) (nat_lt i c.people) refl
+    ∙ by_index (cut-set (i - c.people) f cs (drop c.people fs) (others_fit c.people (all_people cs) fs e)) (nat_lt i c.people) refl
   where
     c_shown : VariableProperties
     c_shown = record { variable = c.variable; forms = take c.people fs; shown = c.shown }
@@ -106,12 +106,12 @@ cut-set i f (c ∷ cs) fs e =
     changed_here : Properties
     changed_here = record { variable = c.variable; forms = slice_set (take c.people fs) i f; shown = c.shown } ∷ cut cs (drop c.people fs)
 
-    by_place : with_form (i - c.people) f (cut cs (drop c.people fs)) ≡ cut cs (slice_set (drop c.people fs) (i - c.people) f)
+    by_index : with_form (i - c.people) f (cut cs (drop c.people fs)) ≡ cut cs (slice_set (drop c.people fs) (i - c.people) f)
         → (b : Bool) → nat_lt i c.people ≡ b → cond b changed_here (c_shown ∷ with_form (i - c.people) f (cut cs (drop c.people fs))) ≡ cut (c ∷ cs) (slice_set fs i f)
-    by_place others true low =
+    by_index others true low =
         let under : i < c.people = grind (arith, nat_tests) in
         λ j. record { variable = c.variable; forms = sym (take-set c.people fs i f under) j; shown = c.shown } ∷ cut cs (sym (drop-set-lt c.people fs i f under) j)
-    by_place others false high =
+    by_index others false high =
         let over : c.people ≤ i = grind (arith, nat_tests) in
         let split : c.people + (i - c.people) ≡ i = omega arith in
         λ j. record { variable = c.variable; forms = sym (take-set-le c.people fs i f over) j; shown = c.shown }

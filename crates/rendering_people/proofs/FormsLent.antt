@@ -11,7 +11,7 @@ use Rattle.rendering_people.specs.declared.properties.PeopleCount.{PeopleCount}
 use Rattle.rendering_people.proofs.CountsWhole.{all_forms-cut, cut-set}
 use Rattle.rendering_taxonomy.specs.declared.name.DisambiguatedNameForm.{DisambiguatedNameForm}
 
--- what is written at a place
+-- what is written at an index
 pub written : (cs : List PeopleCount) (fs : List DisambiguatedNameForm) (i : ℕ) (ps : Properties) → length fs ≡ all_people cs → cut cs fs ≡ ps
     → (f : DisambiguatedNameForm) → cut cs (slice_set fs i f) ≡ with_form i f ps
 written cs fs i ps people view f = sym (cut-set i f cs fs people) ∙ ap (with_form i f) view
@@ -24,7 +24,7 @@ item : (fs : List DisambiguatedNameForm) (i : ℕ) (r : Option (MutBor Disambigu
 item fs i None h = sym (slice_get_past fs i h.3)
 item fs i (Some f) h = sym (slice_get_read fs (length fs) i f.now refl h.3.0 h.1)
 
--- what is borrowed is the form at the place
+-- what is borrowed is the form at the index
 pub borrowed : (cs : List PeopleCount) (fs : List DisambiguatedNameForm) (i : ℕ) (ps : Properties) (r : Option (MutBor DisambiguatedNameForm)) → length fs ≡ all_people cs → cut cs fs ≡ ps
     → IsItemAtMut fs i r → option_map (λ f. f.now) r ≡ form_at i ps
 borrowed cs fs i ps r people view h = item fs i r h ∙ ap (λ (gs : List DisambiguatedNameForm). slice_get gs i) (sym (all_forms-cut cs fs people)) ∙ ap (form_at i) view

@@ -1,11 +1,11 @@
--- Properties as they lie in memory: the numbers of each variable, and the forms of all people in one row.
+-- Properties as they lie in memory: the numbers of each variable, and the forms of all people in one run.
 use Rattle.std.specs.Prelude.{◌≡◌, ℕ, ◌+◌, Bool, true, nat_le, min, max, List, [], ◌∷◌, length, take, drop}
 use Rattle.std.specs.List.{list_all}
 use Rattle.rendering_people.specs.Properties.{Properties}
 use Rattle.rendering_people.specs.declared.properties.PeopleCount.{PeopleCount}
 use Rattle.rendering_taxonomy.specs.declared.name.DisambiguatedNameForm.{DisambiguatedNameForm}
 
--- to each variable its forms, from the front of the row on
+-- to each variable its forms, from the start of the run on
 abbrev pub cut : List PeopleCount → List DisambiguatedNameForm → Properties
 cut [] fs = []
 cut (c ∷ cs) fs = record { variable = c.variable; forms = take c.people fs; shown = c.shown } ∷ cut cs (drop c.people fs)

@@ -1,4 +1,4 @@
--- How much of names is printed to tell cites apart.
+-- How much of names is printed to disambiguate cites.
 use Rattle.std.specs.Prelude.{ℕ, ◌-◌, Bool, true, false, ◌==◌, ◌&&◌, ◌||◌, nat_lt, min, max, List, [], ◌∷◌, map, find, length, sum_by, if◌then◌else◌, slice_get, slice_set, Option, Some, None}
 use Rattle.std.specs.List.{list_any, flat_map}
 use Rattle.rendering_taxonomy.specs.NameForms.{rank, greater_form}
@@ -32,11 +32,11 @@ with_name n ps = map (showing n) ps
 abbrev pub adds_name : ℕ → Properties → Bool
 adds_name n ps = list_any (λ p. nat_lt p.shown (showing n p).shown) ps
 
--- the form of the person at a place among all people
+-- the form of the person at an index among all people
 abbrev pub form_at : ℕ → Properties → Option DisambiguatedNameForm
 form_at i ps = slice_get (all_forms ps) i
 
--- another form for the person at a place among all people
+-- another form for the person at an index among all people
 abbrev pub with_form : ℕ → DisambiguatedNameForm → Properties → Properties
 with_form i f [] = []
 with_form i f (p ∷ ps) =
@@ -48,7 +48,7 @@ with_form i f (p ∷ ps) =
 abbrev pub all_shown : Properties → ℕ
 all_shown ps = sum_by (λ p. p.shown) ps
 
--- whether one row of numbers is above another: by the first place where they differ, or else by going on where the other ends
+-- whether one run of numbers is above another: by the first index where they differ, or else by going on where the other ends
 abbrev pub is_above : List ℕ → List ℕ → Bool
 is_above [] ns = false
 is_above (m ∷ ms) [] = true
@@ -62,7 +62,7 @@ prints_more ps qs = nat_lt (all_shown qs) (all_shown ps) || (all_shown ps == all
 abbrev pub greater : Properties → Properties → Properties
 greater ps qs = if prints_more ps qs then ps else qs
 
--- the greater form at each place
+-- the greater form at each index
 abbrev pub greater_forms : List DisambiguatedNameForm → List DisambiguatedNameForm → List DisambiguatedNameForm
 greater_forms [] gs = []
 greater_forms (f ∷ fs) [] = f ∷ fs

@@ -25,9 +25,9 @@ forms_like c [] fs = []
 forms_like c (d ∷ ds) fs = if is_same_count c d then take d.people fs else forms_like c ds (drop d.people fs)
 
 -- the forms of all people, those of each variable raised
-abbrev pub raised_row : List PeopleCount → List DisambiguatedNameForm → List PeopleCount → List DisambiguatedNameForm → List DisambiguatedNameForm
-raised_row [] fs others gs = []
-raised_row (c ∷ cs) fs others gs = greater_forms (take c.people fs) (forms_like c others gs) ++ raised_row cs (drop c.people fs) others gs
+abbrev pub raised_run : List PeopleCount → List DisambiguatedNameForm → List PeopleCount → List DisambiguatedNameForm → List DisambiguatedNameForm
+raised_run [] fs others gs = []
+raised_run (c ∷ cs) fs others gs = greater_forms (take c.people fs) (forms_like c others gs) ++ raised_run cs (drop c.people fs) others gs
 
 -- the greater of two forms, or the first alone
 abbrev pub greater_or : DisambiguatedNameForm → Option DisambiguatedNameForm → DisambiguatedNameForm

@@ -2,23 +2,23 @@
 use Rattle.std.specs.Prelude.{List, map}
 use Rattle.std.specs.Cow.{cow_value}
 use Rattle.std.specs.declared.borrow.Cow.{Cow}
-use Rattle.literature_values.specs.PersonViews.{Named, person}
+use Rattle.literature_values.specs.PersonViews.{Named, person_view}
 use Rattle.literature_values.specs.declared.person.Person.{Person}
 use Rattle.rendering_tree.specs.Metas as metas
 use Rattle.rendering_people.specs.declared.people.Answered.{Answered}
 
 -- a person
-abbrev pub person_by : Cow Person → Named
-person_by p = person (cow_value p)
+abbrev pub lent_person_view : Cow Person → Named
+lent_person_view p = person_view (cow_value p)
 
 -- people
-abbrev pub people_by : List (Cow Person) → List Named
-people_by ps = map person_by ps
+abbrev pub lent_people_view : List (Cow Person) → List Named
+lent_people_view ps = map lent_person_view ps
 
 -- people, and the variable that they answer
-abbrev pub answered_by : Answered → metas.Answered
-answered_by a = (people_by a.people.items, a.variable)
+abbrev pub lent_answered_view : Answered → metas.Answered
+lent_answered_view a = (lent_people_view a.people.items, a.variable)
 
 -- the people of several variables
-abbrev pub all_answered : List Answered → List metas.Answered
-all_answered people = map answered_by people
+abbrev pub all_lent_answered_view : List Answered → List metas.Answered
+all_lent_answered_view people = map lent_answered_view people

@@ -2,10 +2,10 @@
 
 ghost use Rattle.std.specs.Prelude.{◌≡◌, map, IfOk};
 ghost use Rattle.std.specs.Cow.{cow_value};
-ghost use Rattle.literature_values.specs.PersonViews.{person as person_seen};
-ghost use Rattle.rendering_people.specs.Views.{people_by, all_answered};
+ghost use Rattle.literature_values.specs.PersonViews.{person_view};
+ghost use Rattle.rendering_people.specs.Views.{lent_people_view, all_lent_answered_view};
 ghost use Rattle.rendering_tree.specs.Metas as metas;
-ghost use Rattle.rendering_tree.specs.Views.{meaning};
+ghost use Rattle.rendering_tree.specs.Views.{meta_view};
 
 use literature_values::Person;
 use rendering_taxonomy::NameVariable;
@@ -35,7 +35,7 @@ pub fn borrowed_person<'p>(person: &'p Cow<'_, Person>) -> &'p Person
 /// # Errors
 /// Out of memory.
 pub fn names_meta(alloc: Global, people: &[Answered]) -> Result<ElemMeta, AllocError>
-    ensures { IfOk result (λ m. meaning m ≡ metas.Names (all_answered people.now)) }
+    ensures { IfOk result (λ m. meta_view m ≡ metas.Names (all_lent_answered_view people.now)) }
 {
     let mut names = Vec::with_capacity(alloc, people.len())?;
     for answered in people {
@@ -47,7 +47,7 @@ pub fn names_meta(alloc: Global, people: &[Answered]) -> Result<ElemMeta, AllocE
 
 /// Copies of people.
 fn copied_people(alloc: Global, people: &[Cow<'_, Person>]) -> Result<Vec<Person>, AllocError>
-    ensures { IfOk result (λ copies. map person_seen copies.items ≡ people_by people.now) }
+    ensures { IfOk result (λ copies. map person_view copies.items ≡ lent_people_view people.now) }
 {
     let mut copies = Vec::with_capacity(alloc, people.len())?;
     for person in people {

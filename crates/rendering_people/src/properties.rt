@@ -1,4 +1,4 @@
-//! How much of names is printed to tell cites apart.
+//! How much of names is printed to disambiguate cites.
 
 ghost use Rattle.std.specs.Prelude.{◌≡◌, ◌≤◌, drop, map, nat_lt, sum_by, take};
 ghost use Rattle.std.specs.Borrow.{sem};
@@ -66,7 +66,7 @@ impl NameDisambiguationProperties {
         show_at_least(self.counts.as_mut_slice(), num)
     }
 
-    /// The one that prints more: more people, or as many in greater forms, by the first place where they differ, or else by
+    /// The one that prints more: more people, or as many in greater forms, by the first index where they differ, or else by
     /// going on where the other ends. Where neither does, the other one.
     pub fn max(self, other: Self) -> Self
         ensures { result ≡ greater self other }
@@ -78,7 +78,7 @@ impl NameDisambiguationProperties {
         }
     }
 
-    /// The form of the person at a place from zero among all people, those of one variable after those of another.
+    /// The form of the person at an index from zero among all people, those of one variable after those of another.
     pub fn get_form_mut(&mut self, idx: usize) -> Option<&mut DisambiguatedNameForm>
         ensures* writes_back { sem 𝓛 (LendsForm self.entry idx result) }
         ensures value { option_map (λ f. f.now) result ≡ form_at idx self.old }
@@ -108,7 +108,7 @@ impl NameDisambiguationProperties {
         total_shown(self.counts.as_slice(), forms.len())
     }
 
-    /// Whether more is printed than by others: more people, or as many in greater forms, by the first place where they differ, or
+    /// Whether more is printed than by others: more people, or as many in greater forms, by the first index where they differ, or
     /// else by going on where the others end.
     pub fn prints_more(&self, other: &Self) -> bool
         ensures { result ≡ prints_more self.now other.now }
@@ -179,7 +179,7 @@ pub fn split_forms(
     forms.split_at(count.min(forms.len()))
 }
 
-/// Whether forms are above others: by the first place where they differ, or else by going on where the others end.
+/// Whether forms are above others: by the first index where they differ, or else by going on where the others end.
 fn is_above(forms: &[DisambiguatedNameForm], others: &[DisambiguatedNameForm]) -> bool
     ensures { result ≡ is_above (map rank forms.now) (map rank others.now) }
 {
@@ -196,7 +196,7 @@ fn is_above(forms: &[DisambiguatedNameForm], others: &[DisambiguatedNameForm]) -
     false
 }
 
-/// The place of a form among all forms, from the least on.
+/// The index of a form among all forms, from the least on.
 pub(crate) fn rank(form: DisambiguatedNameForm) -> u8
     ensures { result ≡ rank form }
 {

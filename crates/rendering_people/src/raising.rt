@@ -5,7 +5,7 @@ ghost use Rattle.std.specs.Option.{option_map};
 ghost use Rattle.rendering_taxonomy.specs.NameForms.{greater_form};
 ghost use Rattle.rendering_taxonomy.specs.Variables.{is_name_variable};
 ghost use Rattle.rendering_people.specs.Properties.{greater_forms, raised_to};
-ghost use Rattle.rendering_people.specs.Raised.{forms_like, greater_or, is_same_count, raised_count, raised_row};
+ghost use Rattle.rendering_people.specs.Raised.{forms_like, greater_or, is_same_count, raised_count, raised_run};
 
 use crate::properties::{NameDisambiguationProperties, PeopleCount, rank, split_forms};
 use rendering_taxonomy::{DisambiguatedNameForm, NameVariable};
@@ -29,10 +29,10 @@ impl NameDisambiguationProperties {
         let other_counts = others.counts.as_slice();
         let other_forms = others.forms.as_slice();
         let raised = raised_counts(alloc, counts, other_counts)?;
-        let row = raised_row(alloc, counts, forms, other_counts, other_forms)?;
+        let run = raised_run(alloc, counts, forms, other_counts, other_forms)?;
         Ok(NameDisambiguationProperties {
             counts: raised,
-            forms: row,
+            forms: run,
         })
     }
 }
@@ -92,14 +92,15 @@ fn is_same_variable(variable: NameVariable, other: NameVariable) -> bool
 }
 
 /// The forms of all people, raised to those of others.
-fn raised_row(
+fn raised_run(
     alloc: Global,
     counts: &[PeopleCount],
     forms: &[DisambiguatedNameForm],
     others: &[PeopleCount],
     other_forms: &[DisambiguatedNameForm],
 ) -> Result<Vec<DisambiguatedNameForm>, AllocError>
-    ensures { IfOk result (λ raised. raised.items ≡ raised_row counts.now forms.now others.now other_forms.now) }
+    ensures { IfOk result (λ raised. raised.items
+        ≡ raised_run counts.now forms.now others.now other_forms.now) }
 {
     let mut raised = Vec::with_capacity(alloc, forms.len())?;
     let mut rest = forms;
@@ -130,16 +131,17 @@ fn forms_like<'f>(
     &[]
 }
 
-/// Appends the greater form at each place. Forms after the last of the others stay as they are.
+/// Appends the greater form at each index. Forms after the last of the others stay as they are.
 fn push_greater(
     raised: &mut Vec<DisambiguatedNameForm>,
     forms: &[DisambiguatedNameForm],
     others: &[DisambiguatedNameForm],
 ) -> Result<(), AllocError>
-    ensures { OnOk result (raised.new.items ≡ raised.old.items ++ greater_forms forms.now others.now) }
+    ensures { OnOk result (raised.new.items
+        ≡ raised.old.items ++ greater_forms forms.now others.now) }
 {
-    for place in 0..forms.len() {
-        raised.push(greater_or(forms[place], others.get(place)))?;
+    for index in 0..forms.len() {
+        raised.push(greater_or(forms[index], others.get(index)))?;
     }
     Ok(())
 }

@@ -6,10 +6,10 @@ use Rattle.std.proofs.lemmas.Bool.Decides.{nat_tests}
 use Rattle.std.proofs.lemmas.List.Elements.{Contains-append_left, Contains-append_right}
 use Rattle.rendering_style.specs.Nodes.{Node, Nodes, Branches, leaf, call, opened, names, choose, group, no_nodes, node, otherwise, branch, nodes_of}
 use Rattle.rendering_style.specs.Styles.{Macro}
-use Rattle.rendering_style.specs.Opening.{macro_named, place_of, all_nodes, all_branches, fits, limit, calls, calls_in, calls_of_branches}
+use Rattle.rendering_style.specs.Opening.{macro_named, index_of, all_nodes, all_branches, fits, limit, calls, calls_in, calls_of_branches}
 use Rattle.rendering_style.specs.Levels.{levels, levels_below, branch_levels}
 use Rattle.rendering_style.specs.Tables.{Measures, nodes_at, height_at}
-use Rattle.rendering_style.proofs.OpeningPlaces.{IsNowhere, IsAt, look_up}
+use Rattle.rendering_style.proofs.OpeningIndices.{IsNowhere, IsAt, look_up}
 
 none_fit : (n : ℕ) → true ≡ leb 0 n
 none_fit n = grind (arith, nat_tests)
@@ -66,21 +66,21 @@ module _ (ms : List Macro) (height : List ℕ → ℕ) where
         (branches_fit bs (λ name k. h name (Contains-append_right (calls xs) (calls_of_branches bs) name k)) n low)
         ∙ of_both (levels height xs) (branch_levels height bs) n
 
--- what stands at a place
+-- what stands at an index
 pub nodes_there : (ms : List Macro) (i : ℕ) (m : Macro) → slice_get ms i ≡ Some m → nodes_at ms i ≡ nodes_of m.nodes
 nodes_there ms i m e = ap (λ o. option_map_or (λ (x : Macro). nodes_of x.nodes) o no_nodes) e
 
--- a name by the height at its place
-pub name_measured : (ms : List Macro) (heights : List ℕ) (name : List ℕ) → ((i : ℕ) → place_of ms name ≡ Some i → Measures ms (get_or heights i 0) (nodes_at ms i))
-    → MeasuresName ms (λ q. height_at heights (place_of ms q)) name
+-- a name by the height at its index
+pub name_measured : (ms : List Macro) (heights : List ℕ) (name : List ℕ) → ((i : ℕ) → index_of ms name ≡ Some i → Measures ms (get_or heights i 0) (nodes_at ms i))
+    → MeasuresName ms (λ q. height_at heights (index_of ms q)) name
 name_measured ms heights name h n low = by_cases (look_up ms name)
   where
-    by_cases : IsNowhere ms name ⊎ IsAt ms name → option_map_or (all_nodes (fits n ms)) (macro_named ms name) true ≡ leb (height_at heights (place_of ms name)) n
+    by_cases : IsNowhere ms name ⊎ IsAt ms name → option_map_or (all_nodes (fits n ms)) (macro_named ms name) true ≡ leb (height_at heights (index_of ms name)) n
     by_cases (inl w) = ap (λ o. option_map_or (all_nodes (fits n ms)) o true) w.0 ∙ (none_fit n ∙ ap (λ o. leb (height_at heights o) n) (sym w.1))
     by_cases (inr s) =
         ap (λ o. option_map_or (all_nodes (fits n ms)) o true) s.named
-        ∙ (ap (all_nodes (fits n ms)) (sym (nodes_there ms s.place s.found s.there))
-        ∙ (h s.place s.placed n low ∙ ap (λ o. leb (height_at heights o) n) (sym s.placed)))
+        ∙ (ap (all_nodes (fits n ms)) (sym (nodes_there ms s.index s.found s.there))
+        ∙ (h s.index s.indexed n low ∙ ap (λ o. leb (height_at heights o) n) (sym s.indexed)))
 
 -- the count up to one more than the limit is a height
 pub measured : (ms : List Macro) (height : List ℕ → ℕ) (xs : Nodes) → MeasuresNames ms height (calls xs) → Measures ms (min (levels height xs) 201) xs

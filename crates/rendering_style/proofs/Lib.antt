@@ -1,5 +1,5 @@
 pub mod OpeningDeeper
-pub mod OpeningPlaces
+pub mod OpeningIndices
 pub mod LevelsFit
 pub mod OpeningCalls
 pub mod TablesHeights

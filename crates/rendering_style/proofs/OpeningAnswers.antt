@@ -7,35 +7,35 @@ use Rattle.reference_graph.specs.References.{references_of, IsCircular}
 use Rattle.reference_graph.specs.Order.{is_marked, MarksCircular}
 use Rattle.rendering_style.specs.Nodes.{Node, nodes_of}
 use Rattle.rendering_style.specs.Styles.{Bibliography, Layout, Macro, Style}
-use Rattle.rendering_style.specs.Opening.{place_of, all_nodes, fits, layout_fits, style_fits, references, Refusal, macro_ring, IsFirstRing, IsAnswer}
+use Rattle.rendering_style.specs.Opening.{index_of, all_nodes, fits, layout_fits, style_fits, references, Refusal, macro_ring, IsFirstRing, IsAnswer}
 use Rattle.rendering_style.specs.Levels.{levels}
 use Rattle.rendering_style.specs.Tables.{height_at, AreHeights}
-use Rattle.rendering_style.proofs.OpeningPlaces.{placed_within}
+use Rattle.rendering_style.proofs.OpeningIndices.{indexed_within}
 use Rattle.rendering_style.proofs.LevelsFit.{MeasuresName, name_measured, nodes_fit}
 use Rattle.rendering_style.proofs.OpeningCalls.{as_many}
 
--- each name has the height at its place
-all_measured : (ms : List Macro) (heights : List ℕ) → AreHeights heights ms → (name : List ℕ) → MeasuresName ms (λ q. height_at heights (place_of ms q)) name
-all_measured ms heights h name = name_measured ms heights name (λ i e. h i (placed_within ms name i e))
+-- each name has the height at its index
+all_measured : (ms : List Macro) (heights : List ℕ) → AreHeights heights ms → (name : List ℕ) → MeasuresName ms (λ q. height_at heights (index_of ms q)) name
+all_measured ms heights h name = name_measured ms heights name (λ i e. h i (indexed_within ms name i e))
 
 each_node : (f : Node → Bool) (xs : List Node) → list_all f xs ≡ all_nodes f (nodes_of xs)
 each_node f [] = refl
 each_node f (x ∷ xs) = ap (λ b. f x && b) (each_node f xs)
 
-layout_by_heights : (ms : List Macro) (heights : List ℕ) → AreHeights heights ms → (l : Layout) → layout_fits ms l ≡ leb (levels (λ q. height_at heights (place_of ms q)) (nodes_of l.nodes)) 200
+layout_by_heights : (ms : List Macro) (heights : List ℕ) → AreHeights heights ms → (l : Layout) → layout_fits ms l ≡ leb (levels (λ q. height_at heights (index_of ms q)) (nodes_of l.nodes)) 200
 layout_by_heights ms heights h l =
-    each_node (fits 200 ms) l.nodes ∙ nodes_fit ms (λ q. height_at heights (place_of ms q)) (nodes_of l.nodes) (λ name k. all_measured ms heights h name) 200 (le_refl 200)
+    each_node (fits 200 ms) l.nodes ∙ nodes_fit ms (λ q. height_at heights (index_of ms q)) (nodes_of l.nodes) (λ name k. all_measured ms heights h name) 200 (le_refl 200)
 
 of_bibliography : (ms : List Macro) (heights : List ℕ) → AreHeights heights ms → (o : Option Bibliography)
-    → option_map_or (λ b. layout_fits ms b.layout) o true ≡ option_map_or (λ b. leb (levels (λ q. height_at heights (place_of ms q)) (nodes_of b.layout.nodes)) 200) o true
+    → option_map_or (λ b. layout_fits ms b.layout) o true ≡ option_map_or (λ b. leb (levels (λ q. height_at heights (index_of ms q)) (nodes_of b.layout.nodes)) 200) o true
 of_bibliography ms heights h None = refl
 of_bibliography ms heights h (Some b) = layout_by_heights ms heights h b.layout
 
 -- whether a style fits, by the heights of its macros
 pub style_by_heights : (s : Style) (heights : List ℕ) → AreHeights heights s.macros
-    → style_fits s ≡ (leb (levels (λ q. height_at heights (place_of s.macros q)) (nodes_of s.citation.layout.nodes)) 200
-    && option_map_or (λ b. leb (levels (λ q. height_at heights (place_of s.macros q)) (nodes_of b.layout.nodes)) 200) s.bibliography true
-    && list_all (λ m. leb (height_at heights (place_of s.macros m.name)) 200) s.macros)
+    → style_fits s ≡ (leb (levels (λ q. height_at heights (index_of s.macros q)) (nodes_of s.citation.layout.nodes)) 200
+    && option_map_or (λ b. leb (levels (λ q. height_at heights (index_of s.macros q)) (nodes_of b.layout.nodes)) 200) s.bibliography true
+    && list_all (λ m. leb (height_at heights (index_of s.macros m.name)) 200) s.macros)
 style_by_heights s heights h = λ i.
     layout_by_heights s.macros heights h s.citation.layout i
     && of_bibliography s.macros heights h s.bibliography i

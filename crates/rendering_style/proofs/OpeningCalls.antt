@@ -1,4 +1,4 @@
--- Which macros call which, by their places.
+-- Which macros call which, by their indices.
 use Rattle.std.proofs.Common.{◌≡◌, ℕ, zero, suc, ◌<◌, List, [], ◌∷◌, length, map, get_or, Option, Some, None, Contains, refl, sym, ap, subst, ◌∙◌, arith}
 use Rattle.std.specs.List.{filter_map, cons_option}
 use Rattle.std.proofs.lemmas.List.Elements.{Contains-append_right}
@@ -6,7 +6,7 @@ use Rattle.std.proofs.lemmas.List.{length-map}
 use Rattle.reference_graph.specs.References.{references_of}
 use Rattle.rendering_style.specs.Nodes.{nodes_of}
 use Rattle.rendering_style.specs.Styles.{Macro}
-use Rattle.rendering_style.specs.Opening.{place_of, calls, references}
+use Rattle.rendering_style.specs.Opening.{index_of, calls, references}
 use Rattle.rendering_style.specs.Tables.{nodes_at}
 
 -- what one element gives, the list gives
@@ -29,15 +29,15 @@ given {X} {Y} f (z ∷ xs) x y (suc k) low is e = more (f z) (given f xs x y k (
 contains_filter_map : {X Y : Type 0} (f : X → Option Y) (xs : List X) (x : X) (y : Y) → Contains xs x → f x ≡ Some y → Contains (filter_map f xs) y
 contains_filter_map f xs x y c e = given f xs x y c.0 c.1 c.2 e
 
--- the references of the macro at a place
-references_at : (all ms : List Macro) (i : ℕ) → i < length ms → get_or (map (λ (m : Macro). filter_map (place_of all) (calls (nodes_of m.nodes))) ms) i [] ≡ filter_map (place_of all) (calls (nodes_at ms i))
+-- the references of the macro at an index
+references_at : (all ms : List Macro) (i : ℕ) → i < length ms → get_or (map (λ (m : Macro). filter_map (index_of all) (calls (nodes_of m.nodes))) ms) i [] ≡ filter_map (index_of all) (calls (nodes_at ms i))
 references_at all [] i low = absurd (omega (arith, low))
 references_at all (m ∷ ms) zero low = refl
 references_at all (m ∷ ms) (suc i) low = references_at all ms i (omega (arith, low))
 
 -- a macro that nodes call by its name is one that they refer to
-pub refers : (ms : List Macro) (i r : ℕ) (name : List ℕ) → i < length ms → Contains (calls (nodes_at ms i)) name → place_of ms name ≡ Some r → Contains (references_of (references ms) i) r
-refers ms i r name low c e = subst (λ (rs : List ℕ). Contains rs r) (sym (references_at ms ms i low)) (contains_filter_map (place_of ms) (calls (nodes_at ms i)) name r c e)
+pub refers : (ms : List Macro) (i r : ℕ) (name : List ℕ) → i < length ms → Contains (calls (nodes_at ms i)) name → index_of ms name ≡ Some r → Contains (references_of (references ms) i) r
+refers ms i r name low c e = subst (λ (rs : List ℕ). Contains rs r) (sym (references_at ms ms i low)) (contains_filter_map (index_of ms) (calls (nodes_at ms i)) name r c e)
 
 pub as_many : (ms : List Macro) → length (references ms) ≡ length ms
-as_many ms = length-map ms (λ (m : Macro). filter_map (place_of ms) (calls (nodes_of m.nodes)))
+as_many ms = length-map ms (λ (m : Macro). filter_map (index_of ms) (calls (nodes_of m.nodes)))

@@ -1,4 +1,4 @@
--- A table from names to places in which one more name means a place.
+-- A table from names to indices in which one more name means an index.
 use Rattle.std.proofs.Common.{◌≡◌, ℕ, Bool, true, false, cond, List, Option, Some, None, string_bytes, refl, sym, ap, ◌∙◌}
 use Rattle.std.specs.Global.{Global}
 use Rattle.std.specs.Prelude.{String}
@@ -18,12 +18,12 @@ nothing : (o : Option ℕ) → is_some o ≡ false → o ≡ None
 nothing None e = refl
 nothing (Some n) e = cc
 
--- a name that meant nothing means a place
-pub bound : {S : Type 0} (old new : HashMap (String Global) ℕ S) (key : String Global) (name : List ℕ) (place : ℕ) → string_bytes key ≡ name → is_some (get_by_text old name) ≡ false → Updates string_eq old new key (Some place)
-    → (q : List ℕ) → get_by_text new q ≡ option_or (get_by_text old q) (cond (bytes_eq name q) (Some place) None)
-bound old new key name place is none told q =
-    hash_map_updates_text (string_bytes key) old new (Some place) told q ∙ (ap (λ (k : List ℕ). cond (bytes_eq k q) (Some place) (get_by_text old q)) is ∙ by_test (bytes_eq name q) refl)
+-- a name that meant nothing means an index
+pub bound : {S : Type 0} (old new : HashMap (String Global) ℕ S) (key : String Global) (name : List ℕ) (index : ℕ) → string_bytes key ≡ name → is_some (get_by_text old name) ≡ false → Updates string_eq old new key (Some index)
+    → (q : List ℕ) → get_by_text new q ≡ option_or (get_by_text old q) (cond (bytes_eq name q) (Some index) None)
+bound old new key name index is none told q =
+    hash_map_updates_text (string_bytes key) old new (Some index) told q ∙ (ap (λ (k : List ℕ). cond (bytes_eq k q) (Some index) (get_by_text old q)) is ∙ by_test (bytes_eq name q) refl)
   where
-    by_test : (b : Bool) → bytes_eq name q ≡ b → cond b (Some place) (get_by_text old q) ≡ option_or (get_by_text old q) (cond b (Some place) None)
-    by_test true e = ap (λ (o : Option ℕ). option_or o (Some place)) (sym (ap (get_by_text old) (sym ((bytes_eq-Decides name q).0 e)) ∙ nothing (get_by_text old name) none))
+    by_test : (b : Bool) → bytes_eq name q ≡ b → cond b (Some index) (get_by_text old q) ≡ option_or (get_by_text old q) (cond b (Some index) None)
+    by_test true e = ap (λ (o : Option ℕ). option_or o (Some index)) (sym (ap (get_by_text old) (sym ((bytes_eq-Decides name q).0 e)) ∙ nothing (get_by_text old name) none))
     by_test false e = or_nothing (get_by_text old q)

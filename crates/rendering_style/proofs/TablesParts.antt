@@ -11,7 +11,7 @@ use Rattle.rendering_style.specs.Styles as styles
 use Rattle.rendering_style.specs.Opening.{style_fits}
 use Rattle.rendering_style.specs.Levels.{levels}
 use Rattle.rendering_style.specs.Tables.{IsIndex, AreHeights, height_of}
-use Rattle.rendering_style.specs.Views.{macro_seen, macros_seen, nodes_seen, bibliography_seen, parts_seen}
+use Rattle.rendering_style.specs.Views.{macro_view, macros_view, nodes_view, bibliography_layout_view, style_parts_view}
 use Rattle.rendering_style.specs.declared.parts.Bibliography.{Bibliography}
 use Rattle.rendering_style.specs.declared.parts.Macro.{Macro}
 use Rattle.rendering_style.specs.declared.parts.StyleParts.{StyleParts}
@@ -19,22 +19,22 @@ use Rattle.rendering_style.proofs.OpeningAnswers.{style_by_heights}
 use Rattle.rendering_style.proofs.TablesHeights.{heights_same}
 
 of_bibliography : (height : List ℕ → ℕ) (o : Option Bibliography)
-    → option_map_or (λ (b : styles.Bibliography). leb (levels height (nodes_of b.layout.nodes)) 200) (option_map bibliography_seen o) true ≡ option_map_or (λ (b : Bibliography). leb (levels height (nodes_seen b.layout.nodes.items)) 200) o true
+    → option_map_or (λ (b : styles.Bibliography). leb (levels height (nodes_of b.layout.nodes)) 200) (option_map bibliography_layout_view o) true ≡ option_map_or (λ (b : Bibliography). leb (levels height (nodes_view b.layout.nodes.items)) 200) o true
 of_bibliography height None = refl
 of_bibliography height (Some b) = refl
 
 -- whether they fit, in the words of the code
-pub parts_fit : {S : Type 0} (index : HashMap (String Global) ℕ S) (p : StyleParts) (heights : List ℕ) → IsIndex index (macros_seen p) → AreHeights heights (macros_seen p)
-    → style_fits (parts_seen p) ≡ (leb (levels (height_of index heights) (nodes_seen p.citation.layout.nodes.items)) 200
-    && option_map_or (λ (b : Bibliography). leb (levels (height_of index heights) (nodes_seen b.layout.nodes.items)) 200) p.bibliography true
-    && list_all (λ (m : Macro). leb (height_of index heights (string_bytes m.name)) 200) p.macros.items)
-parts_fit index p heights told h =
-    style_by_heights (parts_seen p) heights h
-    ∙ (ap (λ (height : List ℕ → ℕ). leb (levels height (nodes_seen p.citation.layout.nodes.items)) 200
-    && option_map_or (λ (b : styles.Bibliography). leb (levels height (nodes_of b.layout.nodes)) 200) (option_map bibliography_seen p.bibliography) true
-    && list_all (λ (m : styles.Macro). leb (height m.name) 200) (map macro_seen p.macros.items)) (sym (heights_same index (macros_seen p) heights told))
-    ∙ (λ i. leb (levels (height_of index heights) (nodes_seen p.citation.layout.nodes.items)) 200 && of_bibliography (height_of index heights) p.bibliography i
-    && list_all-map (λ (m : styles.Macro). leb (height_of index heights m.name) 200) macro_seen p.macros.items i))
+pub parts_fit : {S : Type 0} (table : HashMap (String Global) ℕ S) (p : StyleParts) (heights : List ℕ) → IsIndex table (macros_view p) → AreHeights heights (macros_view p)
+    → style_fits (style_parts_view p) ≡ (leb (levels (height_of table heights) (nodes_view p.citation.layout.nodes.items)) 200
+    && option_map_or (λ (b : Bibliography). leb (levels (height_of table heights) (nodes_view b.layout.nodes.items)) 200) p.bibliography true
+    && list_all (λ (m : Macro). leb (height_of table heights (string_bytes m.name)) 200) p.macros.items)
+parts_fit table p heights told h =
+    style_by_heights (style_parts_view p) heights h
+    ∙ (ap (λ (height : List ℕ → ℕ). leb (levels height (nodes_view p.citation.layout.nodes.items)) 200
+    && option_map_or (λ (b : styles.Bibliography). leb (levels height (nodes_of b.layout.nodes)) 200) (option_map bibliography_layout_view p.bibliography) true
+    && list_all (λ (m : styles.Macro). leb (height m.name) 200) (map macro_view p.macros.items)) (sym (heights_same table (macros_view p) heights told))
+    ∙ (λ i. leb (levels (height_of table heights) (nodes_view p.citation.layout.nodes.items)) 200 && of_bibliography (height_of table heights) p.bibliography i
+    && list_all-map (λ (m : styles.Macro). leb (height_of table heights m.name) 200) macro_view p.macros.items i))
 
 -- the answer where all that is asked before is true, and where one of it is not
 pub all_fit : (s a b c r : Bool) → s ≡ (a && b && c) → a ≡ true → b ≡ true → r ≡ c → r ≡ s

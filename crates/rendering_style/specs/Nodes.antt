@@ -73,7 +73,7 @@ pub record EtAl : Type 0 where
   pub name : EtAlTerm
   pub formatting : Changes
 
--- Names: the variables whose people are printed; what is said of single names, of the term for those left out, and of a label, which
+-- Names: the variables whose people are printed; what is specified for single names, of the term for those left out, and of a label, which
 -- stands before or after the names; what stands between the people of two variables.
 pub record NamesNode : Type 0 where
   pub variables : List NameVariable
@@ -113,7 +113,7 @@ pub data Leaf : Type 0 where
   date : DateNode → Leaf
 
 mutual
-  -- A node without others; a macro by its name; a macro that is opened; names, and what stands in where there are none; the first
+  -- A node without others; a macro by its name; a macro that is opened; names, and their substitute where there are none; the first
   -- branch whose condition is met; a group.
   pub data Node : Type 0 where
     leaf : Leaf → Node

@@ -92,20 +92,20 @@ abbrev mutual
   calls_of_branches (otherwise xs) = calls xs
   calls_of_branches (branch c xs bs) = calls xs ++ calls_of_branches bs
 
--- the place of the first macro of that name
-abbrev pub place_of : List Macro → List ℕ → Option ℕ
-place_of ms name = position (λ m. bytes_eq m.name name) ms
+-- the index of the first macro of that name
+abbrev pub index_of : List Macro → List ℕ → Option ℕ
+index_of ms name = position (λ m. bytes_eq m.name name) ms
 
--- the macros that each calls, by their places
+-- the macros that each calls, by their indices
 abbrev pub references : List Macro → List (List ℕ)
-references ms = map (λ m. filter_map (place_of ms) (calls (nodes_of m.nodes))) ms
+references ms = map (λ m. filter_map (index_of ms) (calls (nodes_of m.nodes))) ms
 
 -- why a style is refused: a macro that reaches itself, or too many levels
 pub data Refusal : Type 0 where
   macro_ring : List ℕ → Refusal
   too_deep : Refusal
 
--- the macro at a place reaches itself, and none before it does
+-- the macro at an index reaches itself, and none before it does
 pub record IsFirstRing (ms : List Macro) (i : ℕ) : Type 0 where
   pub there : i < length ms
   pub ring : IsCircular (references ms) i

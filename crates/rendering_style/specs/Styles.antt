@@ -25,7 +25,7 @@ pub record Macro : Type 0 where
   pub name : List ℕ
   pub nodes : List Node
 
--- how cites are printed, told apart, gathered and collapsed
+-- how cites are printed, disambiguated, gathered and collapsed
 pub record Citation : Type 0 where
   pub layout : Layout
   pub name_options : NameOptions

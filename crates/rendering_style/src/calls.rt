@@ -8,83 +8,86 @@ ghost use Rattle.reference_graph.specs.References.{lists};
 ghost use Rattle.rendering_style.specs.Nodes.{Nodes, TextLook};
 ghost use Rattle.rendering_style.specs.Opening.{calls, calls_in, calls_of_branches, references};
 ghost use Rattle.rendering_style.specs.Tables.{IsIndex};
-ghost use Rattle.rendering_style.specs.Views.{macro_seen, node_seen, nodes_seen, text_seen, branch_seen, branches_of};
+ghost use Rattle.rendering_style.specs.Views.{macro_view, node_view, nodes_view, text_node_view, branch_view, branches_of};
 
 use crate::node::{ChooseBranch, Node, TextTarget};
 use crate::parts::Macro;
 use std::alloc::{AllocError, Global};
 use std::collections::HashMap;
 
-/// The place of the first macro of each name.
-pub(crate) fn index_of(
+/// The index of the first macro of each name.
+pub(crate) fn table_of(
     alloc: Global,
     macros: &[Macro],
 ) -> Result<HashMap<String, usize>, AllocError>
-    ensures { IfOk result (λ index. IsIndex index (map macro_seen macros.now)) }
+    ensures { IfOk result (λ table. IsIndex table (map macro_view macros.now)) }
 {
-    let mut index = HashMap::new(alloc);
-    for place in 0..macros.len() {
-        bind(alloc, &mut index, macros[place].name.as_str(), place)?;
+    let mut table = HashMap::new(alloc);
+    for index in 0..macros.len() {
+        bind(alloc, &mut table, macros[index].name.as_str(), index)?;
     }
-    Ok(index)
+    Ok(table)
 }
 
-/// Lets a name mean a place, unless it means one.
+/// Lets a name mean an index, unless it means one.
 fn bind(
     alloc: Global,
-    index: &mut HashMap<String, usize>,
+    table: &mut HashMap<String, usize>,
     name: &str,
-    place: usize,
+    index: usize,
 ) -> Result<(), AllocError>
-    ensures { OnOk result ((q : List ℕ) → get_by_text index.new q ≡ option_or (get_by_text index.old q) (if bytes_eq name.now q then Some place else None)) }
+    ensures { OnOk result ((q : List ℕ) → get_by_text table.new q
+        ≡ option_or (get_by_text table.old q) (if bytes_eq name.now q then Some index else None)) }
 {
-    if index.contains_key(name) {
+    if table.contains_key(name) {
         return Ok(());
     }
-    index.insert(String::from_str(alloc, name)?, place)?;
+    table.insert(String::from_str(alloc, name)?, index)?;
     Ok(())
 }
 
-/// Of each macro, the places of the macros that it calls.
+/// Of each macro, the indices of the macros that it calls.
 pub(crate) fn references_of(
     alloc: Global,
-    index: &HashMap<String, usize>,
+    table: &HashMap<String, usize>,
     macros: &[Macro],
 ) -> Result<Vec<Vec<usize>>, AllocError>
-    requires { IsIndex index.now (map macro_seen macros.now) }
-    ensures { IfOk result (λ v. lists v.items ≡ references (map macro_seen macros.now)) }
+    requires { IsIndex table.now (map macro_view macros.now) }
+    ensures { IfOk result (λ v. lists v.items ≡ references (map macro_view macros.now)) }
 {
     let mut all = Vec::with_capacity(alloc, macros.len())?;
     for called in macros {
-        all.push(calls_of(alloc, index, &called.nodes)?)?;
+        all.push(calls_of(alloc, table, &called.nodes)?)?;
     }
     Ok(all)
 }
 
-/// The places of the macros that nodes call.
+/// The indices of the macros that nodes call.
 fn calls_of(
     alloc: Global,
-    index: &HashMap<String, usize>,
+    table: &HashMap<String, usize>,
     nodes: &[Node],
 ) -> Result<Vec<usize>, AllocError>
-    ensures { IfOk result (λ v. v.items ≡ filter_map (get_by_text index.now) (calls (nodes_seen nodes.now))) }
+    ensures { IfOk result (λ v. v.items
+        ≡ filter_map (get_by_text table.now) (calls (nodes_view nodes.now))) }
 {
     let mut found = Vec::new(alloc);
-    push_calls(nodes, index, &mut found)?;
+    push_calls(nodes, table, &mut found)?;
     Ok(found)
 }
 
-/// Appends the places of the macros that nodes call.
+/// Appends the indices of the macros that nodes call.
 #[cycle(calls)]
 fn push_calls(
     nodes: &[Node],
-    index: &HashMap<String, usize>,
+    table: &HashMap<String, usize>,
     found: &mut Vec<usize>,
 ) -> Result<(), AllocError>
-    ensures { OnOk result (found.new.items ≡ found.old.items ++ filter_map (get_by_text index.now) (calls (nodes_seen nodes.now))) }
+    ensures { OnOk result (found.new.items
+        ≡ found.old.items ++ filter_map (get_by_text table.now) (calls (nodes_view nodes.now))) }
 {
     for node in nodes {
-        push_calls_in(node, index, found)?;
+        push_calls_in(node, table, found)?;
     }
     Ok(())
 }
@@ -93,20 +96,21 @@ fn push_calls(
 #[cycle(calls)]
 fn push_calls_in(
     node: &Node,
-    index: &HashMap<String, usize>,
+    table: &HashMap<String, usize>,
     found: &mut Vec<usize>,
 ) -> Result<(), AllocError>
-    ensures { OnOk result (found.new.items ≡ found.old.items ++ filter_map (get_by_text index.now) (calls_in (node_seen node.now))) }
+    ensures { OnOk result (found.new.items
+        ≡ found.old.items ++ filter_map (get_by_text table.now) (calls_in (node_view node.now))) }
 {
     match node {
-        Node::Text(text) => push_target(&text.target, index, found),
+        Node::Text(text) => push_target(&text.target, table, found),
         Node::Number(_) | Node::Label(_) | Node::Date(_) => Ok(()),
-        Node::Names(_, substitute) => push_calls(substitute, index, found),
+        Node::Names(_, substitute) => push_calls(substitute, table, found),
         Node::Choose(branches, otherwise) => {
-            push_calls_of_branches(branches, index, found)?;
-            push_calls(otherwise, index, found)
+            push_calls_of_branches(branches, table, found)?;
+            push_calls(otherwise, table, found)
         }
-        Node::Group(_, children) => push_calls(children, index, found),
+        Node::Group(_, children) => push_calls(children, table, found),
     }
 }
 
@@ -114,13 +118,16 @@ fn push_calls_in(
 #[cycle(calls)]
 fn push_calls_of_branches(
     branches: &[ChooseBranch],
-    index: &HashMap<String, usize>,
+    table: &HashMap<String, usize>,
     found: &mut Vec<usize>,
 ) -> Result<(), AllocError>
-    ensures { OnOk result ((xs : Nodes) → found.new.items ++ filter_map (get_by_text index.now) (calls xs) ≡ found.old.items ++ filter_map (get_by_text index.now) (calls_of_branches (branches_of (map branch_seen branches.now) xs))) }
+    ensures { OnOk result ((xs : Nodes)
+        → found.new.items ++ filter_map (get_by_text table.now) (calls xs)
+        ≡ found.old.items ++ filter_map (get_by_text table.now)
+        (calls_of_branches (branches_of (map branch_view branches.now) xs))) }
 {
     for branch in branches {
-        push_calls(&branch.children, index, found)?;
+        push_calls(&branch.children, table, found)?;
     }
     Ok(())
 }
@@ -128,23 +135,24 @@ fn push_calls_of_branches(
 /// The same of what a text node prints.
 fn push_target(
     target: &TextTarget,
-    index: &HashMap<String, usize>,
+    table: &HashMap<String, usize>,
     found: &mut Vec<usize>,
 ) -> Result<(), AllocError>
-    ensures { OnOk result ((look : TextLook) → found.new.items ≡ found.old.items ++ filter_map (get_by_text index.now) (calls_in (text_seen target.now look))) }
+    ensures { OnOk result ((look : TextLook) → found.new.items ≡ found.old.items
+        ++ filter_map (get_by_text table.now) (calls_in (text_node_view target.now look))) }
 {
     match target {
-        TextTarget::Macro(name) => push_place(index.get(name.as_str()).copied(), found),
+        TextTarget::Macro(name) => push_index(table.get(name.as_str()).copied(), found),
         TextTarget::Variable(_, _) | TextTarget::Term(_, _, _) | TextTarget::Value(_) => Ok(()),
     }
 }
 
-/// Appends a place where there is one.
-fn push_place(place: Option<usize>, found: &mut Vec<usize>) -> Result<(), AllocError>
-    ensures { OnOk result (found.new.items ≡ found.old.items ++ option_to_list place) }
+/// Appends an index where there is one.
+fn push_index(index: Option<usize>, found: &mut Vec<usize>) -> Result<(), AllocError>
+    ensures { OnOk result (found.new.items ≡ found.old.items ++ option_to_list index) }
 {
-    if let Some(place) = place {
-        found.push(place)?;
+    if let Some(index) = index {
+        found.push(index)?;
     }
     Ok(())
 }

@@ -10,7 +10,7 @@ ghost use Rattle.rendering_style.specs.Nodes.{Nodes, TextLook};
 ghost use Rattle.rendering_style.specs.Opening.{references, limit, style_fits};
 ghost use Rattle.rendering_style.specs.Levels.{levels, levels_below, branch_levels};
 ghost use Rattle.rendering_style.specs.Tables.{IsIndex, AreHeights, height_of};
-ghost use Rattle.rendering_style.specs.Views.{macro_seen, node_seen, nodes_seen, text_seen, branch_seen, branches_of, parts_seen, macros_seen};
+ghost use Rattle.rendering_style.specs.Views.{macro_view, node_view, nodes_view, text_node_view, branch_view, branches_of, style_parts_view, macros_view};
 
 use crate::node::{ChooseBranch, Node, TextTarget};
 use crate::parts::{Bibliography, Layout, Macro, StyleParts};
@@ -24,32 +24,32 @@ const LIMIT: usize = 200;
 pub(crate) fn heights_of(
     alloc: Global,
     macros: &[Macro],
-    index: &HashMap<String, usize>,
+    table: &HashMap<String, usize>,
     order: &[usize],
 ) -> Result<Vec<usize>, AllocError>
-    requires index { IsIndex index.now (map macro_seen macros.now) }
-    requires order { IsOrder (references (map macro_seen macros.now)) order.now }
-    requires none { (i : ℕ) → IsCircular (references (map macro_seen macros.now)) i → ⊥ }
-    ensures { IfOk result (λ v. AreHeights v.items (map macro_seen macros.now)) }
+    requires table { IsIndex table.now (map macro_view macros.now) }
+    requires order { IsOrder (references (map macro_view macros.now)) order.now }
+    requires none { (i : ℕ) → IsCircular (references (map macro_view macros.now)) i → ⊥ }
+    ensures { IfOk result (λ v. AreHeights v.items (map macro_view macros.now)) }
 {
     let mut heights = vec![in alloc; 0; macros.len()]?;
-    for &place in order {
-        heights[place] = levels(&macros[place].nodes, LIMIT + 1, index, &heights);
+    for &index in order {
+        heights[index] = levels(&macros[index].nodes, LIMIT + 1, table, &heights);
     }
     Ok(heights)
 }
 
 /// How many levels the nodes have, counted up to as many as there is room for.
 #[cycle(levels)]
-fn levels(nodes: &[Node], room: usize, index: &HashMap<String, usize>, heights: &[usize]) -> usize
-    ensures { result ≡ min (levels (height_of index.now heights.now) (nodes_seen nodes.now)) room }
+fn levels(nodes: &[Node], room: usize, table: &HashMap<String, usize>, heights: &[usize]) -> usize
+    ensures { result ≡ min (levels (height_of table.now heights.now) (nodes_view nodes.now)) room }
 {
     if room == 0 {
         return 0;
     }
     let mut most = 0;
     for node in nodes {
-        most = most.max(levels_below(node, room - 1, index, heights) + 1);
+        most = most.max(levels_below(node, room - 1, table, heights) + 1);
     }
     most
 }
@@ -59,19 +59,20 @@ fn levels(nodes: &[Node], room: usize, index: &HashMap<String, usize>, heights: 
 fn levels_below(
     node: &Node,
     room: usize,
-    index: &HashMap<String, usize>,
+    table: &HashMap<String, usize>,
     heights: &[usize],
 ) -> usize
-    ensures { result ≡ min (levels_below (height_of index.now heights.now) (node_seen node.now)) room }
+    ensures { result
+        ≡ min (levels_below (height_of table.now heights.now) (node_view node.now)) room }
 {
     match node {
-        Node::Text(text) => levels_of_target(&text.target, room, index, heights),
+        Node::Text(text) => levels_of_target(&text.target, room, table, heights),
         Node::Number(_) | Node::Label(_) | Node::Date(_) => 0,
-        Node::Names(_, substitute) => levels(substitute, room, index, heights),
-        Node::Choose(branches, otherwise) => branch_levels(branches, room, index, heights).max(
-            levels(otherwise, room, index, heights),
+        Node::Names(_, substitute) => levels(substitute, room, table, heights),
+        Node::Choose(branches, otherwise) => branch_levels(branches, room, table, heights).max(
+            levels(otherwise, room, table, heights),
         ),
-        Node::Group(_, children) => levels(children, room, index, heights),
+        Node::Group(_, children) => levels(children, room, table, heights),
     }
 }
 
@@ -80,14 +81,16 @@ fn levels_below(
 fn branch_levels(
     branches: &[ChooseBranch],
     room: usize,
-    index: &HashMap<String, usize>,
+    table: &HashMap<String, usize>,
     heights: &[usize],
 ) -> usize
-    ensures { (xs : Nodes) → max result (min (levels (height_of index.now heights.now) xs) room) ≡ min (branch_levels (height_of index.now heights.now) (branches_of (map branch_seen branches.now) xs)) room }
+    ensures { (xs : Nodes)
+        → max result (min (levels (height_of table.now heights.now) xs) room) ≡ min (branch_levels
+        (height_of table.now heights.now) (branches_of (map branch_view branches.now) xs)) room }
 {
     let mut most = 0;
     for branch in branches {
-        most = most.max(levels(&branch.children, room, index, heights));
+        most = most.max(levels(&branch.children, room, table, heights));
     }
     most
 }
@@ -96,65 +99,70 @@ fn branch_levels(
 fn levels_of_target(
     target: &TextTarget,
     room: usize,
-    index: &HashMap<String, usize>,
+    table: &HashMap<String, usize>,
     heights: &[usize],
 ) -> usize
-    ensures { (look : TextLook) → result ≡ min (levels_below (height_of index.now heights.now) (text_seen target.now look)) room }
+    ensures { (look : TextLook) → result ≡ min
+        (levels_below (height_of table.now heights.now) (text_node_view target.now look)) room }
 {
     match target {
-        TextTarget::Macro(name) => height_of(name.as_str(), index, heights).min(room),
+        TextTarget::Macro(name) => height_of(name.as_str(), table, heights).min(room),
         TextTarget::Variable(_, _) | TextTarget::Term(_, _, _) | TextTarget::Value(_) => 0,
     }
 }
 
 /// How many levels the macro of that name has; none where there is no such macro.
-fn height_of(name: &str, index: &HashMap<String, usize>, heights: &[usize]) -> usize
-    ensures { result ≡ height_of index.now heights.now name.now }
+fn height_of(name: &str, table: &HashMap<String, usize>, heights: &[usize]) -> usize
+    ensures { result ≡ height_of table.now heights.now name.now }
 {
-    match index.get(name) {
-        Some(place) => heights.get(*place).copied().unwrap_or(0),
+    match table.get(name) {
+        Some(index) => heights.get(*index).copied().unwrap_or(0),
         None => 0,
     }
 }
 
 /// Whether no layout and no macro has more levels than may be. Of equal names the first macro counts.
-pub(crate) fn fits(parts: &StyleParts, index: &HashMap<String, usize>, heights: &[usize]) -> bool
-    requires index { IsIndex index.now (macros_seen parts.now) }
-    requires heights { AreHeights heights.now (macros_seen parts.now) }
-    ensures { result ≡ style_fits (parts_seen parts.now) }
+pub(crate) fn fits(parts: &StyleParts, table: &HashMap<String, usize>, heights: &[usize]) -> bool
+    requires table { IsIndex table.now (macros_view parts.now) }
+    requires heights { AreHeights heights.now (macros_view parts.now) }
+    ensures { result ≡ style_fits (style_parts_view parts.now) }
 {
-    layout_fits(&parts.citation.layout, index, heights)
-        && bibliography_fits(&parts.bibliography, index, heights)
-        && macros_fit(&parts.macros, index, heights)
+    layout_fits(&parts.citation.layout, table, heights)
+        && bibliography_fits(&parts.bibliography, table, heights)
+        && macros_fit(&parts.macros, table, heights)
 }
 
 /// Whether the layout has no more levels than may be.
-fn layout_fits(layout: &Layout, index: &HashMap<String, usize>, heights: &[usize]) -> bool
-    ensures { result ≡ nat_le (levels (height_of index.now heights.now) (nodes_seen layout.now.nodes.items)) limit }
+fn layout_fits(layout: &Layout, table: &HashMap<String, usize>, heights: &[usize]) -> bool
+    ensures { result ≡ nat_le
+        (levels (height_of table.now heights.now) (nodes_view layout.now.nodes.items)) limit }
 {
-    levels(&layout.nodes, LIMIT + 1, index, heights) <= LIMIT
+    levels(&layout.nodes, LIMIT + 1, table, heights) <= LIMIT
 }
 
 /// Whether the layout of the bibliography, if there is one, has no more levels than may be.
 fn bibliography_fits(
     bibliography: &Option<Bibliography>,
-    index: &HashMap<String, usize>,
+    table: &HashMap<String, usize>,
     heights: &[usize],
 ) -> bool
-    ensures { result ≡ option_map_or (λ b. nat_le (levels (height_of index.now heights.now) (nodes_seen b.layout.nodes.items)) limit) bibliography.now true }
+    ensures { result ≡ option_map_or (λ b.
+        nat_le (levels (height_of table.now heights.now) (nodes_view b.layout.nodes.items)) limit)
+        bibliography.now true }
 {
     match bibliography {
-        Some(bibliography) => layout_fits(&bibliography.layout, index, heights),
+        Some(bibliography) => layout_fits(&bibliography.layout, table, heights),
         None => true,
     }
 }
 
 /// Whether no macro that is the first of its name has more levels than may be.
-fn macros_fit(macros: &[Macro], index: &HashMap<String, usize>, heights: &[usize]) -> bool
-    ensures { result ≡ list_all (λ m. nat_le (height_of index.now heights.now (string_bytes m.name)) limit) macros.now }
+fn macros_fit(macros: &[Macro], table: &HashMap<String, usize>, heights: &[usize]) -> bool
+    ensures { result ≡ list_all
+        (λ m. nat_le (height_of table.now heights.now (string_bytes m.name)) limit) macros.now }
 {
     for each in macros {
-        if height_of(each.name.as_str(), index, heights) > LIMIT {
+        if height_of(each.name.as_str(), table, heights) > LIMIT {
             return false;
         }
     }

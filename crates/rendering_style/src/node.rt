@@ -81,14 +81,14 @@ pub struct Date {
     pub form: Option<DateForm>,
     /// How much of it is printed in that form.
     pub parts: DateParts,
-    /// The parts that are printed in place of the locale's, where there are any.
+    /// The parts that are printed instead of the locale's, where there are any.
     pub own_parts: Vec<DatePart>,
     /// The text between its parts.
     pub delimiter: Option<String>,
     pub look: Look,
 }
 
-/// What is said of single names.
+/// What is specified for single names.
 #[derive(Debug, PartialEq, Eq, Drop)]
 pub struct Name {
     pub options: NameOptions,
@@ -160,7 +160,7 @@ pub enum Node {
     Number(Number),
     Label(Label),
     Date(Date),
-    /// Names, and the nodes of which the first that prints anything stands in where there are no names.
+    /// Names, and the nodes of their substitute: the first that prints anything, where there are no names.
     Names(Names, Vec<Node>),
     /// The first branch whose condition is met, or else the last nodes.
     Choose(Vec<ChooseBranch>, Vec<Node>),

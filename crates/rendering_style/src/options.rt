@@ -2,7 +2,7 @@
 
 use rendering_taxonomy::{DelimiterBehavior, NameAnd, NameAsSortOrder, NameForm};
 
-/// What is said of names; each option may be left open.
+/// What is specified for names; each option may be left open.
 #[derive(Debug, Default, PartialEq, Eq, Drop)]
 pub struct NameOptions {
     /// What stands before the last name.
@@ -21,7 +21,7 @@ pub struct NameOptions {
     /// Whether the last name is shown after those left out.
     pub et_al_use_last: Option<bool>,
     pub form: Option<NameForm>,
-    /// What stands after each initial; given names are cut to initials where this is said.
+    /// What stands after each initial; given names are cut to initials where this is specified.
     pub initialize_with: Option<String>,
     /// Which names are inverted.
     pub name_as_sort_order: Option<NameAsSortOrder>,

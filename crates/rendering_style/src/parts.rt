@@ -27,12 +27,12 @@ pub struct Macro {
     pub nodes: Vec<Node>,
 }
 
-/// How cites are printed, told apart, gathered and collapsed.
+/// How cites are printed, disambiguated, gathered and collapsed.
 #[derive(Debug, PartialEq, Eq, Drop)]
 pub struct Citation {
     pub layout: Layout,
     pub name_options: NameOptions,
-    /// Whether names, given names by the rule and suffixes of years tell like cites apart.
+    /// Whether names, given names by the rule and year suffixes disambiguate like cites.
     pub add_names: bool,
     pub add_givenname: bool,
     pub givenname_rule: DisambiguationRule,

@@ -13,48 +13,48 @@ use Rattle.rendering_taxonomy.specs.declared.formatting.VerticalAlign.{VerticalA
 use Rattle.rendering_taxonomy.specs.declared.formatting.VerticalAlign.TheVariants as aligns
 use Rattle.rendering_taxonomy.specs.declared.formatting.Formatting.{Formatting}
 
--- the places of the values of each attribute
-abbrev pub style_place : FontStyle → ℕ
-style_place styles.Normal = 0
-style_place styles.Italic = 1
-style_place styles.Oblique = 2
+-- the indices of the values of each attribute
+abbrev pub style_index : FontStyle → ℕ
+style_index styles.Normal = 0
+style_index styles.Italic = 1
+style_index styles.Oblique = 2
 
 -- of the variant
-abbrev pub variant_place : FontVariant → ℕ
-variant_place variants.Normal = 0
-variant_place variants.SmallCaps = 1
+abbrev pub variant_index : FontVariant → ℕ
+variant_index variants.Normal = 0
+variant_index variants.SmallCaps = 1
 
 -- of the weight
-abbrev pub weight_place : FontWeight → ℕ
-weight_place weights.Normal = 0
-weight_place weights.Bold = 1
-weight_place weights.Light = 2
+abbrev pub weight_index : FontWeight → ℕ
+weight_index weights.Normal = 0
+weight_index weights.Bold = 1
+weight_index weights.Light = 2
 
 -- of the decoration
-abbrev pub decoration_place : TextDecoration → ℕ
-decoration_place decorations.None = 0
-decoration_place decorations.Underline = 1
+abbrev pub decoration_index : TextDecoration → ℕ
+decoration_index decorations.None = 0
+decoration_index decorations.Underline = 1
 
--- of the place on the line
-abbrev pub align_place : VerticalAlign → ℕ
-align_place aligns.None = 0
-align_place aligns.Sup = 1
-align_place aligns.Sub = 2
+-- of the position on the line
+abbrev pub align_index : VerticalAlign → ℕ
+align_index aligns.None = 0
+align_index aligns.Sup = 1
+align_index aligns.Sub = 2
 
--- characters as they look where nothing is said of them
+-- characters as they look where nothing is specified for them
 abbrev pub plain : Formatting
 plain = record { font_style = styles.Normal; font_variant = variants.Normal; font_weight = weights.Normal; text_decoration = decorations.None; vertical_align = aligns.None }
 
 -- whether two look alike
 abbrev pub looks_like : Formatting → Formatting → Bool
 looks_like f g =
-    style_place f.font_style == style_place g.font_style
-    && variant_place f.font_variant == variant_place g.font_variant
-    && weight_place f.font_weight == weight_place g.font_weight
-    && decoration_place f.text_decoration == decoration_place g.text_decoration
-    && align_place f.vertical_align == align_place g.vertical_align
+    style_index f.font_style == style_index g.font_style
+    && variant_index f.font_variant == variant_index g.font_variant
+    && weight_index f.font_weight == weight_index g.font_weight
+    && decoration_index f.text_decoration == decoration_index g.text_decoration
+    && align_index f.vertical_align == align_index g.vertical_align
 
--- what is said of the look of characters; what is not said stays as it is around
+-- what is specified for the look of characters; what is not specified stays as it is around
 pub record Changes : Type 0 where
   pub font_style : Option FontStyle
   pub font_variant : Option FontVariant
@@ -62,7 +62,7 @@ pub record Changes : Type 0 where
   pub text_decoration : Option TextDecoration
   pub vertical_align : Option VerticalAlign
 
--- nothing is said
+-- nothing is specified
 abbrev pub unchanged : Changes
 unchanged = record { font_style = None; font_variant = None; font_weight = None; text_decoration = None; vertical_align = None }
 

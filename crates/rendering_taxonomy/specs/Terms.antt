@@ -1,7 +1,7 @@
 -- Which terms are one. A term is known by its word: the label `page` of a locator and the variable `page` have one term.
 use Rattle.std.specs.Prelude.{ℕ, ◌+◌, Bool, ◌==◌, List, [], ◌∷◌}
-use Rattle.rendering_taxonomy.specs.Variables.{variable_place}
-use Rattle.rendering_taxonomy.specs.Kinds.{locator_place}
+use Rattle.rendering_taxonomy.specs.Variables.{variable_index}
+use Rattle.rendering_taxonomy.specs.Kinds.{locator_index}
 use Rattle.rendering_taxonomy.specs.declared.locator.Locator.{Locator}
 use Rattle.rendering_taxonomy.specs.declared.locator.Locator.TheVariants as locators
 use Rattle.rendering_taxonomy.specs.declared.variable.Variable.TheVariants as variables
@@ -15,50 +15,50 @@ use Rattle.rendering_taxonomy.specs.declared.term.TermForm.{TermForm}
 use Rattle.rendering_taxonomy.specs.declared.term.TermForm.TheVariants as forms
 
 -- the words of labels, of which four are names of variables
-abbrev pub label_place : Locator → ℕ
-label_place locators.Issue = variable_place (variables.Number number.Issue)
-label_place locators.Note = variable_place (variables.Standard standard.Note)
-label_place locators.Page = variable_place variables.Page
-label_place locators.Volume = variable_place (variables.Number number.Volume)
-label_place l = 100 + locator_place l
+abbrev pub label_index : Locator → ℕ
+label_index locators.Issue = variable_index (variables.Number number.Issue)
+label_index locators.Note = variable_index (variables.Standard standard.Note)
+label_index locators.Page = variable_index variables.Page
+label_index locators.Volume = variable_index (variables.Number number.Volume)
+label_index l = 100 + locator_index l
 
 -- the other words; those of months come after them
-abbrev pub other_place : OtherTerm → ℕ
-other_place others.And = 200
-other_place others.EtAl = 201
-other_place others.AndOthers = 202
-other_place others.Ibid = 203
-other_place others.In = 204
-other_place others.NoDate = 205
-other_place others.Ad = 206
-other_place others.Bc = 207
-other_place others.OpenQuote = 208
-other_place others.CloseQuote = 209
-other_place others.OpenInnerQuote = 210
-other_place others.CloseInnerQuote = 211
-other_place (others.Month m) = 300 + m
+abbrev pub other_index : OtherTerm → ℕ
+other_index others.And = 200
+other_index others.EtAl = 201
+other_index others.AndOthers = 202
+other_index others.Ibid = 203
+other_index others.In = 204
+other_index others.NoDate = 205
+other_index others.Ad = 206
+other_index others.Bc = 207
+other_index others.OpenQuote = 208
+other_index others.CloseQuote = 209
+other_index others.OpenInnerQuote = 210
+other_index others.CloseInnerQuote = 211
+other_index (others.Month m) = 300 + m
 
--- the place of a word among all of them
-abbrev pub term_place : Term → ℕ
-term_place (terms.Variable v) = variable_place v
-term_place (terms.Locator l) = label_place l
-term_place (terms.Other t) = other_place t
+-- the index of a word among all of them
+abbrev pub term_index : Term → ℕ
+term_index (terms.Variable v) = variable_index v
+term_index (terms.Locator l) = label_index l
+term_index (terms.Other t) = other_index t
 
 -- whether two terms are one
 abbrev pub is_term : Term → Term → Bool
-is_term t u = term_place t == term_place u
+is_term t u = term_index t == term_index u
 
--- the places of forms in their list
-abbrev pub form_place : TermForm → ℕ
-form_place forms.Long = 0
-form_place forms.Short = 1
-form_place forms.Verb = 2
-form_place forms.VerbShort = 3
-form_place forms.Symbol = 4
+-- the indices of forms in their list
+abbrev pub form_index : TermForm → ℕ
+form_index forms.Long = 0
+form_index forms.Short = 1
+form_index forms.Verb = 2
+form_index forms.VerbShort = 3
+form_index forms.Symbol = 4
 
 -- whether two forms are one
 abbrev pub is_form : TermForm → TermForm → Bool
-is_form f g = form_place f == form_place g
+is_form f g = form_index f == form_index g
 
 -- the forms in which a term is looked up, one after the other
 abbrev pub forms_from : TermForm → List TermForm

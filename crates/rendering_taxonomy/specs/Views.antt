@@ -1,10 +1,10 @@
--- What is said of the look of characters in the code, as plain data.
+-- What is specified for the look of characters in the code, as plain data.
 use Rattle.rendering_taxonomy.specs.Formats.{Changes}
 use Rattle.rendering_taxonomy.specs.declared.formatting.FormattingChanges.{FormattingChanges}
 
--- what is said of the look of characters
-abbrev pub changes_seen : FormattingChanges → Changes
-changes_seen c = record {
+-- what is specified for the look of characters
+abbrev pub changes_view : FormattingChanges → Changes
+changes_view c = record {
   font_style = c.font_style;
   font_variant = c.font_variant;
   font_weight = c.font_weight;

@@ -2,7 +2,7 @@
 
 ghost use Rattle.std.specs.Prelude.{◌≡◌};
 ghost use Rattle.rendering_taxonomy.specs.Formats.{changed, plain};
-ghost use Rattle.rendering_taxonomy.specs.Views.{changes_seen};
+ghost use Rattle.rendering_taxonomy.specs.Views.{changes_view};
 
 /// The style of a font.
 #[derive(Clone, Copy, Debug, PartialEq, Eq, Hash)]
@@ -62,7 +62,7 @@ pub struct Formatting {
 }
 
 impl Formatting {
-    /// How characters look where nothing is said of them.
+    /// How characters look where nothing is specified for them.
     pub fn plain() -> Formatting
         ensures { result ≡ plain }
     {
@@ -76,7 +76,7 @@ impl Formatting {
     }
 }
 
-/// What is said of the look of characters; what is left open stays as it is around.
+/// What is specified for the look of characters; what is left open stays as it is around.
 #[derive(Clone, Copy, Debug, Default, PartialEq, Eq, Hash)]
 pub struct FormattingChanges {
     pub font_style: Option<FontStyle>,
@@ -89,7 +89,7 @@ pub struct FormattingChanges {
 impl FormattingChanges {
     /// How characters look inside what looks so around: what is left open is as around.
     pub fn over(self, around: Formatting) -> Formatting
-        ensures { result ≡ changed (changes_seen self) around }
+        ensures { result ≡ changed (changes_view self) around }
     {
         Formatting {
             font_style: self.font_style.unwrap_or(around.font_style),

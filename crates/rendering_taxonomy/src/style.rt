@@ -26,7 +26,7 @@ pub enum Collapse {
     YearSuffixRanged,
 }
 
-/// How given names are added to tell cites apart.
+/// How given names are added to disambiguate cites.
 #[derive(Clone, Copy, Debug, PartialEq, Eq, Hash)]
 pub enum DisambiguationRule {
     ByCite,

@@ -19,7 +19,7 @@ pub enum StandardVariable {
     YearSuffix,
 }
 
-/// A variable whose answer is a number, or a text in its place.
+/// A variable whose answer is a number, or a text instead of it.
 #[derive(Clone, Copy, Debug, PartialEq, Eq, Hash)]
 pub enum NumberVariable {
     ChapterNumber,

@@ -6,7 +6,7 @@ use Rattle.std.proofs.lemmas.Bool.{and_parts, and_from}
 use Rattle.rendering_taxonomy.specs.Formats.{looks_like}
 use Rattle.rendering_taxonomy.specs.declared.formatting.Display.{Display}
 use Rattle.rendering_taxonomy.specs.declared.formatting.Formatting.{Formatting}
-use Rattle.rendering_taxonomy.proofs.Places.{Decides-looks_like}
+use Rattle.rendering_taxonomy.proofs.Indices.{Decides-looks_like}
 use Rattle.rendering_tree.specs.Laws.{says_something, begins_alike, joins, is_normal_child, is_normal, Bracket, of_mark, of_element, are_nested, SimplifiedIsNormal, HandedOutIsNormal, OneNormalTree}
 use Rattle.rendering_tree.specs.Metas.{Meta}
 use Rattle.rendering_tree.specs.Tokens.{Token, letter, formula, link, transparent, opening, closing, mark, unmark}

@@ -8,11 +8,11 @@ use Rattle.std.proofs.lemmas.Bool.Decides.{Decides-eqb, Decides-like, Decides-an
 use Rattle.literature_values.specs.PersonViews.{Named}
 use Rattle.rendering_taxonomy.specs.declared.formatting.Display.{Display}
 use Rattle.rendering_taxonomy.specs.declared.formatting.Display.TheVariants as displays
-use Rattle.rendering_taxonomy.proofs.Places.{Decides-places, Decides-looks_like, Decides-is_name_variable}
+use Rattle.rendering_taxonomy.proofs.Indices.{Decides-indices, Decides-looks_like, Decides-is_name_variable}
 use Rattle.rendering_taxonomy.specs.Formats.{looks_like}
 use Rattle.rendering_taxonomy.specs.Variables.{is_name_variable}
 use Rattle.rendering_tree.specs.Metas.{Answered, Meta, Names, NameVariableOf, Name, Entry, Date, Text, Number, Label, CitationNumber, CitationLabel, is_person, is_answered, is_meta}
-use Rattle.rendering_tree.specs.Same.{display_place, is_display, is_child, are_children, is_element, SameTreesAreOne, SameElementsAreOne}
+use Rattle.rendering_tree.specs.Same.{display_index, is_display, is_child, are_children, is_element, SameTreesAreOne, SameElementsAreOne}
 use Rattle.rendering_tree.specs.Trees as trees
 use Rattle.rendering_tree.specs.Trees.{Child, Children, Elem, Markup, Link, Transparent, nothing, before, Element}
 
@@ -22,14 +22,14 @@ display_at (suc zero) = displays.LeftMargin
 display_at (suc (suc zero)) = displays.RightInline
 display_at (suc (suc (suc n))) = displays.Indent
 
-display_back : (d : Display) → display_at (display_place d) ≡ d
+display_back : (d : Display) → display_at (display_index d) ≡ d
 display_back displays.Block = refl
 display_back displays.LeftMargin = refl
 display_back displays.RightInline = refl
 display_back displays.Indent = refl
 
 pub Decides-is_display : (d e : Display) → Decides (is_display d e) (d ≡ e)
-Decides-is_display d e = Decides-places display_place display_at display_back d e
+Decides-is_display d e = Decides-indices display_index display_at display_back d e
 
 -- one fact and another
 both : {b c : Bool} {P R : Type 0} → Decides b P → Decides c R → Decides (b && c) (P × R)

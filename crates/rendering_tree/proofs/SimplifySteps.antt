@@ -9,13 +9,13 @@ use Rattle.rendering_taxonomy.specs.Formats.{looks_like}
 use Rattle.rendering_taxonomy.specs.declared.formatting.Formatting.{Formatting}
 use Rattle.rendering_taxonomy.specs.contracts.formatting.FormattingPartialEq.TheImpl as formatting
 use Rattle.rendering_taxonomy.specs.declared.formatting.Display.{Display}
-use Rattle.rendering_taxonomy.proofs.Places.{Decides-looks_like, Decides-formattings}
+use Rattle.rendering_taxonomy.proofs.Indices.{Decides-looks_like, Decides-formattings}
 use Rattle.rendering_tree.specs.Laws.{says_something, begins_alike, joins, is_normal_child, is_normal}
 use Rattle.rendering_tree.specs.Metas.{Meta}
 use Rattle.rendering_tree.specs.Simplify.{is_whole, text_after, Puts}
 use Rattle.rendering_tree.specs.Tokens.{Token, with_letters}
 use Rattle.rendering_tree.specs.Trees.{Child, Children, Text, Elem, Markup, Link, Transparent, nothing, before, is_nothing, children_of, followed_by, enclosed, flat_child, flat, simplified}
-use Rattle.rendering_tree.specs.Views.{child, row}
+use Rattle.rendering_tree.specs.Views.{child_view, children_view}
 use Rattle.rendering_tree.specs.declared.element.ElemChild.{ElemChild}
 use Rattle.rendering_tree.specs.declared.element.ElemChild.TheVariants as parts
 use Rattle.rendering_tree.specs.declared.element.Formatted.{Formatted}
@@ -25,7 +25,7 @@ use Rattle.rendering_tree.proofs.TreesReading.{with_letters-both, keeps_tokens}
 use Rattle.rendering_tree.proofs.LawsNormal.{normals, normal_from, simplified_normal, is_simplified}
 
 -- whether there are no children
-pub none_in : (xs : List ElemChild) → (length xs == 0) ≡ is_nothing (row xs)
+pub none_in : (xs : List ElemChild) → (length xs == 0) ≡ is_nothing (children_view xs)
 none_in [] = refl
 none_in (x ∷ xs) = search rules
 
@@ -33,13 +33,13 @@ children_of-append : (xs ys : List Child) → children_of (xs ++ ys) ≡ followe
 children_of-append [] ys = refl
 children_of-append (x ∷ xs) ys = ap (before x) (children_of-append xs ys)
 
--- one row after another
-pub row-append : (xs ys : List ElemChild) → row (xs ++ ys) ≡ followed_by (row xs) (row ys)
-row-append xs ys = ap children_of (map-append child xs ys) ∙ children_of-append (map child xs) (map child ys)
+-- one run after another
+pub children-append : (xs ys : List ElemChild) → children_view (xs ++ ys) ≡ followed_by (children_view xs) (children_view ys)
+children-append xs ys = ap children_of (map-append child_view xs ys) ∙ children_of-append (map child_view xs) (map child_view ys)
 
 -- a child after a list
-pub put_last : (xs ys : List ElemChild) (x : ElemChild) → ys ≡ xs ++ x ∷ [] → row ys ≡ followed_by (row xs) (before (child x) nothing)
-put_last xs ys x e = ap row e ∙ row-append xs (x ∷ [])
+pub put_last : (xs ys : List ElemChild) (x : ElemChild) → ys ≡ xs ++ x ∷ [] → children_view ys ≡ followed_by (children_view xs) (before (child_view x) nothing)
+put_last xs ys x e = ap children_view e ∙ children-append xs (x ∷ [])
 
 pub followed_by-nothing : (xs : Children) → followed_by xs nothing ≡ xs
 followed_by-nothing nothing = refl
@@ -78,20 +78,20 @@ followed_by-assoc (before x xs) ys zs = ap (before x) (followed_by-assoc xs ys z
 
 -- a child and a text are put
 pub put_both : (xs ys zs : List ElemChild) (x : ElemChild) (t : Formatted) → ys ≡ xs ++ x ∷ [] → zs ≡ ys ++ parts.Text t ∷ []
-    → row zs ≡ followed_by (row xs) (before (child x) (before (Text t.formatting (characters t.text)) nothing))
+    → children_view zs ≡ followed_by (children_view xs) (before (child_view x) (before (Text t.formatting (characters t.text)) nothing))
 put_both xs ys zs x t d e =
     put_last ys zs (parts.Text t) e
-    ∙ ap (λ rs. followed_by rs (before (child (parts.Text t)) nothing)) (put_last xs ys x d)
-    ∙ followed_by-assoc (row xs) (before (child x) nothing) (before (child (parts.Text t)) nothing)
-    ∙ ap (λ y. followed_by (row xs) (before (child x) (before y nothing))) (child-Text t)
+    ∙ ap (λ rs. followed_by rs (before (child_view (parts.Text t)) nothing)) (put_last xs ys x d)
+    ∙ followed_by-assoc (children_view xs) (before (child_view x) nothing) (before (child_view (parts.Text t)) nothing)
+    ∙ ap (λ y. followed_by (children_view xs) (before (child_view x) (before y nothing))) (child-Text t)
 
 -- two texts that look alike are put as one
 pub put_joined : (xs ys : List ElemChild) (f : Formatting) (s : String Global) (ds : List ℕ) (g : Formatting) (cs : List ℕ)
-    → ys ≡ xs ++ parts.Text (record { text = s; formatting = f }) ∷ [] → looks_like f g ≡ true → characters s ≡ ds ++ cs → row ys ≡ followed_by (row xs) (text_after (Text f ds) g cs)
+    → ys ≡ xs ++ parts.Text (record { text = s; formatting = f }) ∷ [] → looks_like f g ≡ true → characters s ≡ ds ++ cs → children_view ys ≡ followed_by (children_view xs) (text_after (Text f ds) g cs)
 put_joined xs ys f s ds g cs e looks is =
     put_last xs ys (parts.Text (record { text = s; formatting = f })) e
-    ∙ ap (λ y. followed_by (row xs) (before y nothing)) (child-Text (record { text = s; formatting = f }) ∙ ap (Text f) is)
-    ∙ ap (λ b. followed_by (row xs) (if b then before (Text f (ds ++ cs)) nothing else before (Text f ds) (before (Text g cs) nothing))) (sym looks)
+    ∙ ap (λ y. followed_by (children_view xs) (before y nothing)) (child-Text (record { text = s; formatting = f }) ∙ ap (Text f) is)
+    ∙ ap (λ b. followed_by (children_view xs) (if b then before (Text f (ds ++ cs)) nothing else before (Text f ds) (before (Text g cs) nothing))) (sym looks)
 
 pub not_false : (b : Bool) → not b ≡ false → b ≡ true
 not_false true e = refl
@@ -145,12 +145,12 @@ whole_begins f (Link g cs url) e = refl
 whole_begins f (Transparent g n) e = refl
 
 -- a child that is no text is put
-pub puts_whole : (xs ys : List ElemChild) (x : ElemChild) → is_whole (child x) ≡ true → ys ≡ xs ++ x ∷ [] → Puts (flat_child (child x)) (row xs) (row ys)
+pub puts_whole : (xs ys : List ElemChild) (x : ElemChild) → is_whole (child_view x) ≡ true → ys ≡ xs ++ x ∷ [] → Puts (flat_child (child_view x)) (children_view xs) (children_view ys)
 puts_whole xs ys x w e = record {
-  tokens = ap flat (put_last xs ys x e) ∙ flat-followed_by (row xs) (before (child x) nothing);
+  tokens = ap flat (put_last xs ys x e) ∙ flat-followed_by (children_view xs) (before (child_view x) nothing);
   normal = λ h.
       ap is_normal (put_last xs ys x e)
-      ∙ normal-followed_by (row xs) nothing (before (child x) nothing) (ap is_normal (followed_by-nothing (row xs)) ∙ h) (whole_alone (child x) w) (λ f. whole_begins f (child x) w);
+      ∙ normal-followed_by (children_view xs) nothing (before (child_view x) nothing) (ap is_normal (followed_by-nothing (children_view xs)) ∙ h) (whole_alone (child_view x) w) (λ f. whole_begins f (child_view x) w);
 }
 
 text_alone : (f : Formatting) (cs : List ℕ) → is_filled cs ≡ true → is_normal (before (Text f cs) nothing) ≡ true

@@ -6,7 +6,7 @@ use Rattle.std.proofs.lemmas.List.Sums.{fold-append}
 use Rattle.rendering_taxonomy.specs.Formats.{looks_like}
 use Rattle.rendering_taxonomy.specs.declared.formatting.Display.{Display}
 use Rattle.rendering_taxonomy.specs.declared.formatting.Formatting.{Formatting}
-use Rattle.rendering_taxonomy.proofs.Places.{Decides-looks_like}
+use Rattle.rendering_taxonomy.proofs.Indices.{Decides-looks_like}
 use Rattle.rendering_tree.specs.Laws.{SimplifyingKeepsTokens}
 use Rattle.rendering_tree.specs.Metas.{Meta}
 use Rattle.rendering_tree.specs.Tokens.{Token, letter, opening, closing, with_letters}
@@ -75,7 +75,7 @@ with_letters-append f (c ∷ cs) ts =
     ∙ sym (append_assoc (with_letters f cs []) (letter f c ∷ []) ts)
     ∙ ap (λ us. us ++ ts) (sym (with_letters-append f cs (letter f c ∷ [])))
 
--- the letters of two texts in a row
+-- the letters of two texts one after the other
 pub with_letters-both : (f : Formatting) (cs ds : List ℕ) → with_letters f (cs ++ ds) [] ≡ with_letters f ds [] ++ with_letters f cs []
 with_letters-both f cs ds = over cs [] ∙ with_letters-append f ds (with_letters f cs []) where
   over : (bs : List ℕ) (ts : List Token) → with_letters f (bs ++ ds) ts ≡ with_letters f ds (with_letters f bs ts)

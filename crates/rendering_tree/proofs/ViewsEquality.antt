@@ -1,4 +1,4 @@
--- Values of the code are equal exactly where what is seen of them is one.
+-- Values of the code are equal exactly where the view of them is one.
 use Rattle.std.specs.Global.{Global}
 use Rattle.std.proofs.Common.{◌≡◌, ℕ, zero, suc, ◌+◌, ◌≤◌, Bool, true, false, ◌&&◌, ◌==◌, List, [], ◌∷◌, map, Vec, refl, sym, ap, ◌∙◌, string_eq, true≢false, arith, rules}
 use Rattle.std.specs.Bool.{Decides}
@@ -8,11 +8,11 @@ use Rattle.std.proofs.lemmas.Bool.Decides.{Decides-and, Decides-at, Decides-eqb}
 use Rattle.laws.specs.Equality.{Shows}
 use Rattle.laws.specs.Text.{characters}
 use Rattle.laws.proofs.Equality.{Decides-moved, Decides-never, Shows-strings, Shows-options, Shows-options_themselves, Shows-lists, Shows-pairs}
-use Rattle.literature_values.specs.PersonViews.{Named, person}
+use Rattle.literature_values.specs.PersonViews.{Named, person_view}
 use Rattle.literature_values.specs.declared.person.Person.{Person}
 use Rattle.literature_values.specs.contracts.person.PersonPartialEq.TheImpl as one_person
 use Rattle.literature_values.proofs.Equality.{Shows-Person}
-use Rattle.rendering_taxonomy.proofs.Places.{Decides-names, Decides-displays, Decides-formattings}
+use Rattle.rendering_taxonomy.proofs.Indices.{Decides-names, Decides-displays, Decides-formattings}
 use Rattle.rendering_taxonomy.specs.contracts.formatting.DisplayPartialEq.TheImpl as display
 use Rattle.rendering_taxonomy.specs.contracts.formatting.FormattingPartialEq.TheImpl as formatting
 use Rattle.rendering_taxonomy.specs.contracts.variable.NameVariablePartialEq.TheImpl as variable
@@ -21,7 +21,7 @@ use Rattle.rendering_tree.specs.Metas as metas
 use Rattle.rendering_tree.specs.Metas.{Meta, Answered}
 use Rattle.rendering_tree.specs.Trees as trees
 use Rattle.rendering_tree.specs.Trees.{Child, Children, Element, nothing, before}
-use Rattle.rendering_tree.specs.Views.{answered, meaning, worded, child, row, tree, element}
+use Rattle.rendering_tree.specs.Views.{answered_view, meta_view, formatted_view, child_view, children_view, tree_view, element_view}
 use Rattle.rendering_tree.specs.contracts.element.FormattedPartialEq.TheImpl as formatted
 use Rattle.rendering_tree.specs.contracts.element.ElemMetaPartialEq.TheImpl as meta
 use Rattle.rendering_tree.specs.contracts.element.ElemChildPartialEq.TheImpl as part
@@ -49,7 +49,7 @@ agreed false true d e = d.1 (e.0 refl)
 agreed false false d e = refl
 
 -- a text with its formatting
-Shows-Formatted : Shows formatted.ghosts.eq worded
+Shows-Formatted : Shows formatted.ghosts.eq formatted_view
 Shows-Formatted t u =
     Decides-moved (formatted.ghosts.eq t u) (both (Shows-strings t.text u.text) (Decides-formattings t.formatting u.formatting))
     (λ e i. (e.1 i, e.0 i)) (λ e. (ap (λ p. p.1) e, ap (λ p. p.0) e))
@@ -58,15 +58,15 @@ abbrev same_people : Vec Person Global → Vec Person Global → Bool
 same_people v w = pointwise one_person.ghosts.eq v.items w.items
 
 abbrev people : Vec Person Global → List Named
-people v = map person v.items
+people v = map person_view v.items
 
 Shows-people : Shows same_people people
-Shows-people v w = Shows-lists one_person.ghosts.eq person Shows-Person v.items w.items
+Shows-people v w = Shows-lists one_person.ghosts.eq person_view Shows-Person v.items w.items
 
 abbrev same_answered : Vec Person Global × NameVariable → Vec Person Global × NameVariable → Bool
 same_answered p q = same_people p.0 q.0 && variable.ghosts.eq p.1 q.1
 
-Shows-answered : Shows same_answered answered
+Shows-answered : Shows same_answered answered_view
 Shows-answered p q = Shows-pairs same_people people variable.ghosts.eq (λ v. v) Shows-people Decides-names p q
 
 -- the people of a names node
@@ -75,9 +75,9 @@ names_of (metas.Names a) = a
 names_of m = []
 
 -- what an element stands for
-pub Shows-ElemMeta : Shows meta.ghosts.eq meaning
+pub Shows-ElemMeta : Shows meta.ghosts.eq meta_view
 Shows-ElemMeta (kinds.Names v) (kinds.Names w) =
-    Decides-moved (pointwise same_answered v.items w.items) (Shows-lists same_answered answered Shows-answered v.items w.items) (ap metas.Names) (ap names_of)
+    Decides-moved (pointwise same_answered v.items w.items) (Shows-lists same_answered answered_view Shows-answered v.items w.items) (ap metas.Names) (ap names_of)
 Shows-ElemMeta (kinds.NameVariable v) (kinds.NameVariable w) = Decides-moved (variable.ghosts.eq v w) (Decides-names v w) (ap metas.NameVariableOf) (λ e. cc)
 Shows-ElemMeta (kinds.Name v m) (kinds.Name w n) =
     Decides-moved (variable.ghosts.eq v w && m == n) (both (Decides-names v w) (Decides-eqb m n)) (λ e i. metas.Name (e.0 i) (e.1 i)) (λ e. (cc, cc))
@@ -94,19 +94,19 @@ Shows-ElemMeta m n = Decides-never (λ e. cc)
 abbrev Level : Type 0
 Level = ElemChild-F ElemChild Elem ElemChildren
 
-abbrev seen : Level → Child
-seen (ElemChild-F.Text t) = trees.Text t.formatting (characters t.text)
-seen (ElemChild-F.Elem e) = trees.Elem e.display (option_map meaning e.meta) (tree e.children)
-seen (ElemChild-F.Markup s) = trees.Markup (characters s)
-seen (ElemChild-F.Link t url) = trees.Link t.formatting (characters t.text) (characters url)
-seen (ElemChild-F.Transparent n f) = trees.Transparent f n
+abbrev viewed : Level → Child
+viewed (ElemChild-F.Text t) = trees.Text t.formatting (characters t.text)
+viewed (ElemChild-F.Elem e) = trees.Elem e.display (option_map meta_view e.meta) (tree_view e.children)
+viewed (ElemChild-F.Markup s) = trees.Markup (characters s)
+viewed (ElemChild-F.Link t url) = trees.Link t.formatting (characters t.text) (characters url)
+viewed (ElemChild-F.Transparent n f) = trees.Transparent f n
 
-seen_is : (u : Level) → child (roll-ElemChild u) ≡ seen u
-seen_is (ElemChild-F.Text t) = search (rules, the_lemmas)
-seen_is (ElemChild-F.Elem e) = search (rules, the_lemmas)
-seen_is (ElemChild-F.Markup s) = search (rules, the_lemmas)
-seen_is (ElemChild-F.Link t url) = search (rules, the_lemmas)
-seen_is (ElemChild-F.Transparent n f) = search (rules, the_lemmas)
+view_is : (u : Level) → child_view (roll-ElemChild u) ≡ viewed u
+view_is (ElemChild-F.Text t) = search (rules, the_lemmas)
+view_is (ElemChild-F.Elem e) = search (rules, the_lemmas)
+view_is (ElemChild-F.Markup s) = search (rules, the_lemmas)
+view_is (ElemChild-F.Link t url) = search (rules, the_lemmas)
+view_is (ElemChild-F.Transparent n f) = search (rules, the_lemmas)
 
 abbrev same : Level → Level → Bool
 same (ElemChild-F.Text t) (ElemChild-F.Text u) = formatted.ghosts.eq t u
@@ -169,14 +169,14 @@ others nothing = nothing
 others (before y ys) = ys
 
 -- what is decided of each child is decided of lists of them
-decided_each : (n : ℕ) → ((x y : ElemChild) → size (child x) ≤ n → Decides (part.ghosts.eq x y) (child x ≡ child y))
-    → (xs ys : List ElemChild) → sizes (row xs) ≤ n → Decides (pointwise part.ghosts.eq xs ys) (row xs ≡ row ys)
+decided_each : (n : ℕ) → ((x y : ElemChild) → size (child_view x) ≤ n → Decides (part.ghosts.eq x y) (child_view x ≡ child_view y))
+    → (xs ys : List ElemChild) → sizes (children_view xs) ≤ n → Decides (pointwise part.ghosts.eq xs ys) (children_view xs ≡ children_view ys)
 decided_each n one [] [] h = (λ e. refl, λ e. refl)
 decided_each n one [] (y ∷ ys) h = Decides-never (λ e. true≢false (sym (ap is_some e)))
 decided_each n one (x ∷ xs) [] h = Decides-never (λ e. true≢false (ap is_some e))
 decided_each n one (x ∷ xs) (y ∷ ys) h =
     Decides-moved (part.ghosts.eq x y && pointwise part.ghosts.eq xs ys) (both (one x y (omega (arith, h))) (decided_each n one xs ys (omega (arith, h))))
-    (λ p i. before (p.0 i) (p.1 i)) (λ p. (ap (first_or (child x)) p, ap others p))
+    (λ p i. before (p.0 i) (p.1 i)) (λ p. (ap (first_or (child_view x)) p, ap others p))
 
 abbrev same_displays : Elem → Elem → Bool
 same_displays e f = option_eq display.ghosts.eq e.display f.display
@@ -185,16 +185,16 @@ abbrev same_metas : Elem → Elem → Bool
 same_metas e f = option_eq meta.ghosts.eq e.meta f.meta
 
 -- the parts of an element
-decided_parts : (e f : Elem) → Decides (pointwise part.ghosts.eq e.children.0.items f.children.0.items) (tree e.children ≡ tree f.children)
-    → Decides (elem.ghosts.eq e f) ((tree e.children ≡ tree f.children) × ((e.display ≡ f.display) × (option_map meaning e.meta ≡ option_map meaning f.meta)))
+decided_parts : (e f : Elem) → Decides (pointwise part.ghosts.eq e.children.0.items f.children.0.items) (tree_view e.children ≡ tree_view f.children)
+    → Decides (elem.ghosts.eq e f) ((tree_view e.children ≡ tree_view f.children) × ((e.display ≡ f.display) × (option_map meta_view e.meta ≡ option_map meta_view f.meta)))
 decided_parts e f d =
     Decides-at (elem.ghosts.eq e f) (list.ghosts.eq e.children f.children && (same_displays e f && same_metas e f)) (elem_laws.is e f)
     (both (Decides-at (list.ghosts.eq e.children f.children) (pointwise part.ghosts.eq e.children.0.items f.children.0.items) (list_laws.is e.children f.children) d)
-    (both (Shows-options_themselves display.ghosts.eq Decides-displays e.display f.display) (Shows-options meta.ghosts.eq meaning Shows-ElemMeta e.meta f.meta)))
+    (both (Shows-options_themselves display.ghosts.eq Decides-displays e.display f.display) (Shows-options meta.ghosts.eq meta_view Shows-ElemMeta e.meta f.meta)))
 
 -- one level of a child, where what is in it is decided
-decided_level : (n : ℕ) → ((x y : ElemChild) → size (child x) ≤ n → Decides (part.ghosts.eq x y) (child x ≡ child y))
-    → (u w : Level) → size (seen u) ≤ suc n → Decides (same u w) (seen u ≡ seen w)
+decided_level : (n : ℕ) → ((x y : ElemChild) → size (child_view x) ≤ n → Decides (part.ghosts.eq x y) (child_view x ≡ child_view y))
+    → (u w : Level) → size (viewed u) ≤ suc n → Decides (same u w) (viewed u ≡ viewed w)
 decided_level n one (ElemChild-F.Text t) (ElemChild-F.Text u) h =
     Decides-moved (formatted.ghosts.eq t u) (Shows-Formatted t u) (ap (λ p. trees.Text p.0 p.1)) (λ e i. (fcc e i, ccs e i)) where
       fcc : trees.Text t.formatting (characters t.text) ≡ trees.Text u.formatting (characters u.text) → t.formatting ≡ u.formatting
@@ -209,39 +209,39 @@ decided_level n one (ElemChild-F.Markup s) (ElemChild-F.Markup t) h = Decides-mo
 decided_level n one (ElemChild-F.Link t url) (ElemChild-F.Link u other) h =
     Decides-moved (formatted.ghosts.eq t u && string_eq url other) (both (Shows-Formatted t u) (Shows-strings url other))
     (λ p i. trees.Link (p.0 i).0 (p.0 i).1 (p.1 i)) (λ e. (linked e, cc)) where
-      linked : trees.Link t.formatting (characters t.text) (characters url) ≡ trees.Link u.formatting (characters u.text) (characters other) → worded t ≡ worded u
+      linked : trees.Link t.formatting (characters t.text) (characters url) ≡ trees.Link u.formatting (characters u.text) (characters other) → formatted_view t ≡ formatted_view u
       linked e = let f : t.formatting ≡ u.formatting = cc in let cs : characters t.text ≡ characters u.text = cc in λ i. (f i, cs i)
 decided_level n one (ElemChild-F.Transparent m f) (ElemChild-F.Transparent k g) h =
     Decides-moved (m == k && formatting.ghosts.eq f g) (both (Decides-eqb m k) (Decides-formattings f g)) (λ p i. trees.Transparent (p.1 i) (p.0 i)) (λ e. (cc, cc))
 decided_level n one u w h = Decides-never (λ e. cc)
 
-child_is : (x : ElemChild) → child x ≡ seen (out-ElemChild x)
-child_is x = ap child (sym (roll-out-ElemChild x)) ∙ seen_is (out-ElemChild x)
+child_is : (x : ElemChild) → child_view x ≡ viewed (out-ElemChild x)
+child_is x = ap child_view (sym (roll-out-ElemChild x)) ∙ view_is (out-ElemChild x)
 
 eq_is : (x y : ElemChild) → part.ghosts.eq x y ≡ same (out-ElemChild x) (out-ElemChild y)
 eq_is x y = (λ i. part.ghosts.eq (sym (roll-out-ElemChild x) i) (sym (roll-out-ElemChild y) i)) ∙ same_is (out-ElemChild x) (out-ElemChild y)
 
 -- of children that contain so much
-decided : (n : ℕ) (x y : ElemChild) → size (child x) ≤ n → Decides (part.ghosts.eq x y) (child x ≡ child y)
-decided zero x y h = let own = is_one (child x) in absurd (omega (arith, own, h))
+decided : (n : ℕ) (x y : ElemChild) → size (child_view x) ≤ n → Decides (part.ghosts.eq x y) (child_view x ≡ child_view y)
+decided zero x y h = let own = is_one (child_view x) in absurd (omega (arith, own, h))
 decided (suc n) x y h =
     let up = ap size (child_is x) in
     Decides-at (part.ghosts.eq x y) (same (out-ElemChild x) (out-ElemChild y)) (eq_is x y)
     (Decides-moved (same (out-ElemChild x) (out-ElemChild y)) (decided_level n (decided n) (out-ElemChild x) (out-ElemChild y) (omega (arith, up, h)))
     (λ e. child_is x ∙ e ∙ sym (child_is y)) (λ e. sym (child_is x) ∙ e ∙ child_is y))
 
-pub Shows-ElemChild : Shows part.ghosts.eq child
-Shows-ElemChild x y = decided (size (child x)) x y (omega arith)
+pub Shows-ElemChild : Shows part.ghosts.eq child_view
+Shows-ElemChild x y = decided (size (child_view x)) x y (omega arith)
 
-decided_rows : (xs ys : List ElemChild) → Decides (pointwise part.ghosts.eq xs ys) (row xs ≡ row ys)
-decided_rows xs ys = decided_each (sizes (row xs)) (λ x y h. Shows-ElemChild x y) xs ys (omega arith)
+decided_children : (xs ys : List ElemChild) → Decides (pointwise part.ghosts.eq xs ys) (children_view xs ≡ children_view ys)
+decided_children xs ys = decided_each (sizes (children_view xs)) (λ x y h. Shows-ElemChild x y) xs ys (omega arith)
 
-pub Shows-ElemChildren : Shows list.ghosts.eq tree
+pub Shows-ElemChildren : Shows list.ghosts.eq tree_view
 Shows-ElemChildren a b =
-    Decides-at (list.ghosts.eq a b) (pointwise part.ghosts.eq a.0.items b.0.items) (list_laws.is a b) (decided_rows a.0.items b.0.items)
+    Decides-at (list.ghosts.eq a b) (pointwise part.ghosts.eq a.0.items b.0.items) (list_laws.is a b) (decided_children a.0.items b.0.items)
 
-pub Shows-Elem : Shows elem.ghosts.eq element
+pub Shows-Elem : Shows elem.ghosts.eq element_view
 Shows-Elem e f =
-    Decides-moved (elem.ghosts.eq e f) (decided_parts e f (decided_rows e.children.0.items f.children.0.items))
+    Decides-moved (elem.ghosts.eq e f) (decided_parts e f (decided_children e.children.0.items f.children.0.items))
     (λ p i. record { display = p.1.0 i; meta = p.1.1 i; children = p.0 i })
     (λ p. (ap (λ (g : Element). g.children) p, (ap (λ (g : Element). g.display) p, ap (λ (g : Element). g.meta) p)))

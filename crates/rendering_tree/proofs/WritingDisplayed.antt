@@ -8,7 +8,7 @@ use Rattle.std.specs.declared.fmt.Error.{Error}
 use Rattle.std.specs.declared.fmt.Formatter.{Formatter}
 
 module _ {W : Type 0} (took : W → List ℕ → W → Type 0) where
-  -- calls that each write a text write the texts in a row
+  -- calls that each write a text write the texts one after the other
   displayed_each : (f : Formatter W) (xs : List (List ℕ)) (g : Formatter W)
       → FoldsTo (λ a x b. IsPlainFormatter a → HasWritten took a x b) f xs g → IsPlainFormatter f → HasWritten took f (concat xs) g
   displayed_each f [] g h plain = has_written_to_eq took f [] f g (sym h) (record { wrote = writes_in_calls_nil took f.writer; plain = plain })

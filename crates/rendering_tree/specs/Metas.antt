@@ -11,9 +11,9 @@ use Rattle.rendering_taxonomy.specs.declared.variable.NameVariable.{NameVariable
 abbrev pub Answered : Type 0
 Answered = List Named × NameVariable
 
--- What an element stands for: a names node with all people of its variables, one of these variables, a person by the place
--- among its people, a cite by its place in the request, a date, a text, a number, a label, or the value of one of the two
--- variables that tell entries apart.
+-- What an element stands for: a names node with all people of its variables, one of these variables, a person by the index
+-- among its people, a cite by its index in the request, a date, a text, a number, a label, or the value of one of the two
+-- variables that identify entries.
 pub data Meta : Type 0 where
   Names : List Answered → Meta
   NameVariableOf : NameVariable → Meta

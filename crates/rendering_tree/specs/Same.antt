@@ -9,16 +9,16 @@ use Rattle.rendering_tree.specs.Trees.{Child, Children, Text, Elem, Markup, Link
 use Rattle.rendering_taxonomy.specs.declared.formatting.Display.{Display}
 use Rattle.rendering_taxonomy.specs.declared.formatting.Display.TheVariants as displays
 
--- the places of displays in their list
-abbrev pub display_place : Display → ℕ
-display_place displays.Block = 0
-display_place displays.LeftMargin = 1
-display_place displays.RightInline = 2
-display_place displays.Indent = 3
+-- the indices of displays in their list
+abbrev pub display_index : Display → ℕ
+display_index displays.Block = 0
+display_index displays.LeftMargin = 1
+display_index displays.RightInline = 2
+display_index displays.Indent = 3
 
 -- whether two displays are one
 abbrev pub is_display : Display → Display → Bool
-is_display d e = display_place d == display_place e
+is_display d e = display_index d == display_index e
 
 abbrev mutual
   -- whether two children are the same

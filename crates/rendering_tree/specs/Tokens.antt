@@ -1,5 +1,5 @@
--- What stands on a page, in one flat list. The list has the last token first, so what is said of the end of a page is said of
--- the front of the list. Texts are lists of characters, characters are numbers.
+-- What stands on a page, in one flat list. The list has the last token first, so what holds of the end of a page holds of
+-- the start of the list. Texts are lists of characters, characters are numbers.
 use Rattle.std.specs.Prelude.{ℕ, zero, suc, List, [], ◌∷◌, reverse, fold, if◌then◌else◌, Option}
 use Rattle.rendering_taxonomy.specs.Formats.{looks_like}
 use Rattle.rendering_tree.specs.Metas.{Meta}
@@ -7,7 +7,7 @@ use Rattle.rendering_taxonomy.specs.declared.formatting.Display.{Display}
 use Rattle.rendering_taxonomy.specs.declared.formatting.Formatting.{Formatting}
 
 -- A character that looks so; a formula; a link from a text that looks so to an address; a locator of the caller's own, by
--- the place of its cite; where an element with a display or a meaning begins and ends. A mark and its end stand where
+-- the index of its cite; where an element with a display or a meaning begins and ends. A mark and its end stand where
 -- something begins and ends that is to be undone if it prints nothing; they are no part of what is printed.
 pub data Token : Type 0 where
   letter : Formatting → ℕ → Token

@@ -10,7 +10,7 @@ use Rattle.rendering_taxonomy.specs.declared.formatting.Formatting.{Formatting}
 
 mutual
   -- a text that looks so, an element with its display and its meaning, a formula, a link from a text to an address,
-  -- a locator of the caller's own by the place of its cite
+  -- a locator of the caller's own by the index of its cite
   pub data Child : Type 0 where
     Text : Formatting → List ℕ → Child
     Elem : Option Display → Option Meta → Children → Child
@@ -120,7 +120,7 @@ element_with m xs = element_by (λ e. option_map_or (is_meta m) e.meta false) xs
 abbrev pub names_element : Children → Option Element
 names_element xs = element_by (λ e. option_map_or is_names e.meta false) xs
 
--- two lists in a row
+-- two lists one after the other
 abbrev pub followed_by : Children → Children → Children
 followed_by nothing ys = ys
 followed_by (before x xs) ys = before x (followed_by xs ys)

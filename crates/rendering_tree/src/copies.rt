@@ -3,8 +3,8 @@
 ghost use Rattle.std.specs.Prelude.{◌≡◌, IfOk, map};
 ghost use Rattle.std.specs.Option.{option_map};
 ghost use Rattle.laws.specs.Text.{characters};
-ghost use Rattle.literature_values.specs.PersonViews.{person};
-ghost use Rattle.rendering_tree.specs.Views.{answered, child, element, meaning, tree, worded};
+ghost use Rattle.literature_values.specs.PersonViews.{person_view};
+ghost use Rattle.rendering_tree.specs.Views.{answered_view, child_view, element_view, meta_view, tree_view, formatted_view};
 
 use crate::{Elem, ElemChild, ElemChildren, ElemMeta, Formatted};
 use literature_values::Person;
@@ -12,7 +12,7 @@ use rendering_taxonomy::NameVariable;
 use std::alloc::AllocError;
 
 impl Clone for Formatted {
-    ghost is_clone = { λ s t. worded t ≡ worded s };
+    ghost is_clone = { λ s t. formatted_view t ≡ formatted_view s };
 
     fn clone(&self) -> Result<Formatted, AllocError> {
         Ok(Formatted {
@@ -23,14 +23,14 @@ impl Clone for Formatted {
 }
 
 impl Clone for ElemMeta {
-    ghost is_clone = { λ m n. meaning n ≡ meaning m };
+    ghost is_clone = { λ m n. meta_view n ≡ meta_view m };
 
     fn clone(&self) -> Result<ElemMeta, AllocError> {
         match self {
             ElemMeta::Names(names) => Ok(ElemMeta::Names(copy_names(names)?)),
             ElemMeta::NameVariable(variable) => Ok(ElemMeta::NameVariable(*variable)),
-            ElemMeta::Name(variable, place) => Ok(ElemMeta::Name(*variable, *place)),
-            ElemMeta::Entry(place) => Ok(ElemMeta::Entry(*place)),
+            ElemMeta::Name(variable, index) => Ok(ElemMeta::Name(*variable, *index)),
+            ElemMeta::Entry(index) => Ok(ElemMeta::Entry(*index)),
             ElemMeta::Date => Ok(ElemMeta::Date),
             ElemMeta::Text => Ok(ElemMeta::Text),
             ElemMeta::Number => Ok(ElemMeta::Number),
@@ -42,7 +42,7 @@ impl Clone for ElemMeta {
 }
 
 impl Clone for Elem {
-    ghost is_clone = { λ e f. element f ≡ element e };
+    ghost is_clone = { λ e f. element_view f ≡ element_view e };
 
     fn clone(&self) -> Result<Elem, AllocError> {
         copy_element(self)
@@ -50,7 +50,7 @@ impl Clone for Elem {
 }
 
 impl Clone for ElemChildren {
-    ghost is_clone = { λ a b. tree b ≡ tree a };
+    ghost is_clone = { λ a b. tree_view b ≡ tree_view a };
 
     fn clone(&self) -> Result<ElemChildren, AllocError> {
         copy_children(self)
@@ -58,7 +58,7 @@ impl Clone for ElemChildren {
 }
 
 impl Clone for ElemChild {
-    ghost is_clone = { λ x y. child y ≡ child x };
+    ghost is_clone = { λ x y. child_view y ≡ child_view x };
 
     fn clone(&self) -> Result<ElemChild, AllocError> {
         copy_child(self)
@@ -68,7 +68,7 @@ impl Clone for ElemChild {
 /// A copy of an element.
 #[cycle(copy)]
 fn copy_element(elem: &Elem) -> Result<Elem, AllocError>
-    ensures { IfOk result (λ e. element e ≡ element elem.now) }
+    ensures { IfOk result (λ e. element_view e ≡ element_view elem.now) }
 {
     Ok(Elem {
         children: copy_children(&elem.children)?,
@@ -80,7 +80,7 @@ fn copy_element(elem: &Elem) -> Result<Elem, AllocError>
 /// A copy of a list.
 #[cycle(copy)]
 fn copy_children(parts: &ElemChildren) -> Result<ElemChildren, AllocError>
-    ensures { IfOk result (λ t. tree t ≡ tree parts.now) }
+    ensures { IfOk result (λ t. tree_view t ≡ tree_view parts.now) }
 {
     let mut copies = Vec::with_capacity(*parts.0.allocator(), parts.0.len())?;
     for part in &parts.0 {
@@ -92,7 +92,7 @@ fn copy_children(parts: &ElemChildren) -> Result<ElemChildren, AllocError>
 /// A copy of a child.
 #[cycle(copy)]
 fn copy_child(part: &ElemChild) -> Result<ElemChild, AllocError>
-    ensures { IfOk result (λ x. child x ≡ child part.now) }
+    ensures { IfOk result (λ x. child_view x ≡ child_view part.now) }
 {
     match part {
         ElemChild::Text(text) => Ok(ElemChild::Text(text.clone()?)),
@@ -111,7 +111,7 @@ fn copy_child(part: &ElemChild) -> Result<ElemChild, AllocError>
 
 /// A copy of what an element stands for.
 fn copy_meta(meta: &Option<ElemMeta>) -> Result<Option<ElemMeta>, AllocError>
-    ensures { IfOk result (λ m. option_map meaning m ≡ option_map meaning meta.now) }
+    ensures { IfOk result (λ m. option_map meta_view m ≡ option_map meta_view meta.now) }
 {
     match meta {
         Some(meta) => Ok(Some(meta.clone()?)),
@@ -123,7 +123,7 @@ fn copy_meta(meta: &Option<ElemMeta>) -> Result<Option<ElemMeta>, AllocError>
 fn copy_names(
     names: &Vec<(Vec<Person>, NameVariable)>,
 ) -> Result<Vec<(Vec<Person>, NameVariable)>, AllocError>
-    ensures { IfOk result (λ v. map answered v.items ≡ map answered names.now.items) }
+    ensures { IfOk result (λ v. map answered_view v.items ≡ map answered_view names.now.items) }
 {
     let mut copies = Vec::with_capacity(*names.allocator(), names.len())?;
     for (people, variable) in names {
@@ -134,7 +134,7 @@ fn copy_names(
 
 /// A copy of people.
 fn copy_people(people: &Vec<Person>) -> Result<Vec<Person>, AllocError>
-    ensures { IfOk result (λ v. map person v.items ≡ map person people.now.items) }
+    ensures { IfOk result (λ v. map person_view v.items ≡ map person_view people.now.items) }
 {
     let mut copies = Vec::with_capacity(*people.allocator(), people.len())?;
     for one in people {

@@ -2,7 +2,7 @@
 
 ghost use Rattle.std.specs.Prelude.{◌≡◌, OnOk, OnErr};
 ghost use Rattle.rendering_tree.specs.Trees.{nothing, before, followed_by, is_nothing};
-ghost use Rattle.rendering_tree.specs.Views.{child, tree};
+ghost use Rattle.rendering_tree.specs.Views.{child_view, tree_view};
 
 use literature_values::Person;
 use rendering_taxonomy::{Display, Formatting, NameVariable};
@@ -22,9 +22,9 @@ pub enum ElemMeta {
     Names(Vec<(Vec<Person>, NameVariable)>),
     /// The people of one variable.
     NameVariable(NameVariable),
-    /// A person, by the place among the people of the variable, from zero.
+    /// A person, by the index among the people of the variable, from zero.
     Name(NameVariable, usize),
-    /// A cite, by its place in its request, from zero.
+    /// A cite, by its index in its request, from zero.
     Entry(usize),
     /// A date.
     Date,
@@ -67,21 +67,21 @@ pub enum ElemChild {
     Markup(String),
     /// A link from a text to an address.
     Link { text: Formatted, url: String },
-    /// A locator of the caller's own, by the place of its cite in its request, from zero.
+    /// A locator of the caller's own, by the index of its cite in its request, from zero.
     Transparent { cite_idx: usize, format: Formatting },
 }
 
 impl ElemChildren {
     /// A list without children.
     pub fn new(alloc: Global) -> ElemChildren
-        ensures { tree result ≡ nothing }
+        ensures { tree_view result ≡ nothing }
     {
         ElemChildren(Vec::new(alloc))
     }
 
     /// Whether there are no children.
     pub fn is_empty(&self) -> bool
-        ensures { result ≡ is_nothing (tree self.now) }
+        ensures { result ≡ is_nothing (tree_view self.now) }
     {
         self.0.is_empty()
     }
@@ -91,8 +91,9 @@ impl ElemChildren {
     /// # Errors
     /// Out of memory.
     pub fn push(&mut self, part: ElemChild) -> Result<(), AllocError>
-        ensures ok { OnOk result (tree self.new ≡ followed_by (tree self.old) (before (child part) nothing)) }
-        ensures err { OnErr result (tree self.new ≡ tree self.old) }
+        ensures ok { OnOk result (tree_view self.new
+            ≡ followed_by (tree_view self.old) (before (child_view part) nothing)) }
+        ensures err { OnErr result (tree_view self.new ≡ tree_view self.old) }
     {
         self.0.push(part)?;
         Ok(())

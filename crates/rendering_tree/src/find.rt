@@ -5,7 +5,7 @@ ghost use Rattle.std.specs.List.{find};
 ghost use Rattle.std.specs.Option.{option_map, option_map_or};
 ghost use Rattle.rendering_tree.specs.Metas.{is_meta, is_names};
 ghost use Rattle.rendering_tree.specs.Trees.{Element, element_by, element_with, elements_in, names_element};
-ghost use Rattle.rendering_tree.specs.Views.{child, element, meaning, tree};
+ghost use Rattle.rendering_tree.specs.Views.{child_view, element_view, meta_view, tree_view};
 
 use crate::{Elem, ElemChild, ElemChildren, ElemMeta};
 
@@ -14,8 +14,10 @@ impl ElemChildren {
     #[cycle(find)]
     pub fn find_elem_by<F: Fn(&Elem) -> bool>(&self, f: &F) -> Option<&Elem>
         requires { F.IsAlwaysCallable f.now }
-        // This holds for each test that the closure makes of what is seen of an element.
-        ensures { (test : Element → Bool) → ((e : _) (b : Bool) → F.post f.now e b → b ≡ test (element e.now)) → option_map (λ e. element e.now) result ≡ element_by test (tree self.now) }
+        // This holds for each test that the closure makes of the view of an element.
+        ensures { (test : Element → Bool)
+            → ((e : _) (b : Bool) → F.post f.now e b → b ≡ test (element_view e.now))
+            → option_map (λ e. element_view e.now) result ≡ element_by test (tree_view self.now) }
     {
         for part in &self.0 {
             if let Some(found) = part.find_elem_by(f) {
@@ -27,14 +29,15 @@ impl ElemChildren {
 
     /// The first element that stands for that.
     pub fn find_meta(&self, meta: &ElemMeta) -> Option<&Elem>
-        ensures { option_map (λ e. element e.now) result ≡ element_with (meaning meta.now) (tree self.now) }
+        ensures { option_map (λ e. element_view e.now) result
+            ≡ element_with (meta_view meta.now) (tree_view self.now) }
     {
         self.find_elem_by(&|elem: &Elem| stands_for(elem, meta))
     }
 
     /// The first element that stands for a names node.
     pub fn find_names(&self) -> Option<&Elem>
-        ensures { option_map (λ e. element e.now) result ≡ names_element (tree self.now) }
+        ensures { option_map (λ e. element_view e.now) result ≡ names_element (tree_view self.now) }
     {
         self.find_elem_by(&|elem: &Elem| is_names(elem))
     }
@@ -42,7 +45,7 @@ impl ElemChildren {
     /// The first element that stands for a names node, to be changed.
     #[cycle(find_mut)]
     pub fn find_names_mut(&mut self) -> Option<&mut Elem>
-        ensures { option_map (λ e. element e.now) result ≡ names_element (tree self.old) }
+        ensures { option_map (λ e. element_view e.now) result ≡ names_element (tree_view self.old) }
     {
         for part in self.0.iter_mut() {
             if let Some(found) = part.find_names_mut() {
@@ -58,7 +61,10 @@ impl ElemChild {
     #[cycle(find)]
     fn find_elem_by<F: Fn(&Elem) -> bool>(&self, f: &F) -> Option<&Elem>
         requires { F.IsAlwaysCallable f.now }
-        ensures { (test : Element → Bool) → ((e : _) (b : Bool) → F.post f.now e b → b ≡ test (element e.now)) → option_map (λ e. element e.now) result ≡ find test (elements_in (child self.now)) }
+        ensures { (test : Element → Bool)
+            → ((e : _) (b : Bool) → F.post f.now e b → b ≡ test (element_view e.now))
+            → option_map (λ e. element_view e.now) result
+            ≡ find test (elements_in (child_view self.now)) }
     {
         match self {
             ElemChild::Elem(elem) => {
@@ -75,7 +81,8 @@ impl ElemChild {
     /// The first element that stands for a names node, in the child and what it contains.
     #[cycle(find_mut)]
     fn find_names_mut(&mut self) -> Option<&mut Elem>
-        ensures { option_map (λ e. element e.now) result ≡ find (λ e. option_map_or is_names e.meta false) (elements_in (child self.old)) }
+        ensures { option_map (λ e. element_view e.now) result
+            ≡ find (λ e. option_map_or is_names e.meta false) (elements_in (child_view self.old)) }
     {
         match self {
             ElemChild::Elem(elem) => {
@@ -92,7 +99,8 @@ impl ElemChild {
 
 /// Whether an element stands for that.
 fn stands_for(elem: &Elem, meta: &ElemMeta) -> bool
-    ensures { result ≡ option_map_or (is_meta (meaning meta.now)) (element elem.now).meta false }
+    ensures { result
+        ≡ option_map_or (is_meta (meta_view meta.now)) (element_view elem.now).meta false }
 {
     match &elem.meta {
         Some(own) => *meta == *own,
@@ -102,7 +110,7 @@ fn stands_for(elem: &Elem, meta: &ElemMeta) -> bool
 
 /// Whether an element stands for a names node.
 fn is_names(elem: &Elem) -> bool
-    ensures { result ≡ option_map_or is_names (element elem.now).meta false }
+    ensures { result ≡ option_map_or is_names (element_view elem.now).meta false }
 {
     matches!(elem.meta, Some(ElemMeta::Names(_)))
 }

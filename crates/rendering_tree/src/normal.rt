@@ -5,7 +5,7 @@ ghost use Rattle.std.specs.Option.{option_map};
 ghost use Rattle.rendering_taxonomy.specs.Formats.{looks_like};
 ghost use Rattle.rendering_tree.specs.Laws.{is_normal, is_normal_child, says_something};
 ghost use Rattle.rendering_tree.specs.Normal.{joins_after, text_look};
-ghost use Rattle.rendering_tree.specs.Views.{child, meaning, tree};
+ghost use Rattle.rendering_tree.specs.Views.{child_view, meta_view, tree_view};
 
 use crate::{ElemChild, ElemChildren, ElemMeta};
 use rendering_taxonomy::{Display, Formatting};
@@ -14,7 +14,7 @@ use texts::has_text;
 /// Whether a tree is in its normal form.
 #[cycle(normal)]
 pub(crate) fn is_normal(parts: &ElemChildren) -> bool
-    ensures { result ≡ is_normal (tree parts.now) }
+    ensures { result ≡ is_normal (tree_view parts.now) }
 {
     let mut look = None;
     for part in &parts.0 {
@@ -29,7 +29,8 @@ pub(crate) fn is_normal(parts: &ElemChildren) -> bool
 /// Whether a child is in its normal form and does not join the text before it.
 #[cycle(normal)]
 fn stands_after(look: Option<Formatting>, part: &ElemChild) -> bool
-    ensures { result ≡ (is_normal_child (child part.now) && not (joins_after look (child part.now))) }
+    ensures { result
+        ≡ (is_normal_child (child_view part.now) && not (joins_after look (child_view part.now))) }
 {
     is_normal_child(part) && !joins_after(look, part)
 }
@@ -37,7 +38,7 @@ fn stands_after(look: Option<Formatting>, part: &ElemChild) -> bool
 /// Whether a child is in its normal form.
 #[cycle(normal)]
 fn is_normal_child(part: &ElemChild) -> bool
-    ensures { result ≡ is_normal_child (child part.now) }
+    ensures { result ≡ is_normal_child (child_view part.now) }
 {
     match part {
         ElemChild::Text(text) => has_text(text.text.as_str()),
@@ -50,14 +51,14 @@ fn is_normal_child(part: &ElemChild) -> bool
 
 /// Whether there is a display or a meta.
 pub(crate) fn says_something(display: &Option<Display>, meta: &Option<ElemMeta>) -> bool
-    ensures { result ≡ says_something display.now (option_map meaning meta.now) }
+    ensures { result ≡ says_something display.now (option_map meta_view meta.now) }
 {
     display.is_some() || meta.is_some()
 }
 
 /// How a child looks, if it is a text.
 fn text_look(part: &ElemChild) -> Option<Formatting>
-    ensures { result ≡ text_look (child part.now) }
+    ensures { result ≡ text_look (child_view part.now) }
 {
     match part {
         ElemChild::Text(text) => Some(text.formatting),
@@ -67,7 +68,7 @@ fn text_look(part: &ElemChild) -> Option<Formatting>
 
 /// Whether a child would join the text before it.
 fn joins_after(look: Option<Formatting>, part: &ElemChild) -> bool
-    ensures { result ≡ joins_after look (child part.now) }
+    ensures { result ≡ joins_after look (child_view part.now) }
 {
     match (look, part) {
         (Some(look), ElemChild::Text(text)) => looks_like(look, text.formatting),

@@ -5,21 +5,21 @@ ghost use Rattle.laws.specs.Text.{characters};
 ghost use Rattle.rendering_tree.specs.Simplify.{Puts, is_whole, text_after};
 ghost use Rattle.rendering_tree.specs.Tokens.{with_letters};
 ghost use Rattle.rendering_tree.specs.Trees.{Text, nothing, before, flat, flat_child, followed_by, simplified};
-ghost use Rattle.rendering_tree.specs.Views.{child, row, tree};
+ghost use Rattle.rendering_tree.specs.Views.{child_view, children_view, tree_view};
 
 use crate::normal::{is_normal, says_something};
 use crate::{Elem, ElemChild, ElemChildren, Formatted};
 use std::alloc::AllocError;
 use texts::{has_text, push_text};
 
-/// The tree in its normal form: the children of an element without display and meta stand in its place, there are no empty texts,
+/// The tree in its normal form: the children of an element without display and meta stand instead of it, there are no empty texts,
 /// and neighbouring texts of one formatting are joined. A tree that is in its normal form is handed back.
 ///
 /// # Errors
 /// Out of memory.
 #[tactic(auto, using(crate::proofs::LawsNormal::stays))]
 pub fn simplify_children(parts: ElemChildren) -> Result<ElemChildren, AllocError>
-    ensures { IfOk result (λ t. tree t ≡ simplified (tree parts)) }
+    ensures { IfOk result (λ t. tree_view t ≡ simplified (tree_view parts)) }
 {
     if is_normal(&parts) {
         return Ok(parts);
@@ -30,7 +30,7 @@ pub fn simplify_children(parts: ElemChildren) -> Result<ElemChildren, AllocError
 /// The tree in its normal form, made anew.
 #[cycle(simplify)]
 fn simplified(parts: ElemChildren) -> Result<ElemChildren, AllocError>
-    ensures { IfOk result (λ t. tree t ≡ simplified (tree parts)) }
+    ensures { IfOk result (λ t. tree_view t ≡ simplified (tree_view parts)) }
 {
     let mut simple = Vec::with_capacity(*parts.0.allocator(), parts.0.len())?;
     push_all(parts, &mut simple)?;
@@ -40,7 +40,8 @@ fn simplified(parts: ElemChildren) -> Result<ElemChildren, AllocError>
 /// Appends a list in its normal form.
 #[cycle(simplify)]
 fn push_all(parts: ElemChildren, simple: &mut Vec<ElemChild>) -> Result<(), AllocError>
-    ensures { OnOk result (Puts (flat (tree parts)) (row simple.old.items) (row simple.new.items)) }
+    ensures { OnOk result (Puts (flat (tree_view parts))
+        (children_view simple.old.items) (children_view simple.new.items)) }
 {
     for part in parts.0 {
         push_child(part, simple)?;
@@ -51,7 +52,8 @@ fn push_all(parts: ElemChildren, simple: &mut Vec<ElemChild>) -> Result<(), Allo
 /// Appends a child in its normal form.
 #[cycle(simplify)]
 fn push_child(part: ElemChild, simple: &mut Vec<ElemChild>) -> Result<(), AllocError>
-    ensures { OnOk result (Puts (flat_child (child part)) (row simple.old.items) (row simple.new.items)) }
+    ensures { OnOk result (Puts (flat_child (child_view part))
+        (children_view simple.old.items) (children_view simple.new.items)) }
 {
     match part {
         ElemChild::Text(text) => push_formatted(text, simple),
@@ -67,7 +69,8 @@ fn push_child(part: ElemChild, simple: &mut Vec<ElemChild>) -> Result<(), AllocE
 /// Appends an element in its normal form.
 #[cycle(simplify)]
 fn push_element(elem: Elem, simple: &mut Vec<ElemChild>) -> Result<(), AllocError>
-    ensures { OnOk result (Puts (flat_child (child (ElemChild.Elem elem))) (row simple.old.items) (row simple.new.items)) }
+    ensures { OnOk result (Puts (flat_child (child_view (ElemChild.Elem elem)))
+        (children_view simple.old.items) (children_view simple.new.items)) }
 {
     let Elem {
         children,
@@ -90,7 +93,8 @@ fn push_element(elem: Elem, simple: &mut Vec<ElemChild>) -> Result<(), AllocErro
 
 /// Appends a text, joined with the last one where that has its formatting; an empty one is passed over.
 fn push_formatted(text: Formatted, simple: &mut Vec<ElemChild>) -> Result<(), AllocError>
-    ensures { OnOk result (Puts (with_letters text.formatting (characters text.text) []) (row simple.old.items) (row simple.new.items)) }
+    ensures { OnOk result (Puts (with_letters text.formatting (characters text.text) [])
+        (children_view simple.old.items) (children_view simple.new.items)) }
 {
     if !has_text(text.text.as_str()) {
         return Ok(());
@@ -110,7 +114,9 @@ fn push_after(
     text: Formatted,
     simple: &mut Vec<ElemChild>,
 ) -> Result<(), AllocError>
-    ensures { OnOk result (row simple.new.items ≡ followed_by (row simple.old.items) (text_after (child last) text.formatting (characters text.text))) }
+    ensures { OnOk result (children_view simple.new.items
+        ≡ followed_by (children_view simple.old.items)
+        (text_after (child_view last) text.formatting (characters text.text))) }
 {
     match last {
         ElemChild::Text(first) => push_texts(first, text, simple),
@@ -124,7 +130,9 @@ fn push_texts(
     text: Formatted,
     simple: &mut Vec<ElemChild>,
 ) -> Result<(), AllocError>
-    ensures { OnOk result (row simple.new.items ≡ followed_by (row simple.old.items) (text_after (Text first.formatting (characters first.text)) text.formatting (characters text.text))) }
+    ensures { OnOk result (children_view simple.new.items
+        ≡ followed_by (children_view simple.old.items) (text_after
+        (Text first.formatting (characters first.text)) text.formatting (characters text.text))) }
 {
     if first.formatting != text.formatting {
         return push_both(ElemChild::Text(first), text, simple);
@@ -140,7 +148,9 @@ fn push_both(
     text: Formatted,
     simple: &mut Vec<ElemChild>,
 ) -> Result<(), AllocError>
-    ensures { OnOk result (row simple.new.items ≡ followed_by (row simple.old.items) (before (child first) (before (Text text.formatting (characters text.text)) nothing))) }
+    ensures { OnOk result (children_view simple.new.items
+        ≡ followed_by (children_view simple.old.items) (before (child_view first)
+        (before (Text text.formatting (characters text.text)) nothing))) }
 {
     simple.push(first)?;
     simple.push(ElemChild::Text(text))?;
@@ -149,8 +159,9 @@ fn push_both(
 
 /// Appends a child that is no text and in its normal form.
 fn push_whole(part: ElemChild, simple: &mut Vec<ElemChild>) -> Result<(), AllocError>
-    requires { is_whole (child part) ≡ true }
-    ensures { OnOk result (Puts (flat_child (child part)) (row simple.old.items) (row simple.new.items)) }
+    requires { is_whole (child_view part) ≡ true }
+    ensures { OnOk result (Puts (flat_child (child_view part))
+        (children_view simple.old.items) (children_view simple.new.items)) }
 {
     simple.push(part)?;
     Ok(())

@@ -3,7 +3,7 @@
 ghost use Rattle.std.specs.Prelude.{OnOk, Some};
 ghost use Rattle.laws.specs.Text.{text};
 ghost use Rattle.rendering_output.specs.Writing.{WritesTags, divided};
-ghost use Rattle.rendering_tree.specs.Views.{child, element, tree};
+ghost use Rattle.rendering_tree.specs.Views.{child_view, element_view, tree_view};
 ghost use Rattle.rendering_tree.specs.Writing.{tags, tags_in, plain_text, plain_child_text, plain_element_text};
 
 use crate::{Elem, ElemChild, ElemChildren};
@@ -14,7 +14,7 @@ impl ElemChildren {
     /// Hands the children in that format to the target, one after the other.
     #[cycle(writing)]
     pub fn push_to<T: TextTarget>(&self, target: &mut T, format: BufWriteFormat)
-        ensures { WritesTags T.takes format target.old (tags (tree self.now)) target.new }
+        ensures { WritesTags T.takes format target.old (tags (tree_view self.now)) target.new }
     {
         for part in &self.0 {
             part.push_to(target, format);
@@ -26,7 +26,8 @@ impl ElemChildren {
     /// # Errors
     /// An error of the writer, after which some of it may have been written.
     pub fn write_buf<W: fmt::Write>(&self, w: &mut W, format: BufWriteFormat) -> fmt::Result
-        ensures { OnOk result (WritesTags W.write_str_gives format w.old (tags (tree self.now)) w.new) }
+        ensures { OnOk result
+            (WritesTags W.write_str_gives format w.old (tags (tree_view self.now)) w.new) }
     {
         let mut target = WriterTarget::new(w);
         self.push_to(&mut target, format);
@@ -38,7 +39,7 @@ impl ElemChild {
     /// Hands the child in that format to the target.
     #[cycle(writing)]
     pub fn push_to<T: TextTarget>(&self, target: &mut T, format: BufWriteFormat)
-        ensures { WritesTags T.takes format target.old (tags_in (child self.now)) target.new }
+        ensures { WritesTags T.takes format target.old (tags_in (child_view self.now)) target.new }
     {
         match self {
             ElemChild::Text(text) => {
@@ -58,7 +59,8 @@ impl ElemChild {
     /// # Errors
     /// An error of the writer, after which some of it may have been written.
     pub fn write_buf<W: fmt::Write>(&self, w: &mut W, format: BufWriteFormat) -> fmt::Result
-        ensures { OnOk result (WritesTags W.write_str_gives format w.old (tags_in (child self.now)) w.new) }
+        ensures { OnOk result
+            (WritesTags W.write_str_gives format w.old (tags_in (child_view self.now)) w.new) }
     {
         let mut target = WriterTarget::new(w);
         self.push_to(&mut target, format);
@@ -70,7 +72,8 @@ impl Elem {
     /// Hands the element in that format to the target.
     #[cycle(writing)]
     pub fn push_to<T: TextTarget>(&self, target: &mut T, format: BufWriteFormat)
-        ensures { WritesTags T.takes format target.old (divided self.now.display (tags (tree self.now.children))) target.new }
+        ensures { WritesTags T.takes format target.old
+            (divided self.now.display (tags (tree_view self.now.children))) target.new }
     {
         format.push_start(target, self.display);
         self.children.push_to(target, format);
@@ -82,7 +85,8 @@ impl Elem {
     /// # Errors
     /// An error of the writer, after which some of it may have been written.
     pub fn write_buf<W: fmt::Write>(&self, w: &mut W, format: BufWriteFormat) -> fmt::Result
-        ensures { OnOk result (WritesTags W.write_str_gives format w.old (divided self.now.display (tags (tree self.now.children))) w.new) }
+        ensures { OnOk result (WritesTags W.write_str_gives format w.old
+            (divided self.now.display (tags (tree_view self.now.children))) w.new) }
     {
         let mut target = WriterTarget::new(w);
         self.push_to(&mut target, format);
@@ -91,7 +95,7 @@ impl Elem {
 }
 
 impl fmt::Display for ElemChildren {
-    ghost output = { λ cs. Some (text (plain_text (tree cs))) };
+    ghost output = { λ cs. Some (text (plain_text (tree_view cs))) };
 
     /// Writes the children in plain text, one after the other.
     fn fmt<W: fmt::Write>(&self, f: &mut fmt::Formatter<W>) -> fmt::Result {
@@ -100,7 +104,7 @@ impl fmt::Display for ElemChildren {
 }
 
 impl fmt::Display for ElemChild {
-    ghost output = { λ c. Some (text (plain_child_text (child c))) };
+    ghost output = { λ c. Some (text (plain_child_text (child_view c))) };
 
     /// Writes the child in plain text.
     fn fmt<W: fmt::Write>(&self, f: &mut fmt::Formatter<W>) -> fmt::Result {
@@ -109,7 +113,7 @@ impl fmt::Display for ElemChild {
 }
 
 impl fmt::Display for Elem {
-    ghost output = { λ e. Some (text (plain_element_text (element e))) };
+    ghost output = { λ e. Some (text (plain_element_text (element_view e))) };
 
     /// Writes the element in plain text.
     fn fmt<W: fmt::Write>(&self, f: &mut fmt::Formatter<W>) -> fmt::Result {

@@ -5,5 +5,5 @@ use Rattle.rendering_nodes.specs.Views.{walk_context}
 use Rattle.rendering_writing.specs.declared.context.Context.{Context}
 
 -- what is printed from, with what the entry answers
-abbrev pub context_of : {E : Type 0} → Answers → Context E → contexts.Context
-context_of a x = walk_context a x.walk
+abbrev pub writing_context_view : {E : Type 0} → Answers → Context E → contexts.Context
+writing_context_view a x = walk_context a x.walk

@@ -1,34 +1,34 @@
 -- What those who print by themselves may do to a page.
 use Rattle.std.specs.Prelude.{ℕ, true, false, List, [], ◌∷◌, None}
 use Rattle.literature_values.specs.TextViews.{Chunk}
-use Rattle.rendering_page.specs.Pages.{Page, space_put}
+use Rattle.rendering_page.specs.Pages.{Page, append_space}
 use Rattle.rendering_page.specs.Pieces.{normal, linked, own_locator, chunk_pieces}
-use Rattle.rendering_page.specs.Shown.{plainly}
+use Rattle.rendering_page.specs.PageCharacters.{plainly}
 use Rattle.rendering_style.specs.Options.{NameOptions, open_options, options_over}
 use Rattle.rendering_style.specs.Nodes.{Nodes}
 use Rattle.rendering_context.specs.Contexts.{Context}
-use Rattle.rendering_leaves.specs.Settings.{Setting, State, whole, put}
+use Rattle.rendering_leaves.specs.NodeSettings.{NodeSetting, State, whole, append}
 use Rattle.rendering_nodes.specs.Admission.{Survey, surveys}
 use Rattle.rendering_nodes.specs.Content.{stage, contents}
 
--- What was put down, what is handed down, and the options for names that count again when those that count now are taken back.
+-- What was appended, what is handed down, and the options for names that count again when those that count now are taken back.
 pub record Writing : Type 0 where
   pub state : State
-  pub setting : Setting
+  pub setting : NodeSetting
   pub options_around : List NameOptions
 
--- what is handed down where nothing was said
-abbrev pub setting_begun : Setting
+-- what is handed down where nothing was specified
+abbrev pub setting_begun : NodeSetting
 setting_begun = record {
   manner = plainly;
   inside_quotes = false;
   delimiter = None;
   options = open_options;
-  stands_in = false;
+  in_substitute = false;
   form = whole;
 }
 
--- what was put down as it stands on a page
+-- what was appended as it stands on a page
 abbrev pub with_page : Page → Writing → Writing
 with_page p w = record w { state = record w.state { page = p } }
 
@@ -45,25 +45,25 @@ options_popped_to (o ∷ os) w = record w { setting = record w.setting { options
 abbrev pub options_popped : Writing → Writing
 options_popped w = options_popped_to w.options_around w
 
--- a space, unless nothing was put down or the last text ends in one
+-- a space, unless nothing was appended or the last text ends in one
 abbrev pub space_ensured : Writing → Writing
-space_ensured w = with_page (space_put w.state.page) w
+space_ensured w = with_page (append_space w.state.page) w
 
 -- an ordinary text
 abbrev pub text_pushed : Context → List ℕ → Writing → Writing
-text_pushed c cs w = record w { state = put c (normal w.setting.manner cs ∷ []) w.state }
+text_pushed c cs w = record w { state = append c (normal w.setting.manner cs ∷ []) w.state }
 
 -- a text in pieces
 abbrev pub chunks_pushed : Context → List Chunk → Writing → Writing
-chunks_pushed c cs w = record w { state = put c (chunk_pieces w.setting.manner cs) w.state }
+chunks_pushed c cs w = record w { state = append c (chunk_pieces w.setting.manner cs) w.state }
 
 -- a link from a text to an address
 abbrev pub link_pushed : Context → List ℕ → List ℕ → Writing → Writing
-link_pushed c cs url w = record w { state = put c (linked w.setting.manner.formatting cs url ∷ []) w.state }
+link_pushed c cs url w = record w { state = append c (linked w.setting.manner.formatting cs url ∷ []) w.state }
 
--- a locator of the caller's own, by the place of its cite
+-- a locator of the caller's own, by the index of its cite
 abbrev pub transparent_pushed : Context → ℕ → Writing → Writing
-transparent_pushed c n w = record w { state = put c (own_locator w.setting.manner.formatting n ∷ []) w.state }
+transparent_pushed c n w = record w { state = append c (own_locator w.setting.manner.formatting n ∷ []) w.state }
 
 -- what nodes whose macros are opened print there, each that is admitted
 abbrev pub nodes_rendered : Context → Nodes → Writing → Writing

@@ -2,8 +2,8 @@
 
 ghost use Rattle.std.specs.Prelude.{◌≡◌, OnOk};
 ghost use Rattle.std.specs.Str.{chars};
-ghost use Rattle.literature_values.specs.TextViews.{chunks as chunks_of};
-ghost use Rattle.rendering_writing.specs.Views.{context_of};
+ghost use Rattle.literature_values.specs.TextViews.{chunks_view as chunks_of};
+ghost use Rattle.rendering_writing.specs.Views.{writing_context_view};
 ghost use Rattle.rendering_writing.specs.Writing.{chunks_pushed, link_pushed, space_ensured, text_pushed, transparent_pushed};
 
 use crate::writing::WritingContext;
@@ -23,7 +23,7 @@ pub struct Context<'w, 's, 'a, E> {
 }
 
 impl<'a, E: EntryLike> Context<'_, '_, 'a, E> {
-    /// A space at the end. There is none where nothing was put down, and none where the last text ends in a space.
+    /// A space at the end. There is none where nothing was appended, and none where the last text ends in a space.
     ///
     /// # Errors
     /// Out of memory.
@@ -35,60 +35,69 @@ impl<'a, E: EntryLike> Context<'_, '_, 'a, E> {
         self.writing.ensure_space()
     }
 
-    /// Puts a copy of an ordinary text down.
+    /// Appends a copy of an ordinary text.
     ///
     /// # Errors
     /// Out of memory.
     pub fn push_str(&mut self, text: &str) -> Result<(), AllocError>
         ensures same_reference { self.new.writing.ghost_name ≡ self.old.writing.ghost_name }
         ensures around { (self.new.walk ≡ self.old.walk) × (self.new.entry ≡ self.old.entry) }
-        ensures ok { OnOk result (self.new.writing.now ≡ text_pushed (context_of (E.answers self.old.entry.now) self.old) (chars text.now) self.old.writing.now) }
+        ensures ok { OnOk result (self.new.writing.now
+            ≡ text_pushed (writing_context_view (E.answers self.old.entry.now) self.old)
+            (chars text.now) self.old.writing.now) }
     {
         let text = String::from_str(self.walk.context.alloc, text)?;
         self.writing.push_made(self.walk.context.quotes, text)
     }
 
-    /// Puts a text in pieces down: formulas, texts as they are, and ordinary texts.
+    /// Appends a text in pieces: formulas, texts as they are, and ordinary texts.
     ///
     /// # Errors
     /// Out of memory.
     pub fn push_chunked(&mut self, text: &'a ChunkedString) -> Result<(), AllocError>
         ensures same_reference { self.new.writing.ghost_name ≡ self.old.writing.ghost_name }
         ensures around { (self.new.walk ≡ self.old.walk) × (self.new.entry ≡ self.old.entry) }
-        ensures ok { OnOk result (self.new.writing.now ≡ chunks_pushed (context_of (E.answers self.old.entry.now) self.old) (chunks_of text.now) self.old.writing.now) }
+        ensures ok { OnOk result (self.new.writing.now
+            ≡ chunks_pushed (writing_context_view (E.answers self.old.entry.now) self.old)
+            (chunks_of text.now) self.old.writing.now) }
     {
         self.writing.push_chunks(self.walk.context.quotes, text)
     }
 
-    /// Puts a link from a text to an address down.
+    /// Appends a link from a text to an address.
     ///
     /// # Errors
     /// Out of memory.
     pub fn push_link(&mut self, text: &'a str, url: &'a str) -> Result<(), AllocError>
         ensures same_reference { self.new.writing.ghost_name ≡ self.old.writing.ghost_name }
         ensures around { (self.new.walk ≡ self.old.walk) × (self.new.entry ≡ self.old.entry) }
-        ensures ok { OnOk result (self.new.writing.now ≡ link_pushed (context_of (E.answers self.old.entry.now) self.old) (chars text.now) (chars url.now) self.old.writing.now) }
+        ensures ok { OnOk result (self.new.writing.now
+            ≡ link_pushed (writing_context_view (E.answers self.old.entry.now) self.old)
+            (chars text.now) (chars url.now) self.old.writing.now) }
     {
         self.writing.push_link(text, url)
     }
 
-    /// Puts a locator of the caller's own down, by the place of its cite in its request, from zero.
+    /// Appends a locator of the caller's own, by the index of its cite in its request, from zero.
     ///
     /// # Errors
     /// Out of memory.
     pub fn push_transparent(&mut self, cite_idx: usize) -> Result<(), AllocError>
         ensures same_reference { self.new.writing.ghost_name ≡ self.old.writing.ghost_name }
         ensures around { (self.new.walk ≡ self.old.walk) × (self.new.entry ≡ self.old.entry) }
-        ensures ok { OnOk result (self.new.writing.now ≡ transparent_pushed (context_of (E.answers self.old.entry.now) self.old) cite_idx self.old.writing.now) }
+        ensures ok { OnOk result (self.new.writing.now
+            ≡ transparent_pushed (writing_context_view (E.answers self.old.entry.now) self.old)
+            cite_idx self.old.writing.now) }
     {
         self.writing.push_transparent(cite_idx)
     }
 }
 
 impl<'a, E: EntryLike> fmt::Write for Context<'_, '_, 'a, E> {
-    ghost write_str_gives = { λ x text y. y.writing.now ≡ text_pushed (context_of (E.answers x.entry.now) x) (chars text) x.writing.now };
+    ghost write_str_gives = { λ x text y. y.writing.now
+        ≡ text_pushed (writing_context_view (E.answers x.entry.now) x) (chars text) x.writing.now };
 
-    /// Puts a copy of an ordinary text down.
+    /// Appends a copy of an ordinary text.
     fn write_str(&mut self, text: &str) -> fmt::Result {
         match self.push_str(text) {
             Ok(()) => Ok(()),

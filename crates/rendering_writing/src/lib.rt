@@ -1,5 +1,5 @@
-//! What those who print by themselves may do: a page with what is handed down to what is put on it, texts and nodes of a style put
-//! down there, and what is asked of nodes before.
+//! What those who print by themselves may do: a page with what is handed down to what is appended to it, texts and nodes of a style
+//! appended there, and what is asked of nodes before.
 #![tactic(auto)]
 
 mod context;

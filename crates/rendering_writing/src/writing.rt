@@ -1,27 +1,27 @@
-//! A page, and what is handed down to what is put on it.
+//! A page, and what is handed down to what is appended to it.
 
 ghost use Rattle.std.specs.Prelude.{◌≡◌, [], map, IfOk, OnOk};
 ghost use Rattle.std.specs.Str.{chars};
 ghost use Rattle.laws.specs.Text.{characters};
-ghost use Rattle.literature_values.specs.TextViews.{chunks as chunks_of};
-ghost use Rattle.rendering_leaves.specs.Settings.{begun};
-ghost use Rattle.rendering_leaves.specs.Views.{setting_by};
-ghost use Rattle.rendering_names.specs.Views.{options_by};
-ghost use Rattle.rendering_page.specs.Pages.{normal_put, token_put};
-ghost use Rattle.rendering_page.specs.Pieces.{all_down, chunk_pieces};
-ghost use Rattle.rendering_page.specs.Views.{quotes_of};
-ghost use Rattle.rendering_nodes.specs.Views.{macros_of, survey_by, walk_context};
+ghost use Rattle.literature_values.specs.TextViews.{chunks_view as chunks_of};
+ghost use Rattle.rendering_leaves.specs.NodeSettings.{begun};
+ghost use Rattle.rendering_leaves.specs.Views.{setting_view};
+ghost use Rattle.rendering_names.specs.Views.{resolved_options_view};
+ghost use Rattle.rendering_page.specs.Pages.{append_normal, append_token};
+ghost use Rattle.rendering_page.specs.Pieces.{append_pieces, chunk_pieces};
+ghost use Rattle.rendering_page.specs.Views.{quotes_view};
+ghost use Rattle.rendering_nodes.specs.Views.{macros_of, survey_view, walk_context};
 ghost use Rattle.rendering_style.specs.Opening.{opened_nodes};
 ghost use Rattle.rendering_style.specs.Options.{open_options};
-ghost use Rattle.rendering_style.specs.Views.{node_seen, options_seen};
+ghost use Rattle.rendering_style.specs.Views.{node_view, options_view};
 ghost use Rattle.rendering_tree.specs.Tokens.{link, transparent};
 ghost use Rattle.rendering_tree.specs.Trees.{tree_of};
-ghost use Rattle.rendering_tree.specs.Views.{tree};
+ghost use Rattle.rendering_tree.specs.Views.{tree_view};
 ghost use Rattle.rendering_writing.specs.Writing.{nodes_asked, nodes_rendered, options_popped, options_pushed, setting_begun, space_ensured, with_page};
 
 use literature_values::ChunkedString;
 use rendering_entries::EntryLike;
-use rendering_leaves::{Form, Setting, State};
+use rendering_leaves::{NodeSetting, SpecialForm, State};
 use rendering_names::ResolvedNameOptions;
 use rendering_nodes::{Survey, Walk};
 use rendering_page::plainly;
@@ -30,36 +30,37 @@ use rendering_tree::ElemChildren;
 use std::alloc::{AllocError, Global};
 use std::marker::Model;
 
-/// A page, and what is handed down to what is put on it. After an error nothing is known of what stands on the page.
+/// A page, and what is handed down to what is appended to it. After an error nothing is known of what stands on the page.
 #[derive(Drop)]
 pub struct WritingContext<'a> {
     state: State<'a>,
-    setting: Setting<'a>,
+    setting: NodeSetting<'a>,
     options_around: Vec<ResolvedNameOptions<'a>>,
 }
 
 impl<'a> Model for WritingContext<'a> {
     ghost use Rattle.std.specs.Prelude.{map, reverse};
-    ghost use Rattle.rendering_leaves.specs.Views.{setting_by};
-    ghost use Rattle.rendering_names.specs.Views.{options_by};
+    ghost use Rattle.rendering_leaves.specs.Views.{setting_view};
+    ghost use Rattle.rendering_names.specs.Views.{resolved_options_view};
     ghost use Rattle.rendering_writing.specs.Writing as writings;
 
     ghost Value = { writings.Writing };
 
-    ghost view = { λ w. record { state = w.state; setting = setting_by w.setting; options_around = reverse (map options_by w.options_around.items) } };
+    ghost view = { λ w. record { state = w.state; setting = setting_view w.setting; options_around = reverse (map resolved_options_view w.options_around.items) } };
 }
 
 impl<'a> WritingContext<'a> {
-    /// A page on which nothing was put down. Texts look as they do of themselves, and nothing is said of names.
+    /// A page to which nothing was appended. Texts look as they do of themselves, and nothing is specified for names.
     pub fn new(alloc: Global) -> WritingContext<'a>
         ensures { result ≡ record { state = begun; setting = setting_begun; options_around = [] } }
     {
         WritingContext::with_setting(alloc, plain_setting())
     }
 
-    /// A page on which nothing was put down, with what is handed down.
-    pub fn with_setting(alloc: Global, setting: Setting<'a>) -> WritingContext<'a>
-        ensures { result ≡ record { state = begun; setting = setting_by setting.entry; options_around = [] } }
+    /// A page to which nothing was appended, with what is handed down.
+    pub fn with_setting(alloc: Global, setting: NodeSetting<'a>) -> WritingContext<'a>
+        ensures { result
+            ≡ record { state = begun; setting = setting_view setting.entry; options_around = [] } }
     {
         WritingContext {
             state: State::new(alloc),
@@ -73,7 +74,7 @@ impl<'a> WritingContext<'a> {
     /// # Errors
     /// Out of memory.
     pub fn push_name_options(&mut self, options: &'a NameOptions) -> Result<(), AllocError>
-        ensures { OnOk result (self.new ≡ options_pushed (options_seen options.now) self.old) }
+        ensures { OnOk result (self.new ≡ options_pushed (options_view options.now) self.old) }
     {
         let around = self.setting.options;
         self.options_around.push(around)?;
@@ -90,7 +91,7 @@ impl<'a> WritingContext<'a> {
         }
     }
 
-    /// A space at the end. There is none where nothing was put down, and none where the last text ends in a space.
+    /// A space at the end. There is none where nothing was appended, and none where the last text ends in a space.
     ///
     /// # Errors
     /// Out of memory.
@@ -100,12 +101,12 @@ impl<'a> WritingContext<'a> {
         self.state.page.ensure_space()
     }
 
-    /// The tree of what was put down.
+    /// The tree of what was appended.
     ///
     /// # Errors
     /// Out of memory.
     pub fn into_tree(self) -> Result<ElemChildren, AllocError>
-        ensures { IfOk result (λ t. tree t ≡ tree_of self.entry.state.page.tokens) }
+        ensures { IfOk result (λ t. tree_view t ≡ tree_of self.entry.state.page.tokens) }
     {
         let WritingContext {
             state,
@@ -115,46 +116,53 @@ impl<'a> WritingContext<'a> {
         tree_on(state)
     }
 
-    /// Puts nodes down, each that is admitted.
+    /// Appends nodes, each that is admitted.
     pub(crate) fn push_nodes<E: EntryLike>(
         &mut self,
         walk: &Walk<'_, 'a>,
         entry: &'a E,
         nodes: &'a [Node],
     ) -> Result<(), AllocError>
-        ensures { OnOk result (self.new ≡ nodes_rendered (walk_context (E.answers entry.now) walk.now) (opened_nodes (macros_of walk.now) (map node_seen nodes.now)) self.old) }
+        ensures { OnOk result (self.new
+            ≡ nodes_rendered (walk_context (E.answers entry.now) walk.now)
+            (opened_nodes (macros_of walk.now) (map node_view nodes.now)) self.old) }
     {
         let setting = self.setting;
         walk.push_nodes(entry, &setting, nodes, &mut self.state)
     }
 
-    /// What is asked of nodes before they are put down.
+    /// What is asked of nodes before they are appended.
     pub(crate) fn survey<E: EntryLike>(
         &self,
         walk: &Walk<'_, 'a>,
         entry: &'a E,
         nodes: &'a [Node],
     ) -> Result<Survey, AllocError>
-        ensures { IfOk result (λ v. survey_by v ≡ nodes_asked (walk_context (E.answers entry.now) walk.now) (opened_nodes (macros_of walk.now) (map node_seen nodes.now)) self.now) }
+        ensures { IfOk result (λ v. survey_view v
+            ≡ nodes_asked (walk_context (E.answers entry.now) walk.now)
+            (opened_nodes (macros_of walk.now) (map node_view nodes.now)) self.now) }
     {
         walk.survey(entry, self.setting.form, nodes, &self.state)
     }
 
-    /// Puts an ordinary text down.
+    /// Appends an ordinary text.
     pub(crate) fn push_made(&mut self, quotes: &[&str], text: String) -> Result<(), AllocError>
-        ensures { OnOk result (self.new ≡ with_page (normal_put (quotes_of quotes.now) self.old.setting.manner (characters text) self.old.state.page) self.old) }
+        ensures { OnOk result (self.new ≡ with_page (append_normal (quotes_view quotes.now)
+            self.old.setting.manner (characters text) self.old.state.page) self.old) }
     {
         let manner = self.setting.manner;
         self.state.page.push_made(quotes, manner, text)
     }
 
-    /// Puts a text in pieces down.
+    /// Appends a text in pieces.
     pub(crate) fn push_chunks(
         &mut self,
         quotes: &[&str],
         text: &'a ChunkedString,
     ) -> Result<(), AllocError>
-        ensures { OnOk result (self.new ≡ with_page (all_down (quotes_of quotes.now) (chunk_pieces self.old.setting.manner (chunks_of text.now)) self.old.state.page) self.old) }
+        ensures { OnOk result (self.new ≡ with_page (append_pieces (quotes_view quotes.now)
+            (chunk_pieces self.old.setting.manner (chunks_of text.now)) self.old.state.page)
+            self.old) }
     {
         let manner = self.setting.manner;
         self.state
@@ -162,47 +170,51 @@ impl<'a> WritingContext<'a> {
             .push_chunks(quotes, manner, text.0.as_slice())
     }
 
-    /// Puts a link down.
+    /// Appends a link.
     pub(crate) fn push_link(&mut self, text: &'a str, url: &'a str) -> Result<(), AllocError>
-        ensures { OnOk result (self.new ≡ with_page (token_put (link self.old.setting.manner.formatting (chars text.now) (chars url.now)) self.old.state.page) self.old) }
+        ensures { OnOk result (self.new ≡ with_page
+            (append_token (link self.old.setting.manner.formatting (chars text.now) (chars url.now))
+            self.old.state.page) self.old) }
     {
         let formatting = self.setting.manner.formatting;
         self.state.page.push_link(formatting, text, url)
     }
 
-    /// Puts a locator of the caller's own down.
+    /// Appends a locator of the caller's own.
     pub(crate) fn push_transparent(&mut self, cite_idx: usize) -> Result<(), AllocError>
-        ensures { OnOk result (self.new ≡ with_page (token_put (transparent self.old.setting.manner.formatting cite_idx) self.old.state.page) self.old) }
+        ensures { OnOk result (self.new
+            ≡ with_page (append_token (transparent self.old.setting.manner.formatting cite_idx)
+            self.old.state.page) self.old) }
     {
         let formatting = self.setting.manner.formatting;
         self.state.page.push_transparent(formatting, cite_idx)
     }
 }
 
-/// The tree of what a call put down.
+/// The tree of what a call appended.
 fn tree_on(state: State<'_>) -> Result<ElemChildren, AllocError>
-    ensures { IfOk result (λ t. tree t ≡ tree_of state.entry.page.tokens) }
+    ensures { IfOk result (λ t. tree_view t ≡ tree_of state.entry.page.tokens) }
 {
     state.page.into_tree()
 }
 
-/// What is handed down where nothing was said.
-fn plain_setting<'a>() -> Setting<'a>
-    ensures { setting_by result ≡ setting_begun }
+/// What is handed down where nothing was specified.
+fn plain_setting<'a>() -> NodeSetting<'a>
+    ensures { setting_view result ≡ setting_begun }
 {
-    Setting {
+    NodeSetting {
         manner: plainly(),
         inside_quotes: false,
         delimiter: None,
         options: open_options(),
-        stands_in: false,
-        form: Form::Whole,
+        in_substitute: false,
+        form: SpecialForm::Whole,
     }
 }
 
-/// Nothing is said of names.
+/// Nothing is specified for names.
 fn open_options<'a>() -> ResolvedNameOptions<'a>
-    ensures { options_by result ≡ open_options }
+    ensures { resolved_options_view result ≡ open_options }
 {
     ResolvedNameOptions {
         and: None,

@@ -3,13 +3,13 @@ use Rattle.std.proofs.Common.{◌≡◌, ℕ, ◌<◌, ◌≤◌, ◌^◌, ◌-�
 use Rattle.std.proofs.lemmas.Bool.{cases_lt}
 use Rattle.std.specs.Io.KnownBytes.{Appends, Keeps}
 use Rattle.std.proofs.lemmas.List.{take-append-drop, append-nil}
-use Rattle.sinks.specs.Sinks.{AppendsFront, HasFailed, next_count}
+use Rattle.sinks.specs.Sinks.{AppendsPrefix, HasFailed, next_count}
 
--- a front of the bytes was taken, the rest is still to come, and no call has failed
+-- a prefix of the bytes was taken, the rest is still to come, and no call has failed
 pub record Writing (old new : Option (List ℕ)) (was is : ℕ) (bytes rest : List ℕ) : Type 0 where
-  pub front : List ℕ
-  pub parts : bytes ≡ front ++ rest
-  pub taken : Appends old new front
+  pub prefix : List ℕ
+  pub parts : bytes ≡ prefix ++ rest
+  pub taken : Appends old new prefix
   pub count : is ≡ was
 
 appends_none : (old : Option (List ℕ)) → Appends old old []
@@ -28,26 +28,26 @@ keeps_is (Some ms) None k = absurd k
 keeps_is (Some ms) (Some ns) k = k ∙ sym (append-nil ms)
 
 pub starts : (old : Option (List ℕ)) (was : ℕ) (bytes : List ℕ) → Writing old old was was bytes bytes
-starts old was bytes = record { front = []; parts = refl; taken = appends_none old; count = refl }
+starts old was bytes = record { prefix = []; parts = refl; taken = appends_none old; count = refl }
 
 -- a call that took n bytes of the rest
 pub goes_on : (old mid new : Option (List ℕ)) (was now later n : ℕ) (bytes rest : List ℕ) → Writing old mid was now bytes rest → Appends mid new (take n rest) → later ≡ now
     → Writing old new was later bytes (drop n rest)
 goes_on old mid new was now later n bytes rest w a e = record {
-  front = w.front ++ take n rest;
-  parts = w.parts ∙ (ap (λ (t : List ℕ). w.front ++ t) (sym (take-append-drop n rest)) ∙ sym (append_assoc w.front (take n rest) (drop n rest)));
-  taken = appends_more old mid new w.front (take n rest) w.taken a;
+  prefix = w.prefix ++ take n rest;
+  parts = w.parts ∙ (ap (λ (t : List ℕ). w.prefix ++ t) (sym (take-append-drop n rest)) ∙ sym (append_assoc w.prefix (take n rest) (drop n rest)));
+  taken = appends_more old mid new w.prefix (take n rest) w.taken a;
   count = e ∙ w.count;
 }
 
 -- at the end all was taken
 pub is_whole : (old new : Option (List ℕ)) (was now : ℕ) (bytes rest : List ℕ) → Writing old new was now bytes rest → rest ≡ [] → Appends old new bytes
-is_whole old new was now bytes rest w e = subst (λ (t : List ℕ). Appends old new t) (sym (w.parts ∙ (ap (λ (t : List ℕ). w.front ++ t) e ∙ append-nil w.front))) w.taken
+is_whole old new was now bytes rest w e = subst (λ (t : List ℕ). Appends old new t) (sym (w.parts ∙ (ap (λ (t : List ℕ). w.prefix ++ t) e ∙ append-nil w.prefix))) w.taken
 
--- where a call failed, a front was taken
-pub is_front : (old mid new : Option (List ℕ)) (was now : ℕ) (bytes rest : List ℕ) → Writing old mid was now bytes rest → Keeps mid new → AppendsFront old new bytes
-is_front old mid new was now bytes rest w k =
-    (w.front, rest, w.parts, subst (λ (t : List ℕ). Appends old new t) (append-nil w.front) (appends_more old mid new w.front [] w.taken (keeps_is mid new k)))
+-- where a call failed, a prefix was taken
+pub is_prefix : (old mid new : Option (List ℕ)) (was now : ℕ) (bytes rest : List ℕ) → Writing old mid was now bytes rest → Keeps mid new → AppendsPrefix old new bytes
+is_prefix old mid new was now bytes rest w k =
+    (w.prefix, rest, w.parts, subst (λ (t : List ℕ). Appends old new t) (append-nil w.prefix) (appends_more old mid new w.prefix [] w.taken (keeps_is mid new k)))
 
 -- and the count rose, or stood at its last value
 pub has_failed : (was now later : ℕ) → now ≡ was → later ≡ next_count now → HasFailed was later

@@ -16,12 +16,12 @@ pub record File : Type 0 where
   pub path : List ℕ
   pub outcome : Outcome
 
-abbrev pub outcome_of : Result (Vec ℕ Global) ReadFault → Outcome
-outcome_of (Ok bytes) = Ok bytes.items
-outcome_of (Err fault) = Err fault
+abbrev pub outcome_view : Result (Vec ℕ Global) ReadFault → Outcome
+outcome_view (Ok bytes) = Ok bytes.items
+outcome_view (Err fault) = Err fault
 
-abbrev pub file : FileRead → File
-file f = record { path = f.path.now; outcome = outcome_of f.bytes }
+abbrev pub file_view : FileRead → File
+file_view f = record { path = f.path.now; outcome = outcome_view f.bytes }
 
 -- what reading gave for a path: that of its first file; where there is none, it cannot be read
 abbrev pub outcome_at : List File → List ℕ → Outcome
@@ -29,7 +29,7 @@ outcome_at [] path = Err Unreadable
 outcome_at (f ∷ fs) path = if bytes_eq f.path path then f.outcome else outcome_at fs path
 
 abbrev pub read_at : List FileRead → List ℕ → Outcome
-read_at files path = outcome_at (map file files) path
+read_at files path = outcome_at (map file_view files) path
 
 -- the bytes that are given are those, or the fault is
 abbrev pub IsRead : Result (Bor (List ℕ)) ReadFault → Outcome → Type 0

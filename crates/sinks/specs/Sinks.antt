@@ -16,9 +16,9 @@ CountsFailure old new r bytes = MatchResult r (λ n. MatchBool (n == 0 && nat_lt
 abbrev pub HasFailed : ℕ → ℕ → Type 0
 HasFailed old new = (old < new) ⊎ (new ≡ 2 ^ 64 - 1)
 
--- known bytes grow by a beginning of the text
-abbrev pub AppendsFront : Option (List ℕ) → Option (List ℕ) → List ℕ → Type 0
-AppendsFront old new bytes = (front : List ℕ) × (rest : List ℕ) × (bytes ≡ front ++ rest) × Appends old new front
+-- known bytes grow by a prefix of the text
+abbrev pub AppendsPrefix : Option (List ℕ) → Option (List ℕ) → List ℕ → Type 0
+AppendsPrefix old new bytes = (prefix : List ℕ) × (rest : List ℕ) × (bytes ≡ prefix ++ rest) × Appends old new prefix
 
 -- what is wrong with the answer of a call of `write` with these bytes, if something is
 abbrev pub fault_in : {E : Type 0} → Result ℕ E → List ℕ → Option SinkFault

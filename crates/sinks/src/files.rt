@@ -1,7 +1,7 @@
 //! Files that were read: what a program is given of its input.
 
 ghost use Rattle.std.specs.Prelude.{◌≡◌};
-ghost use Rattle.sinks.specs.Files.{outcome_of, read_at, IsRead};
+ghost use Rattle.sinks.specs.Files.{outcome_view, read_at, IsRead};
 
 /// A path, and what reading its file gave.
 #[derive(Debug, Drop)]
@@ -24,7 +24,7 @@ pub enum ReadFault {
 impl FileRead<'_> {
     /// The bytes, or why the file was not read.
     pub fn bytes(&self) -> Result<&[u8], ReadFault>
-        ensures { IsRead result (outcome_of self.now.bytes) }
+        ensures { IsRead result (outcome_view self.now.bytes) }
     {
         match &self.bytes {
             Ok(bytes) => Ok(bytes.as_slice()),

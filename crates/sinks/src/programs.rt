@@ -59,21 +59,22 @@ fn read(rt: &HostRuntime, path: &str) -> Result<Vec<u8>, ReadFault> {
 }
 
 /// The line of a program that says this of something.
-pub fn line_of(alloc: Global, program: &str, said: &str, of: &str) -> Result<String, AllocError>
-    ensures { IfOk result (λ s. string_bytes s ≡ line program.now (said.now ++ of.now)) }
+pub fn line_of(alloc: Global, program: &str, message: &str, of: &str) -> Result<String, AllocError>
+    ensures { IfOk result (λ s. string_bytes s ≡ line program.now (message.now ++ of.now)) }
 {
     let mut line = String::new(alloc);
     line.push_str(program)?;
     line.push_str(": ")?;
-    line.push_str(said)?;
+    line.push_str(message)?;
     line.push_str(of)?;
     line.push('\n')?;
     Ok(line)
 }
 
 /// Writes what a program says. A fault of the sink is passed over.
-pub fn say<E: Sink>(said: &[u8], err: &mut E)
-    ensures { Says (λ bytes. bytes ≡ said.now) (E.contents err.old) (E.contents err.new) (E.failures err.old) (E.failures err.new) }
+pub fn say<E: Sink>(message: &[u8], err: &mut E)
+    ensures { Says (λ bytes. bytes ≡ message.now) (E.contents err.old)
+        (E.contents err.new) (E.failures err.old) (E.failures err.new) }
 {
-    let _ = write_all(err, said);
+    let _ = write_all(err, message);
 }

@@ -4,7 +4,7 @@ ghost use Rattle.std.specs.Prelude.{◌≡◌, List, Option, None, Some, ℕ, le
 ghost use Rattle.std.specs.Io.{WritesAtMost};
 ghost use Rattle.std.specs.Io.KnownBytes.{Appends, WriteAppends};
 ghost use Rattle.sinks.specs.declared.sink.SinkFault.{SinkFault};
-ghost use Rattle.sinks.specs.Sinks.{next_count, fault_in, fault_after, CountsFailure, HasFailed, AppendsFront};
+ghost use Rattle.sinks.specs.Sinks.{next_count, fault_in, fault_after, CountsFailure, HasFailed, AppendsPrefix};
 
 use std::io;
 use std::io::Write;
@@ -18,7 +18,7 @@ pub trait Sink {
     /// What the last of these calls did, if there was one.
     ghost last_fault: { Self → Option SinkFault };
 
-    /// Takes a front of the bytes, and says how many it took.
+    /// Takes a prefix of the bytes, and says how many it took.
     fn write(&mut self, bytes: &[u8]) -> io::Result<usize>
         ensures bound { WritesAtMost result bytes.now }
         ensures bytes { WriteAppends (contents self.old) (contents self.new) result bytes.now }
@@ -115,10 +115,11 @@ fn fault_in(taken: &io::Result<usize>, bytes: &[u8]) -> Option<SinkFault>
 }
 
 /// Writes all of the bytes. A call of `write` that fails or takes nothing ends it and is not tried again: the sink has then
-/// taken a beginning of them.
+/// taken a prefix of them.
 pub fn write_all<W: Sink>(sink: &mut W, bytes: &[u8]) -> Result<(), SinkFault>
     ensures ok { OnOk result (Appends (W.contents sink.old) (W.contents sink.new) bytes.now) }
-    ensures err { OnErr result (AppendsFront (W.contents sink.old) (W.contents sink.new) bytes.now) }
+    ensures err { OnErr result
+        (AppendsPrefix (W.contents sink.old) (W.contents sink.new) bytes.now) }
     ensures cause { OnErr result (HasFailed (W.failures sink.old) (W.failures sink.new)) }
     // No call failed; or the last one did, and none was tried after it.
     ensures quiet { OnOk result (W.failures sink.new ≡ W.failures sink.old) }

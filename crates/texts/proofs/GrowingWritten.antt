@@ -31,14 +31,14 @@ text-more {X} f xs i d below =
     ∙ ap (λ (t : List ℕ). text (flat_map f (take i xs) ++ t)) (append-nil (f (get_or xs i d)))
     ∙ text-append (flat_map f (take i xs)) (f (get_or xs i d)))
 
--- the texts of what is seen
-flat_map-seen : {X Y : Type 0} (f : Y → List ℕ) (v : X → Y) (xs : List X) → flat_map (λ x. f (v x)) xs ≡ flat_map f (map v xs)
-flat_map-seen f v [] = refl
-flat_map-seen f v (x ∷ xs) = ap (λ (t : List ℕ). f (v x) ++ t) (flat_map-seen f v xs)
+-- the texts of the view
+flat_map-view : {X Y : Type 0} (f : Y → List ℕ) (v : X → Y) (xs : List X) → flat_map (λ x. f (v x)) xs ≡ flat_map f (map v xs)
+flat_map-view f v [] = refl
+flat_map-view f v (x ∷ xs) = ap (λ (t : List ℕ). f (v x) ++ t) (flat_map-view f v xs)
 
--- one more element is written, as it is seen
-pub text-more_seen : {X Y : Type 0} (f : Y → List ℕ) (v : X → Y) (xs : List X) (i : ℕ) (d : X) → i < length xs
+-- one more element is written, as it is viewed
+pub text-more_view : {X Y : Type 0} (f : Y → List ℕ) (v : X → Y) (xs : List X) (i : ℕ) (d : X) → i < length xs
     → text (flat_map f (map v (take i xs))) ++ text (f (v (get_or xs i d))) ≡ text (flat_map f (map v (take (i + 1) xs)))
-text-more_seen f v xs i d below =
-    ap (λ (t : List ℕ). text t ++ text (f (v (get_or xs i d)))) (sym (flat_map-seen f v (take i xs))) ∙ text-more (λ x. f (v x)) xs i d below
-    ∙ ap text (flat_map-seen f v (take (i + 1) xs))
+text-more_view f v xs i d below =
+    ap (λ (t : List ℕ). text t ++ text (f (v (get_or xs i d)))) (sym (flat_map-view f v (take i xs))) ∙ text-more (λ x. f (v x)) xs i d below
+    ∙ ap text (flat_map-view f v (take (i + 1) xs))

@@ -2,7 +2,7 @@
 use Rattle.std.proofs.Common.{ℕ, ◌≤◌, List, length, Ok, pos}
 use Rattle.std.specs.Prelude.{IfOk}
 use Rattle.std.specs.Str.Parse.{digits_value}
-use Rattle.laws.specs.Runs.{front_of, after}
+use Rattle.laws.specs.Runs.{prefix_of, after}
 use Rattle.laws.proofs.Results.{test_if_ok}
 use Rattle.laws.proofs.Runs.{length-after}
 use Rattle.texts.specs.Character.{passes}
@@ -16,4 +16,4 @@ LeavesAtMost n p = length p.1 ≤ n
 
 pub number-leaves : (cs : List ℕ) → IfOk (number_at cs) (LeavesAtMost (length cs))
 number-leaves cs =
-    test_if_ok (LeavesAtMost (length cs)) (is_number (front_of (passes Digit) cs)) (Ok (pos (digits_value 10 (front_of (passes Digit) cs)), after (passes Digit) cs)) NotThere (length-after (passes Digit) cs)
+    test_if_ok (LeavesAtMost (length cs)) (is_number (prefix_of (passes Digit) cs)) (Ok (pos (digits_value 10 (prefix_of (passes Digit) cs)), after (passes Digit) cs)) NotThere (length-after (passes Digit) cs)

@@ -61,4 +61,4 @@ number_again n rest small bars =
     let value : digits_value 10 (decimal n) ≡ n = digits_value-decimal own n (omega arith) in
     let few : digits_value 10 (decimal n) < 2 ^ 31 = omega arith in
     let t : is_number (decimal n) ≡ true = is_number_true (decimal n) (decimal_nonempty n (omega arith)) few in
-    rw (c.front, c.after, t, value) refl
+    rw (c.prefix, c.after, t, value) refl

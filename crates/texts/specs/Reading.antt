@@ -1,7 +1,7 @@
 -- Reading from the left: what stands there, and the text after it, or that it does not stand there. Characters are numbers.
 use Rattle.std.specs.Prelude.{ℕ, Bool, true, false, ◌==◌, ◌&&◌, nat_lt, nat_le, ◌^◌, List, [], ◌∷◌, length, if◌then◌else◌, Result, Ok, Err, ℤ, pos}
 use Rattle.std.specs.Str.Parse.{digits_value}
-use Rattle.laws.specs.Runs.{front_of, after}
+use Rattle.laws.specs.Runs.{prefix_of, after}
 use Rattle.texts.specs.Character.{passes}
 use Rattle.texts.specs.declared.character.Class.TheVariants.{Digit, Mark}
 use Rattle.texts.specs.declared.reader.Unreadable.{Unreadable}
@@ -11,14 +11,14 @@ use Rattle.texts.specs.declared.reader.Unreadable.TheVariants.{NotThere}
 abbrev pub is_number : List ℕ → Bool
 is_number digits = nat_lt 0 (length digits) && nat_lt (digits_value 10 digits) (2 ^ 31)
 
--- the number that the digits from the front on spell
+-- the number that the digits from the start on spell
 abbrev pub number_at : List ℕ → Result (ℤ × List ℕ) Unreadable
-number_at cs = if is_number (front_of (passes Digit) cs) then Ok (pos (digits_value 10 (front_of (passes Digit) cs)), after (passes Digit) cs) else Err NotThere
+number_at cs = if is_number (prefix_of (passes Digit) cs) then Ok (pos (digits_value 10 (prefix_of (passes Digit) cs)), after (passes Digit) cs) else Err NotThere
 
 -- a run of digits, so many at least and so many at most
 abbrev pub digits_at : ℕ → ℕ → List ℕ → Result (ℕ × List ℕ) Unreadable
 digits_at least most cs =
-    if nat_le least (length (front_of (passes Digit) cs)) && nat_le (length (front_of (passes Digit) cs)) most then Ok (digits_value 10 (front_of (passes Digit) cs), after (passes Digit) cs) else Err NotThere
+    if nat_le least (length (prefix_of (passes Digit) cs)) && nat_le (length (prefix_of (passes Digit) cs)) most then Ok (digits_value 10 (prefix_of (passes Digit) cs), after (passes Digit) cs) else Err NotThere
 
 -- one character is wanted
 abbrev pub token_at : ℕ → List ℕ → Result (List ℕ) Unreadable

@@ -2,7 +2,7 @@
 
 ghost use Rattle.std.specs.Prelude.{◌≡◌, ◌++◌, ◌∷◌, [], Bool, IfSome, MatchOption, encode_utf8, ℕ};
 ghost use Rattle.std.specs.Str.{chars, IsUtf8};
-ghost use Rattle.laws.specs.Runs.{front_of, after};
+ghost use Rattle.laws.specs.Runs.{prefix_of, after};
 ghost use Rattle.texts.specs.Character.{passes};
 
 /// A class of characters.
@@ -56,7 +56,8 @@ impl CharacterClass for Class {
 
 /// The first character, and what follows it.
 pub fn split_first(text: &str) -> Option<(char, &str)>
-    ensures chars { MatchOption result (chars text.now ≡ []) (λ x. chars text.now ≡ x.0 ∷ chars x.1.now) }
+    ensures chars { MatchOption result (chars text.now ≡ []) (λ x. chars text.now
+        ≡ x.0 ∷ chars x.1.now) }
     ensures parts { IfSome result (λ x. text.now ≡ encode_utf8 x.0 ++ x.1.now) }
     ensures utf8 { IfSome result (λ x. IsUtf8 x.1.now) }
 {
@@ -65,10 +66,10 @@ pub fn split_first(text: &str) -> Option<(char, &str)>
     Some((c, chars.as_str()))
 }
 
-/// The longest front of the class, and what follows it.
+/// The longest prefix of the class, and what follows it.
 pub fn split_run<C: CharacterClass>(text: &str, class: C) -> (&str, &str)
     ensures parts { text.now ≡ result.0.now ++ result.1.now }
-    ensures front { chars result.0.now ≡ front_of (C.passes class) (chars text.now) }
+    ensures prefix { chars result.0.now ≡ prefix_of (C.passes class) (chars text.now) }
     ensures rest { chars result.1.now ≡ after (C.passes class) (chars text.now) }
 {
     for (i, c) in text.char_indices() {

@@ -1,4 +1,4 @@
-//! Texts that grow, seen as their characters.
+//! Texts that grow, viewed as their characters.
 
 ghost use Rattle.std.specs.Prelude.{◌≡◌, ◌++◌, ◌∷◌, [], IfOk, OnOk, string_bytes};
 ghost use Rattle.std.specs.Str.{chars};

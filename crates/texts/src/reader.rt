@@ -3,7 +3,7 @@
 ghost use Rattle.std.specs.Prelude.{◌≡◌, ◌<◌, ◌≤◌, ◌^◌, ◌&&◌, nat_le, IfOk};
 ghost use Rattle.std.specs.Str.{chars};
 ghost use Rattle.laws.specs.Results.{Reads, Passes};
-ghost use Rattle.laws.specs.Runs.{front_of, after};
+ghost use Rattle.laws.specs.Runs.{prefix_of, after};
 ghost use Rattle.texts.specs.Character.{passes};
 ghost use Rattle.texts.specs.Reading.{number_at, end_at, digits_at, token_at, taken, mark_at};
 ghost use Rattle.texts.specs.Views.{left};
@@ -32,12 +32,12 @@ impl<'s> Reader<'s> {
 
     /// The longest run of the class that stands here.
     pub fn run(&mut self, class: Class) -> &'s str
-        ensures front { chars result.now ≡ front_of (passes class) (left self.old) }
+        ensures prefix { chars result.now ≡ prefix_of (passes class) (left self.old) }
         ensures rest { left self.new ≡ after (passes class) (left self.old) }
     {
-        let (front, rest) = split_run(self.rest, class);
+        let (prefix, rest) = split_run(self.rest, class);
         self.rest = rest;
-        front
+        prefix
     }
 
     /// The number that stands here.
@@ -54,7 +54,8 @@ impl<'s> Reader<'s> {
     pub fn digits(&mut self, least: usize, most: usize) -> Result<u16, Unreadable>
         requires some { 0 < least }
         requires few { most ≤ 4 }
-        ensures reads { Reads (λ n. n) result (left self.new) (digits_at least most (left self.old)) }
+        ensures reads { Reads (λ n. n) result (left self.new)
+            (digits_at least most (left self.old)) }
         ensures below { IfOk result (λ n. n < 10 ^ most) }
     {
         let digits = self.run(Class::Digit);

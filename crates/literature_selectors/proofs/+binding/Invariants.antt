@@ -1,7 +1,7 @@
 use Rattle.std.proofs.Common.{◌+◌, ◌*◌}
 use Rattle.literature_selectors.specs.Holding.{meaning}
 use Rattle.literature_selectors.specs.Bindings.{binds}
-use Rattle.literature_selectors.specs.Views.{tree}
+use Rattle.literature_selectors.specs.Views.{tree_view}
 use Rattle.literature_selectors.specs.Found.{borrowed}
 use Rattle.literature_selectors.proofs.BindingsAdded.{IsSearched}
 use Rattle.literature_selectors.proofs.HoldingTurns.{IsTried, IsInTurn}
@@ -37,19 +37,19 @@ decreases-binding::bind_each l = 4 * hefts l.members.now + 3
 
 abbrev pub invariant-binding::bind_first_side-loop-selector : goal.invariant-binding::bind_first_side-loop-selector
 invariant-binding::bind_first_side-loop-selector l =
-    IsSearched (λ x. (meaning (tree x)).at l.entry) (λ x. (binds (tree x)).at l.entry) l.selectors l.selector-index l.initial.found.items l.found.items
+    IsSearched (λ x. (meaning (tree_view x)).at l.entry) (λ x. (binds (tree_view x)).at l.entry) l.selectors l.selector-index l.initial.found.items l.found.items
 
 abbrev pub invariant-binding::bind_first_side_above-loop-selector : goal.invariant-binding::bind_first_side_above-loop-selector
 invariant-binding::bind_first_side_above-loop-selector l =
-    IsSearched (λ x. (meaning (tree x)).above l.parents) (λ x. (binds (tree x)).above l.parents) l.selectors l.selector-index l.initial.found.items l.found.items
+    IsSearched (λ x. (meaning (tree_view x)).above l.parents) (λ x. (binds (tree_view x)).above l.parents) l.selectors l.selector-index l.initial.found.items l.found.items
 
 abbrev pub invariant-node::Node::bind_at_first-loop-entry : goal.invariant-node::Node::bind_at_first-loop-entry
 invariant-node::Node::bind_at_first-loop-entry l =
-    IsSearched (meaning (tree l.self)).at (binds (tree l.self)).at l.entries l.entry-index l.initial.found.items l.found.items
+    IsSearched (meaning (tree_view l.self)).at (binds (tree_view l.self)).at l.entries l.entry-index l.initial.found.items l.found.items
 
-abbrev pub invariant-node::Node::bind_first-loop-place : goal.invariant-node::Node::bind_first-loop-place
-invariant-node::Node::bind_first-loop-place l =
-    IsTried (meaning (tree l.self)).at (binds (tree l.self)).at (borrowed l.entries) l.place l.initial.found.items l.found.items
+abbrev pub invariant-node::Node::bind_first-loop-index : goal.invariant-node::Node::bind_first-loop-index
+invariant-node::Node::bind_first-loop-index l =
+    IsTried (meaning (tree_view l.self)).at (binds (tree_view l.self)).at (borrowed l.entries) l.index l.initial.found.items l.found.items
 
 abbrev pub invariant-binding::bind_each-loop-member : goal.invariant-binding::bind_each-loop-member
 invariant-binding::bind_each-loop-member l = IsInTurn l.members l.member-index l.parents (borrowed l.left.items) l.initial.found.items l.found.items

@@ -3,7 +3,7 @@ use Rattle.std.specs.Prelude.{string_bytes}
 use Rattle.std.specs.Char.Escape.{escape_unicode}
 use Rattle.std.proofs.lemmas.Str.{IsUtf8-string_bytes}
 use Rattle.laws.specs.Text.{characters}
-use Rattle.bib_show.proofs.PlaceLines.{put_characters}
+use Rattle.bib_show.proofs.PositionLines.{put_characters}
 use Rattle.bib_show.proofs.escape.push_escape.Goals as goal
 
 pub returns-clause-bytes : goal.returns-clause-bytes

@@ -3,7 +3,7 @@ use Rattle.std.proofs.lemmas.Bool.{eqb-true}
 use Rattle.std.proofs.lemmas.List.{nil_from_length}
 use Rattle.biblatex_text.specs.declared.spanned.Spanned.{Spanned}
 use Rattle.biblatex_content.specs.declared.chunk.Chunk.{Chunk}
-use Rattle.biblatex_content.specs.Places.{AreDone}
+use Rattle.biblatex_content.specs.Spans.{AreDone}
 use Rattle.biblatex_content.proofs.TidyTexts.{done_alone}
 use Rattle.biblatex_content.proofs.tidy.are_done.Goals as goal
 

@@ -1,6 +1,6 @@
 use Rattle.std.proofs.Common.{◌≡◌, true, false, sym, ◌∙◌}
 use Rattle.biblatex_tex.specs.Character.{is_blank}
-use Rattle.biblatex_content.proofs.TidyFronts.{none_passed, other_passed, space_passed, ends_before, passed_as}
+use Rattle.biblatex_content.proofs.TidyPrefixes.{none_passed, other_passed, space_passed, ends_before, passed_as}
 use Rattle.biblatex_content.proofs.tidy.tidy_end.Goals as goal
 
 pub loop-i-init : goal.loop-i-init

@@ -1,5 +1,5 @@
 use Rattle.std.specs.Str.Iter.{char_indices_rest, char_indices_offset}
-use Rattle.biblatex_content.proofs.TidyFronts.{Passed}
+use Rattle.biblatex_content.proofs.TidyPrefixes.{Passed}
 use Rattle.biblatex_content.proofs.tidy.tidy_end.Given as goal
 
 abbrev pub invariant-loop-i : goal.invariant-loop-i

@@ -8,4 +8,4 @@ pub returns : goal.returns
 returns c =
     let same = c.as_slice.ensures.value in
     let copies = c.in_ok-copies.ensures in
-    same_value c.in_ok-copies.copies.items c.args.value.now.items (copies.styled ∙ ap styled same) (copies.places ∙ ap spans same) (copies.parted ∙ ap are_parted same)
+    same_value c.in_ok-copies.copies.items c.args.value.now.items (copies.styled ∙ ap styled same) (copies.spans ∙ ap spans same) (copies.parted ∙ ap are_parted same)

@@ -4,8 +4,8 @@ use Rattle.biblatex_fields.specs.Fields.{value_named}
 use Rattle.biblatex_entries.specs.Roles.{role_of}
 use Rattle.biblatex_entries.specs.TypeNames.{type_name}
 use Rattle.biblatex_inheritance.specs.Table.{is_among, source_name}
-use Rattle.biblatex_inheritance.specs.Views.{PassesOn, texts}
+use Rattle.biblatex_inheritance.specs.Views.{PassesOn, texts_view}
 use Rattle.biblatex_inheritance.proofs.pass_on.pass_on_named.Given as goal
 
 abbrev pub invariant-loop-name : goal.invariant-loop-name
-invariant-loop-name l = PassesOn l.fn.fields l.fields (λ name. if is_among (texts (take l.name-index l.names)) name then value_named (source_name l.to (role_of (type_name l.from.entry_type)) name) l.from.fields else None)
+invariant-loop-name l = PassesOn l.fn.fields l.fields (λ name. if is_among (texts_view (take l.name-index l.names)) name then value_named (source_name l.to (role_of (type_name l.from.entry_type)) name) l.from.fields else None)

@@ -2,27 +2,27 @@ use Rattle.std.proofs.Common.{◌≡◌, ℕ, List, Option, Vec, Global, length,
 use Rattle.std.proofs.lemmas.List.{length-map}
 use Rattle.reference_graph.specs.References.{lists}
 use Rattle.reference_graph.proofs.OrderUses.{none_circular}
-use Rattle.biblatex_entries.specs.Entries.{source, sources}
+use Rattle.biblatex_entries.specs.Entries.{source_view, sources_view}
 use Rattle.biblatex_entries.specs.declared.entry.Entry.{Entry}
 use Rattle.biblatex_inheritance.specs.declared.error.DateFault.{DateFault}
 use Rattle.reference_graph.specs.Order.{IsOrder}
-use Rattle.biblatex_inheritance.specs.Solution.{seen, IsOnly, AreResolved, NoneIsCircular}
+use Rattle.biblatex_inheritance.specs.Solution.{tables_view, IsOnly, AreResolved, NoneIsCircular}
 use Rattle.biblatex_inheritance.proofs.SolutionOrder.{order_long}
 use Rattle.biblatex_inheritance.proofs.SolutionAlong.{circular_below, not_marked, agree, fault_there}
 use Rattle.biblatex_inheritance.proofs.solution.resolve.Goals as goal
 
 agreed : (old new : List Entry) (refs : List (Vec ℕ Global)) (order : List ℕ) {faults : List (Option DateFault)} → IsOrder (lists refs) order → length refs ≡ length old → NoneIsCircular (lists refs) → AreResolved old new (lists refs) faults
-    → IsOnly (sources old) (lists refs) (seen new)
+    → IsOnly (sources_view old) (lists refs) (tables_view new)
 agreed old new refs order o same none resolved other solves i low =
     let long = length-map refs (λ (v : Vec ℕ Global). v.items) in
-    let many = length-map old (λ (e : Entry). source e) in
-    agree (sources old) (lists refs) order (seen new) other o none (long ∙ (same ∙ sym many)) resolved.solved solves i low
+    let many = length-map old (λ (e : Entry). source_view e) in
+    agree (sources_view old) (lists refs) order (tables_view new) other o none (long ∙ (same ∙ sym many)) resolved.solved solves i low
 
 pub returns-in-Some-clause-refused : goal.returns-in-Some-clause-refused
 returns-in-Some-clause-refused c =
     let R = lists c.args.references.now in
     let long = length-map c.args.references.now (λ (v : Vec ℕ Global). v.items) in
-    let many = length-map c.args.entries.items (λ (e : Entry). source e) in
+    let many = length-map c.args.entries.items (λ (e : Entry). source_view e) in
     let is = (c.in_ok-order.ensures.circular c.in-Some.number).0 c.in-Some.ensures.0 in
     let low = circular_below R c.in-Some.number is in
     (omega (arith, long, many, low, c.requires), is, λ k less circular. not_marked R c.in_ok-order.order.circular k c.in_ok-order.ensures.circular (c.in-Some.ensures.1 k less) circular)

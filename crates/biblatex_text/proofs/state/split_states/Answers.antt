@@ -14,7 +14,7 @@ pub next-requires-in-loop-i : goal.next-requires-in-loop-i
 next-requires-in-loop-i g c =
     let s = c.in-Some.ensures.steps in
     let r = c.loop-i.invariant in
-    omega (arith, r.depth, r.long, s.0, ap length s.1, ap length r.parts, length-append r.front_text (char_indices_rest c.loop-i.i-iterator), length-append (encode_utf8 c.in-Some.c) (char_indices_rest c.next.new.self), length-encode c.in-Some.c, (len_utf8_bounds c.in-Some.c).0, c.byte_len-end.ensures.bytes, c.byte_len-end.ensures.fits)
+    omega (arith, r.depth, r.long, s.0, ap length s.1, ap length r.parts, length-append r.prefix_text (char_indices_rest c.loop-i.i-iterator), length-append (encode_utf8 c.in-Some.c) (char_indices_rest c.next.new.self), length-encode c.in-Some.c, (len_utf8_bounds c.in-Some.c).0, c.byte_len-end.ensures.bytes, c.byte_len-end.ensures.fits)
 
 pub loop-i-preserved : goal.loop-i-preserved
 loop-i-preserved g c =
@@ -23,12 +23,12 @@ loop-i-preserved g c =
     let deep : depth_of (g.S.RunState.run c.in-Some-next.more) ≤ char_indices_offset c.loop-i.i-iterator + length (encode_utf8 c.in-Some.c) = omega (arith, c.loop-i.invariant.depth, c.in-Some-next.ensures.grows, length-encode c.in-Some.c, (len_utf8_bounds c.in-Some.c).0) in
     rw s.2 (runs_more (g.S.RunState.run c.args.start) (g.S.RunState.run c.loop-i.state) (g.S.RunState.run c.in-Some-next.more) c.args.text.now _ _ _ c.in-Some.c c.loop-i.invariant s.1 goes deep)
 
-pub returns-in-None-next-clause-front : goal.returns-in-None-next-clause-front
-returns-in-None-next-clause-front g c =
+pub returns-in-None-next-clause-prefix : goal.returns-in-None-next-clause-prefix
+returns-in-None-next-clause-prefix g c =
     let s = c.in-Some.ensures.steps in
     let ends : next (g.S.RunState.run c.loop-i.state) c.in-Some.c ≡ None = sym c.in-None-next.ensures.value in
     let cut : CutsRun (g.S.RunState.run c.args.start) c.args.text.now (take c.in-Some.i c.args.text.now) (drop c.in-Some.i c.args.text.now) = rw s.0 (stops_before (g.S.RunState.run c.args.start) (g.S.RunState.run c.loop-i.state) c.args.text.now _ _ _ c.in-Some.c c.loop-i.invariant s.1 ends) in
-    rw c.split_at.ensures.front cut.front_is
+    rw c.split_at.ensures.front cut.prefix_is
 
 pub returns-in-None-next-clause-rest : goal.returns-in-None-next-clause-rest
 returns-in-None-next-clause-rest g c =
@@ -44,10 +44,10 @@ returns-in-None-next-clause-utf8 g c =
     let cut : CutsRun (g.S.RunState.run c.args.start) c.args.text.now (take c.in-Some.i c.args.text.now) (drop c.in-Some.i c.args.text.now) = rw s.0 (stops_before (g.S.RunState.run c.args.start) (g.S.RunState.run c.loop-i.state) c.args.text.now _ _ _ c.in-Some.c c.loop-i.invariant s.1 ends) in
     rw c.split_at.ensures.back cut.utf8
 
-pub returns-clause-front : goal.returns-clause-front
-returns-clause-front g c =
+pub returns-clause-prefix : goal.returns-clause-prefix
+returns-clause-prefix g c =
     let cut : CutsRun (g.S.RunState.run c.args.start) c.args.text.now (take c.byte_len-end.result c.args.text.now) (drop c.byte_len-end.result c.args.text.now) = rw c.byte_len-end.ensures.bytes (stops_at_end (g.S.RunState.run c.args.start) (g.S.RunState.run c.loop-i.state) c.args.text.now _ _ c.loop-i.invariant c.in-None.ensures.steps.0) in
-    rw c.split_at-2.ensures.front cut.front_is
+    rw c.split_at-2.ensures.front cut.prefix_is
 
 pub returns-clause-rest : goal.returns-clause-rest
 returns-clause-rest g c =

@@ -4,7 +4,7 @@ use Rattle.std.specs.Option.{option_map}
 use Rattle.std.proofs.lemmas.Result.{on_ok_weaker}
 use Rattle.laws.proofs.Text.{text_of_chars}
 use Rattle.laws.specs.Text.{spelled, text}
-use Rattle.biblatex.specs.Bibliographies.{seen}
+use Rattle.biblatex.specs.Bibliographies.{listed_view}
 use Rattle.biblatex.specs.Entries.{Source}
 use Rattle.cite.specs.Cited.{is_among, key_meant}
 use Rattle.cite.specs.Views.{has}
@@ -13,7 +13,7 @@ use Rattle.cite.proofs.cited.insert_meant.Goals as goal
 
 pub returns-in-Some : goal.returns-in-Some
 returns-in-Some c =
-    let file = seen c.args.file.now in
+    let file = listed_view c.args.file.now in
     let key = c.as_str.result.now in
     let meant : key_meant file (text (spelled c.args.name)) ≡ key ∷ [] =
     ap (key_meant file) (text_of_chars c.args.name.now c.utf8.name)
@@ -25,7 +25,7 @@ returns-in-Some c =
 
 pub returns-in-None : goal.returns-in-None
 returns-in-None c k =
-    let file = seen c.args.file.now in
+    let file = listed_view c.args.file.now in
     let none : key_meant file (text (spelled c.args.name)) ≡ [] =
     ap (key_meant file) (text_of_chars c.args.name.now c.utf8.name)
     ∙ sym (ap (λ (o : Option Source). option_to_list (option_map (λ e. e.key) o)) c.in-None.ensures) in

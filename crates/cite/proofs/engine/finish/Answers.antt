@@ -1,10 +1,10 @@
 use Rattle.std.proofs.Common.{◌≡◌, map, ap, ◌∙◌}
 use Rattle.std.specs.Option.{option_map}
 use Rattle.literature_entries.specs.contracts.entry.EntryPartialEq.TheImpl as entry
-use Rattle.rendering_locale.specs.CodeViews.{code_seen}
-use Rattle.rendering_locale.specs.Views.{locale_seen}
-use Rattle.rendering_style.specs.StyleViews.{style_seen}
-use Rattle.driver.specs.RenderedViews.{rendered_by}
+use Rattle.rendering_locale.specs.CodeViews.{code_view}
+use Rattle.rendering_locale.specs.Views.{locale_view}
+use Rattle.rendering_style.specs.StyleViews.{style_view}
+use Rattle.driver.specs.RenderedViews.{rendered_view}
 use Rattle.driver.specs.Views.{bibliography_context_of}
 use Rattle.driver_requests.specs.Views.{lent}
 use Rattle.cite.specs.Requests.{context_of}
@@ -13,20 +13,20 @@ use Rattle.cite.proofs.engine.finish.Goals as goal
 
 pub returns-in-Ok : goal.returns-in-Ok
 returns-in-Ok c =
-    let context : bibliography_context_of c.with_order.result ≡ context_of (style_seen c.args.style.now) (locale_seen c.args.locale.now) = λ i. record {
+    let context : bibliography_context_of c.with_order.result ≡ context_of (style_view c.args.style.now) (locale_view c.args.locale.now) = λ i. record {
       style = (c.with_order.ensures.style ∙ c.new-request.ensures.style) i;
-      locale = (ap (option_map code_seen) (c.with_order.ensures.locale ∙ c.new-request.ensures.locale) ∙ c.in_ok-language.ensures) i;
-      locale_files = (ap (map locale_seen) (c.with_order.ensures.files ∙ c.new-request.ensures.files ∙ c.from_ref.ensures.value)) i;
+      locale = (ap (option_map code_view) (c.with_order.ensures.locale ∙ c.new-request.ensures.locale) ∙ c.in_ok-language.ensures) i;
+      locale_files = (ap (map locale_view) (c.with_order.ensures.files ∙ c.new-request.ensures.files ∙ c.from_ref.ensures.value)) i;
     } in
-    gives entry.ghosts.eq (context_of (style_seen c.args.style.now) (locale_seen c.args.locale.now)) c.from_citations-driver.result.citations.items c.args.requests.items c.from_citations-driver.result.offset c.with_order.result (lent c.args.chosen.now)
-    c.from_citations-driver.ensures.requests c.from_citations-driver.ensures.offset context c.with_order.ensures.order (rendered_by c.in-Ok.rendered) c.in-Ok.ensures.rendered
+    gives entry.ghosts.eq (context_of (style_view c.args.style.now) (locale_view c.args.locale.now)) c.from_citations-driver.result.citations.items c.args.requests.items c.from_citations-driver.result.offset c.with_order.result (lent c.args.chosen.now)
+    c.from_citations-driver.ensures.requests c.from_citations-driver.ensures.offset context c.with_order.ensures.order (rendered_view c.in-Ok.rendered) c.in-Ok.ensures.rendered
 
 pub returns-in-Err-Overflow : goal.returns-in-Err-Overflow
 returns-in-Err-Overflow c =
-    let context : bibliography_context_of c.with_order.result ≡ context_of (style_seen c.args.style.now) (locale_seen c.args.locale.now) = λ i. record {
+    let context : bibliography_context_of c.with_order.result ≡ context_of (style_view c.args.style.now) (locale_view c.args.locale.now) = λ i. record {
       style = (c.with_order.ensures.style ∙ c.new-request.ensures.style) i;
-      locale = (ap (option_map code_seen) (c.with_order.ensures.locale ∙ c.new-request.ensures.locale) ∙ c.in_ok-language.ensures) i;
-      locale_files = (ap (map locale_seen) (c.with_order.ensures.files ∙ c.new-request.ensures.files ∙ c.from_ref.ensures.value)) i;
+      locale = (ap (option_map code_view) (c.with_order.ensures.locale ∙ c.new-request.ensures.locale) ∙ c.in_ok-language.ensures) i;
+      locale_files = (ap (map locale_view) (c.with_order.ensures.files ∙ c.new-request.ensures.files ∙ c.from_ref.ensures.value)) i;
     } in
-    overflows entry.ghosts.eq (context_of (style_seen c.args.style.now) (locale_seen c.args.locale.now)) c.from_citations-driver.result.citations.items c.args.requests.items c.from_citations-driver.result.offset c.with_order.result (lent c.args.chosen.now)
+    overflows entry.ghosts.eq (context_of (style_view c.args.style.now) (locale_view c.args.locale.now)) c.from_citations-driver.result.citations.items c.args.requests.items c.from_citations-driver.result.offset c.with_order.result (lent c.args.chosen.now)
     c.from_citations-driver.ensures.requests c.from_citations-driver.ensures.offset context c.with_order.ensures.order (rw c.in-Err-Overflow.field-0-is at c.in-Err-Overflow.ensures.rendered)

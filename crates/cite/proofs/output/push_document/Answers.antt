@@ -1,8 +1,8 @@
 use Rattle.std.proofs.Common.{◌+◌, List, drop, map, sym, ap, arith}
 use Rattle.std.proofs.lemmas.List.{drop_all}
 use Rattle.driver.specs.Finish.{Citation}
-use Rattle.driver.specs.RenderedViews.{citation_by}
-use Rattle.cite_markers.specs.Views.{piece}
+use Rattle.driver.specs.RenderedViews.{rendered_citation_view}
+use Rattle.cite_markers.specs.Views.{piece_view}
 use Rattle.cite_markers.specs.declared.document.Piece.{Piece}
 use Rattle.cite.specs.Output.{document_text}
 use Rattle.cite.specs.Pieces.{citations_after}
@@ -17,19 +17,19 @@ loop-piece-preserved g c = λ u written.
     let i = c.loop-piece.piece-index in
     let xs = c.args.pieces.now in
     let here = c.piece-item.result in
-    let left = map citation_by c.loop-piece.left.now in
-    let later = map citation_by c.citations_after-left.result.now in
-    let rest = map piece (drop (i + 1) xs) in
-    let cut = at_item (λ (ys : List Piece). document_text format (map piece ys) left) xs i here c.loop-piece-test.true c.piece-item.is in
-    let others = writes_same took c.push_piece.new.target (document_text format rest later) (document_text format rest (citations_after (piece here) left)) u
+    let left = map rendered_citation_view c.loop-piece.left.now in
+    let later = map rendered_citation_view c.citations_after-left.result.now in
+    let rest = map piece_view (drop (i + 1) xs) in
+    let cut = at_item (λ (ys : List Piece). document_text format (map piece_view ys) left) xs i here c.loop-piece-test.true c.piece-item.is in
+    let others = writes_same took c.push_piece.new.target (document_text format rest later) (document_text format rest (citations_after (piece_view here) left)) u
     (ap (λ (cs : List Citation). document_text format rest cs) c.citations_after-left.ensures) written in
     c.loop-piece.invariant u
-    (writes_same took c.loop-piece.target _ (document_text format (map piece (drop i xs)) left) u (sym cut)
-    (piece_first took format (piece here) rest left c.loop-piece.target c.push_piece.new.target u c.push_piece.ensures others))
+    (writes_same took c.loop-piece.target _ (document_text format (map piece_view (drop i xs)) left) u (sym cut)
+    (piece_first took format (piece_view here) rest left c.loop-piece.target c.push_piece.new.target u c.push_piece.ensures others))
 
 pub returns : goal.returns
 returns g c =
     let xs = c.args.pieces.now in
     let i = c.loop-piece.piece-index in
     c.loop-piece.invariant c.loop-piece.target
-    (no_piece g.T.TextTarget.takes c.args.format (map piece (drop i xs)) (map citation_by c.loop-piece.left.now) c.loop-piece.target (ap (map piece) (drop_all i xs (omega (arith, c.loop-piece-test.false)))))
+    (no_piece g.T.TextTarget.takes c.args.format (map piece_view (drop i xs)) (map rendered_citation_view c.loop-piece.left.now) c.loop-piece.target (ap (map piece_view) (drop_all i xs (omega (arith, c.loop-piece-test.false)))))

@@ -2,7 +2,7 @@ use Rattle.std.proofs.Common.{◌+◌, List, [], ◌∷◌, drop, map, refl, sym
 use Rattle.std.specs.List.{flat_map}
 use Rattle.std.proofs.lemmas.List.{drop_all}
 use Rattle.rendering_output.proofs.WritingCalls.{writes_ascii, writes_more}
-use Rattle.driver.specs.RenderedViews.{fields_by}
+use Rattle.driver.specs.RenderedViews.{item_fields_view}
 use Rattle.driver.specs.declared.rendered.BibliographyItem.{BibliographyItem}
 use Rattle.cite.specs.Output.{item_text}
 use Rattle.cite.proofs.OutputPieces.{item_first, no_item, writes_same}
@@ -12,7 +12,7 @@ use Rattle.cite.proofs.output.push_items.Goals as goal
 pub loop-item-init : goal.loop-item-init
 loop-item-init g c = λ u written.
     let took = g.T.TextTarget.takes in
-    writes_more took c.args.target.now (10 ∷ []) c.push_str.new.self (flat_map (item_text c.args.format) (map fields_by c.args.items.now)) u
+    writes_more took c.args.target.now (10 ∷ []) c.push_str.new.self (flat_map (item_text c.args.format) (map item_fields_view c.args.items.now)) u
     (writes_ascii took c.args.target.now (10 ∷ []) c.push_str.new.self refl c.push_str.ensures) written
 
 pub loop-item-preserved : goal.loop-item-preserved
@@ -21,14 +21,14 @@ loop-item-preserved g c = λ u written.
     let format = c.args.format in
     let i = c.loop-item.item-index in
     let xs = c.args.items.now in
-    let cut = at_item (λ (ys : List BibliographyItem). flat_map (item_text format) (map fields_by ys)) xs i c.item-item.result c.loop-item-test.true c.item-item.is in
+    let cut = at_item (λ (ys : List BibliographyItem). flat_map (item_text format) (map item_fields_view ys)) xs i c.item-item.result c.loop-item-test.true c.item-item.is in
     c.loop-item.invariant u
-    (writes_same took c.loop-item.target _ (flat_map (item_text format) (map fields_by (drop i xs))) u (sym cut)
-    (item_first took format (fields_by c.item-item.result) (map fields_by (drop (i + 1) xs)) c.loop-item.target c.push_item.new.target u c.push_item.ensures written))
+    (writes_same took c.loop-item.target _ (flat_map (item_text format) (map item_fields_view (drop i xs))) u (sym cut)
+    (item_first took format (item_fields_view c.item-item.result) (map item_fields_view (drop (i + 1) xs)) c.loop-item.target c.push_item.new.target u c.push_item.ensures written))
 
 pub returns : goal.returns
 returns g c =
     let xs = c.args.items.now in
     let i = c.loop-item.item-index in
     c.loop-item.invariant c.loop-item.target
-    (no_item g.T.TextTarget.takes c.args.format (map fields_by (drop i xs)) c.loop-item.target (ap (map fields_by) (drop_all i xs (omega (arith, c.loop-item-test.false)))))
+    (no_item g.T.TextTarget.takes c.args.format (map item_fields_view (drop i xs)) c.loop-item.target (ap (map item_fields_view) (drop_all i xs (omega (arith, c.loop-item-test.false)))))

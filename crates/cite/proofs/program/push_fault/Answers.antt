@@ -1,13 +1,13 @@
 use Rattle.std.proofs.Common.{◌≡◌, [], ◌∷◌, ◌++◌, rules, ◌∙◌}
 use Rattle.std.specs.Prelude.{OnOk, string_bytes, codes}
 use Rattle.std.proofs.lemmas.Result.{on_ok_weaker}
-use Rattle.interop.specs.Views.{fault}
-use Rattle.cite.specs.Program.{fault_said}
+use Rattle.interop.specs.Views.{fault_view}
+use Rattle.cite.specs.Program.{fault_message}
 use Rattle.cite.proofs.ProgramLines.{put_three}
 use Rattle.cite.proofs.program.push_fault.Goals as goal
 
 pub returns : goal.returns
 returns c =
-    let last : OnOk c.push.result (string_bytes c.push.new.self ≡ string_bytes c.push_said.new.written ++ 10 ∷ []) = search rules in
-    let before : string_bytes c.push_said.new.written ≡ (string_bytes c.args.written.now ++ codes "cite: ") ++ fault_said (fault c.args.found.now) = search rules in
-    on_ok_weaker c.push.result (λ e. e ∙ ((λ i. before i ++ 10 ∷ []) ∙ put_three (string_bytes c.args.written.now) (codes "cite: ") (fault_said (fault c.args.found.now)) (10 ∷ []))) last
+    let last : OnOk c.push.result (string_bytes c.push.new.self ≡ string_bytes c.push_message.new.written ++ 10 ∷ []) = search rules in
+    let before : string_bytes c.push_message.new.written ≡ (string_bytes c.args.written.now ++ codes "cite: ") ++ fault_message (fault_view c.args.found.now) = search rules in
+    on_ok_weaker c.push.result (λ e. e ∙ ((λ i. before i ++ 10 ∷ []) ∙ put_three (string_bytes c.args.written.now) (codes "cite: ") (fault_message (fault_view c.args.found.now)) (10 ∷ []))) last

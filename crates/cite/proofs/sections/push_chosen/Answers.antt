@@ -1,11 +1,11 @@
 use Rattle.std.proofs.Common.{◌≡◌, Bool, true, false, List, [], ◌∷◌, ◌++◌, map, filter, cond, sym, ap, ◌∙◌, append_assoc}
 use Rattle.std.specs.Borrow.{Bor}
 use Rattle.std.proofs.lemmas.List.{map_push}
-use Rattle.literature_entries.specs.Wholes.{Whole, whole}
+use Rattle.literature_entries.specs.Wholes.{Whole, entry_view}
 use Rattle.literature_entries.specs.declared.entry.Entry.{Entry}
-use Rattle.literature_selectors.specs.Views.{meant}
+use Rattle.literature_selectors.specs.Views.{selector_view}
 use Rattle.literature_selectors.specs.Holding.{holds_at}
-use Rattle.cite.specs.Views.{lent_works}
+use Rattle.cite.specs.Views.{lent_works_view}
 use Rattle.literature_selectors.proofs.HoldingWorks.{holds_is}
 use Rattle.cite.proofs.sections.push_chosen.Goals as goal
 
@@ -18,26 +18,26 @@ left test found w ws is = ap (λ (b : Bool). found ++ cond b (w ∷ filter test 
 
 pub loop-entry-preserved-in-Continue-1 : goal.loop-entry-preserved-in-Continue-1
 loop-entry-preserved-in-Continue-1 c =
-    let x = meant c.args.selector.now in
+    let x = selector_view c.args.selector.now in
     let e = c.in-Some.entry in
-    let found = lent_works c.loop-entry.found.items in
+    let found = lent_works_view c.loop-entry.found.items in
     let rest = c.next.new.self in
     let here : c.loop-entry.entry-iterator ≡ e.now ∷ rest = c.in-Some.ensures.steps in
-    let passes : holds_at x (whole e.now) ≡ true = sym (holds_is x e.now) ∙ sym c.matches.ensures ∙ c.if-matches.true in
-    let pushed : lent_works c.push.new.self.items ≡ found ++ whole e.now ∷ [] = ap lent_works c.in_ok-push.ensures.items ∙ map_push (λ (b : Bor Entry). whole b.now) c.loop-entry.found.items e in
-    ap (λ (ws : List Whole). ws ++ filter (holds_at x) (map whole rest)) pushed
-    ∙ taken (holds_at x) found (whole e.now) (map whole rest) passes
-    ∙ ap (λ (es : List Entry). found ++ filter (holds_at x) (map whole es)) (sym here)
+    let passes : holds_at x (entry_view e.now) ≡ true = sym (holds_is x e.now) ∙ sym c.matches.ensures ∙ c.if-matches.true in
+    let pushed : lent_works_view c.push.new.self.items ≡ found ++ entry_view e.now ∷ [] = ap lent_works_view c.in_ok-push.ensures.items ∙ map_push (λ (b : Bor Entry). entry_view b.now) c.loop-entry.found.items e in
+    ap (λ (ws : List Whole). ws ++ filter (holds_at x) (map entry_view rest)) pushed
+    ∙ taken (holds_at x) found (entry_view e.now) (map entry_view rest) passes
+    ∙ ap (λ (es : List Entry). found ++ filter (holds_at x) (map entry_view es)) (sym here)
     ∙ c.loop-entry.invariant
 
 pub loop-entry-preserved : goal.loop-entry-preserved
 loop-entry-preserved c =
-    let x = meant c.args.selector.now in
+    let x = selector_view c.args.selector.now in
     let e = c.in-Some.entry in
-    let found = lent_works c.loop-entry.found.items in
+    let found = lent_works_view c.loop-entry.found.items in
     let rest = c.next.new.self in
     let here : c.loop-entry.entry-iterator ≡ e.now ∷ rest = c.in-Some.ensures.steps in
-    let fails : holds_at x (whole e.now) ≡ false = sym (holds_is x e.now) ∙ sym c.matches.ensures ∙ c.if-matches.false in
-    left (holds_at x) found (whole e.now) (map whole rest) fails
-    ∙ ap (λ (es : List Entry). found ++ filter (holds_at x) (map whole es)) (sym here)
+    let fails : holds_at x (entry_view e.now) ≡ false = sym (holds_is x e.now) ∙ sym c.matches.ensures ∙ c.if-matches.false in
+    left (holds_at x) found (entry_view e.now) (map entry_view rest) fails
+    ∙ ap (λ (es : List Entry). found ++ filter (holds_at x) (map entry_view es)) (sym here)
     ∙ c.loop-entry.invariant

@@ -4,12 +4,12 @@ use Rattle.std.specs.Option.{option_map}
 use Rattle.literature_entries.specs.contracts.entry.EntryPartialEq.TheImpl as entry
 use Rattle.literature_entries.specs.declared.entry.Entry.{Entry}
 use Rattle.laws.specs.Results.{Gives}
-use Rattle.rendering_locale.specs.CodeViews.{code_seen}
-use Rattle.rendering_locale.specs.Views.{locale_seen}
-use Rattle.rendering_style.specs.StyleViews.{style_seen}
+use Rattle.rendering_locale.specs.CodeViews.{code_view}
+use Rattle.rendering_locale.specs.Views.{locale_view}
+use Rattle.rendering_style.specs.StyleViews.{style_view}
 use Rattle.driver.specs.Documents.{Document}
 use Rattle.driver.specs.Finish.{finish}
-use Rattle.driver.specs.RenderedViews.{rendered_by}
+use Rattle.driver.specs.RenderedViews.{rendered_view}
 use Rattle.driver.specs.Views.{bibliography_context_of}
 use Rattle.driver_requests.specs.Errors.{overflow_of}
 use Rattle.driver_requests.specs.Views.{context_of, lent, parts_of}
@@ -22,20 +22,20 @@ use Rattle.cite_uses.proofs.entries.bibliography_of.Goals as goal
 
 pub returns : goal.returns
 returns c =
-    let style = style_seen c.args.style.now in
-    let locale = locale_seen c.args.locale.now in
+    let style = style_view c.args.style.now in
+    let locale = locale_view c.args.locale.now in
     let context : context_of c.from_items.result ≡ context_in style locale = λ i. record {
       style = c.from_items.ensures.style i;
-      locale = ap (option_map code_seen) c.from_items.ensures.locale i;
-      locale_files = ap (map locale_seen) (c.from_items.ensures.files ∙ c.from_ref-files.ensures.value) i;
+      locale = ap (option_map code_view) c.from_items.ensures.locale i;
+      locale_files = ap (map locale_view) (c.from_items.ensures.files ∙ c.from_ref-files.ensures.value) i;
     } in
     let listed : bibliography_context_of c.new.result ≡ context_in style locale = λ i. record {
       style = c.new.ensures.style i;
-      locale = ap (option_map code_seen) c.new.ensures.locale i;
-      locale_files = ap (map locale_seen) (c.new.ensures.files ∙ c.from_ref-files.ensures.value) i;
+      locale = ap (option_map code_view) c.new.ensures.locale i;
+      locale_files = ap (map locale_view) (c.new.ensures.files ∙ c.from_ref-files.ensures.value) i;
     } in
     let one : c.citation.new.self.citations.items ≡ c.from_items.result ∷ [] = c.in_ok-citation.ensures.ok ∙ ap (λ (rs : List (CitationRequest Entry OwnLocator)). rs ++ c.from_items.result ∷ []) c.new-driver.ensures.requests in
     let none : c.citation.new.self.offset ≡ 0 = c.in_ok-citation.ensures.offset ∙ c.new-driver.ensures.offset in
     let hidden = ap (λ (v : Vec (CitationItem Entry OwnLocator) Global). map parts_of v.items) c.from_items.ensures.items ∙ c.in_ok-items.ensures in
     let document = asks entry.ghosts.eq style locale c.args.entries.now c.citation.new.self.citations.items c.citation.new.self.offset c.from_items.result c.new.result one none hidden context c.from_items.ensures.note listed (ap lent c.new.ensures.order) in
-    subst (λ (d : Document OwnLocator). Gives overflow_of rendered_by c.finish.result (finish is_same_own d)) document c.finish.ensures.rendered
+    subst (λ (d : Document OwnLocator). Gives overflow_of rendered_view c.finish.result (finish is_same_own d)) document c.finish.ensures.rendered

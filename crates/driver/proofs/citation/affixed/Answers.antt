@@ -1,7 +1,7 @@
 use Rattle.std.proofs.Common.{ap, ◌∙◌}
 use Rattle.std.specs.Str.{chars}
-use Rattle.rendering_style.specs.Views.{layout_seen}
-use Rattle.rendering_tree.specs.Views.{tree}
+use Rattle.rendering_style.specs.Views.{layout_view}
+use Rattle.rendering_tree.specs.Views.{tree_view}
 use Rattle.driver.specs.Citations.{followed_by_text}
 use Rattle.driver.proofs.JoiningSteps.{affixed_is}
 use Rattle.driver.proofs.citation.affixed.Goals as goal
@@ -9,6 +9,6 @@ use Rattle.driver.proofs.citation.affixed.Goals as goal
 pub returns : goal.returns
 returns c =
     let look = c.citation_look-look.result in
-    affixed_is (layout_seen c.args.layout.now) look (chars c.own_text.result.now) (chars c.own_text-2.result.now) (tree c.args.inside) (tree c.push_own.new.parts) (tree c.append.new.parts) (tree c.in_ok-simple.simple)
+    affixed_is (layout_view c.args.layout.now) look (chars c.own_text.result.now) (chars c.own_text-2.result.now) (tree_view c.args.inside) (tree_view c.push_own.new.parts) (tree_view c.append.new.parts) (tree_view c.in_ok-simple.simple)
     c.put_suffix.result c.citation_look-look.ensures c.own_text.ensures c.own_text-2.ensures
     (c.in_ok-push_own.ensures ∙ ap (followed_by_text look (chars c.own_text.result.now)) c.new-parts.ensures) c.in_ok-append.ensures c.in_ok-simple.ensures c.put_suffix.ensures

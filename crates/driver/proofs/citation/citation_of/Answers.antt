@@ -1,11 +1,11 @@
 use Rattle.std.proofs.Common.{map}
-use Rattle.rendering_style.specs.Views.{layout_seen}
-use Rattle.rendering_tree.specs.Views.{tree}
-use Rattle.driver.specs.Joining.{shown_seen}
+use Rattle.rendering_style.specs.Views.{layout_view}
+use Rattle.rendering_tree.specs.Views.{tree_view}
+use Rattle.driver.specs.Joining.{shown_view}
 use Rattle.driver.proofs.JoiningSteps.{citation_is}
 use Rattle.driver.proofs.citation.citation_of.Goals as goal
 
 pub returns : goal.returns
 returns c =
-    citation_is (layout_seen c.args.layout.now) c.args.some_purpose c.citation_look.result (map shown_seen c.args.cites.items) (tree c.in_ok-joined.joined) c.finished.result c.citation_look.ensures c.in_ok-joined.ensures
+    citation_is (layout_view c.args.layout.now) c.args.some_purpose c.citation_look.result (map shown_view c.args.cites.items) (tree_view c.in_ok-joined.joined) c.finished.result c.citation_look.ensures c.in_ok-joined.ensures
     c.finished.ensures

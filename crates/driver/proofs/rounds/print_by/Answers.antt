@@ -1,21 +1,21 @@
 use Rattle.std.proofs.Common.{set, get_or, ap, refl, ◌∙◌}
-use Rattle.rendering_context.specs.Views.{state_by}
+use Rattle.rendering_context.specs.Views.{state_view}
 use Rattle.rendering_tree.proofs.SimplifySteps.{on_ok}
-use Rattle.rendering.specs.Views.{rendered_by}
-use Rattle.driver_marks.specs.CitesViews.{cites_seen}
+use Rattle.rendering.specs.Views.{rendering_view}
+use Rattle.driver_disambiguation.specs.CitesViews.{printed_cites_view}
 use Rattle.driver.specs.CitesInStep.{styled_seen}
 use Rattle.driver.proofs.AgainSteps.{again_is}
-use Rattle.driver.proofs.RowsSteps.{one_counted}
+use Rattle.driver.proofs.RunsSteps.{one_counted}
 use Rattle.driver.proofs.rounds.print_by.Goals as goal
 
 pub returns-clause-printed : goal.returns-clause-printed
 returns-clause-printed g c =
-    let ss = cites_seen c.args.printed.now in
+    let ss = printed_cites_view c.args.printed.now in
     on_ok c.print_by.result
     (λ e d. e d
-    ∙ ap (set ss c.args.place)
-    (again_is (styled_seen g.T.EntryLike.answers c.args.cite) (get_or ss c.args.place d) _ (state_by c.in_ok-clone.field-0) (state_by c.in_ok-clone-2.field-0)
-    (state_by c.args.mark.now) (rendered_by c.in_ok-rendering.rendering) c.in_ok-clone.ensures c.in_ok-clone-2.ensures c.in_ok-rendering.ensures.prints refl))
+    ∙ ap (set ss c.args.at)
+    (again_is (styled_seen g.T.EntryLike.answers c.args.cite) (get_or ss c.args.at d) _ (state_view c.in_ok-clone.field-0) (state_view c.in_ok-clone-2.field-0)
+    (state_view c.args.state.now) (rendering_view c.in_ok-rendering.rendering) c.in_ok-clone.ensures c.in_ok-clone-2.ensures c.in_ok-rendering.ensures.prints refl))
     c.print_by.ensures
 
 pub returns-clause-effort : goal.returns-clause-effort

@@ -1,13 +1,13 @@
 use Rattle.std.proofs.Common.{◌∷◌, [], map, ap, ◌∙◌}
 use Rattle.std.proofs.lemmas.List.{map-append}
-use Rattle.rendering_tree.specs.Views.{tree}
+use Rattle.rendering_tree.specs.Views.{tree_view}
 use Rattle.driver.proofs.StandaloneSteps.{no_content, some_content}
 use Rattle.driver.proofs.standalone.push_content.Goals as goal
 
 pub returns-then-not-has_content : goal.returns-then-not-has_content
-returns-then-not-has_content c = no_content (tree c.args.printed) c.has_content.result (map tree c.args.trees.now.items) c.has_content.ensures c.if-not-has_content.true
+returns-then-not-has_content c = no_content (tree_view c.args.printed) c.has_content.result (map tree_view c.args.trees.now.items) c.has_content.ensures c.if-not-has_content.true
 
 pub returns : goal.returns
 returns c =
-    some_content (tree c.args.printed) c.has_content.result (map tree c.args.trees.now.items) (map tree c.push.new.self.items) c.has_content.ensures c.if-not-has_content.false
-    (ap (map tree) c.in_ok-push.ensures.items ∙ map-append tree c.args.trees.now.items (c.args.printed ∷ []))
+    some_content (tree_view c.args.printed) c.has_content.result (map tree_view c.args.trees.now.items) (map tree_view c.push.new.self.items) c.has_content.ensures c.if-not-has_content.false
+    (ap (map tree_view) c.in_ok-push.ensures.items ∙ map-append tree_view c.args.trees.now.items (c.args.printed ∷ []))

@@ -1,9 +1,9 @@
 use Rattle.std.proofs.Common.{◌≡◌, [], ◌∷◌, ◌++◌, length, map, sym, ap, ◌∙◌, arith}
 use Rattle.std.specs.Vec.Iter.{into_iter_items}
 use Rattle.std.proofs.lemmas.List.{nil_from_length}
-use Rattle.rendering_tree.specs.Views.{tree}
+use Rattle.rendering_tree.specs.Views.{tree_view}
 use Rattle.driver_bibliography.specs.Items.{fields_by}
-use Rattle.driver_bibliography.specs.Views.{fields_seen}
+use Rattle.driver_bibliography.specs.Views.{fields_view}
 use Rattle.driver_bibliography.proofs.FieldsParted.{fields_go_on, fields_end}
 use Rattle.driver_bibliography.proofs.fields.fields_of_all.Goals as goal
 
@@ -11,7 +11,7 @@ pub loop-tree-init : goal.loop-tree-init
 loop-tree-init c =
     let e = c.into_iter-tree-iterator.ensures.into_iter_gives in
     record {
-      same = λ k. map fields_seen (c.in_ok-items.ensures.items k) ++ map (fields_by c.args.align) (map tree (e.0 k));
+      same = λ k. map fields_view (c.in_ok-items.ensures.items k) ++ map (fields_by c.args.align) (map tree_view (e.0 k));
       long = e.1 ∙ (c.args.trees.ok.0 ∙ sym (ap length e.0));
     }
 

@@ -2,8 +2,8 @@ use Rattle.std.proofs.Common.{◌≡◌, ◌+◌, ◌<◌, [], ◌∷◌, length
 use Rattle.std.specs.Str.{chars}
 use Rattle.std.specs.Vec.Iter.{into_iter_items}
 use Rattle.std.proofs.lemmas.List.{nil_from_length, length-append}
-use Rattle.rendering_tree.specs.Views.{tree}
-use Rattle.driver_bibliography.specs.Views.{all_changed, repeated_seen}
+use Rattle.rendering_tree.specs.Views.{tree_view}
+use Rattle.driver_bibliography.specs.Views.{all_changed, repeated_view}
 use Rattle.driver_bibliography.proofs.EachSteps.{changed_from, each_goes_on, each_ends}
 use Rattle.driver_bibliography.proofs.fields.substitute_each.Goals as goal
 
@@ -23,12 +23,12 @@ loop-tree-preserved c =
     let left : length (into_iter_items c.loop-tree.tree-iterator) ≡ length rest + 1 = omega (arith, ap length steps) in
     let more : length c.push.new.self.items ≡ length c.loop-tree.items.items + 1 = ap length c.in_ok-push.ensures.items ∙ length-append c.loop-tree.items.items (c.in_ok-substitute.field-0 ∷ []) in
     let less : length c.loop-tree.items.items < length c.args.repeats.now = omega (arith, left, c.loop-tree.invariant.all) in
-    let place : c.len-in-loop-tree.result ≡ length c.loop-tree.items.items = omega (arith, c.len-in-loop-tree.ensures, c.loop-tree.items.ok.0) in
-    let said : changed_from (chars c.args.text.now) c.args.repeats.now c.loop-tree.items.items (c.in-Some.tree ∷ rest)
-    ≡ all_changed (chars c.args.text.now) (map repeated_seen c.args.repeats.now) (map tree c.args.trees.items) =
+    let index : c.len-in-loop-tree.result ≡ length c.loop-tree.items.items = omega (arith, c.len-in-loop-tree.ensures, c.loop-tree.items.ok.0) in
+    let known : changed_from (chars c.args.text.now) c.args.repeats.now c.loop-tree.items.items (c.in-Some.tree ∷ rest)
+    ≡ all_changed (chars c.args.text.now) (map repeated_view c.args.repeats.now) (map tree_view c.args.trees.items) =
     ap (changed_from (chars c.args.text.now) c.args.repeats.now c.loop-tree.items.items) (sym steps) ∙ c.loop-tree.invariant.same in
     record {
-      same = each_goes_on (chars c.args.text.now) c.args.repeats.now c.loop-tree.items.items c.push.new.self.items c.len-in-loop-tree.result _ _ c.in-Some.tree c.in_ok-substitute.field-0 rest _ place less refl said
+      same = each_goes_on (chars c.args.text.now) c.args.repeats.now c.loop-tree.items.items c.push.new.self.items c.len-in-loop-tree.result _ _ c.in-Some.tree c.in_ok-substitute.field-0 rest _ index less refl known
           c.in_ok-substitute.ensures c.in_ok-push.ensures.items;
       long = omega (arith, c.loop-tree.invariant.long, left, c.in-Some.ensures.steps.1);
       all = omega (arith, more, left, c.loop-tree.invariant.all);

@@ -1,7 +1,7 @@
 use Rattle.std.proofs.Common.{◌≡◌, length, map, ap, ◌∙◌, None}
 use Rattle.std.specs.Str.{chars}
-use Rattle.rendering_tree.specs.Views.{tree}
-use Rattle.driver_bibliography.specs.Views.{all_changed, repeated_seen, repeats_after}
+use Rattle.rendering_tree.specs.Views.{tree_view}
+use Rattle.driver_bibliography.specs.Views.{all_changed, repeated_view, repeats_after}
 use Rattle.driver_bibliography.proofs.FieldsParted.{as_many, made_as}
 use Rattle.driver_bibliography.proofs.RepeatsSteps.{substituted_by_repeats}
 use Rattle.driver_bibliography.proofs.fields.substitute_repeated.Goals as goal
@@ -9,12 +9,12 @@ use Rattle.driver_bibliography.proofs.fields.substitute_repeated.Goals as goal
 pub substitute_each-requires : goal.substitute_each-requires
 substitute_each-requires c =
     ap length c.deref-2.ensures.value
-    ∙ as_many c.args.rule c.in_ok-repeats.repeats.items c.args.trees.items (c.in_ok-repeats.ensures ∙ ap (λ ts. repeats_after c.args.rule None (map tree ts)) c.deref.ensures.value)
+    ∙ as_many c.args.rule c.in_ok-repeats.repeats.items c.args.trees.items (c.in_ok-repeats.ensures ∙ ap (λ ts. repeats_after c.args.rule None (map tree_view ts)) c.deref.ensures.value)
 
 pub returns : goal.returns
 returns c =
-    let said : map repeated_seen c.deref-2.result.now ≡ repeats_after c.args.rule None (map tree c.args.trees.items) =
-    ap (map repeated_seen) c.deref-2.ensures.value ∙ c.in_ok-repeats.ensures ∙ ap (λ ts. repeats_after c.args.rule None (map tree ts)) c.deref.ensures.value in
-    made_as c.substitute_each.result (all_changed (chars c.args.text.now) (map repeated_seen c.deref-2.result.now) (map tree c.args.trees.items)) _
-    (ap (λ qs. all_changed (chars c.args.text.now) qs (map tree c.args.trees.items)) said ∙ substituted_by_repeats c.args.rule (chars c.args.text.now) None (map tree c.args.trees.items))
+    let known : map repeated_view c.deref-2.result.now ≡ repeats_after c.args.rule None (map tree_view c.args.trees.items) =
+    ap (map repeated_view) c.deref-2.ensures.value ∙ c.in_ok-repeats.ensures ∙ ap (λ ts. repeats_after c.args.rule None (map tree_view ts)) c.deref.ensures.value in
+    made_as c.substitute_each.result (all_changed (chars c.args.text.now) (map repeated_view c.deref-2.result.now) (map tree_view c.args.trees.items)) _
+    (ap (λ qs. all_changed (chars c.args.text.now) qs (map tree_view c.args.trees.items)) known ∙ substituted_by_repeats c.args.rule (chars c.args.text.now) None (map tree_view c.args.trees.items))
     c.substitute_each.ensures

@@ -4,7 +4,7 @@ use Rattle.std.specs.Option.{option_map}
 use Rattle.std.specs.Vec.{with_items}
 use Rattle.std.proofs.lemmas.List.{length-set, with_items_is}
 use Rattle.rendering_tree.specs.Trees.{Elem}
-use Rattle.rendering_tree.specs.Views.{meaning, child, element, row, tree}
+use Rattle.rendering_tree.specs.Views.{meta_view, child_view, element_view, children_view, tree_view}
 use Rattle.rendering_tree.specs.declared.element.Elem.{Elem as Code, roll-Elem}
 use Rattle.rendering_tree.specs.declared.element.ElemChild.{ElemChild, the_lemmas}
 use Rattle.rendering_tree.specs.declared.element.ElemChild.TheOpen.{Elem-F}
@@ -37,9 +37,9 @@ change_singles-returns t c =
 
 pub change_singles_in-returns-in-Elem : goal.change_singles_in-returns-in-Elem
 change_singles_in-returns-in-Elem t c =
-    single_in (text_alone (chars c.args.text.now)) c.args.wanted c.change_single.result {now = as_child (element c.change_single.new.elem)}
+    single_in (text_alone (chars c.args.text.now)) c.args.wanted c.change_single.result {now = as_child (element_view c.change_single.new.elem)}
     (search (rules, the_lemmas, c.in-Elem.is))
-    (ap (λ (f : Code). as_child (element f)) c.in-Elem.elem-is ∙ sym (ap child c.in-Elem.is ∙ child-Elem c.in-Elem.elem))
+    (ap (λ (f : Code). as_child (element_view f)) c.in-Elem.elem-is ∙ sym (ap child_view c.in-Elem.is ∙ child-Elem c.in-Elem.elem))
     c.change_single.ensures
 
 pub change_single-returns : goal.change_single-returns
@@ -47,7 +47,7 @@ change_single-returns t c =
     let e = c.args.elem.now in
     let long : length c.change_singles.new.parts ≡ c.args.elem.now.children.0.len = c.change_singles.auto.parts ∙ ap length c.deref_mut.ensures.value ∙ sym c.args.elem.now.children.0.ok.0 in
     let r : Elem-F ElemChild Code ElemChildren = record { children = roll-ElemChildren (record { 0 = with_items c.args.elem.now.children.0 c.change_singles.new.parts }); display = c.args.elem.now.display; meta = c.args.elem.now.meta } in
-    single_inside (text_alone (chars c.args.text.now)) e.display (option_map meaning e.meta) (tree e.children) c.args.wanted c.change_singles.result (row c.deref_mut.result.now) (row c.change_singles.new.parts)
+    single_inside (text_alone (chars c.args.text.now)) e.display (option_map meta_view e.meta) (tree_view e.children) c.args.wanted c.change_singles.result (children_view c.deref_mut.result.now) (children_view c.change_singles.new.parts)
     c.if-wanted-eq0.false (sym c.is_name.ensures ∙ c.if-is_name.false)
-    (sym (child-Elem (roll-Elem r)) ∙ child_rolled r ∙ ap (Elem e.display (option_map meaning e.meta)) (tree_rolled (record { 0 = with_items c.args.elem.now.children.0 c.change_singles.new.parts }) ∙ ap row (with_items_is c.args.elem.now.children.0 c.change_singles.new.parts long)))
-    (ap row c.deref_mut.ensures.value) c.change_singles.ensures
+    (sym (child-Elem (roll-Elem r)) ∙ child_rolled r ∙ ap (Elem e.display (option_map meta_view e.meta)) (tree_rolled (record { 0 = with_items c.args.elem.now.children.0 c.change_singles.new.parts }) ∙ ap children_view (with_items_is c.args.elem.now.children.0 c.change_singles.new.parts long)))
+    (ap children_view c.deref_mut.ensures.value) c.change_singles.ensures

@@ -1,8 +1,8 @@
 use Rattle.std.proofs.Common.{◌≡◌, map, take}
 use Rattle.driver_blocks.specs.Blocks.{gathered, is_of_block}
 use Rattle.driver_blocks.specs.Indexed.{IsIndex}
-use Rattle.driver_blocks.specs.Views.{blocks_seen, gathered_seen}
+use Rattle.driver_blocks.specs.Views.{blocks_view, gathered_view}
 use Rattle.driver_blocks.proofs.blocks.gather.Given as goal
 
 abbrev pub invariant-loop-cite : goal.invariant-loop-cite
-invariant-loop-cite l = (blocks_seen l.blocks.items ≡ gathered is_of_block (map gathered_seen (take l.cite-index l.cites))) × IsIndex l.index (blocks_seen l.blocks.items)
+invariant-loop-cite l = (blocks_view l.blocks.items ≡ gathered is_of_block (map gathered_view (take l.cite-index l.cites))) × IsIndex l.table (blocks_view l.blocks.items)

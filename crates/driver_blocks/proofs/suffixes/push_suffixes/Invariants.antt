@@ -1,9 +1,9 @@
 use Rattle.std.proofs.Common.{◌≡◌, ◌++◌, map}
 use Rattle.rendering_style.specs.Styles.{Citation}
 use Rattle.driver_blocks.specs.Collapsing.{suffixes_collapsed}
-use Rattle.driver_blocks.specs.Views.{arranged_seen}
+use Rattle.driver_blocks.specs.Views.{arranged_view}
 use Rattle.driver_blocks.proofs.suffixes.push_suffixes.Given as goal
 
-abbrev pub invariant-loop-row : goal.invariant-loop-row
-invariant-loop-row l =
-    (c : Citation) → map (arranged_seen c) l.all.items ++ suffixes_collapsed (map (arranged_seen c) l.row-iterator.rest.now) ≡ map (arranged_seen c) l.fn.all.items ++ suffixes_collapsed (map (arranged_seen c) l.cites)
+abbrev pub invariant-loop-run : goal.invariant-loop-run
+invariant-loop-run l =
+    (c : Citation) → map (arranged_view c) l.all.items ++ suffixes_collapsed (map (arranged_view c) l.run-iterator.rest.now) ≡ map (arranged_view c) l.fn.all.items ++ suffixes_collapsed (map (arranged_view c) l.cites)

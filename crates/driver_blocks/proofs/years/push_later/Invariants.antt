@@ -1,10 +1,10 @@
 use Rattle.std.proofs.Common.{◌≡◌, ◌++◌, map, drop}
 use Rattle.rendering_style.specs.Styles.{Citation}
 use Rattle.driver_blocks.specs.Collapsing.{later}
-use Rattle.driver_blocks.specs.Views.{arranged_seen, gathered_seen}
+use Rattle.driver_blocks.specs.Views.{arranged_view, gathered_view}
 use Rattle.driver_blocks.proofs.years.push_later.Given as goal
 
 abbrev pub invariant-loop-cite : goal.invariant-loop-cite
 invariant-loop-cite l =
     (c : Citation)
-    → map (arranged_seen c) l.all.items ++ map (later c l.mode) (map gathered_seen (drop l.cite-index l.cites)) ≡ map (arranged_seen c) l.fn.all.items ++ map (later c l.mode) (map gathered_seen l.cites)
+    → map (arranged_view c) l.all.items ++ map (later c l.mode) (map gathered_view (drop l.cite-index l.cites)) ≡ map (arranged_view c) l.fn.all.items ++ map (later c l.mode) (map gathered_view l.cites)

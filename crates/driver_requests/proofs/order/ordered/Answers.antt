@@ -11,7 +11,7 @@ pub returns-in-Some-clause-within : goal.returns-in-Some-clause-within
 returns-in-Some-clause-within c = IfOk-weaker c.wanted_first.result _ _ (λ v is. subst (All (λ p. p < c.args.count)) (sym is) (wanted_within c.args.wanted.now c.args.count)) c.wanted_first.ensures
 
 pub returns-in-None-clause-length : goal.returns-in-None-clause-length
-returns-in-None-clause-length c = IfOk-weaker c.all_places.result _ _ (λ v is. ap length is ∙ length-range_with_len 0 c.args.count) c.all_places.ensures
+returns-in-None-clause-length c = IfOk-weaker c.all_indices.result _ _ (λ v is. ap length is ∙ length-range_with_len 0 c.args.count) c.all_indices.ensures
 
 pub returns-in-None-clause-within : goal.returns-in-None-clause-within
-returns-in-None-clause-within c = IfOk-weaker c.all_places.result _ _ (λ v is. subst (All (λ p. p < c.args.count)) (sym is) (range_within c.args.count)) c.all_places.ensures
+returns-in-None-clause-within c = IfOk-weaker c.all_indices.result _ _ (λ v is. subst (All (λ p. p < c.args.count)) (sym is) (range_within c.args.count)) c.all_indices.ensures

@@ -1,7 +1,7 @@
 use Rattle.std.proofs.Common.{◌≡◌, length, ap₂, ◌∙◌, rules}
 use Rattle.std.specs.Prelude.{fold}
 use Rattle.std.specs.List.{range_with_len}
-use Rattle.driver_requests.specs.Places.{put_last}
+use Rattle.driver_requests.specs.Indices.{put_last}
 use Rattle.driver_requests.proofs.OrderPut.{wanted_then_all}
 use Rattle.driver_requests.proofs.order.wanted_first.Goals as goal
 

@@ -1,5 +1,5 @@
 use Rattle.std.proofs.Common.{◌∙◌}
-use Rattle.rendering_context.proofs.VariablesPlaces.{same_label}
+use Rattle.rendering_context.proofs.VariablesIndices.{same_label}
 use Rattle.driver_requests.proofs.position.is_locator.Goals as goal
 
 pub returns : goal.returns

@@ -1,7 +1,7 @@
 use Rattle.std.proofs.Common.{List, map, ap, ◌∙◌, codes}
 use Rattle.literature_values.specs.declared.entry_type.EntryType.TheVariants as works
-use Rattle.literature_entries.specs.Views.{key, fields}
-use Rattle.literature_entries.specs.Wholes.{whole}
+use Rattle.literature_entries.specs.Views.{key_view, fields_view}
+use Rattle.literature_entries.specs.Wholes.{entry_view}
 use Rattle.literature_entries.specs.declared.entry.Entry.{Entry}
 use Rattle.interop_values.specs.Values.{values}
 use Rattle.interop.specs.Fields.{container_fields}
@@ -13,6 +13,6 @@ pub returns : goal.returns
 returns c =
     let v = values c.args.fields.now in
     let entry = c.args.entry in
-    holds c.set_parents.new.self (key entry) (container_fields v (fields entry)) (further (titled_under works.Anthology (codes "series") v) v)
+    holds c.set_parents.new.self (key_view entry) (container_fields v (fields_view entry)) (further (titled_under works.Anthology (codes "series") v) v)
     (c.set_parents.ensures.key ∙ c.in_ok-set_container_fields.ensures.0) (c.set_parents.ensures.fields ∙ c.in_ok-set_container_fields.ensures.1)
-    (ap (λ (es : List Entry). map whole es) c.set_parents.ensures.parents ∙ c.in_ok-parents.ensures)
+    (ap (λ (es : List Entry). map entry_view es) c.set_parents.ensures.parents ∙ c.in_ok-parents.ensures)

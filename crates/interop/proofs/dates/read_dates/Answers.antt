@@ -5,9 +5,9 @@ use Rattle.interop_values.specs.Values.{values}
 use Rattle.interop_values.specs.Readings.{ReadDate, own_date, date_under}
 use Rattle.interop.specs.Bridge.{fault_in}
 use Rattle.interop.specs.declared.error.FieldFault.{FieldFault}
-use Rattle.interop.specs.Views.{fault, dates_of}
-use Rattle.interop.proofs.ShelfFaults.{some}
-use Rattle.interop.proofs.ShelfLists.{four_after}
+use Rattle.interop.specs.Views.{fault_view, dates_of}
+use Rattle.interop.proofs.LibraryFaults.{some}
+use Rattle.interop.proofs.LibraryLists.{four_after}
 use Rattle.interop.proofs.dates.read_dates.Goals as goal
 
 pub returns : goal.returns
@@ -26,9 +26,9 @@ returns c =
     (fault_in key (codes "eventdate") (date_under (codes "eventdate") v))
     (fault_in key (codes "origdate") (date_under (codes "origdate") v))
     (fault_in key (codes "urldate") (date_under (codes "urldate") v))
-    (map fault f1) (map fault f2) (map fault f3) (map fault f4)
-    (c.in_ok-own.ensures.faults ∙ (ap (λ (fs : List FieldFault). map fault fs ++ fault_in key (codes "date") c.in_ok-own_date.field-0) c.new-faults.ensures.items ∙ ap (λ (r : ReadDate). fault_in key (codes "date") r) c.in_ok-own_date.ensures))
-    (c.in_ok-event.ensures.faults ∙ ap (λ (r : ReadDate). map fault f1 ++ fault_in key (codes "eventdate") r) c.in_ok-date_under.ensures)
-    (c.in_ok-original.ensures.faults ∙ ap (λ (r : ReadDate). map fault f2 ++ fault_in key (codes "origdate") r) c.in_ok-date_under-2.ensures)
-    (c.in_ok-visited.ensures.faults ∙ ap (λ (r : ReadDate). map fault f3 ++ fault_in key (codes "urldate") r) c.in_ok-date_under-3.ensures))
+    (map fault_view f1) (map fault_view f2) (map fault_view f3) (map fault_view f4)
+    (c.in_ok-own.ensures.faults ∙ (ap (λ (fs : List FieldFault). map fault_view fs ++ fault_in key (codes "date") c.in_ok-own_date.field-0) c.new-faults.ensures.items ∙ ap (λ (r : ReadDate). fault_in key (codes "date") r) c.in_ok-own_date.ensures))
+    (c.in_ok-event.ensures.faults ∙ ap (λ (r : ReadDate). map fault_view f1 ++ fault_in key (codes "eventdate") r) c.in_ok-date_under.ensures)
+    (c.in_ok-original.ensures.faults ∙ ap (λ (r : ReadDate). map fault_view f2 ++ fault_in key (codes "origdate") r) c.in_ok-date_under-2.ensures)
+    (c.in_ok-visited.ensures.faults ∙ ap (λ (r : ReadDate). map fault_view f3 ++ fault_in key (codes "urldate") r) c.in_ok-date_under-3.ensures))
     is_some

@@ -1,11 +1,11 @@
 use Rattle.std.proofs.Common.{◌≡◌, Bool, refl, ap, ◌∙◌, codes, string_bytes}
 use Rattle.std.specs.Option.{option_map}
 use Rattle.std.proofs.lemmas.Result.{on_ok_weaker}
-use Rattle.literature_numbers.specs.Views.{numeral}
+use Rattle.literature_numbers.specs.Views.{numeral_view}
 use Rattle.literature_values.specs.declared.entry_type.EntryType.{EntryType}
-use Rattle.literature_values.specs.TextViews.{publishing}
-use Rattle.literature_values.specs.TypedViews.{value_or_text}
-use Rattle.literature_entries.specs.Views.{people, fields}
+use Rattle.literature_values.specs.TextViews.{publishing_view}
+use Rattle.literature_values.specs.TypedViews.{typed_view}
+use Rattle.literature_entries.specs.Views.{people_view, fields_view}
 use Rattle.interop_values.specs.Values.{values}
 use Rattle.interop.specs.Fields.{is_periodical, issue_of, series_number}
 use Rattle.interop.proofs.FieldsSet.{container_set, put_editor, put_publisher, put_volume, put_volume_total, put_edition, put_number, put_issue}
@@ -14,16 +14,16 @@ use Rattle.interop.proofs.fields.set_container_fields.Goals as goal
 pub returns : goal.returns
 returns c =
     let v = values c.args.fields.now in
-    let fs = fields c.args.entry.now in
+    let fs = fields_view c.args.entry.now in
     let periodical : c.is_periodical-is_periodical.result ≡ is_periodical fs.entry_type = c.is_periodical-is_periodical.ensures ∙ ap (λ (t : EntryType). is_periodical t) c.entry_type.ensures in
-    let editor = option_map (λ v. people v.items) c.in_ok-people_under.field-0 in
-    let publisher = option_map publishing c.in_ok-publisher.field-0 in
-    let volume = option_map (value_or_text numeral) c.in_ok-number_under.field-0 in
-    let volume_total = option_map (value_or_text numeral) c.in_ok-number_under-2.field-0 in
-    let edition = option_map (value_or_text numeral) c.in_ok-number_under-3.field-0 in
+    let editor = option_map (λ v. people_view v.items) c.in_ok-people_under.field-0 in
+    let publisher = option_map publishing_view c.in_ok-publisher.field-0 in
+    let volume = option_map (typed_view numeral_view) c.in_ok-number_under.field-0 in
+    let volume_total = option_map (typed_view numeral_view) c.in_ok-number_under-2.field-0 in
+    let edition = option_map (typed_view numeral_view) c.in_ok-number_under-3.field-0 in
     let isbn = option_map string_bytes c.in_ok-text_under.field-0 in
     let issn = option_map string_bytes c.in_ok-text_under-2.field-0 in
-    let issue = option_map (value_or_text numeral) c.in_ok-issue.field-0 in
+    let issue = option_map (typed_view numeral_view) c.in_ok-issue.field-0 in
     let serial = option_map string_bytes c.in_ok-series_number.field-0 in
     on_ok_weaker c.set_number-3.result
     (λ e. (

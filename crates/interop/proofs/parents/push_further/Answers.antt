@@ -4,23 +4,23 @@ use Rattle.std.proofs.lemmas.Result.{on_ok_weaker}
 use Rattle.biblatex_content.specs.Styled.{Member}
 use Rattle.biblatex_content.specs.Views.{styled}
 use Rattle.literature_values.specs.declared.entry_type.EntryType.TheVariants as works
-use Rattle.literature_entries.specs.Wholes.{Whole, whole}
+use Rattle.literature_entries.specs.Wholes.{Whole, entry_view}
 use Rattle.interop_values.specs.Values.{values}
 use Rattle.interop_values.specs.Readings.{date_under, date_if_read}
 use Rattle.interop.specs.Bridge.{titled, titled_under, conference_of, original_of}
 use Rattle.interop.specs.declared.dates.Dates.{Dates}
-use Rattle.interop.proofs.ShelfLists.{four_after}
-use Rattle.interop.proofs.KindsTitled.{seen_title}
+use Rattle.interop.proofs.LibraryLists.{four_after}
+use Rattle.interop.proofs.KindsTitled.{view_title}
 use Rattle.interop.proofs.parents.push_further.Goals as goal
 
 pub returns : goal.returns
 returns c =
     let v = values c.args.fields.now in
-    let before = map whole c.args.parents.now.items in
-    let one = map whole c.push_titled.new.parents.items in
-    let two = map whole c.push_titled-2.new.parents.items in
-    let three = map whole c.push_conference.new.parents.items in
-    let four = map whole c.push_original.new.parents.items in
+    let before = map entry_view c.args.parents.now.items in
+    let one = map entry_view c.push_titled.new.parents.items in
+    let two = map entry_view c.push_titled-2.new.parents.items in
+    let three = map entry_view c.push_conference.new.parents.items in
+    let four = map entry_view c.push_original.new.parents.items in
     let event = date_if_read (date_under (codes "eventdate") v) in
     on_ok_weaker c.push_original.result
     (λ e. four_after before
@@ -29,7 +29,7 @@ returns c =
     (conference_of (v (codes "eventtitle")) event)
     (original_of (date_if_read (date_under (codes "origdate") v)))
     one two three four
-    (c.in_ok-push_titled.ensures ∙ ap (λ (ws : List Whole). before ++ ws) (seen_title works.Book c.value.result (v (codes "maintitle")) c.value.ensures))
+    (c.in_ok-push_titled.ensures ∙ ap (λ (ws : List Whole). before ++ ws) (view_title works.Book c.value.result (v (codes "maintitle")) c.value.ensures))
     c.in_ok-push_titled-2.ensures
     (c.in_ok-push_conference.ensures
     ∙ (ap (λ (d : Dates). two ++ conference_of (option_map (λ v. styled v.now) c.value-2.result) d.event) c.requires

@@ -1,5 +1,5 @@
 use Rattle.interop.proofs.SameFilesAlike.{files_alike}
-use Rattle.interop.proofs.ShelfWorks.{alike_library}
+use Rattle.interop.proofs.LibraryWorks.{alike_library}
 use Rattle.interop.proofs.same_files.files_that_say_the_same_have_one_library.Goals as goal
 
 pub returns-clause-alike : goal.returns-clause-alike

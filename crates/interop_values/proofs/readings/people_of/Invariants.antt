@@ -1,12 +1,12 @@
 use Rattle.std.proofs.Common.{◌≡◌, ◌++◌, map, length}
 use Rattle.std.specs.Vec.Iter.{into_iter_items, into_iter_len}
-use Rattle.biblatex_people.specs.Views.{named}
-use Rattle.literature_entries.specs.Views.{people}
+use Rattle.biblatex_people.specs.Views.{named_view}
+use Rattle.literature_entries.specs.Views.{people_view}
 use Rattle.interop_values.specs.Readings.{person_of}
 use Rattle.interop_values.proofs.readings.people_of.Given as goal
 
 abbrev pub invariant-loop-person : goal.invariant-loop-person
 invariant-loop-person l = record {
-  same : people l.all.items ++ map person_of (map named (into_iter_items l.person-iterator)) ≡ map person_of (map named l.fn.read.items);
+  same : people_view l.all.items ++ map person_of (map named_view (into_iter_items l.person-iterator)) ≡ map person_of (map named_view l.fn.read.items);
   long : into_iter_len l.person-iterator ≡ length (into_iter_items l.person-iterator);
 }

@@ -7,25 +7,25 @@ use Rattle.laws.specs.Text.{text, characters}
 use Rattle.laws.proofs.Text.{text_of_chars}
 use Rattle.literature_entries.specs.declared.entry.Entry.{Entry}
 use Rattle.literature_entries.specs.Names.{has, are_some}
-use Rattle.literature_entries.specs.Views.{fields, parents}
+use Rattle.literature_entries.specs.Views.{fields_view, parents}
 use Rattle.literature_selectors.specs.Holding.{has_each}
 use Rattle.literature_selectors.proofs.holding.has_each.Goals as goal
 
 -- a field by the bytes of its name
 abbrev HasNamed : Entry → String Global → Bool
-HasNamed e s = has (string_bytes s) (fields e) (are_some (parents e))
+HasNamed e s = has (string_bytes s) (fields_view e) (are_some (parents e))
 
-by_bytes : (e : Entry) (s : String Global) → has (text (characters s)) (fields e) (are_some (parents e)) ≡ HasNamed e s
-by_bytes e s = ap (λ n. has n (fields e) (are_some (parents e))) (text_of_chars (string_bytes s) (IsUtf8-string_bytes s))
+by_bytes : (e : Entry) (s : String Global) → has (text (characters s)) (fields_view e) (are_some (parents e)) ≡ HasNamed e s
+by_bytes e s = ap (λ n. has n (fields_view e) (are_some (parents e))) (text_of_chars (string_bytes s) (IsUtf8-string_bytes s))
 
 one_by_one : (e : Entry) (ss : List (String Global)) → has_each (map characters ss) e ≡ list_all (HasNamed e) ss
 one_by_one e [] = refl
 one_by_one e (s ∷ ss) = λ i. by_bytes e s i && one_by_one e ss i
 
--- what a test of the name at a place answered
-asked : (e : Entry) (names : List (String Global)) (i : ℕ) (s : String Global) (name : List ℕ) (r : Bool) → r ≡ has name (fields e) (are_some (parents e)) → name ≡ string_bytes s → s ≡ get_or names i s
+-- what a test of the name at an index answered
+asked : (e : Entry) (names : List (String Global)) (i : ℕ) (s : String Global) (name : List ℕ) (r : Bool) → r ≡ has name (fields_view e) (are_some (parents e)) → name ≡ string_bytes s → s ≡ get_or names i s
     → r ≡ HasNamed e (get_or names i s)
-asked e names i s name r h t is = h ∙ ap (λ n. has n (fields e) (are_some (parents e))) t ∙ ap (HasNamed e) is
+asked e names i s name r h t is = h ∙ ap (λ n. has n (fields_view e) (are_some (parents e))) t ∙ ap (HasNamed e) is
 
 pub returns-then-not-has : goal.returns-then-not-has
 returns-then-not-has c =

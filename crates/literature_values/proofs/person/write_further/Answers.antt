@@ -1,7 +1,7 @@
 use Rattle.std.proofs.Common.{List, ℕ, refl, true, sym, ◌∙◌, ◌++◌, subst}
 use Rattle.std.specs.Fmt.{WritesInCalls}
 use Rattle.literature_values.specs.Initials.{initial, between}
-use Rattle.literature_values.specs.PersonViews.{run, initials_style}
+use Rattle.literature_values.specs.PersonViews.{run_view, initials_style_view}
 use Rattle.std.proofs.Output.{writes_in_calls_append}
 use Rattle.laws.specs.Text.{text}
 use Rattle.laws.proofs.Text.{text-append}
@@ -9,8 +9,8 @@ use Rattle.literature_values.proofs.person.write_further.Goals as goal
 
 pub returns : goal.returns
 returns g c = λ ok.
-    let style = initials_style c.args.style in
-    let next = run c.args.next in
+    let style = initials_style_view c.args.style in
+    let next = run_view c.args.next in
     let first = c.in_ok-write_text.ensures (refl {a = true}) in
     let last = c.write_initial.ensures ok in
     subst (λ (t : List ℕ). WritesInCalls g.W.Write.write_str_gives c.args.writer.now t c.write_initial.new.writer)

@@ -6,7 +6,7 @@ abbrev pub invariant-loop-start : goal.invariant-loop-start
 invariant-loop-start l = record {
   rises : Rising l.starts.items;
   from : (b : ℕ) → Contains l.starts.items b → Contains l.fn.starts.items b;
-  all : (b : ℕ) → Contains l.fn.starts.items b → b ≤ l.place → Contains l.starts.items b;
+  all : (b : ℕ) → Contains l.fn.starts.items b → b ≤ l.index → Contains l.starts.items b;
 }
 
 abbrev pub decreases-loop-start : goal.decreases-loop-start

@@ -1,8 +1,8 @@
 use Rattle.std.proofs.Common.{◌≡◌, map, take}
 use Rattle.laws.specs.Text.{characters}
-use Rattle.literature_values.specs.TextViews.{chunk}
+use Rattle.literature_values.specs.TextViews.{chunk_view}
 use Rattle.rendering_entries.specs.Library.{characters_of}
 use Rattle.rendering_context.proofs.answer.all_characters.Given as goal
 
 abbrev pub invariant-loop-piece : goal.invariant-loop-piece
-invariant-loop-piece l = characters l.text ≡ characters_of (map chunk (take l.piece-index l.pieces))
+invariant-loop-piece l = characters l.text ≡ characters_of (map chunk_view (take l.piece-index l.pieces))

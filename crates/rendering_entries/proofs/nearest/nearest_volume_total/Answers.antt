@@ -1,9 +1,9 @@
 use Rattle.std.proofs.Common.{rules}
-use Rattle.literature_numbers.specs.Views.{numeral}
-use Rattle.literature_values.specs.TypedViews.{value_or_text}
+use Rattle.literature_numbers.specs.Views.{numeral_view}
+use Rattle.literature_values.specs.TypedViews.{typed_view}
 use Rattle.literature_entries.specs.Fields.{Fields}
 use Rattle.rendering_entries.proofs.WorksAnswers.{nearest_found}
 use Rattle.rendering_entries.proofs.nearest.nearest_volume_total.Goals as goal
 
 pub returns : goal.returns
-returns c = nearest_found _ (value_or_text numeral) (λ (fs : Fields). fs.volume_total) _ c.args.entry.now c.map.result c.map.ensures (λ f g b o k. search rules)
+returns c = nearest_found _ (typed_view numeral_view) (λ (fs : Fields). fs.volume_total) _ c.args.entry.now c.map.result c.map.ensures (λ f g b o k. search rules)

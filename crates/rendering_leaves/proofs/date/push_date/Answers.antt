@@ -1,31 +1,31 @@
 use Rattle.std.proofs.Common.{true, ap, ◌∙◌}
 use Rattle.rendering_context.specs.Answering.{date_answer}
-use Rattle.rendering_context.specs.Views.{context_by}
+use Rattle.rendering_context.specs.Views.{context_view}
 use Rattle.rendering_leaves.specs.Parts.{day_in}
-use Rattle.rendering_leaves.specs.Settings.{State}
-use Rattle.rendering_leaves.specs.Values.{date_letters, day_pieces, suppressing}
-use Rattle.rendering_leaves.specs.Views.{setting_by}
-use Rattle.rendering_leaves.proofs.DatesInside.{day-letters}
-use Rattle.rendering_leaves.proofs.StatesPut.{put-page}
-use Rattle.rendering_page.specs.Pieces.{all_down}
-use Rattle.rendering_style.specs.Views.{date_seen}
+use Rattle.rendering_leaves.specs.NodeSettings.{State}
+use Rattle.rendering_leaves.specs.Values.{date_suffix, day_pieces, suppressing}
+use Rattle.rendering_leaves.specs.Views.{setting_view}
+use Rattle.rendering_leaves.proofs.DatesInside.{day-year_suffix}
+use Rattle.rendering_leaves.proofs.StatesAppended.{append-page}
+use Rattle.rendering_page.specs.Pieces.{append_pieces}
+use Rattle.rendering_style.specs.Views.{date_node_view}
 use Rattle.rendering_taxonomy.specs.declared.variable.Variable.TheVariants as variables
 use Rattle.rendering_leaves.proofs.date.push_date.Goals as goal
 
 pub returns : goal.returns
 returns g c =
     let a = g.E.EntryLike.answers c.args.entry.now in
-    let ctx = context_by a c.args.context.now in
-    let s = setting_by c.args.setting.now in
-    let d = date_seen c.args.node.now in
+    let ctx = context_view a c.args.context.now in
+    let s = setting_view c.args.setting.now in
+    let d = date_node_view c.args.node.now in
     let st = c.args.state.now in
     let suppressed = c.deref.ensures.value ∙ ap (λ (x : State). x.suppressed) c.state.view_is in
-    let letters = c.date_letters-letters.ensures a ∙ ap (λ (x : State). date_letters ctx x.has_date) c.state.view_is in
+    let year_suffix = c.date_suffix-year_suffix.ensures a ∙ ap (λ (x : State). date_suffix ctx x.has_date) c.state.view_is in
     let day = c.date-day.ensures ∙ (λ i. date_answer ctx (suppressed i) d.variable) in
-    let page = c.in_ok-put_answer.ensures a
-    ∙ (λ i. all_down ctx.quotes (day_in ctx s d (letters i) (day i)) c.state.inside.page)
-    ∙ (λ i. all_down ctx.quotes (day-letters ctx s d st.has_date (date_answer ctx st.suppressed d.variable) i) c.state.inside.page) in
+    let page = c.in_ok-append_answer.ensures a
+    ∙ (λ i. append_pieces ctx.quotes (day_in ctx s d (year_suffix i) (day i)) c.state.inside.page)
+    ∙ (λ i. append_pieces ctx.quotes (day-year_suffix ctx s d st.has_date (date_answer ctx st.suppressed d.variable) i) c.state.inside.page) in
     ap (λ (x : State). record x { has_date = true })
     (c.state-2.view_is
-    ∙ c.in_ok-suppress_in_stand_in.ensures
-    ∙ ap (suppressing s (variables.Date d.variable)) (put-page ctx (day_pieces ctx s st.has_date d (date_answer ctx st.suppressed d.variable)) st _ _ c.state.view_is page))
+    ∙ c.in_ok-suppress_in_substitute.ensures
+    ∙ ap (suppressing s (variables.Date d.variable)) (append-page ctx (day_pieces ctx s st.has_date d (date_answer ctx st.suppressed d.variable)) st _ _ c.state.view_is page))

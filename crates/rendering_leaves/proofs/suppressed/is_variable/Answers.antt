@@ -1,5 +1,5 @@
 use Rattle.std.proofs.Common.{◌∙◌}
-use Rattle.rendering_context.proofs.VariablesPlaces.{same_variable}
+use Rattle.rendering_context.proofs.VariablesIndices.{same_variable}
 use Rattle.rendering_leaves.proofs.suppressed.is_variable.Goals as goal
 
 pub returns : goal.returns

@@ -8,7 +8,7 @@ use Rattle.std.proofs.lemmas.Str.{IsUtf8-string_bytes}
 use Rattle.laws.specs.Text.{text, characters}
 use Rattle.laws.proofs.Text.{chars-text}
 use Rattle.literature_values.specs.Initials.{style, initials_of}
-use Rattle.literature_values.specs.PersonViews.{owned, given}
+use Rattle.literature_values.specs.PersonViews.{owned, given_name_view}
 use Rattle.rendering_names.proofs.person.initials.Goals as goal
 
 owned_is : (o : Option (String Global)) → owned o ≡ unwrap_or (option_map characters o) []
@@ -18,7 +18,7 @@ owned_is (Some s) = refl
 pub returns-in-Ok : goal.returns-in-Ok
 returns-in-Ok c =
     let new = c.initials.new.writer in
-    let cs : List ℕ = initials_of (style (chars c.after_initials.result.now) true) (given c.args.person.now) in
+    let cs : List ℕ = initials_of (style (chars c.after_initials.result.now) true) (given_name_view c.args.person.now) in
     let wrote = contents_after_writes (λ (s : String Global) (bs : List ℕ) (t : String Global). string_bytes t ≡ string_bytes s ++ bs) string_bytes (λ s bs t e. e) _ _ _ (c.in-Ok.ensures refl) in
     chars-text (string_bytes new) cs (IsUtf8-string_bytes new) (wrote ∙ ap (λ (bs : List ℕ). bs ++ text cs) c.empty_text-out.ensures.bytes)
     ∙ (λ i. initials_of (style (c.after_initials.ensures i) true) (owned_is c.args.person.now.given_name i))

@@ -6,9 +6,9 @@ use Rattle.rendering_output.proofs.writing.push_span_tag.Goals as goal
 pub returns : goal.returns
 returns g c =
     let took = g.T.TextTarget.takes in
-    let front = codes "<span style=\"" in
+    let prefix = codes "<span style=\"" in
     let style = spaced (declarations c.args.formatting) in
     let back = codes "\">" in
-    let first = writes_ascii took c.args.target.now front c.push_str.new.self refl c.push_str.ensures in
+    let first = writes_ascii took c.args.target.now prefix c.push_str.new.self refl c.push_str.ensures in
     let last = writes_ascii took c.push_declarations.new.target back c.push_str-2.new.self refl c.push_str-2.ensures in
-    writes_more took _ front _ (style ++ back) _ first (writes_more took _ style _ back _ c.push_declarations.ensures last)
+    writes_more took _ prefix _ (style ++ back) _ first (writes_more took _ style _ back _ c.push_declarations.ensures last)

@@ -6,9 +6,9 @@ use Rattle.rendering_page.proofs.cutting.back_of.Given as goal
 
 abbrev pub invariant-loop-missing : goal.invariant-loop-missing
 invariant-loop-missing l = record {
-  parts : (back : List ℕ) × (chars l.text ≡ chars l.front ++ back) × (length back + l.missing ≡ l.fn.count);
-  front : l.front ≡ take (length l.front) l.text;
-  spelled : shadow (Utf8 l.front);
+  parts : (back : List ℕ) × (chars l.text ≡ chars l.leading ++ back) × (length back + l.missing ≡ l.fn.count);
+  leading : l.leading ≡ take (length l.leading) l.text;
+  spelled : shadow (Utf8 l.leading);
 }
 
 abbrev pub decreases-loop-missing : goal.decreases-loop-missing

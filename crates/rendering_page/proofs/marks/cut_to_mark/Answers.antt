@@ -1,7 +1,7 @@
 use Rattle.std.proofs.Common.{◌≡◌, ◌+◌, ◌-◌, length, arith}
 use Rattle.rendering_page.specs.Marks.{closes, opens}
 use Rattle.rendering_page.specs.Pages.{before_mark}
-use Rattle.rendering_page.specs.Views.{tokens_of}
+use Rattle.rendering_page.specs.Views.{pieces_view}
 use Rattle.rendering_page.proofs.PagesMarks.{cut_before}
 use Rattle.rendering_page.proofs.marks.cut_to_mark.Goals as goal
 
@@ -15,7 +15,7 @@ loop-piece-preserved-else-closed-opened c =
     let fewer : length left + 1 ≡ length all = omega (arith, c.in-Some.ensures.cases, c.loop-piece.pieces.ok.0, c.pop.new.self.ok.0) in
     record {
       few = omega (arith, c.loop-piece.invariant.few, c.closes.ensures.few, fewer);
-      same = cut_before left all piece c.loop-piece.closed now (before_mark 0 (tokens_of c.args.pieces.now.items)) c.in-Some.ensures.items marks c.loop-piece.invariant.same;
+      same = cut_before left all piece c.loop-piece.closed now (before_mark 0 (pieces_view c.args.pieces.now.items)) c.in-Some.ensures.items marks c.loop-piece.invariant.same;
     }
 
 pub loop-piece-preserved-else-closed-opened-2 : goal.loop-piece-preserved-else-closed-opened-2
@@ -28,5 +28,5 @@ loop-piece-preserved-else-closed-opened-2 c =
     let fewer : length left + 1 ≡ length all = omega (arith, c.in-Some.ensures.cases, c.loop-piece.pieces.ok.0, c.pop.new.self.ok.0) in
     record {
       few = omega (arith, c.loop-piece.invariant.few, c.closes.ensures.few, fewer);
-      same = cut_before left all piece c.loop-piece.closed now (before_mark 0 (tokens_of c.args.pieces.now.items)) c.in-Some.ensures.items marks c.loop-piece.invariant.same;
+      same = cut_before left all piece c.loop-piece.closed now (before_mark 0 (pieces_view c.args.pieces.now.items)) c.in-Some.ensures.items marks c.loop-piece.invariant.same;
     }

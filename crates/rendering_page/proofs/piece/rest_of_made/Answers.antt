@@ -14,5 +14,5 @@ remove-first-requires-clause-in_bounds c =
 
 pub returns-then-has_text : goal.returns-then-has_text
 returns-then-has_text c d cs e =
-    let said = c.remove-first.ensures.bytes in
-    ap chars said.2 ∙ first_taken (string_bytes c.args.text) said.0 c.remove-first.result d cs (IsUtf8-string_bytes c.args.text) said.1 e
+    let known = c.remove-first.ensures.bytes in
+    ap chars known.2 ∙ first_taken (string_bytes c.args.text) known.0 c.remove-first.result d cs (IsUtf8-string_bytes c.args.text) known.1 e

@@ -1,7 +1,7 @@
 use Rattle.std.proofs.Common.{◌∙◌}
 use Rattle.rendering_taxonomy.specs.Variables.{is_name_variable}
 use Rattle.rendering_taxonomy.specs.contracts.variable.NameVariablePartialEq.TheImpl as names
-use Rattle.rendering_taxonomy.proofs.Places.{Decides-is_name_variable, Decides-names}
+use Rattle.rendering_taxonomy.proofs.Indices.{Decides-is_name_variable, Decides-names}
 use Rattle.rendering_tree.proofs.ViewsEquality.{agreed}
 use Rattle.rendering_people.proofs.raising.is_same_variable.Goals as goal
 

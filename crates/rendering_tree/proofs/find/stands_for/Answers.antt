@@ -1,7 +1,7 @@
 use Rattle.std.proofs.Common.{false, sym, ap, ◌∙◌}
 use Rattle.std.specs.Option.{option_map, option_map_or}
 use Rattle.rendering_tree.specs.Metas.{is_meta}
-use Rattle.rendering_tree.specs.Views.{meaning}
+use Rattle.rendering_tree.specs.Views.{meta_view}
 use Rattle.rendering_tree.specs.contracts.element.ElemMetaPartialEq.TheImpl as meta
 use Rattle.rendering_tree.proofs.ViewsEquality.{agreed, Shows-ElemMeta}
 use Rattle.rendering_tree.proofs.SameDecided.{Decides-is_meta}
@@ -12,5 +12,5 @@ returns-in-Some c =
     let asked = c.args.meta.now in
     let own = c.in-Some.own in
     c.eq.ensures
-    ∙ agreed (meta.ghosts.eq asked own) (is_meta (meaning asked) (meaning own)) (Shows-ElemMeta asked own) (Decides-is_meta (meaning asked) (meaning own))
-    ∙ ap (λ o. option_map_or (is_meta (meaning asked)) (option_map meaning o) false) (sym c.in-Some.is)
+    ∙ agreed (meta.ghosts.eq asked own) (is_meta (meta_view asked) (meta_view own)) (Shows-ElemMeta asked own) (Decides-is_meta (meta_view asked) (meta_view own))
+    ∙ ap (λ o. option_map_or (is_meta (meta_view asked)) (option_map meta_view o) false) (sym c.in-Some.is)

@@ -4,9 +4,9 @@ use Rattle.std.proofs.lemmas.List.{length-set, length-map}
 use Rattle.std.proofs.lemmas.Option.{slice_get-map}
 use Rattle.std.specs.Option.{ghost_name_of}
 use borrow.Follows.Closed.{read_of}
-use Rattle.biblatex_entries.specs.Entries.{source, sources}
-use Rattle.biblatex_bibliography.specs.Bibliographies.{Indexed, seen, entry_named}
-use Rattle.biblatex_bibliography.specs.Places.{meaning_in, names_in, AreWithin}
+use Rattle.biblatex_entries.specs.Entries.{source_view, sources_view}
+use Rattle.biblatex_bibliography.specs.Bibliographies.{Indexed, listed_view, entry_named}
+use Rattle.biblatex_bibliography.specs.Indices.{meaning_in, names_in, AreWithin}
 use Rattle.biblatex_bibliography.proofs.LendingBorrowed.{written, item}
 use Rattle.biblatex_bibliography.proofs.bibliography.Bibliography.get_mut.Goals as goal
 
@@ -14,8 +14,8 @@ pub invariant_of-self-lent : goal.invariant_of-self-lent
 invariant_of-self-lent c =
     let items = c.self.inside.entries.items in
     λ o. (
-      (λ w. subst (λ (n : ℕ). AreWithin (meaning_in (names_in c.self.inside.places)) n)
-          (sym (length-map (slice_set items c.in_ok-meant.meant w) source ∙ (length-set items c.in_ok-meant.meant w ∙ sym (length-map items source))))
+      (λ w. subst (λ (n : ℕ). AreWithin (meaning_in (names_in c.self.inside.indices)) n)
+          (sym (length-map (slice_set items c.in_ok-meant.meant w) source_view ∙ (length-set items c.in_ok-meant.meant w ∙ sym (length-map items source_view))))
           c.self.invariant),
       c.self.invariant,
     )
@@ -23,9 +23,9 @@ invariant_of-self-lent c =
 pub returns : goal.returns
 returns c =
     let items = c.self.inside.entries.items in
-    let places = c.self.inside.places in (
-      (λ i. read_of (ghost_name_of c.get_mut.result) (λ w. written items places c.args.name.now c.in_ok-meant.meant c.args.self.now c.in_ok-meant.ensures c.self.view_is w i) (c.self.view_is i)),
-      item items c.in_ok-meant.meant c.get_mut.result c.get_mut.ensures.item ∙ (sym (slice_get-map source items c.in_ok-meant.meant)
-          ∙ (ap (option_and_then (slice_get (sources items))) c.in_ok-meant.ensures
-          ∙ ap (λ (h : Indexed). entry_named c.args.name.now (seen h)) c.self.view_is)),
+    let indices = c.self.inside.indices in (
+      (λ i. read_of (ghost_name_of c.get_mut.result) (λ w. written items indices c.args.name.now c.in_ok-meant.meant c.args.self.now c.in_ok-meant.ensures c.self.view_is w i) (c.self.view_is i)),
+      item items c.in_ok-meant.meant c.get_mut.result c.get_mut.ensures.item ∙ (sym (slice_get-map source_view items c.in_ok-meant.meant)
+          ∙ (ap (option_and_then (slice_get (sources_view items))) c.in_ok-meant.ensures
+          ∙ ap (λ (h : Indexed). entry_named c.args.name.now (listed_view h)) c.self.view_is)),
     )

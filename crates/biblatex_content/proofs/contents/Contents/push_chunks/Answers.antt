@@ -5,9 +5,9 @@ use Rattle.biblatex_text.specs.Raw.{At}
 use Rattle.biblatex_text.specs.declared.spanned.Spanned.{Spanned}
 use Rattle.biblatex_content.specs.declared.chunk.Chunk.{Chunk}
 use Rattle.biblatex_content.specs.Styled.{Member}
-use Rattle.biblatex_content.specs.Places.{all_at, placed_so_far}
+use Rattle.biblatex_content.specs.Spans.{all_at, spanned_so_far}
 use Rattle.biblatex_content.specs.Views.{so_far, styled, members}
-use Rattle.biblatex_content.proofs.PlacesForgotten.{at_append}
+use Rattle.biblatex_content.proofs.SpansForgotten.{at_append}
 use Rattle.biblatex_content.proofs.contents.Contents.push_chunks.Goals as goal
 
 pub loop-chunk-init : goal.loop-chunk-init
@@ -15,7 +15,7 @@ loop-chunk-init c =
     let e = c.into_iter-chunk-iterator.ensures.into_iter_gives in
     record {
       text = rw (c.in_ok-make_room.ensures.styled) (ap (λ (x : List (Spanned Chunk)). so_far c.args.self.now ++ styled x) e.0);
-      members = rw (c.in_ok-make_room.ensures.placed) (ap (λ (x : List (Spanned Chunk)). placed_so_far c.args.self.now ++ all_at c.args.span.now.start c.args.span.now.end (styled x)) e.0);
+      members = rw (c.in_ok-make_room.ensures.spanned) (ap (λ (x : List (Spanned Chunk)). spanned_so_far c.args.self.now ++ all_at c.args.span.now.start c.args.span.now.end (styled x)) e.0);
       long = e.1 ∙ (c.args.chunks.ok.0 ∙ sym (ap length e.0));
     }
 
@@ -30,10 +30,10 @@ loop-chunk-preserved c =
     record {
       text = rw (c.in_ok-push_chunk.ensures.styled)
           (append_assoc (so_far old) here rest ∙ (ap (λ (x : List (Spanned Chunk)). so_far old ++ styled x) (sym steps) ∙ c.loop-chunk.invariant.text));
-      members = rw (c.in_ok-push_chunk.ensures.placed)
-          (append_assoc (placed_so_far old) (all_at start end here) (all_at start end rest)
-          ∙ (ap (λ (x : List (At Member)). placed_so_far old ++ x) (sym (at_append start end here rest))
-          ∙ (ap (λ (x : List (Spanned Chunk)). placed_so_far old ++ all_at start end (styled x)) (sym steps) ∙ c.loop-chunk.invariant.members)));
+      members = rw (c.in_ok-push_chunk.ensures.spanned)
+          (append_assoc (spanned_so_far old) (all_at start end here) (all_at start end rest)
+          ∙ (ap (λ (x : List (At Member)). spanned_so_far old ++ x) (sym (at_append start end here rest))
+          ∙ (ap (λ (x : List (Spanned Chunk)). spanned_so_far old ++ all_at start end (styled x)) (sym steps) ∙ c.loop-chunk.invariant.members)));
       long = omega (arith, c.loop-chunk.invariant.long, ap length steps, c.in-Some.ensures.steps.1);
     }
 
@@ -42,8 +42,8 @@ returns-clause-styled c =
     let none : into_iter_items c.loop-chunk.chunk-iterator ≡ [] = nil_from_length _ (sym c.loop-chunk.invariant.long ∙ c.in-None.ensures.steps.0) in
     sym (append-nil (so_far c.loop-chunk.self)) ∙ (ap (λ (x : List (Spanned Chunk)). so_far c.loop-chunk.self ++ styled x) (sym none) ∙ c.loop-chunk.invariant.text)
 
-pub returns-clause-placed : goal.returns-clause-placed
-returns-clause-placed c =
+pub returns-clause-spanned : goal.returns-clause-spanned
+returns-clause-spanned c =
     let none : into_iter_items c.loop-chunk.chunk-iterator ≡ [] = nil_from_length _ (sym c.loop-chunk.invariant.long ∙ c.in-None.ensures.steps.0) in
-    sym (append-nil (placed_so_far c.loop-chunk.self))
-    ∙ (ap (λ (x : List (Spanned Chunk)). placed_so_far c.loop-chunk.self ++ all_at c.args.span.now.start c.args.span.now.end (styled x)) (sym none) ∙ c.loop-chunk.invariant.members)
+    sym (append-nil (spanned_so_far c.loop-chunk.self))
+    ∙ (ap (λ (x : List (Spanned Chunk)). spanned_so_far c.loop-chunk.self ++ all_at c.args.span.now.start c.args.span.now.end (styled x)) (sym none) ∙ c.loop-chunk.invariant.members)

@@ -1,5 +1,5 @@
 use Rattle.std.proofs.Common.{◌≡◌, List, None, sym, ap, subst, ◌∙◌, option_map}
-use Rattle.biblatex_fields.specs.Fields.{Named, named_of, value_named, without_field, AreInOrder}
+use Rattle.biblatex_fields.specs.Fields.{Named, named_fields_view, value_named, without_field, AreInOrder}
 use Rattle.biblatex_fields.specs.Slots.{AreMarked}
 use Rattle.biblatex_fields.proofs.FieldsEntries.{value_there, removed_there, ordered_there, value_of}
 use Rattle.biblatex_fields.proofs.FieldsLookUps.{removed_found}
@@ -11,17 +11,17 @@ returns-clause-value c = rw (← c.self.view_is) (ap (option_map value_of) c.rem
 
 pub returns-clause-rest : goal.returns-clause-rest
 returns-clause-rest c =
-    ap named_of c.remove.ensures.entries ∙ (removed_there c.args.name.now c.self.inside.values.entries ∙ ap (without_field c.args.name.now) c.self.view_is)
+    ap named_fields_view c.remove.ensures.entries ∙ (removed_there c.args.name.now c.self.inside.values.entries ∙ ap (without_field c.args.name.now) c.self.view_is)
 
 pub returns-clause-found : goal.returns-clause-found
 returns-clause-found c q =
-    let whole = ap named_of c.remove.ensures.entries ∙ (removed_there c.args.name.now c.self.inside.values.entries ∙ ap (without_field c.args.name.now) c.self.view_is) in
+    let whole = ap named_fields_view c.remove.ensures.entries ∙ (removed_there c.args.name.now c.self.inside.values.entries ∙ ap (without_field c.args.name.now) c.self.view_is) in
     ap (value_named q) whole ∙ removed_found c.args.self.now c.args.name.now q (subst AreInOrder c.self.view_is c.self.invariant.0)
 
 pub invariant_of-self : goal.invariant_of-self
 invariant_of-self c =
-    let out = ap named_of c.remove.ensures.entries ∙ removed_there c.args.name.now c.self.inside.values.entries in
-    let marked = marked_removed c.self.inside.slots.marks c.args.name.now (named_of c.self.inside.values.entries) c.self.invariant.0 c.self.invariant.1 in
+    let out = ap named_fields_view c.remove.ensures.entries ∙ removed_there c.args.name.now c.self.inside.values.entries in
+    let marked = marked_removed c.self.inside.slots.marks c.args.name.now (named_fields_view c.self.inside.values.entries) c.self.invariant.0 c.self.invariant.1 in
     (ordered_there c.remove.new.self.entries c.remove.ensures.ordered, subst (AreMarked c.self.inside.slots.marks) (sym out) marked)
 
 pub returns-then-not-is_marked-clause-rest : goal.returns-then-not-is_marked-clause-rest

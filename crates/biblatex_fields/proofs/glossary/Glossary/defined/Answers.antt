@@ -3,5 +3,5 @@ use Rattle.biblatex_fields.proofs.glossary.Glossary.defined.Goals as goal
 
 pub returns : goal.returns
 returns c =
-    let plain : get_or c.self.inside.circular.items c.args.place false ≡ false = sym (rw c.if-index.false at c.index.ensures) in
+    let plain : get_or c.self.inside.circular.items c.args.index false ≡ false = sym (rw c.if-index.false at c.index.ensures) in
     rw (← c.self.view_is) (rw plain refl)

@@ -6,7 +6,7 @@ use Rattle.laws.proofs.Text.{text_of_chars}
 use Rattle.biblatex_lists.specs.StyledChars.{plain}
 use Rattle.biblatex_lists.specs.Parts.{borrowed}
 use Rattle.biblatex_people.specs.Reading.{with_value, with_pair}
-use Rattle.biblatex_people.specs.Views.{named}
+use Rattle.biblatex_people.specs.Views.{named_view}
 use Rattle.biblatex_people.specs.Words.{joined_words, words}
 use Rattle.biblatex_people.proofs.person.Person.take_pair.Goals as goal
 
@@ -16,7 +16,7 @@ returns c =
     c.as_str.ensures.value ∙ (sym (text_of_chars (string_bytes c.in_ok-key.key) (IsUtf8-string_bytes c.in_ok-key.key)) ∙ ap text c.in_ok-key.ensures) in
     let w : borrowed c.deref.result.now ≡ words c.in-Some.value.now = ap borrowed c.deref.ensures.value ∙ c.in_ok-words_in.ensures in
     let v : characters c.in_ok-value.value ≡ joined_words (words c.in-Some.value.now) = c.in_ok-value.ensures ∙ ap joined_words w in
-    let self = named c.args.self.now in
+    let self = named_view c.args.self.now in
     c.take_value.ensures ∙ (ap (λ (x : List ℕ). with_value x (characters c.in_ok-value.value) self) k
     ∙ (ap (λ (x : List ℕ). with_value (text (plain c.in-Some.key.now)) x self) v
     ∙ ap (λ (o : Option (List ℕ × List ℕ)). with_pair o self) (sym c.in-Some.ensures)))

@@ -1,5 +1,5 @@
 use Rattle.std.specs.Prelude.{encode_utf8}
-use Rattle.biblatex_text.proofs.ReadingPlaces.{Stands, stands_after}
+use Rattle.biblatex_text.proofs.ReadingOffsets.{Stands, stands_after}
 use Rattle.biblatex_text.proofs.cursor.Reader.first.Goals as goal
 
 pub invariant_of-result : goal.invariant_of-result

@@ -1,4 +1,4 @@
-use Rattle.biblatex_text.proofs.ReadingPlaces.{stands_first}
+use Rattle.biblatex_text.proofs.ReadingOffsets.{stands_first}
 use Rattle.biblatex_text.proofs.cursor.Reader.new.Goals as goal
 
 pub invariant_of-result : goal.invariant_of-result

@@ -1,5 +1,5 @@
 use Rattle.std.proofs.lemmas.List.Elements.{All-push, All-append}
-use Rattle.biblatex_text.specs.Span.{IsPairOf, IsPlacedEntryOf}
+use Rattle.biblatex_text.specs.Span.{IsPairOf, IsSpannedEntryOf}
 use Rattle.biblatex_text.proofs.raw.RawBibliography.add.Goals as goal
 
 pub returns-in_ok-append-in-Definitions-clause-slice : goal.returns-in_ok-append-in-Definitions-clause-slice
@@ -10,4 +10,4 @@ returns-in_ok-append-in-Definitions-clause-slice c = λ source old new.
 pub returns-in_ok-push-in-Entry-clause-slice : goal.returns-in_ok-push-in-Entry-clause-slice
 returns-in_ok-push-in-Entry-clause-slice c = λ source old new.
     let entry = rw c.in-Entry.is at new.1 in
-    (rw c.in_ok-push-in-Entry.ensures.items (All-push (IsPlacedEntryOf source) _ _ old.0 (new.0, entry)), old.1)
+    (rw c.in_ok-push-in-Entry.ensures.items (All-push (IsSpannedEntryOf source) _ _ old.0 (new.0, entry)), old.1)

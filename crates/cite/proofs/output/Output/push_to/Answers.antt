@@ -1,8 +1,8 @@
 use Rattle.std.proofs.Common.{[], map}
 use Rattle.std.specs.Option.{option_map, option_map_or}
 use Rattle.rendering_output.proofs.WritingCalls.{writes_more}
-use Rattle.driver.specs.RenderedViews.{bibliography_by, citation_by}
-use Rattle.cite_markers.specs.Views.{piece, pieces_of}
+use Rattle.driver.specs.RenderedViews.{rendered_bibliography_view, rendered_citation_view}
+use Rattle.cite_markers.specs.Views.{piece_view, document_view}
 use Rattle.cite.specs.Output.{bibliography_text, document_text}
 use Rattle.cite.proofs.OutputPieces.{writes_same}
 use Rattle.cite.proofs.output.Output.push_to.Goals as goal
@@ -11,7 +11,7 @@ pub returns : goal.returns
 returns g c =
     let took = g.T.TextTarget.takes in
     let format = c.args.self.now.format in
-    let document = document_text format (pieces_of c.args.self.now.document) (map citation_by c.args.self.now.rendered.citations.items) in
-    let bibliography = option_map_or (bibliography_text format) (option_map bibliography_by c.args.self.now.rendered.bibliography) [] in
-    let first = writes_same took c.args.target.now _ document c.push_document.new.target (λ i. document_text format (map piece (c.deref.ensures.value i)) (map citation_by (c.deref-2.ensures.value i))) c.push_document.ensures in
+    let document = document_text format (document_view c.args.self.now.document) (map rendered_citation_view c.args.self.now.rendered.citations.items) in
+    let bibliography = option_map_or (bibliography_text format) (option_map rendered_bibliography_view c.args.self.now.rendered.bibliography) [] in
+    let first = writes_same took c.args.target.now _ document c.push_document.new.target (λ i. document_text format (map piece_view (c.deref.ensures.value i)) (map rendered_citation_view (c.deref-2.ensures.value i))) c.push_document.ensures in
     writes_more took c.args.target.now document c.push_document.new.target bibliography c.push_bibliography.new.target first c.push_bibliography.ensures

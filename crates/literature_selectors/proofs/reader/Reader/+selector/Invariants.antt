@@ -1,7 +1,7 @@
 use Rattle.std.proofs.Common.{◌≡◌, ◌+◌, ◌*◌, map, length}
 use Rattle.literature_selectors.specs.Reading.{each_after, unary_in, level}
-use Rattle.literature_selectors.specs.Views.{left, tree}
-use Rattle.literature_selectors.proofs.ReadingRepeats.{with_front}
+use Rattle.literature_selectors.specs.Views.{left, tree_view}
+use Rattle.literature_selectors.proofs.ReadingRepeats.{prepended}
 use Rattle.literature_selectors.proofs.reader.Reader.+selector.Given as goal
 
 abbrev pub decreases-unary : goal.decreases-unary
@@ -29,13 +29,13 @@ abbrev pub decreases-ancestry_in : goal.decreases-ancestry_in
 decreases-ancestry_in l = 8 * l.levels + 5
 
 abbrev pub invariant-alternatives-loop-alloc : goal.invariant-alternatives-loop-alloc
-invariant-alternatives-loop-alloc l = record { first : tree l.first ≡ tree l.initial.first; reads : with_front (map tree l.others.items) (each_after 124 (level l.levels).ancestry (left l.self)) ≡ each_after 124 (level l.levels).ancestry (left l.initial.self) }
+invariant-alternatives-loop-alloc l = record { first : tree_view l.first ≡ tree_view l.initial.first; reads : prepended (map tree_view l.others.items) (each_after 124 (level l.levels).ancestry (left l.self)) ≡ each_after 124 (level l.levels).ancestry (left l.initial.self) }
 
 abbrev pub decreases-alternatives-loop-alloc : goal.decreases-alternatives-loop-alloc
 decreases-alternatives-loop-alloc l = length (left l.self)
 
 abbrev pub invariant-multi-loop-alloc : goal.invariant-multi-loop-alloc
-invariant-multi-loop-alloc l = record { first : tree l.first ≡ tree l.initial.first; reads : with_front (map tree l.others.items) (each_after 38 (unary_in (level l.levels)) (left l.self)) ≡ each_after 38 (unary_in (level l.levels)) (left l.initial.self) }
+invariant-multi-loop-alloc l = record { first : tree_view l.first ≡ tree_view l.initial.first; reads : prepended (map tree_view l.others.items) (each_after 38 (unary_in (level l.levels)) (left l.self)) ≡ each_after 38 (unary_in (level l.levels)) (left l.initial.self) }
 
 abbrev pub decreases-multi-loop-alloc : goal.decreases-multi-loop-alloc
 decreases-multi-loop-alloc l = length (left l.self)

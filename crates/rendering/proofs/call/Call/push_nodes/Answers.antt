@@ -1,11 +1,11 @@
 use Rattle.std.proofs.Common.{◌≡◌, map, subst, true, OnOk}
 use Rattle.rendering_nodes.specs.Content.{contents}
 use Rattle.rendering_style.specs.Opening.{opened_nodes}
-use Rattle.rendering_style.specs.Views.{node_seen}
+use Rattle.rendering_style.specs.Views.{node_view}
 use Rattle.rendering.specs.Views.{context_in, style_of}
 use Rattle.rendering.proofs.call.Call.push_nodes.Goals as goal
 
 pub returns : goal.returns
 returns g c = λ own same.
-    subst (λ s. OnOk c.push_nodes.result (c.push_nodes.new.state ≡ contents (context_in (g.E.EntryLike.answers c.args.entry.now) c.args.self.now) s true (opened_nodes (style_of c.args.self.now).macros (map node_seen c.args.nodes.now)) c.args.state.now))
+    subst (λ s. OnOk c.push_nodes.result (c.push_nodes.new.state ≡ contents (context_in (g.E.EntryLike.answers c.args.entry.now) c.args.self.now) s true (opened_nodes (style_of c.args.self.now).macros (map node_view c.args.nodes.now)) c.args.state.now))
     (c.setting_of-setting.ensures (style_of c.args.self.now) own same) c.push_nodes.ensures

@@ -1,5 +1,5 @@
 use Rattle.std.proofs.Common.{Bool, ap, ◌∙◌}
-use Rattle.rendering_leaves.specs.Settings.{noted}
+use Rattle.rendering_leaves.specs.NodeSettings.{noted}
 use Rattle.rendering_nodes.proofs.finding.NodeFinding.admits.Goals as goal
 
 pub returns-clause-state : goal.returns-clause-state

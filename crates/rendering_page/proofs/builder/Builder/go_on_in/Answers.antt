@@ -1,5 +1,5 @@
 use Rattle.std.proofs.Common.{sym, ◌∙◌}
-use Rattle.rendering_taxonomy.proofs.Places.{Decides-looks_like}
+use Rattle.rendering_taxonomy.proofs.Indices.{Decides-looks_like}
 use Rattle.rendering_page.proofs.builder.Builder.go_on_in.Goals as goal
 
 pub returns-then-looks_like-clause-look : goal.returns-then-looks_like-clause-look

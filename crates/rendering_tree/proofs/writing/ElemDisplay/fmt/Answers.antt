@@ -1,9 +1,9 @@
 use Rattle.laws.specs.Text.{text}
-use Rattle.rendering_tree.specs.Views.{element}
+use Rattle.rendering_tree.specs.Views.{element_view}
 use Rattle.rendering_tree.specs.Writing.{plain_element_text}
 use Rattle.rendering_tree.proofs.WritingDisplayed.{displayed}
 use Rattle.rendering_tree.proofs.writing.ElemDisplay.fmt.Goals as goal
 
 pub returns-clause-writes : goal.returns-clause-writes
 returns-clause-writes g c =
-    displayed g.W.Write.write_str_gives c.write_buf.result c.args.f.now (text (plain_element_text (element c.args.self.now))) c.write_buf.new.w c.write_buf.ensures
+    displayed g.W.Write.write_str_gives c.write_buf.result c.args.f.now (text (plain_element_text (element_view c.args.self.now))) c.write_buf.new.w c.write_buf.ensures

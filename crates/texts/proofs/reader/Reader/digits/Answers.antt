@@ -9,13 +9,13 @@ pub returns-then-not-is_within-clause-reads : goal.returns-then-not-is_within-cl
 returns-then-not-is_within-clause-reads c =
     let digits = c.run-digits.result.now in
     let text = left c.args.self.now in
-    digits_at-err digits text c.args.least c.args.most (run_bytes digits text c.run-digits.utf8 c.run-digits.ensures.front) (sym c.is_within.ensures ∙ c.if-not-is_within.true)
+    digits_at-err digits text c.args.least c.args.most (run_bytes digits text c.run-digits.utf8 c.run-digits.ensures.prefix) (sym c.is_within.ensures ∙ c.if-not-is_within.true)
 
 pub unwrap-requires : goal.unwrap-requires
 unwrap-requires c =
     let digits = c.run-digits.result.now in
     let text = left c.args.self.now in
-    let p = digits_parsed digits text c.parse.result c.args.least c.args.most c.run-digits.utf8 c.run-digits.ensures.front c.parse.ensures.value.0 c.requires.some c.requires.few
+    let p = digits_parsed digits text c.parse.result c.args.least c.args.most c.run-digits.utf8 c.run-digits.ensures.prefix c.parse.ensures.value.0 c.requires.some c.requires.few
     (sym c.is_within.ensures ∙ c.if-not-is_within.false) in
     search (rules, p)
 
@@ -24,9 +24,9 @@ returns-clause-reads c =
     let digits = c.run-digits.result.now in
     let text = left c.args.self.now in
     let test = sym c.is_within.ensures ∙ c.if-not-is_within.false in
-    let p = digits_parsed digits text c.parse.result c.args.least c.args.most c.run-digits.utf8 c.run-digits.ensures.front c.parse.ensures.value.0 c.requires.some c.requires.few test in
+    let p = digits_parsed digits text c.parse.result c.args.least c.args.most c.run-digits.utf8 c.run-digits.ensures.prefix c.parse.ensures.value.0 c.requires.some c.requires.few test in
     let same = ok_is _ _ (sym p ∙ c.unwrap.ensures) in
-    digits_at-ok digits text c.args.least c.args.most (run_bytes digits text c.run-digits.utf8 c.run-digits.ensures.front) test
+    digits_at-ok digits text c.args.least c.args.most (run_bytes digits text c.run-digits.utf8 c.run-digits.ensures.prefix) test
     ∙ (λ i. Ok (same i, sym c.run-digits.ensures.rest i))
 
 pub returns-clause-below : goal.returns-clause-below

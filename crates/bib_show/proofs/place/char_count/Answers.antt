@@ -1,6 +1,0 @@
-use Rattle.std.proofs.Common.{rules}
-use Rattle.std.proofs.lemmas.Str.{chars_from_encodes}
-use Rattle.bib_show.proofs.place.char_count.Goals as goal
-
-pub returns-clause-count : goal.returns-clause-count
-returns-clause-count c = search (rules, chars_from_encodes)

@@ -1,0 +1,139 @@
+//! The works of a bib text, and what names mean.
+
+ghost use Rattle.std.specs.Prelude.{◌≡◌, []};
+ghost use Rattle.std.specs.Option.{option_map};
+ghost use Rattle.biblatex.specs.Bibliographies.{listed_view};
+ghost use Rattle.biblatex.specs.Entries.{source_view};
+ghost use Rattle.literature_entries.specs.Wholes.{entry_view};
+ghost use Rattle.interop.specs.Library.{all_faults, library_of};
+ghost use Rattle.interop.specs.Views.{lent_sources_view, library_view};
+ghost use Rattle.cite.specs.Works.{work_of};
+ghost use Rattle.cite.specs.Stages.{IsRead, fields_refused, refused_as};
+ghost use Rattle.cite.specs.Answers.{Answers, Gives};
+
+use crate::bytes::utf8_text;
+use crate::cited::{cited_keys, entries_with};
+use crate::error::{BibTextError, CiteError};
+use biblatex::{Bibliography, Entry as SourceEntry, ParseError};
+use cite_markers::Document;
+use interop::{check_dates, from_biblatex, from_entries, is_xdata};
+use literature::Library;
+use literature_entries::Entry;
+use std::alloc::Global;
+
+/// The entries of a bib text, all of whose dates can be read. A library is made only of those that are needed.
+#[derive(Drop)]
+pub(crate) struct BibFile {
+    file: Bibliography,
+    ghost readable: { all_faults (listed_view file).entries ≡ [] },
+}
+
+impl BibFile {
+    ghost use Rattle.std.specs.Prelude.{◌≡◌, map, Ok};
+    ghost use Rattle.std.specs.Option.{option_map};
+    ghost use Rattle.laws.specs.Text.{spelled};
+    ghost use Rattle.biblatex.specs.Bibliographies.{listed_view};
+    ghost use Rattle.literature_entries.specs.Wholes.{entry_view};
+    ghost use Rattle.interop.specs.Views.{library_view};
+    ghost use Rattle.cite_markers.specs.Views.{document_view};
+    ghost use Rattle.cite.specs.Answers.{Answers, Gives};
+    ghost use Rattle.cite.specs.Cited.{entries_with, keys_cited, library_from, library_needed};
+    ghost use Rattle.cite.specs.Stages.{AreWorksOf, library_stage};
+    ghost use Rattle.cite.specs.Views.{file_works_with, file_works};
+    ghost use Rattle.cite.specs.Works.{meaning};
+
+    /// The works of a bib text: its entries are read, and then their dates.
+    pub(crate) fn read(alloc: Global, bib: &[u8]) -> Result<BibFile, CiteError>
+        ensures { Answers file_works result (AreWorksOf bib.now) }
+    {
+        let file = read_file(alloc, bib)?;
+        BibFile::checked(alloc, file)
+    }
+
+    /// The works of a file, or all fields of it that cannot be read.
+    #[tactic(auto, using(interop::proofs::LibraryFaults::none))]
+    fn checked(alloc: Global, file: Bibliography) -> Result<BibFile, CiteError>
+        ensures { Gives file_works result (library_stage (listed_view file)) }
+    {
+        check_dates(alloc, &file)?;
+        Ok(BibFile { file })
+    }
+
+    /// The library of the entries that the document cites, or of all entries where there are sections, which may choose any.
+    pub(crate) fn library(
+        &self,
+        alloc: Global,
+        document: &Document<'_>,
+        sections: &[&str],
+    ) -> Result<Library, CiteError>
+        ensures { Gives library_view result (Ok (library_needed (listed_view self.now.file)
+            (map spelled sections.now) (document_view document.now))) }
+    {
+        if sections.is_empty() {
+            return self.cited_library(alloc, document);
+        }
+        whole_library(alloc, &self.file)
+    }
+
+    /// The library of the entries that the document cites.
+    fn cited_library(&self, alloc: Global, document: &Document<'_>) -> Result<Library, CiteError>
+        ensures { Gives library_view result (Ok (library_from
+            (entries_with (keys_cited (listed_view self.now.file) (document_view document.now))
+            (listed_view self.now.file).entries))) }
+    {
+        let keys = cited_keys(alloc, &self.file, document)?;
+        let cited = entries_with(alloc, self.file.entries(), &keys)?;
+        library_of(alloc, &cited)
+    }
+
+    /// The work of the library that a name means, by its key or an alias. Entries of type `xdata`, which only lend their fields,
+    /// are none.
+    pub(crate) fn get<'l>(&self, library: &'l Library, name: &str) -> Option<&'l Entry>
+        ensures { option_map (λ e. entry_view e.now) result
+            ≡ meaning name.now (file_works_with self.now library.now) }
+    {
+        let entry = self.file.get(name)?;
+        work_of(library, entry)
+    }
+}
+
+/// The library of a file, or all fields of it that cannot be read.
+fn whole_library(alloc: Global, file: &Bibliography) -> Result<Library, CiteError>
+    ensures { Gives library_view result
+        (refused_as fields_refused (library_of (listed_view file.now).entries)) }
+{
+    Ok(from_biblatex(alloc, file)?)
+}
+
+/// The library of entries, or all fields of them that cannot be read.
+fn library_of(alloc: Global, entries: &[&SourceEntry]) -> Result<Library, CiteError>
+    ensures { Gives library_view result
+        (refused_as fields_refused (library_of (lent_sources_view entries.now))) }
+{
+    Ok(from_entries(alloc, entries)?)
+}
+
+/// The work that an entry of the file is.
+fn work_of<'l>(library: &'l Library, entry: &SourceEntry) -> Option<&'l Entry>
+    ensures { option_map (λ e. entry_view e.now) result
+        ≡ work_of (library_view library.now) (source_view entry.now) }
+{
+    if is_xdata(&entry.entry_type) {
+        return None;
+    }
+    library.get(entry.key.as_str())
+}
+
+/// The entries of a bib text.
+fn read_file(alloc: Global, bib: &[u8]) -> Result<Bibliography, CiteError>
+    ensures { Answers listed_view result (IsRead bib.now) }
+{
+    let Some(text) = utf8_text(bib) else {
+        return Err(CiteError::BibText(BibTextError::Utf8));
+    };
+    match Bibliography::parse(alloc, text) {
+        Ok(file) => Ok(file),
+        Err(ParseError::Memory) => Err(CiteError::Memory),
+        Err(error) => Err(CiteError::BibText(BibTextError::Parse(error))),
+    }
+}

@@ -1,0 +1,143 @@
+-- Cases of states, computed.
+use Rattle.std.proofs.Common.{◌≡◌, ℕ, Bool, true, false, List, [], ◌∷◌, codes, refl, Some, None}
+use Rattle.std.specs.Prelude.{◌==◌, nat_lt}
+use Rattle.literature_values.specs.PersonViews.{Named}
+use Rattle.rendering_taxonomy.specs.Formats.{plain}
+use Rattle.rendering_tree.specs.Metas as metas
+use Rattle.rendering_tree.specs.Trees.{Children, Text, Elem, nothing, before}
+use Rattle.rendering_style.specs.Styles.{Citation}
+use Rattle.rendering_people.specs.Properties.{Properties, all_shown}
+use Rattle.rendering_context.specs.Cites.{DisambiguateState, undisturbed, by_names, by_choose, by_suffix, names_of}
+use Rattle.driver_requests.specs.Suffixes.{Origin}
+use Rattle.driver_disambiguation.specs.States.{given_to, joined_for, states_after}
+use Rattle.driver_disambiguation.specs.Classes.{Candidate, parts}
+use Rattle.driver_disambiguation.specs.Rounds.{disambiguated}
+use Rattle.rendering_taxonomy.specs.declared.name.DisambiguatedNameForm.TheVariants as forms
+use Rattle.rendering_taxonomy.specs.declared.variable.NameVariable.TheVariants as name
+
+-- parts come in the order of their second members
+in_parts : parts ◌==◌ (1 ∷ 2 ∷ 3 ∷ 2 ∷ 1 ∷ 1 ∷ []) ≡ (2 ∷ 2 ∷ []) ∷ (1 ∷ 1 ∷ 1 ∷ []) ∷ []
+in_parts = refl
+
+-- a style that adds year suffixes, and no given names
+adding_suffix : Citation → Citation
+adding_suffix c = record c { add_names = false; add_givenname = false; add_year_suffix = true }
+
+-- a date that prints a text
+dated : List ℕ → Children
+dated cs = before (Elem None (Some metas.Date) (before (Text plain cs) nothing)) nothing
+
+-- a cite that prints a date alone
+cite : Citation → ℕ → List ℕ → Candidate
+cite c entry cs = record { entry = entry; has_date = true; style = adding_suffix c; printed = λ state. dated cs; met_disambiguate = false; names = None }
+
+two_alike : (c : Citation) → (disambiguated false 2 (cite c 0 (codes "A") ∷ cite c 1 (codes "A") ∷ cite c 1 (codes "A") ∷ [])).states ≡ by_suffix 0 ∷ by_suffix 1 ∷ []
+unfolding cite dated adding_suffix
+two_alike c = refl
+
+one_entry : (c : Citation) → (disambiguated false 1 (cite c 0 (codes "A") ∷ cite c 0 (codes "A") ∷ [])).states ≡ undisturbed ∷ []
+unfolding cite dated adding_suffix
+one_entry c = refl
+
+four_pairs :
+    (c : Citation)
+    → (disambiguated false 8 (cite c 0 (codes "A") ∷ cite c 1 (codes "B") ∷ cite c 2 (codes "A") ∷ cite c 3 (codes "B") ∷ cite c 4 (codes "C") ∷ cite c 5 (codes "C") ∷ cite c 6 (codes "D") ∷ cite c 7 (codes "D") ∷ [])).states
+    ≡ by_suffix 0 ∷ by_suffix 0 ∷ by_suffix 1 ∷ by_suffix 1 ∷ by_suffix 0 ∷ by_suffix 1 ∷ by_suffix 0 ∷ by_suffix 1 ∷ []
+unfolding cite dated adding_suffix
+four_pairs c = refl
+
+-- what a style of branches prints: another text where branches disambiguate
+branching : List ℕ → List ℕ → DisambiguateState → Children
+branching cs ds by_choose = dated ds
+branching cs ds state = dated cs
+
+-- a cite that met the test whether it is like others
+asked : Citation → ℕ → List ℕ → Candidate
+asked c entry ds = record { entry = entry; has_date = true; style = adding_suffix c; printed = branching (codes "Kwan") ds; met_disambiguate = true; names = None }
+
+-- all cites of the first entry are passed over
+but_the_first : (c : Citation) → (disambiguated false 2 (asked c 0 (codes "T") ∷ asked c 0 (codes "T") ∷ asked c 1 (codes "U") ∷ [])).states ≡ undisturbed ∷ by_choose ∷ []
+unfolding asked branching dated adding_suffix
+but_the_first c = refl
+
+-- a person by the family name
+person : List ℕ → Named
+person cs = record { name = cs; given_name = None; prefix = None; suffix = None }
+
+-- what is shown of two authors
+two_shown : ℕ → Properties
+two_shown n = record { variable = name.Author; forms = forms.ShortFull ∷ forms.ShortFull ∷ []; shown = n } ∷ []
+
+-- what is printed of two authors where both are shown, or the first alone
+shown_of : List ℕ → Bool → List ℕ
+shown_of cs true = cs
+shown_of cs false = codes "Roe"
+
+-- two authors as a state shows them
+authors : List ℕ → DisambiguateState → Children
+authors cs state =
+    before (Elem None (Some (metas.Names ((person (codes "Roe") ∷ person cs ∷ [], name.Author) ∷ [])))
+    (before (Text plain (shown_of cs (nat_lt 1 (all_shown (names_of state))))) nothing)) nothing
+
+-- a cite of two authors, of whom one is shown
+authored : Citation → ℕ → List ℕ → Candidate
+authored c entry cs = record { entry = entry; has_date = true; style = adding_suffix c; printed = authors cs; met_disambiguate = false; names = Some (two_shown 1) }
+
+more_names : (c : Citation) → (disambiguated true 2 (authored c 0 (codes "Lee") ∷ authored c 1 (codes "Poe") ∷ [])).states ≡ by_names (two_shown 2) ∷ by_names (two_shown 2) ∷ []
+unfolding authored authors shown_of person two_shown adding_suffix
+more_names c = refl
+
+-- where names are not added they change nothing
+no_names : (c : Citation) → (disambiguated false 2 (authored c 0 (codes "Lee") ∷ authored c 1 (codes "Poe") ∷ [])).states ≡ undisturbed ∷ undisturbed ∷ []
+unfolding authored authors shown_of person two_shown adding_suffix
+no_names c = refl
+
+-- one style of a class that adds year suffixes is enough
+one_style : (c : Citation) → (disambiguated false 2 (cite c 0 (codes "A") ∷ record (cite c 1 (codes "A")) { style = record (adding_suffix c) { add_year_suffix = false } } ∷ [])).states ≡ by_suffix 0 ∷ by_suffix 1 ∷ []
+unfolding cite dated adding_suffix
+one_style c = refl
+
+-- what gives states in these cases
+origin : Origin
+origin = record { round = 0; class = 0 }
+
+-- the greatest of a round, also where it was given first
+greatest : joined_for 0 (given_to 0 (by_suffix 3) origin ∷ given_to 0 by_choose origin ∷ []) ≡ Some (by_suffix 3)
+unfolding origin
+greatest = refl
+
+-- what is shown of two editors
+edited : Properties
+edited = record { variable = name.Editor; forms = forms.ShortFull ∷ forms.ShortFull ∷ []; shown = 1 } ∷ []
+
+-- of equally great ones the last
+last_of_equal : joined_for 0 (given_to 0 (by_names (two_shown 1)) origin ∷ given_to 0 (by_names edited) origin ∷ []) ≡ Some (by_names edited)
+unfolding two_shown edited origin
+last_of_equal = refl
+
+-- the states of a round are instead of earlier ones, also of greater ones
+in_place : states_after (given_to 0 (by_names []) origin ∷ []) (by_choose ∷ by_choose ∷ []) ≡ by_names [] ∷ by_choose ∷ []
+unfolding origin
+in_place = refl
+
+-- what a cite prints undisambiguated, and what it prints by any
+printed_first : List ℕ → DisambiguateState → List ℕ
+printed_first cs undisturbed = cs
+printed_first cs state = codes "B"
+
+-- two authors and a date
+dated_authors : List ℕ → List ℕ → DisambiguateState → Children
+dated_authors family cs state =
+    before (Elem None (Some (metas.Names ((person (codes "Roe") ∷ person family ∷ [], name.Author) ∷ []))) (before (Text plain (printed_first cs state)) nothing)) (dated (codes "1"))
+
+-- a cite of two authors, of whom one is shown, with a date
+dated_cite : Citation → ℕ → List ℕ → List ℕ → Candidate
+dated_cite c entry family cs = record { entry = entry; has_date = true; style = adding_suffix c; printed = dated_authors family cs; met_disambiguate = false; names = Some (two_shown 1) }
+
+-- names of two cites in the first round, of the third in the second, year suffixes of all in the third
+third_round :
+    (c : Citation)
+    → (disambiguated true 3 (dated_cite c 0 (codes "Lee") (codes "A") ∷ dated_cite c 1 (codes "Poe") (codes "A") ∷ dated_cite c 2 (codes "Max") (codes "B") ∷ [])).states
+    ≡ by_suffix 0 ∷ by_suffix 1 ∷ by_suffix 2 ∷ []
+unfolding dated_cite dated_authors printed_first dated person two_shown adding_suffix
+third_round c = refl

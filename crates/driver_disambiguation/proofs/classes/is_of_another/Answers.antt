@@ -1,0 +1,11 @@
+use Rattle.std.proofs.Common.{not, nat_eq, ◌∙◌, rules, tests}
+use Rattle.std.proofs.lemmas.Iterator.{YieldsList-from_slice}
+use Rattle.std.proofs.lemmas.Iterator.Search.{any_from_yields_List}
+use Rattle.driver_disambiguation.specs.Views.{printed_view}
+use Rattle.driver_disambiguation.proofs.Lists.{any-map}
+use Rattle.driver_disambiguation.proofs.classes.is_of_another.Goals as goal
+
+pub returns : goal.returns
+returns c =
+    any_from_yields_List (λ s. not (nat_eq (printed_view s.now).entry c.args.entry)) _ _ _ c.any.ensures.ran (YieldsList-from_slice c.args.cites.now cc) (λ x b q k. search (rules, tests))
+    ∙ any-map (λ s. printed_view s.now) (λ s. not (nat_eq s.entry c.args.entry)) c.args.cites.now

@@ -1,0 +1,33 @@
+use Rattle.std.proofs.Common.{◌≡◌, length, map, cond, replicate, refl, ap, sym, ◌∙◌, ◌+◌}
+use Rattle.std.specs.List.{zip}
+use Rattle.std.proofs.lemmas.List.{length-map}
+use Rattle.driver_disambiguation.specs.NamesViews.{member_view, members_view}
+use Rattle.driver_disambiguation.proofs.NamesShared.{grouped_none, shared_next, shared_none}
+use Rattle.driver_disambiguation.proofs.names_shared.share_by.Goals as goal
+
+pub loop-index-init : goal.loop-index-init
+loop-index-init c =
+    let ms = members_view c.args.members.now in
+    let viewed : length ms ≡ length c.args.members.now = length-map c.args.members.now member_view in
+    record {
+      groups = c.in_ok-groups.ensures ∙ ap (λ n. replicate n 0) (sym viewed) ∙ grouped_none c.args.rule ms;
+      shared = shared_none c.args.rule ms ms c.args.shared.now.items (c.requires.len ∙ sym viewed);
+      len = refl;
+    }
+
+pub are_sharing-requires-clause-len : goal.are_sharing-requires-clause-len
+are_sharing-requires-clause-len c = ap length (c.as_slice-in-loop-index.ensures.value ∙ c.in_ok-next.ensures) ∙ length-map (members_view c.args.members.now) _ ∙ length-map c.args.members.now member_view
+
+pub set_where-requires : goal.set_where-requires
+set_where-requires c =
+    ap length (c.as_slice-in-loop-index-2.ensures.value ∙ c.in_ok-wanted.ensures) ∙ length-map (members_view c.args.members.now) _ ∙ length-map c.args.members.now member_view ∙ sym (c.loop-index.invariant.len ∙ c.requires.len)
+
+pub loop-index-preserved : goal.loop-index-preserved
+loop-index-preserved c =
+    let ms = members_view c.args.members.now in
+    record {
+      groups = c.in_ok-next.ensures;
+      shared = shared_next c.args.rule ms c.loop-index.index c.args.shared.now.items c.loop-index.shared.items c.set_where.new.numbers.items c.in_ok-wanted.wanted.items c.in_ok-wanted.ensures c.loop-index.invariant.shared
+          (c.set_where.ensures.set ∙ ap (λ bs. map (λ p. cond p.0 (c.loop-index.index + 1) p.1) (zip bs c.loop-index.shared.items)) c.as_slice-in-loop-index-2.ensures.value);
+      len = c.set_where.ensures.len ∙ c.loop-index.invariant.len;
+    }

@@ -1,0 +1,12 @@
+use Rattle.std.proofs.Common.{◌∙◌, rules, tests}
+use Rattle.std.proofs.lemmas.Iterator.{YieldsList-from_slice}
+use Rattle.std.proofs.lemmas.Iterator.Search.{any_from_yields_List}
+use Rattle.driver_disambiguation.specs.Rounds.{prints_date}
+use Rattle.driver_disambiguation.specs.Views.{printed_view}
+use Rattle.driver_disambiguation.proofs.Lists.{any-map}
+use Rattle.driver_disambiguation.proofs.round.some_prints_date.Goals as goal
+
+pub returns : goal.returns
+returns c =
+    any_from_yields_List (λ s. prints_date (printed_view s)) _ _ _ c.any.ensures.ran (YieldsList-from_slice c.args.cites.now cc) (λ x b q k. search (rules, tests))
+    ∙ any-map printed_view prints_date c.args.cites.now

@@ -1,0 +1,15 @@
+pub mod States
+pub mod Classes
+pub mod Names
+pub mod NamesViews
+pub mod Rounds
+pub mod Views
+pub mod Numbered
+pub mod CitesViews
+pub mod Grouping
+pub mod Gathered
+pub mod Joining
+pub mod SuffixesFound
+pub mod Keys
+pub mod Shared
+pub mod Namesakes

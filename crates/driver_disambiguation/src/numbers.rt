@@ -1,0 +1,46 @@
+//! Numbers of texts.
+
+ghost use Rattle.std.specs.Prelude.{◌≡◌, Some, map, IfOk};
+ghost use Rattle.std.specs.HashMap.{get_by_text};
+ghost use Rattle.driver_disambiguation.specs.Numbered.{AreNumbers, AreStill, number_of};
+
+use crate::printed::Printed;
+use std::alloc::{AllocError, Global};
+use std::collections::HashMap;
+
+/// The numbers of the texts that cites print.
+pub(crate) fn numbers_of(
+    alloc: Global,
+    texts: &mut HashMap<String, usize>,
+    cites: &[Printed],
+) -> Result<Vec<usize>, AllocError>
+    requires { AreNumbers texts.old }
+    ensures texts { AreNumbers texts.new }
+    ensures numbers { IfOk result (λ v. map (number_of texts.new) cites.now ≡ map Some v.items) }
+{
+    let mut numbers = Vec::with_capacity(alloc, cites.len())?;
+    for cite in cites {
+        let number = number_of(alloc, texts, cite.text.as_str())?;
+        numbers.push(number)?;
+    }
+    Ok(numbers)
+}
+
+/// The number of a text. A new text gets the next one.
+pub(crate) fn number_of(
+    alloc: Global,
+    texts: &mut HashMap<String, usize>,
+    text: &str,
+) -> Result<usize, AllocError>
+    requires { AreNumbers texts.old }
+    ensures texts { AreNumbers texts.new }
+    ensures still { AreStill texts.old texts.new }
+    ensures number { IfOk result (λ n. get_by_text texts.new text.now ≡ Some n) }
+{
+    if let Some(number) = texts.get(text) {
+        return Ok(*number);
+    }
+    let number = texts.len();
+    texts.insert(String::from_str(alloc, text)?, number)?;
+    Ok(number)
+}

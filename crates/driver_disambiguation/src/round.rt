@@ -1,0 +1,174 @@
+//! Rounds in which states are given, class by class.
+
+ghost use Rattle.std.specs.Prelude.{◌≡◌, ◌∷◌, ◌++◌, [], ℕ, List, map, OnOk};
+ghost use Rattle.laws.specs.Results.{Gives, Leaves};
+ghost use Rattle.driver_requests.specs.Errors.{overflow_of};
+ghost use Rattle.driver_disambiguation.specs.Gathered.{AllInRange, AreEntriesOf, given_to_classes};
+ghost use Rattle.driver_disambiguation.specs.States as states;
+ghost use Rattle.driver_disambiguation.specs.Names as names;
+ghost use Rattle.driver_disambiguation.specs.Rounds as rounds;
+ghost use Rattle.driver_disambiguation.specs.Rounds.{is_given_to_class, prints_date, unless_given};
+ghost use Rattle.std.specs.List.{list_any};
+ghost use Rattle.driver_requests.specs.SuffixViews.{origin_view};
+ghost use Rattle.driver_disambiguation.specs.Views.{class_view, given_states_view, printed_view, unless_beyond};
+
+use crate::branches::states_by_branches;
+use crate::given_state::GivenState;
+use crate::names::states_by_names;
+use crate::printed::Printed;
+use crate::year_suffixes::states_by_suffixes;
+use driver_requests::{DriverError, Origin};
+use std::alloc::{AllocError, Global};
+use std::collections::HashSet;
+
+/// Whether some cite prints a date, or a label that has one.
+pub(crate) fn some_prints_date(cites: &[Printed]) -> bool
+    ensures { result ≡ list_any prints_date (map printed_view cites.now) }
+{
+    cites.iter().any(|cite| cite.prints_date())
+}
+
+/// What is given to classes, one after the other.
+pub(crate) fn given_to_classes(
+    alloc: Global,
+    adds_names: bool,
+    has_dates: bool,
+    round: u8,
+    classes: &[Vec<&Printed>],
+) -> Result<Vec<GivenState>, DriverError>
+    ensures { Gives overflow_of (λ g. given_states_view g.items) result (unless_beyond
+        (given_to_classes adds_names has_dates round (map (λ c. class_view c.items) classes.now))) }
+{
+    let mut given = Vec::new(alloc);
+    let mut entries = HashSet::new(alloc);
+    for (class, members) in classes.iter().enumerate() {
+        let origin = Origin { round, class };
+        give(
+            alloc,
+            adds_names,
+            has_dates,
+            origin,
+            members.as_slice(),
+            &mut given,
+            &mut entries,
+        )?;
+    }
+    Ok(given)
+}
+
+/// Gives names to a class, and while none of its entries has a state of the round branches, then year suffixes.
+#[tactic(auto, using(crate::proofs::Gathering::in_range_before_suffixes))]
+fn give(
+    alloc: Global,
+    adds_names: bool,
+    has_dates: bool,
+    origin: Origin,
+    class: &[&Printed],
+    given: &mut Vec<GivenState>,
+    entries: &mut HashSet<usize>,
+) -> Result<(), DriverError>
+    requires indices { AllInRange (given_states_view given.now.items) }
+    requires entries { AreEntriesOf entries.now (given_states_view given.now.items) }
+    ensures given { Leaves overflow_of result (given_states_view given.new.items)
+        (unless_beyond (rounds.given_by adds_names has_dates
+        (given_states_view given.old.items) (origin_view origin) (class_view class.now))) }
+    ensures entries { OnOk result (AreEntriesOf entries.new (given_states_view given.new.items)) }
+{
+    append(
+        given,
+        entries,
+        states_by_names(alloc, adds_names, origin, class)?,
+    )?;
+    give_branches(alloc, origin, class, given, entries)?;
+    give_suffixes(alloc, has_dates, origin, class, given, entries)
+}
+
+/// Gives other branches to a class, while none of its entries has a state of the round.
+fn give_branches(
+    alloc: Global,
+    origin: Origin,
+    class: &[&Printed],
+    given: &mut Vec<GivenState>,
+    entries: &mut HashSet<usize>,
+) -> Result<(), AllocError>
+    requires entries { AreEntriesOf entries.now (given_states_view given.now.items) }
+    ensures given { OnOk result (given_states_view given.new.items
+        ≡ unless_given (class_view class.now)
+        (rounds.states_by_branches (origin_view origin) (class_view class.now))
+        (given_states_view given.old.items)) }
+    ensures entries { OnOk result (AreEntriesOf entries.new (given_states_view given.new.items)) }
+{
+    if is_given_to_class(entries, class) {
+        return Ok(());
+    }
+    append(given, entries, states_by_branches(alloc, origin, class)?)
+}
+
+/// Gives year suffixes to a class, while none of its entries has a state of the round.
+fn give_suffixes(
+    alloc: Global,
+    has_dates: bool,
+    origin: Origin,
+    class: &[&Printed],
+    given: &mut Vec<GivenState>,
+    entries: &mut HashSet<usize>,
+) -> Result<(), DriverError>
+    requires indices { AllInRange (given_states_view given.now.items) }
+    requires entries { AreEntriesOf entries.now (given_states_view given.now.items) }
+    ensures given { Leaves overflow_of result (given_states_view given.new.items)
+        (unless_beyond (unless_given (class_view class.now)
+        (rounds.states_by_suffixes has_dates (origin_view origin) (class_view class.now))
+        (given_states_view given.old.items))) }
+    ensures entries { OnOk result (AreEntriesOf entries.new (given_states_view given.new.items)) }
+{
+    if is_given_to_class(entries, class) {
+        return Ok(());
+    }
+    append(
+        given,
+        entries,
+        states_by_suffixes(alloc, has_dates, origin, class)?,
+    )?;
+    Ok(())
+}
+
+/// Appends states, and the entries that they are given to.
+fn append(
+    given: &mut Vec<GivenState>,
+    entries: &mut HashSet<usize>,
+    more: Vec<GivenState>,
+) -> Result<(), AllocError>
+    requires { AreEntriesOf entries.now (given_states_view given.now.items) }
+    ensures given { OnOk result (given_states_view given.new.items
+        ≡ given_states_view given.old.items ++ given_states_view more.items) }
+    ensures entries { OnOk result (AreEntriesOf entries.new (given_states_view given.new.items)) }
+{
+    for one in more {
+        push(given, entries, one)?;
+    }
+    Ok(())
+}
+
+/// Appends a state, and the entry that it is given to.
+fn push(
+    given: &mut Vec<GivenState>,
+    entries: &mut HashSet<usize>,
+    one: GivenState,
+) -> Result<(), AllocError>
+    requires { AreEntriesOf entries.now (given_states_view given.now.items) }
+    ensures given { OnOk result (given_states_view given.new.items
+        ≡ given_states_view given.old.items ++ given_states_view (one ∷ [])) }
+    ensures entries { OnOk result (AreEntriesOf entries.new (given_states_view given.new.items)) }
+{
+    entries.insert(one.entry)?;
+    given.push(one)?;
+    Ok(())
+}
+
+/// Whether something was given to an entry of a class.
+fn is_given_to_class(entries: &HashSet<usize>, class: &[&Printed]) -> bool
+    ensures { (gs : List states.GivenState) → AreEntriesOf entries.now gs
+        → result ≡ is_given_to_class gs (class_view class.now) }
+{
+    class.iter().any(|cite| entries.contains(&cite.cite.entry))
+}

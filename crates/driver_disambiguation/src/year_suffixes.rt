@@ -1,0 +1,109 @@
+//! Year suffixes for the entries of a class.
+
+ghost use Rattle.std.specs.Prelude.{◌≡◌, ℕ, true, ◌==◌, nat_eq, [], ◌∷◌, ◌++◌, if◌then◌else◌, map, IfOk, OnOk};
+ghost use Rattle.std.specs.HashSet.{contains};
+ghost use Rattle.std.specs.List.{list_any};
+ghost use Rattle.laws.specs.Results.{Gives};
+ghost use Rattle.driver_requests.specs.Errors.{overflow_of};
+ghost use Rattle.driver_disambiguation.specs.Classes.{entries_of};
+ghost use Rattle.driver_disambiguation.specs.Gathered.{suffixes_where};
+ghost use Rattle.driver_disambiguation.specs.Rounds as rounds;
+ghost use Rattle.driver_requests.specs.SuffixViews.{origin_view};
+ghost use Rattle.driver_disambiguation.specs.Views.{class_view, given_view, given_states_view, unless_beyond};
+
+use crate::given_state::GivenState;
+use crate::printed::Printed;
+use driver_requests::{DriverError, Origin};
+use rendering_context::DisambiguateState;
+use std::alloc::{AllocError, Global};
+use std::collections::HashSet;
+
+/// What year suffixes give to the entries of a class, where some cite of the document prints a date and a style of the class adds year
+/// suffixes.
+pub(crate) fn states_by_suffixes(
+    alloc: Global,
+    has_dates: bool,
+    origin: Origin,
+    class: &[&Printed],
+) -> Result<Vec<GivenState>, DriverError>
+    ensures { Gives overflow_of (λ g. given_states_view g.items) result (unless_beyond
+        (rounds.states_by_suffixes has_dates (origin_view origin) (class_view class.now))) }
+{
+    suffixes_where(alloc, has_dates && some_adds_suffix(class), origin, class)
+}
+
+/// Year suffixes for the entries of cites, where they are wanted.
+fn suffixes_where(
+    alloc: Global,
+    is_wanted: bool,
+    origin: Origin,
+    class: &[&Printed],
+) -> Result<Vec<GivenState>, DriverError>
+    ensures { Gives overflow_of (λ g. given_states_view g.items) result
+        (unless_beyond (suffixes_where is_wanted (origin_view origin) (class_view class.now))) }
+{
+    if !is_wanted {
+        return Ok(Vec::new(alloc));
+    }
+    let entries = entries(alloc, class)?;
+    suffixes_for(alloc, origin, entries.as_slice())
+}
+
+/// Whether the style of some cite adds year suffixes.
+fn some_adds_suffix(cites: &[&Printed]) -> bool
+    ensures { result ≡ list_any (λ s. s.adds_suffix) (class_view cites.now) }
+{
+    cites.iter().any(|cite| cite.cite.adds_suffix)
+}
+
+/// Year suffixes for entries, one after the other.
+fn suffixes_for(
+    alloc: Global,
+    origin: Origin,
+    entries: &[usize],
+) -> Result<Vec<GivenState>, DriverError>
+    ensures { Gives overflow_of (λ g. given_states_view g.items) result
+        (unless_beyond (rounds.suffixes_for (origin_view origin) entries.now)) }
+{
+    if entries.len() > 256 {
+        return Err(DriverError::Overflow);
+    }
+    let mut given = Vec::with_capacity(alloc, entries.len())?;
+    for (index, entry) in entries.iter().enumerate() {
+        given.push(GivenState {
+            entry: *entry,
+            state: DisambiguateState::YearSuffix(index as u8),
+            origin,
+        })?;
+    }
+    Ok(given)
+}
+
+/// The entries of cites, each once.
+fn entries(alloc: Global, class: &[&Printed]) -> Result<Vec<usize>, AllocError>
+    ensures { IfOk result (λ v. v.items ≡ entries_of (class_view class.now)) }
+{
+    let mut earlier = HashSet::new(alloc);
+    let mut entries = Vec::new(alloc);
+    for cite in class {
+        push_new(&mut earlier, &mut entries, cite.cite.entry)?;
+    }
+    Ok(entries)
+}
+
+/// Appends an entry that is not among those that came earlier.
+fn push_new(
+    earlier: &mut HashSet<usize>,
+    entries: &mut Vec<usize>,
+    entry: usize,
+) -> Result<(), AllocError>
+    ensures earlier { OnOk result ((e : ℕ) → contains nat_eq earlier.new e
+        ≡ (if entry == e then true else contains nat_eq earlier.old e)) }
+    ensures entries { OnOk result (entries.new.items
+        ≡ entries.old.items ++ (if contains nat_eq earlier.old entry then [] else entry ∷ [])) }
+{
+    if earlier.insert(entry)? {
+        entries.push(entry)?;
+    }
+    Ok(())
+}

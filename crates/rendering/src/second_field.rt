@@ -1,0 +1,139 @@
+//! Items whose second field is aligned.
+
+ghost use Rattle.std.specs.Prelude.{◌≡◌, ◌++◌, [], List, IfOk, OnOk};
+ghost use Rattle.laws.specs.Text.{characters};
+ghost use Rattle.rendering_leaves.specs.NodeSettings.{begun};
+ghost use Rattle.rendering_tree.specs.Tokens.{Token, with_letter_after, with_letters};
+ghost use Rattle.rendering_tree.specs.Trees.{Elem as Element, flat, flat_child, parted, tree_of};
+ghost use Rattle.rendering_tree.specs.Views.{child_view, element_view, children_view, tree_view};
+ghost use Rattle.rendering.specs.Ends.{has_end};
+ghost use Rattle.rendering.specs.Purposes.{fields_joined, in_front};
+
+use rendering_page::Page;
+use rendering_taxonomy::SecondFieldAlign;
+use rendering_tree::{Elem, ElemChild, ElemChildren, Formatted, simplify_children};
+use std::alloc::AllocError;
+use texts::{has_text, push_character};
+
+/// The tree of a page. Where the second field is aligned the first one stands in front.
+#[inline(never)]
+pub(crate) fn joined_tree(
+    page: Page<'_>,
+    align: Option<SecondFieldAlign>,
+) -> Result<ElemChildren, AllocError>
+    ensures { IfOk result (λ t. tree_view t
+        ≡ fields_joined align (record begun { page = page.entry })) }
+{
+    let tree = page.into_tree()?;
+    match align {
+        Some(_) => in_front(tree),
+        None => Ok(tree),
+    }
+}
+
+/// A tree with its first field in front, and a space after that.
+fn in_front(whole: ElemChildren) -> Result<ElemChildren, AllocError>
+    ensures { (ts : List Token) → tree_of ts ≡ tree_view whole
+        → IfOk result (λ t. tree_view t ≡ in_front ts (parted (tree_view whole))) }
+{
+    let mut others = whole;
+    match others.remove_any_meta() {
+        Some(field) => spaced_before(field, others),
+        None => Ok(others),
+    }
+}
+
+/// A field with a space after it before others, in the normal form.
+fn spaced_before(field: Elem, others: ElemChildren) -> Result<ElemChildren, AllocError>
+    ensures { IfOk result (λ t. tree_view t
+        ≡ tree_of (flat (tree_view others) ++ with_letter_after 32 (flat_child (Element
+        (element_view field).display (element_view field).meta (element_view field).children)))) }
+{
+    let field = spaced(field)?;
+    simplify_children(both(field, others)?)
+}
+
+/// A field before other children.
+fn both(field: Elem, others: ElemChildren) -> Result<ElemChildren, AllocError>
+    ensures { IfOk result (λ t. flat (tree_view t) ≡ flat (tree_view others) ++ flat_child (Element
+        (element_view field).display (element_view field).meta (element_view field).children)) }
+{
+    let mut all = others;
+    all.0.insert(0, ElemChild::Elem(field))?;
+    Ok(all)
+}
+
+/// A field with a space after its last text.
+fn spaced(field: Elem) -> Result<Elem, AllocError>
+    ensures { IfOk result (λ e. flat_child
+        (Element (element_view e).display (element_view e).meta (element_view e).children)
+        ≡ with_letter_after 32 (flat_child (Element (element_view field).display
+        (element_view field).meta (element_view field).children))) }
+{
+    let Elem {
+        mut children,
+        display,
+        meta,
+    } = field;
+    push_space(&mut children.0)?;
+    Ok(Elem {
+        children,
+        display,
+        meta,
+    })
+}
+
+/// Puts a space after the last text of children, looking like it, where a text is the last that they print. Returns whether they
+/// print anything.
+#[cycle(spacing)]
+fn push_space(parts: &mut Vec<ElemChild>) -> Result<bool, AllocError>
+    ensures end { IfOk result (λ b. b ≡ has_end (flat (children_view parts.old.items))) }
+    ensures spaced { OnOk result (flat (children_view parts.new.items)
+        ≡ with_letter_after 32 (flat (children_view parts.old.items))) }
+{
+    for index in (0..parts.len()).rev() {
+        if push_space_to(&mut parts[index])? {
+            return Ok(true);
+        }
+    }
+    Ok(false)
+}
+
+/// The same of a child.
+#[cycle(spacing)]
+fn push_space_to(part: &mut ElemChild) -> Result<bool, AllocError>
+    ensures end { IfOk result (λ b. b ≡ has_end (flat_child (child_view part.old))) }
+    ensures spaced { OnOk result (flat_child (child_view part.new)
+        ≡ with_letter_after 32 (flat_child (child_view part.old))) }
+{
+    match part {
+        ElemChild::Text(text) => push_space_after(text),
+        ElemChild::Elem(elem) => push_space_in(elem),
+        ElemChild::Markup(_) | ElemChild::Link { .. } | ElemChild::Transparent { .. } => Ok(true),
+    }
+}
+
+/// The same of an element.
+#[cycle(spacing)]
+fn push_space_in(elem: &mut Elem) -> Result<bool, AllocError>
+    ensures end { IfOk result (λ b. b ≡ has_end (flat (tree_view elem.old.children))) }
+    ensures spaced { OnOk result (flat (tree_view elem.new.children)
+        ≡ with_letter_after 32 (flat (tree_view elem.old.children))) }
+    ensures same { (elem.new.display ≡ elem.old.display) × (elem.new.meta ≡ elem.old.meta) }
+{
+    push_space(&mut elem.children.0)
+}
+
+/// The same of a text.
+fn push_space_after(text: &mut Formatted) -> Result<bool, AllocError>
+    ensures end { IfOk result (λ b. b
+        ≡ has_end (with_letters text.old.formatting (characters text.old.text) [])) }
+    ensures spaced { OnOk result (with_letters text.new.formatting (characters text.new.text) []
+        ≡ with_letter_after 32 (with_letters text.old.formatting (characters text.old.text) [])) }
+{
+    if !has_text(text.text.as_str()) {
+        return Ok(false);
+    }
+    push_character(&mut text.text, ' ')?;
+    Ok(true)
+}

@@ -1,0 +1,67 @@
+-- What is handed down from node to node, and what each leaves after it.
+use Rattle.std.specs.Prelude.{ℕ, Bool, false, ◌||◌, List, [], ◌∷◌, ◌++◌, if◌then◌else◌, Option, None}
+use Rattle.rendering_people.specs.Properties.{Properties}
+use Rattle.rendering_page.specs.Pages.{Page, Manner, empty_page}
+use Rattle.rendering_page.specs.Pieces.{Piece, append_pieces}
+use Rattle.rendering_style.specs.Options.{NameOptions}
+use Rattle.rendering_taxonomy.specs.Variables.{is_among}
+use Rattle.rendering_context.specs.Contexts.{Context}
+use Rattle.rendering_taxonomy.specs.declared.variable.NameVariable.{NameVariable}
+use Rattle.rendering_taxonomy.specs.declared.variable.Variable.{Variable}
+
+-- What is printed of a layout: all; the names of a variable alone; all but the names of authors; the first date, year suffixes and
+-- locators; year suffixes and locators alone.
+pub data SpecialForm : Type 0 where
+  whole : SpecialForm
+  author_only : NameVariable → SpecialForm
+  without_author : SpecialForm
+  first_date_only : SpecialForm
+  suffix_only : SpecialForm
+
+-- What is handed down: how texts are appended, whether quotes are inner ones, what stands between the children of the group around, the
+-- options for names of the layout and the style, whether a substitute for names is printed, and what is printed of the layout.
+pub record NodeSetting : Type 0 where
+  pub manner : Manner
+  pub inside_quotes : Bool
+  pub delimiter : Option (List ℕ)
+  pub options : NameOptions
+  pub in_substitute : Bool
+  pub form : SpecialForm
+
+-- which identifiers were printed
+pub record Used : Type 0 where
+  pub label : Bool
+  pub number : Bool
+
+-- What was appended, whether the first date was, the variables that are not printed again, whether it was asked if the cite is like
+-- others, what was printed of the first names by their options, and which identifiers were printed.
+pub record State : Type 0 where
+  pub page : Page
+  pub has_date : Bool
+  pub suppressed : List Variable
+  pub met_disambiguate : Bool
+  pub names : Option Properties
+  pub used : Used
+
+-- before anything was appended
+abbrev pub begun : State
+begun = record {
+  page = empty_page;
+  has_date = false;
+  suppressed = [];
+  met_disambiguate = false;
+  names = None;
+  used = record { label = false; number = false };
+}
+
+-- pieces are appended
+abbrev pub append : Context → List Piece → State → State
+append c ps st = record st { page = append_pieces c.quotes ps st.page }
+
+-- it was asked whether the cite is like others, if so
+abbrev pub noted : Bool → State → State
+noted met st = record st { met_disambiguate = st.met_disambiguate || met }
+
+-- a variable beside those that are not printed again
+abbrev pub with_variable : List Variable → Variable → List Variable
+with_variable vs v = if is_among vs v then vs else vs ++ v ∷ []

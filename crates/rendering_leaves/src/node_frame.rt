@@ -1,0 +1,65 @@
+//! How nodes look, and the elements round them.
+
+ghost use Rattle.std.specs.Prelude.{◌≡◌, [], None};
+ghost use Rattle.laws.specs.Text.{spelled};
+ghost use Rattle.rendering_leaves.specs.Values.{frame, look_manner, text_manner};
+ghost use Rattle.rendering_page.specs.Views.{manner_view, frame_view};
+ghost use Rattle.rendering_style.specs.Views.{look_view, text_look_view};
+
+use rendering_page::{Frame, Manner};
+use rendering_style::{Look, TextLook};
+
+/// How the texts of a node with that look are appended, inside what is around it.
+pub fn look_manner(manner: Manner, look: &Look) -> Manner
+    ensures { manner_view result ≡ look_manner (manner_view manner) (look_view look.now) }
+{
+    Manner {
+        formatting: look.formatting.over(manner.formatting),
+        strips_periods: manner.strips_periods,
+    }
+}
+
+/// The same of a text node, whose full stops may go.
+pub fn text_manner(manner: Manner, look: &TextLook) -> Manner
+    ensures { manner_view result ≡ text_manner (manner_view manner) (text_look_view look.now) }
+{
+    Manner {
+        formatting: look.look.formatting.over(manner.formatting),
+        strips_periods: manner.strips_periods || look.strip_periods,
+    }
+}
+
+/// An element with the display and the affixes of a node, which look as what is around the node; whatever it stands for.
+pub fn frame_of<'a>(manner: Manner, look: &'a Look) -> Frame<'a>
+    ensures { frame_view result ≡ frame (manner_view manner) None (look_view look.now) }
+{
+    Frame {
+        display: look.display,
+        meta: None,
+        manner,
+        prefix: look.prefix.as_str(),
+        suffix: look.suffix.as_str(),
+    }
+}
+
+/// An element without display and affixes; whatever it stands for.
+pub(crate) fn bare_frame<'a>(manner: Manner) -> Frame<'a>
+    ensures { frame_view result ≡ record
+        { display = None; meta = None; manner = manner_view manner; prefix = []; suffix = [] } }
+{
+    Frame {
+        display: None,
+        meta: None,
+        manner,
+        prefix: no_text(),
+        suffix: no_text(),
+    }
+}
+
+/// No text.
+#[tactic(auto, using(rendering_locale::proofs::LookupTexts::no_characters))]
+pub(crate) fn no_text() -> &'static str
+    ensures { spelled result ≡ [] }
+{
+    ""
+}

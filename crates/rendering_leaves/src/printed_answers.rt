@@ -1,0 +1,124 @@
+//! Answers on a page.
+
+ghost use Rattle.std.specs.Prelude.{◌≡◌, OnOk};
+ghost use Rattle.std.specs.Cow.{cow_value};
+ghost use Rattle.literature_numbers.specs.PageViews.{pages_view};
+ghost use Rattle.literature_values.specs.TypedViews.{typed_view};
+ghost use Rattle.rendering_context.specs.Answering.{ranges_text};
+ghost use Rattle.rendering_context.specs.Views.{answer_if, context_view};
+ghost use Rattle.rendering_entries.specs.Answers.{Answers};
+ghost use Rattle.rendering_entries.specs.Views.{lent_number_view, lent_text_view};
+ghost use Rattle.rendering_leaves.specs.Values.{answer_pieces};
+ghost use Rattle.rendering_locale.specs.Lookup.{ordinals_of};
+ghost use Rattle.rendering_numbers.specs.Numbers.{numeral_or_text};
+ghost use Rattle.rendering_page.specs.Pages.{append_normal};
+ghost use Rattle.rendering_page.specs.Pieces.{append_pieces, chunk_pieces};
+ghost use Rattle.rendering_page.specs.Views.{quotes_view, manner_view};
+
+use crate::numeral::numeral_text;
+use crate::pages::pages_text;
+use literature_values::{ChunkedString, MaybeTyped, Numeric, PageRanges};
+use rendering_context::{Answer, Context};
+use rendering_page::{Manner, Page};
+use rendering_taxonomy::NumberForm;
+use std::alloc::AllocError;
+use std::borrow::Cow;
+
+/// Appends an answer, with numbers in a form. Without an answer nothing is appended.
+pub(crate) fn append_answer<'a>(
+    context: &Context<'_, 'a>,
+    manner: Manner,
+    form: NumberForm,
+    answer: Option<Answer<'a>>,
+    page: &mut Page<'a>,
+) -> Result<(), AllocError>
+    ensures { (a : Answers)
+        → OnOk result (page.new ≡ append_pieces (quotes_view context.now.quotes.now) (answer_pieces
+        (context_view a context.now) (manner_view manner) form (answer_if answer.entry)) page.old) }
+{
+    let Some(answer) = answer else {
+        return Ok(());
+    };
+    match answer {
+        Answer::Text(text) => append_chunks(context, manner, text, page),
+        Answer::YearSuffix(year_suffix) => page.push_text(context.quotes, manner, year_suffix),
+        Answer::Address { text, url } => page.push_made_link(manner.formatting, text, url),
+        Answer::Number(number) => append_number(context, manner, form, number, page),
+        Answer::Locator(text) => page.push_text(context.quotes, manner, text),
+        Answer::Pages(pages) => append_pages(context, manner, pages, page),
+        Answer::Transparent => {
+            page.push_transparent(manner.formatting, context.properties.initial_idx)
+        }
+    }
+}
+
+/// Appends a text in pieces, borrowed or not.
+fn append_chunks<'a>(
+    context: &Context<'_, 'a>,
+    manner: Manner,
+    text: Cow<'a, ChunkedString>,
+    page: &mut Page<'a>,
+) -> Result<(), AllocError>
+    ensures { OnOk result (page.new ≡ append_pieces (quotes_view context.now.quotes.now)
+        (chunk_pieces (manner_view manner) (lent_text_view text.entry)) page.old) }
+{
+    match text {
+        Cow::Borrowed(text) => page.push_chunks(context.quotes, manner, &text.0),
+        Cow::Owned(text) => page.push_made_chunks(context.quotes, manner, text),
+    }
+}
+
+/// Appends a number in a form, or the text instead of it.
+fn append_number<'a>(
+    context: &Context<'_, 'a>,
+    manner: Manner,
+    form: NumberForm,
+    number: MaybeTyped<Cow<'a, Numeric>>,
+    page: &mut Page<'a>,
+) -> Result<(), AllocError>
+    ensures { OnOk result (page.new
+        ≡ append_normal (quotes_view context.now.quotes.now) (manner_view manner) (numeral_or_text
+        (ordinals_of context.now.locales.now) form (lent_number_view number.entry)) page.old) }
+{
+    match number {
+        MaybeTyped::Typed(numeral) => {
+            let text = numeral_text(
+                context.alloc,
+                context.locales,
+                form,
+                borrowed_numeral(&numeral),
+            )?;
+            page.push_made(context.quotes, manner, text)
+        }
+        MaybeTyped::String(text) => page.push_made(context.quotes, manner, text),
+    }
+}
+
+/// A numeral that is borrowed or not.
+fn borrowed_numeral<'n>(numeral: &'n Cow<'_, Numeric>) -> &'n Numeric
+    ensures { result.now ≡ cow_value numeral.now }
+{
+    match numeral {
+        Cow::Borrowed(numeral) => numeral,
+        Cow::Owned(numeral) => numeral,
+    }
+}
+
+/// Appends pages, or the text instead of them.
+fn append_pages<'a>(
+    context: &Context<'_, 'a>,
+    manner: Manner,
+    pages: MaybeTyped<PageRanges>,
+    page: &mut Page<'a>,
+) -> Result<(), AllocError>
+    ensures { OnOk result (page.new ≡ append_normal (quotes_view context.now.quotes.now)
+        (manner_view manner) (ranges_text (typed_view pages_view pages)) page.old) }
+{
+    match pages {
+        MaybeTyped::Typed(pages) => {
+            let text = pages_text(context.alloc, &pages)?;
+            page.push_made(context.quotes, manner, text)
+        }
+        MaybeTyped::String(text) => page.push_made(context.quotes, manner, text),
+    }
+}

@@ -1,0 +1,100 @@
+//! Which nodes a form of a layout lets stand.
+
+ghost use Rattle.std.specs.Prelude.{◌≡◌};
+ghost use Rattle.rendering_leaves.specs.Views.{form_view};
+ghost use Rattle.rendering_nodes.specs.Admission as admission;
+ghost use Rattle.rendering_style.specs.Views.{names_node_view};
+ghost use Rattle.rendering_taxonomy.specs.Variables.{is_name_variable};
+
+use rendering_leaves::SpecialForm;
+use rendering_style::Names;
+use rendering_taxonomy::{NameVariable, NumberVariable, StandardVariable, Variable};
+
+/// Whether the form lets the node of a variable stand that is no date and no names.
+pub(crate) fn allows_variable(form: SpecialForm, variable: Variable) -> bool
+    ensures { result ≡ admission.allows_variable (form_view form) variable }
+{
+    match form {
+        SpecialForm::Whole | SpecialForm::WithoutAuthor => true,
+        SpecialForm::AuthorOnly(_) => false,
+        SpecialForm::FirstDateOnly | SpecialForm::SuffixOnly => is_with_suffix(variable),
+    }
+}
+
+/// Whether the variable is a locator or the year suffix.
+fn is_with_suffix(variable: Variable) -> bool
+    ensures { result ≡ admission.is_with_suffix variable }
+{
+    is_locator_variable(variable) || is_suffix_variable(variable)
+}
+
+/// Whether the variable is a locator.
+fn is_locator_variable(variable: Variable) -> bool
+    ensures { result ≡ admission.is_locator_variable variable }
+{
+    match variable {
+        Variable::Number(NumberVariable::Locator) => true,
+        _ => false,
+    }
+}
+
+/// Whether the variable is the year suffix.
+pub(crate) fn is_suffix_variable(variable: Variable) -> bool
+    ensures { result ≡ admission.is_suffix_variable variable }
+{
+    match variable {
+        Variable::Standard(StandardVariable::YearSuffix) => true,
+        _ => false,
+    }
+}
+
+/// Whether the form lets words stand.
+pub(crate) fn allows_words(form: SpecialForm) -> bool
+    ensures { result ≡ admission.allows_words (form_view form) }
+{
+    match form {
+        SpecialForm::Whole | SpecialForm::WithoutAuthor => true,
+        SpecialForm::AuthorOnly(_) | SpecialForm::FirstDateOnly | SpecialForm::SuffixOnly => false,
+    }
+}
+
+/// Whether the form lets names stand.
+pub(crate) fn allows_names(form: SpecialForm, names: &Names) -> bool
+    ensures { result ≡ admission.allows_names (form_view form) (names_node_view names.now) }
+{
+    match form {
+        SpecialForm::Whole => true,
+        SpecialForm::AuthorOnly(variable) => is_of(variable, names),
+        SpecialForm::WithoutAuthor => !is_of(NameVariable::Author, names),
+        SpecialForm::FirstDateOnly | SpecialForm::SuffixOnly => false,
+    }
+}
+
+/// Whether the form shuts names out with all of their substitute.
+pub(crate) fn shuts_out(form: SpecialForm, names: &Names) -> bool
+    ensures { result ≡ admission.shuts_out (form_view form) (names_node_view names.now) }
+{
+    match form {
+        SpecialForm::WithoutAuthor => is_of(NameVariable::Author, names),
+        _ => false,
+    }
+}
+
+/// Whether the variable is among those of the names.
+fn is_of(variable: NameVariable, names: &Names) -> bool
+    ensures { result ≡ admission.is_of variable (names_node_view names.now) }
+{
+    for other in &names.variables {
+        if is_name_variable(variable, *other) {
+            return true;
+        }
+    }
+    false
+}
+
+/// Whether two variables are one.
+fn is_name_variable(variable: NameVariable, other: NameVariable) -> bool
+    ensures { result ≡ is_name_variable variable other }
+{
+    variable == other
+}

@@ -1,5 +1,0 @@
-use Rattle.std.proofs.lemmas.Str.{chars-nil}
-use Rattle.rendering_page.proofs.backwards.text_before_all.Goals as goal
-
-pub returns-in-None : goal.returns-in-None
-returns-in-None c = (chars-nil, c.in-None.is)

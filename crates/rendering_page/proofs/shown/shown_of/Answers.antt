@@ -1,5 +1,0 @@
-use Rattle.rendering_page.proofs.ShownPages.{shows_nothing}
-use Rattle.rendering_page.proofs.shown.shown_of.Goals as goal
-
-pub returns-in_default : goal.returns-in_default
-returns-in_default c = shows_nothing c.args.piece.now c.in_default.not-Text c.in_default.not-Markup c.in_default.not-Link

@@ -1,6 +1,0 @@
-use Rattle.std.proofs.Common.{◌≡◌, ◌++◌, drop}
-use Rattle.rendering_people.specs.Raised.{raised_row}
-use Rattle.rendering_people.proofs.raising.raised_row.Given as goal
-
-abbrev pub invariant-loop-count : goal.invariant-loop-count
-invariant-loop-count l = l.raised.items ++ raised_row (drop l.count-index l.counts) l.rest l.others l.other_forms ≡ raised_row l.counts l.forms l.others l.other_forms
