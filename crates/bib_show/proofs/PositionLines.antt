@@ -1,4 +1,4 @@
--- Lines and what shows them.
+-- Lines, and what is shown of them.
 use Rattle.std.proofs.Common.{◌≡◌, ℕ, List, [], ◌∷◌, ◌++◌, map, flat_map, sym, ap, ◌∙◌, append_assoc}
 use Rattle.std.specs.Str.{chars, IsUtf8}
 use Rattle.laws.specs.Text.{text}

@@ -1,4 +1,4 @@
--- The message for sources, from what is known of their bytes.
+-- The messages for sources, from what is known of their bytes.
 use Rattle.std.proofs.Common.{◌≡◌, ℕ, List, Option, Err, sym, subst, ap, ◌∙◌, ◌⊎◌, inl, inr}
 use Rattle.std.specs.Str.{chars, IsUtf8, is_utf8}
 use Rattle.std.specs.Str.Lossy.{utf8_valid_len}

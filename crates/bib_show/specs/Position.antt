@@ -5,6 +5,7 @@ use Rattle.std.specs.Char.Escape.{escape_unicode}
 use Rattle.std.specs.Str.{chars}
 use Rattle.std.specs.Str.Lines.{strip_carriage_return}
 use Rattle.std.specs.Str.Lossy.{utf8_lossy}
+use Rattle.laws.specs.Characters.{tab, line_feed, space, circumflex}
 use Rattle.laws.specs.Runs.{prefix_of}
 use Rattle.laws.specs.Text.{text}
 
@@ -15,7 +16,7 @@ pub record Position : Type 0 where
 
 -- after one more byte; a line feed ends the line
 abbrev pub next_position : Position → ℕ → Position
-next_position p b = if b == 10 then record { ended = p.ended + 1; read = [] } else record { ended = p.ended; read = p.read ++ b ∷ [] }
+next_position p b = if b == line_feed then record { ended = p.ended + 1; read = [] } else record { ended = p.ended; read = p.read ++ b ∷ [] }
 
 -- after more bytes
 abbrev pub position_from : Position → List ℕ → Position
@@ -31,7 +32,7 @@ abbrev pub line_before : List ℕ → ℕ → List ℕ
 line_before source at = (position_at source at).read
 
 abbrev pub line_after : List ℕ → ℕ → List ℕ
-line_after source at = strip_carriage_return (prefix_of (λ b. not (b == 10)) (drop at source))
+line_after source at = strip_carriage_return (prefix_of (λ b. not (b == line_feed)) (drop at source))
 
 -- the characters of such bytes; U+FFFD stands for bytes that are of no character
 abbrev pub line_characters : List ℕ → List ℕ
@@ -39,7 +40,7 @@ line_characters bytes = chars (utf8_lossy bytes)
 
 -- a control character other than a tab
 abbrev pub is_escaped : ℕ → Bool
-is_escaped c = is_control c && not (c == 9)
+is_escaped c = is_control c && not (c == tab)
 
 -- the characters that show one of a line: \u{..} with its number in hexadecimal digits, or itself
 abbrev pub shown_in_line : ℕ → List ℕ
@@ -55,11 +56,11 @@ line_at source at = text (shown_line (line_before source at) ++ shown_line (line
 
 -- what stands below a character: a tab below a tab, a space below any other
 abbrev pub blank : ℕ → ℕ
-blank c = if c == 9 then 9 else 32
+blank c = if c == tab then tab else space
 
 -- a caret below the position, after a blank below each character that is shown before it
 abbrev pub mark_at : List ℕ → ℕ → List ℕ
-mark_at source at = map blank (shown_line (line_before source at)) ++ 94 ∷ []
+mark_at source at = map blank (shown_line (line_before source at)) ++ circumflex ∷ []
 
 -- the numbers of the line and of the column, both from one; a column is a character of the source
 abbrev pub line_number : List ℕ → ℕ → ℕ

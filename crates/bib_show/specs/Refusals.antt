@@ -3,6 +3,7 @@ use Rattle.std.specs.Prelude.{◌≡◌, ℕ, true, false, List, [], ◌∷◌, 
 use Rattle.std.specs.Str.{chars, is_utf8}
 use Rattle.std.specs.Str.Lossy.{utf8_valid_len}
 use Rattle.std.specs.Fmt.{decimal}
+use Rattle.laws.specs.Characters.{line_feed, colon}
 use Rattle.biblatex.specs.Errors.{reason_text}
 use Rattle.biblatex.specs.Reading.{Refusal}
 use Rattle.biblatex.specs.Resolved.{TextMeans}
@@ -11,7 +12,7 @@ use Rattle.bib_show.specs.Position.{line_at, mark_at, line_number, column_number
 -- FILE:LINE:COLUMN: and why, then the line, then the mark below the position
 abbrev pub refusal_lines : List ℕ → List ℕ → ℕ → List ℕ → List ℕ
 refusal_lines path source at why =
-    path ++ (58 ∷ (decimal (line_number source at) ++ (58 ∷ (decimal (column_number source at) ++ (codes ": " ++ (why ++ (10 ∷ (line_at source at ++ (10 ∷ (mark_at source at ++ 10 ∷ []))))))))))
+    path ++ (colon ∷ (decimal (line_number source at) ++ (colon ∷ (decimal (column_number source at) ++ (codes ": " ++ (why ++ (line_feed ∷ (line_at source at ++ (line_feed ∷ (mark_at source at ++ line_feed ∷ []))))))))))
 
 -- bytes that are no text, at the first one that is not of a character
 abbrev pub IsNoText : List ℕ → List ℕ → List ℕ → Type 0

@@ -3,6 +3,7 @@ use Rattle.std.specs.Prelude.{ℕ, Bool, true, false, not, ◌||◌, ◌==◌, L
 use Rattle.std.specs.List.{AllByRecursion}
 use Rattle.std.specs.Char.{is_control}
 use Rattle.std.specs.Char.Escape.{escape_unicode}
+use Rattle.laws.specs.Characters.{line_feed, space, dollar_sign, at_sign, backslash, open_brace, close_brace}
 use Rattle.laws.specs.Text.{text}
 use Rattle.biblatex.specs.Kind.{Kind}
 use Rattle.biblatex.specs.Kind.TheVariants.{Normal, Verbatim}
@@ -12,7 +13,7 @@ use Rattle.biblatex.specs.Entries.{Source}
 
 -- a backslash, a dollar sign, a brace or a control character
 abbrev pub is_marked : ℕ → Bool
-is_marked c = is_control c || (c == 92 || (c == 36 || (c == 123 || c == 125)))
+is_marked c = is_control c || (c == backslash || (c == dollar_sign || (c == open_brace || c == close_brace)))
 
 -- any other character
 abbrev pub is_plain : ℕ → Bool
@@ -33,8 +34,8 @@ kind_of false = Normal
 -- the brace where verbatim characters end or begin: whether such came before, whether such come now
 abbrev pub turning : Bool → Bool → List ℕ
 turning true true = []
-turning true false = 125 ∷ []
-turning false true = 123 ∷ []
+turning true false = close_brace ∷ []
+turning false true = open_brace ∷ []
 turning false false = []
 
 -- Members, where verbatim characters may stand before them: those stand in braces, math between dollar signs.
@@ -42,15 +43,15 @@ abbrev pub shown_from : Bool → List Member → List ℕ
 shown_from is_open [] = turning is_open false
 shown_from is_open (Letter Normal c ∷ ms) = turning is_open false ++ (shown_character c ++ shown_from false ms)
 shown_from is_open (Letter Verbatim c ∷ ms) = turning is_open true ++ (shown_character c ++ shown_from true ms)
-shown_from is_open (Math cs ∷ ms) = turning is_open false ++ (36 ∷ (shown_characters cs ++ 36 ∷ shown_from false ms))
+shown_from is_open (Math cs ∷ ms) = turning is_open false ++ (dollar_sign ∷ (shown_characters cs ++ dollar_sign ∷ shown_from false ms))
 
 -- a line for a field: two spaces, its name, an equals sign, its value
 abbrev pub shown_field : Named → List ℕ
-shown_field f = codes "  " ++ (f.0 ++ (codes " = " ++ (shown_from false f.1.text ++ 10 ∷ [])))
+shown_field f = codes "  " ++ (f.0 ++ (codes " = " ++ (shown_from false f.1.text ++ line_feed ∷ [])))
 
 -- a line for an entry with its type and key, and one for each of its fields
 abbrev pub shown_entry : Source → List ℕ
-shown_entry e = 64 ∷ (e.entry_type.name ++ (32 ∷ (e.key ++ (10 ∷ flat_map shown_field e.fields))))
+shown_entry e = at_sign ∷ (e.entry_type.name ++ (space ∷ (e.key ++ (line_feed ∷ flat_map shown_field e.fields))))
 
 abbrev pub shown : List Source → List ℕ
 shown es = flat_map shown_entry es

@@ -3,6 +3,7 @@
 ghost use Rattle.std.specs.Prelude.{◌≡◌, ◌<◌, ◌≤◌, ◌+◌, ◌++◌, ◌∷◌, [], ◌^◌, ◌==◌, not, take, drop, map, flat_map, length, IfOk, OnOk, string_bytes};
 ghost use Rattle.std.specs.Str.{chars};
 ghost use Rattle.std.specs.Str.Lines.{strip_carriage_return};
+ghost use Rattle.laws.specs.Characters.{line_feed, circumflex};
 ghost use Rattle.laws.specs.Runs.{prefix_of};
 ghost use Rattle.laws.specs.Text.{characters};
 ghost use Rattle.bib_show.specs.Position.{next_position, position_from, line_at, mark_at, line_number, column_number, is_escaped, shown_in_line, shown_line, blank};
@@ -67,12 +68,12 @@ fn split_at_offset(source: &[u8], at: usize) -> (&[u8], &[u8])
     }
 }
 
-/// How far one comes by these bytes.
+/// The position after these bytes.
 fn come_to(alloc: Global, bytes: &[u8]) -> Result<Position, AllocError>
     ensures position { IfOk result (λ p. position_view p ≡ position_from nothing_read bytes.now) }
     ensures small { IfOk result (λ p. p.ended < 2 ^ 63) }
 {
-    // The length of a slice says that its lines can be counted.
+    // A slice has fewer than 2^63 bytes, and so fewer than 2^63 lines.
     let _size = bytes.len();
     let mut position = Position {
         ended: 0,
@@ -87,7 +88,7 @@ fn come_to(alloc: Global, bytes: &[u8]) -> Result<Position, AllocError>
 }
 
 impl Position {
-    /// Goes on by a byte.
+    /// Moves the position past a byte.
     fn pass(&mut self, byte: u8) -> Result<(), AllocError>
         requires { self.old.ended < 2 ^ 63 }
         ensures position { OnOk result (position_view self.new
@@ -105,14 +106,14 @@ impl Position {
 
 /// What stands before the end of the line: before the first line feed, less the carriage return at its end, if there is one.
 fn line_end(rest: &[u8]) -> &[u8]
-    ensures { result.now ≡ strip_carriage_return (prefix_of (λ b. not (b == 10)) rest.now) }
+    ensures { result.now ≡ strip_carriage_return (prefix_of (λ b. not (b == line_feed)) rest.now) }
 {
     without_return(before_line_feed(rest))
 }
 
 /// What stands before the first line feed.
 fn before_line_feed(rest: &[u8]) -> &[u8]
-    ensures { result.now ≡ prefix_of (λ b. not (b == 10)) rest.now }
+    ensures { result.now ≡ prefix_of (λ b. not (b == line_feed)) rest.now }
 {
     for (i, byte) in rest.iter().enumerate() {
         if *byte == b'\n' {
@@ -132,17 +133,17 @@ fn without_return(bytes: &[u8]) -> &[u8]
     }
 }
 
-/// How many characters there are.
+/// The number of characters, which is below 2^63.
 fn char_count(text: &str) -> usize
     ensures count { result ≡ length (chars text.now) }
     ensures small { result < 2 ^ 63 }
 {
-    // The length of a slice says that its characters can be counted.
+    // A slice has fewer than 2^63 bytes, and so fewer than 2^63 characters.
     let _size = text.as_bytes().len();
     text.chars().count()
 }
 
-/// What shows a text of a line.
+/// What is shown of a text of a line.
 fn shown_text(alloc: Global, text: &str) -> Result<String, AllocError>
     ensures { IfOk result (λ s. characters s ≡ flat_map shown_in_line (chars text.now)) }
 {
@@ -151,7 +152,7 @@ fn shown_text(alloc: Global, text: &str) -> Result<String, AllocError>
     Ok(shown)
 }
 
-/// Appends what shows bytes of a line.
+/// Appends what is shown of bytes of a line.
 fn push_bytes(alloc: Global, line: &mut String, bytes: &[u8]) -> Result<(), AllocError>
     ensures { OnOk result (characters line.new ≡ characters line.old ++ shown_line bytes.now) }
 {
@@ -159,7 +160,7 @@ fn push_bytes(alloc: Global, line: &mut String, bytes: &[u8]) -> Result<(), Allo
     push_shown(line, text.as_str())
 }
 
-/// Appends what shows a text of a line.
+/// Appends what is shown of a text of a line.
 fn push_shown(line: &mut String, text: &str) -> Result<(), AllocError>
     ensures { OnOk result (characters line.new
         ≡ characters line.old ++ flat_map shown_in_line (chars text.now)) }
@@ -172,7 +173,7 @@ fn push_shown(line: &mut String, text: &str) -> Result<(), AllocError>
     Ok(())
 }
 
-/// Appends what shows a character of a line.
+/// Appends what is shown of a character of a line.
 fn push_shown_character(line: &mut String, c: char) -> Result<(), AllocError>
     ensures { OnOk result (characters line.new ≡ characters line.old ++ shown_in_line c) }
 {
@@ -192,7 +193,8 @@ fn is_escaped(c: char) -> bool
 
 /// A blank below each character, and a caret.
 fn mark_below(alloc: Global, shown: &str) -> Result<String, AllocError>
-    ensures { IfOk result (λ mark. string_bytes mark ≡ map blank (chars shown.now) ++ 94 ∷ []) }
+    ensures { IfOk result (λ mark.
+        string_bytes mark ≡ map blank (chars shown.now) ++ circumflex ∷ []) }
 {
     let mut mark = String::new(alloc);
     let mut rest = shown;

@@ -106,7 +106,7 @@ pub fn run<O: Sink, E: Sink>(
     }
 }
 
-/// Says why not. A fault of `err` is passed over.
+/// Writes the message for the fault to `err`. A fault of `err` is ignored.
 fn say_fault<E: Sink>(alloc: Global, fault: RunFault<'_>, err: &mut E)
     ensures { Says
         (λ message. (message ≡ message_of fault.entry) ⊎ (message ≡ no_memory (codes "bib_show")))
@@ -131,7 +131,7 @@ fn lines_of(alloc: Global, fault: RunFault<'_>) -> Result<String, AllocError>
     }
 }
 
-/// Writes the output, or says why not.
+/// Writes the output, or returns the fault.
 fn serve<'w, O: Sink>(
     alloc: Global,
     words: &[&'w str],
@@ -243,7 +243,7 @@ fn text_output<'w>(alloc: Global, path: &str, text: &str) -> Result<String, RunF
     }
 }
 
-/// Why a text is not shown that is refused for this at a position.
+/// The fault for a text that is refused with this error at a position.
 fn text_fault<'w>(
     alloc: Global,
     path: &str,
@@ -261,7 +261,7 @@ fn text_fault<'w>(
     }
 }
 
-/// Why a source is not shown that is refused at a position.
+/// The fault for a source that is refused at a position.
 fn refused<'w>(alloc: Global, path: &str, source: &[u8], at: usize, why: &str) -> RunFault<'w>
     ensures { (message_of result ≡ refusal_lines path.now source.now at why.now)
         ⊎ (message_of result ≡ no_memory (codes "bib_show")) }

@@ -2,6 +2,7 @@
 
 ghost use Rattle.std.specs.Prelude.{◌≡◌, ◌++◌, ◌∷◌, [], IfOk, OnOk, string_bytes, codes};
 ghost use Rattle.std.specs.Fmt.{decimal};
+ghost use Rattle.laws.specs.Characters.{line_feed, colon};
 ghost use Rattle.bib_show.specs.Refusals.{refusal_lines};
 
 use crate::position::ShownPosition;
@@ -35,16 +36,16 @@ fn push_head(
     column: usize,
     why: &str,
 ) -> Result<(), AllocError>
-    ensures { OnOk result (string_bytes lines.new ≡ string_bytes lines.old ++ (path.now ++ (58
-        ∷ (decimal number ++ (58 ∷ (decimal column ++ (codes ": " ++ (why.now ++ 10 ∷ [])))))))) }
+    ensures { OnOk result (string_bytes lines.new ≡ string_bytes lines.old
+        ++ (path.now ++ (colon ∷ (decimal number ++ (colon ∷ (decimal column
+        ++ (codes ": " ++ (why.now ++ line_feed ∷ [])))))))) }
 {
     write!(lines, "{path}:{number}:{column}: {why}\n")
 }
 
-/// A line.
 fn push_line(lines: &mut String, line: &str) -> Result<(), AllocError>
     ensures { OnOk result (string_bytes lines.new
-        ≡ string_bytes lines.old ++ (line.now ++ 10 ∷ [])) }
+        ≡ string_bytes lines.old ++ (line.now ++ line_feed ∷ [])) }
 {
     lines.push_str(line)?;
     lines.push('\n')

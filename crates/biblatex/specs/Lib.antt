@@ -22,5 +22,5 @@ pub use Rattle.biblatex_bibliography.specs.Keys
 pub use Rattle.biblatex_bibliography.specs.Reading
 pub use Rattle.biblatex_bibliography.specs.Resolved
 pub use Rattle.biblatex_bibliography.specs.Errors
-pub use Rattle.biblatex_bibliography.specs.declared.error.ParseError
+pub use Rattle.biblatex_fields.specs.declared.error.ParseError
 pub use Rattle.biblatex_bibliography.specs.Lines

@@ -3,9 +3,7 @@
 //! who calls `iter`.
 #![tactic(auto)]
 
-pub use biblatex_bibliography::{
-    Bibliography, Counted, Keys, ParseError, ParseErrorKind, parse_field,
-};
+pub use biblatex_bibliography::{Bibliography, Counted, Keys, parse_field};
 pub use biblatex_content::{
     Chunk, Chunks, ChunksExt, Span, is_escapable, is_verbatim_field, push_biblatex,
 };
@@ -14,8 +12,8 @@ pub use biblatex_entries::{Entry, EntryType, RetrievalError, Role};
 pub use biblatex_field_types::{
     ChunksParse, EditorType, FieldType, FieldTypeError, Gender, PermissiveType, TypeError, reread,
 };
-pub use biblatex_fields::{Abbreviations, Fields};
-pub use biblatex_people::Person;
+pub use biblatex_fields::{Abbreviations, Fields, ParseError, ParseErrorKind};
+pub use biblatex_lists::Person;
 pub use biblatex_text::{
     BiblatexParser, Fault, Field, Pair, RawBibliography, RawChunk, RawEntry, RawError, Spanned,
     Token, is_id_continue, is_id_start, is_key,

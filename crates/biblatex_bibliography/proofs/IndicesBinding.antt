@@ -10,9 +10,9 @@ use Rattle.std.proofs.lemmas.Map.Text.{is_text, hash_map_updates_text}
 use Rattle.std.proofs.lemmas.Map.Entries.{place_from_lookup, option_filter}
 use Rattle.std.proofs.lemmas.Slice.Eq.{bytes_eq-Decides}
 use Rattle.std.proofs.lemmas.Bool.Decides.{same_from_decides}
-use Rattle.biblatex_bibliography.specs.Indices.{Meaning, meaning_in, named_index, names_in, bound, moved_up}
+use Rattle.biblatex_bibliography.specs.Indices.{Meaning, meaning_in, named_index, names_in, bound, index_without}
 
--- where a call went well
+-- what holds on Ok holds where a call returned Ok
 pub done : {A E : Type 0} (r : Result A E) (P : Type 0) → IsOk r → OnOk r P → P
 done (Ok a) P is p = p
 done (Err e) P is p = absurd cc
@@ -55,11 +55,11 @@ changed es fs f none change = λ i name. at name i
     at : (name : List ℕ) → meaning_in (map named_index fs) name ≡ f (meaning_in (map named_index es) name)
     at name = by_bytes fs name ∙ (by_text es fs f none change name ∙ ap f (sym (by_bytes es name)))
 
--- a map in another order
+-- maps with the same values under each key mean the same, whatever their order
 pub reordered : {S : Type 0} (m n : HashMap (String Global) ℕ S) → ((k : String Global) → get string_eq n k ≡ get string_eq m k) → meaning_in (names_in n) ≡ meaning_in (names_in m)
 reordered m n h = changed m.entries n.entries (λ o. o) refl h
 
--- one name that is bound
+-- a map with one more value under a name means what the name was bound to
 pub bound_one : {S : Type 0} (k : List ℕ) (index : ℕ) (m n : HashMap (String Global) ℕ S) → UpdatesBy string_eq (is_text k) m n (Some index) → meaning_in (names_in n) ≡ bound (k ∷ []) index (meaning_in (names_in m))
 bound_one k index m n h = λ i name. at name i
   where
@@ -97,7 +97,7 @@ bound_none [] index f e = refl
 bound_none (n ∷ ns) index f e = absurd cc
 
 -- an index is taken out and those after it move up
-pub moved : (out : ℕ) (o : Option ℕ) → option_map (λ v. cond (ltb out v) (v - 1) v) (option_filter (λ v. not (eqb v out)) o) ≡ option_and_then (moved_up out) o
+pub moved : (out : ℕ) (o : Option ℕ) → option_map (λ v. cond (ltb out v) (v - 1) v) (option_filter (λ v. not (eqb v out)) o) ≡ option_and_then (index_without out) o
 moved out None = refl
 moved out (Some v) = by_test (eqb v out)
   where

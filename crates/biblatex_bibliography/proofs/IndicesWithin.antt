@@ -7,7 +7,7 @@ use Rattle.std.proofs.lemmas.Bool.Decides.{nat_tests}
 use Rattle.std.proofs.lemmas.List.{take-map, drop-map, map-append}
 use Rattle.biblatex_entries.specs.declared.entry.Entry.{Entry}
 use Rattle.biblatex_entries.specs.Entries.{source_view, sources_view, parents_of}
-use Rattle.biblatex_bibliography.specs.Indices.{Meaning, AreWithin, bound, moved_up, without_index}
+use Rattle.biblatex_bibliography.specs.Indices.{Meaning, AreWithin, bound, index_without, without_index}
 use Rattle.biblatex_bibliography.specs.Bibliographies.{references}
 
 -- names are bound to an index below a count that is no less
@@ -32,7 +32,7 @@ pub then_ok : {A E : Type 0} (r : Result A E) (P Q : Type 0) → OnOk r P → (P
 then_ok (Ok a) P Q p f = f p
 then_ok (Err x) P Q p f = tt
 
--- an entry is taken out
+-- once an entry is taken out, names mean indices of the entries that are left
 pub out_within : (out n k : ℕ) (m f : Meaning) → f ≡ without_index out m → out < n → k + 1 ≡ n → AreWithin m n → AreWithin f k
 out_within out n k m f e lt is within = subst (λ (g : Meaning). AreWithin g k) (sym e) (λ name. by_index (m name) (within name))
   where
@@ -41,15 +41,15 @@ out_within out n k m f e lt is within = subst (λ (g : Meaning). AreWithin g k) 
     by_tests v w false true p q = grind (arith, nat_tests, p, q, w, lt, is)
     by_tests v w false false p q = grind (arith, nat_tests, p, q, w, lt, is)
 
-    by_index : (o : Option ℕ) → IfSome o (λ i. i < n) → IfSome (option_and_then (moved_up out) o) (λ i. i < k)
+    by_index : (o : Option ℕ) → IfSome o (λ i. i < n) → IfSome (option_and_then (index_without out) o) (λ i. i < k)
     by_index None w = tt
     by_index (Some v) w = by_tests v w (eqb v out) (ltb out v) refl refl
 
--- the entries without one
+-- the view of entries without one is the view of them without that one
 pub sources-remove : (es : List Entry) (i : ℕ) → sources_view (remove es i) ≡ remove (sources_view es) i
 sources-remove es i = map-append source_view (take i es) (drop (suc i) es) ∙ rw (take-map source_view i es, drop-map source_view (suc i) es) refl
 
--- the references of one more entry
+-- the references of one more entry stand after those before
 pub refer_more : (f : Meaning) (e : Entry) (before : List (Vec ℕ Global)) (v : Vec ℕ Global) (rest : List Entry) → v.items ≡ filter_map f (parents_of e.fields)
     → map (λ r. r.items) (before ++ v ∷ []) ++ references (record { entries = sources_view rest; index = f }) ≡ map (λ r. r.items) before ++ references (record { entries = sources_view (e ∷ rest); index = f })
 refer_more f e [] v rest is = ap (λ (ns : List ℕ). ns ∷ references (record { entries = sources_view rest; index = f })) is

@@ -5,6 +5,7 @@ use Rattle.std.specs.Char.{is_newline}
 use Rattle.std.specs.List.{list_any}
 use Rattle.std.specs.Fmt.{digit_glyph, digits_onto, digits}
 use Rattle.std.proofs.lemmas.List.Folds.{list_any-append}
+use Rattle.laws.specs.Characters.{line_feed}
 use Rattle.laws.specs.Runs.{AllPassTest}
 use Rattle.laws.specs.Text.{text}
 use Rattle.biblatex_bibliography.specs.Lines.{HasNoLineFeed}
@@ -17,26 +18,26 @@ of_neither : (a b : Bool) → a || b ≡ false → (a ≡ false) × (b ≡ false
 of_neither true b e = absurd (true≢false e)
 of_neither false b e = (refl, e)
 
--- two texts, one after the other
+-- two texts without a line feed, one after the other, have none
 pub append : (a b : List ℕ) → HasNoLineFeed a → HasNoLineFeed b → HasNoLineFeed (a ++ b)
 append a b p q = list_any-append is_newline a b ∙ neither (list_any is_newline a) (list_any is_newline b) p q
 
 -- a class of characters without the line feed
-other : (test : ℕ → Bool) (c : ℕ) → test 10 ≡ false → test c ≡ true → is_newline c ≡ false
-other test c bars passes = ne_eqb c 10 (λ e. true≢false (sym passes ∙ (ap test e ∙ bars)))
+other : (test : ℕ → Bool) (c : ℕ) → test line_feed ≡ false → test c ≡ true → is_newline c ≡ false
+other test c bars passes = ne_eqb c line_feed (λ e. true≢false (sym passes ∙ (ap test e ∙ bars)))
 
-pub passing : (test : ℕ → Bool) (cs : List ℕ) → test 10 ≡ false → AllPassTest test cs → HasNoLineFeed cs
+pub passing : (test : ℕ → Bool) (cs : List ℕ) → test line_feed ≡ false → AllPassTest test cs → HasNoLineFeed cs
 passing test [] bars all = refl
 passing test (c ∷ cs) bars all = neither (is_newline c) (list_any is_newline cs) (other test c bars all.0) (passing test cs bars all.1)
 
--- a greater byte
-above : (k x : ℕ) → 10 < k → eqb (k + x) 10 ≡ false
-above k x h = ne_eqb (k + x) 10 (λ e. omega arith)
+-- a byte above the line feed is none
+above : (k x : ℕ) → line_feed < k → eqb (k + x) line_feed ≡ false
+above k x h = ne_eqb (k + x) line_feed (λ e. omega arith)
 
 before : (b : ℕ) (bs : List ℕ) → is_newline b ≡ false → HasNoLineFeed bs → HasNoLineFeed (b ∷ bs)
 before b bs p q = neither (is_newline b) (list_any is_newline bs) p q
 
--- the bytes of a character
+-- the bytes of a character that is no line feed have none
 encoded : (c : ℕ) → is_newline c ≡ false → HasNoLineFeed (encode_utf8 c)
 unfolding lib.Utf8.encode
 encoded c is = by_size (ltb c 128) (ltb c 2048) (ltb c 65536)
@@ -51,14 +52,14 @@ encoded c is = by_size (ltb c 128) (ltb c 2048) (ltb c 65536)
     by_size false false true = before (224 + c / 4096) ((128 + (c / 64) % 64) ∷ (128 + c % 64) ∷ []) (above 224 (c / 4096) (omega arith)) (follows (c / 64) ((128 + c % 64) ∷ []) (follows c [] refl))
     by_size false false false = before (240 + c / 262144) ((128 + (c / 4096) % 64) ∷ (128 + (c / 64) % 64) ∷ (128 + c % 64) ∷ []) (above 240 (c / 262144) (omega arith)) (follows (c / 4096) ((128 + (c / 64) % 64) ∷ (128 + c % 64) ∷ []) (follows (c / 64) ((128 + c % 64) ∷ []) (follows c [] refl)))
 
--- the bytes of characters
+-- the bytes of characters that are no line feeds have none
 pub spelled : (cs : List ℕ) → HasNoLineFeed cs → HasNoLineFeed (text cs)
 spelled [] is = refl
 spelled (c ∷ cs) is =
     let parts : (is_newline c ≡ false) × HasNoLineFeed cs = of_neither (is_newline c) (list_any is_newline cs) is in
     append (encode_utf8 c) (text cs) (encoded c parts.0) (spelled cs parts.1)
 
--- digits
+-- a digit is no line feed
 glyph : (upper : Bool) (d : ℕ) → is_newline (digit_glyph upper d) ≡ false
 glyph upper d = by_test (ltb d 10) upper
   where

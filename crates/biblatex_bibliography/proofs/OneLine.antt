@@ -16,16 +16,16 @@ use Rattle.biblatex_text.specs.declared.token.Fault.{Fault}
 use Rattle.biblatex_text.specs.declared.token.Fault.TheVariants as faults
 use Rattle.biblatex_text.proofs.Names.{HasNames, HasKey, IsKeyed, AreKeyed, raw-keyed}
 use Rattle.biblatex_fields.specs.Abbreviations.{Glossary}
-use Rattle.biblatex_fields.specs.Abbreviations as abbreviations
 use Rattle.biblatex_fields.specs.Fields.{Named, fields_of}
-use Rattle.biblatex_fields.proofs.NamesRefused.{RefusesName, RefusesNames, fields_of-named}
+use Rattle.biblatex_fields.specs.Refusals as refusals
+use Rattle.biblatex_fields.proofs.NamesRefused.{IsIdentifier, RefusesFor, RefusesName, RefusesNames, fields_of-named}
 use Rattle.biblatex_entries.specs.Entries.{Source}
 use Rattle.biblatex_entries.specs.TypeNames.{TypeName}
 use Rattle.biblatex_dates.specs.declared.error.TypeErrorKind.{TypeErrorKind}
 use Rattle.biblatex_inheritance.specs.declared.error.ResolveError.{ResolveError}
 use Rattle.biblatex_inheritance.specs.declared.error.ResolveError.TheVariants as errors
 use Rattle.biblatex_bibliography.specs.Bibliographies.{Listed}
-use Rattle.biblatex_bibliography.specs.Reading.{reference_cycle, unreadable_date, Refusal, refused_at, field_refusal, or_refusal, Loaded, nothing_loaded, source_of, unless_known, entry_after, entries_after, loaded}
+use Rattle.biblatex_bibliography.specs.Reading.{reference_cycle, unreadable_date, Refusal, refused_at, Loaded, nothing_loaded, source_of, unless_known, entry_after, entries_after, loaded}
 use Rattle.biblatex_bibliography.specs.Resolved.{head, unresolved_at, ComesTo, Means, IsMeaningOf, IsTextMeaningOf, TextMeans}
 use Rattle.biblatex_bibliography.specs.Errors.{fault_text, reason_text}
 use Rattle.biblatex_bibliography.specs.Lines.{HasNoLineFeed}
@@ -49,8 +49,6 @@ record HavePlainKeys (l : Loaded) : Type 0 where
 abbrev pub FilePlain : Listed → Type 0
 FilePlain file = All HasPlainKey file.entries
 
--- ---- faults of the raw grammar
-
 token-plain : (token : Token) → HasNoLineFeed (token_name token)
 token-plain tokens.Identifier = refl
 token-plain tokens.OpeningBrace = refl
@@ -65,12 +63,20 @@ fault-plain faults.UnexpectedEof = refl
 fault-plain (faults.Unexpected token) = append (codes "unexpected ") (token_name token) refl (token-plain token)
 fault-plain (faults.Expected token) = append (codes "expected ") (token_name token) refl (token-plain token)
 
--- ---- fields and keys
+identifier-plain : (name : List ℕ) → IsIdentifier name → HasNoLineFeed name
+identifier-plain name (cs, same, is) = subst HasNoLineFeed (sym same) (spelled cs (passing is_id_continue cs refl is))
 
-field-plain : (r : abbreviations.Refusal) → RefusesName r → HasLineMessage (field_refusal r)
-field-plain (abbreviations.unknown name) is = append (codes "unknown abbreviation ") (text name.v) refl (spelled name.v (passing is_id_continue name.v refl is))
-field-plain (abbreviations.circular name) is = append (codes "circular abbreviation ") (text name.v) refl (spelled name.v (passing is_id_continue name.v refl is))
-field-plain (abbreviations.malformed start end) is = refl
+reason-plain : (r : refusals.Reason) → RefusesFor r → HasNoLineFeed (reason_text r)
+reason-plain (refusals.unknown_abbreviation name) is = append (codes "unknown abbreviation ") name refl (identifier-plain name is)
+reason-plain (refusals.abbreviation_cycle name) is = append (codes "circular abbreviation ") name refl (identifier-plain name is)
+reason-plain refusals.malformed_command is = refl
+reason-plain (refusals.raw fault) is = absurd is
+reason-plain (refusals.duplicate_key key) is = absurd is
+reason-plain (refusals.reference_cycle key) is = absurd is
+reason-plain (refusals.unreadable_date kind) is = absurd is
+
+field-plain : (r : Refusal) → RefusesName r → HasLineMessage r
+field-plain r is = reason-plain r.reason is
 
 entry-plain : (g : Glossary) (l : Loaded) (e : Entry) → All HasNames g.definitions → HavePlainKeys l → HasKey e → MatchResult (entry_after g l e) HavePlainKeys HasLineMessage
 entry-plain g l e all plain keyed = by_fields (fields_of g e.fields) (fields_of-named g e.fields all keyed.1)
@@ -82,7 +88,7 @@ entry-plain g l e all plain keyed = by_fields (fields_of g e.fields) (fields_of-
     by_known fs true = append (codes "duplicate key ") (text e.key.v) refl key
     by_known fs false = record { keys = All-push IsPlainKey l.keys e.key plain.keys key; entries = All-push HasPlainKey l.listed.entries (source_of e fs) plain.entries key }
 
-    by_fields : (r : Result (List Named) abbreviations.Refusal) → RefusesNames r → MatchResult (or_refusal r >>= λ fs. unless_known (is_some (l.listed.index (text e.key.v))) l e.key (source_of e fs)) HavePlainKeys HasLineMessage
+    by_fields : (r : Result (List Named) Refusal) → RefusesNames r → MatchResult (r >>= λ fs. unless_known (is_some (l.listed.index (text e.key.v))) l e.key (source_of e fs)) HavePlainKeys HasLineMessage
     by_fields (Ok fs) is = by_known fs (is_some (l.listed.index (text e.key.v)))
     by_fields (Err r) is = field-plain r is
 
@@ -94,8 +100,6 @@ entries-plain g l (e ∷ es) all plain keyed =
 
 loaded-plain : (g : Glossary) (es : List (At Entry)) → All HasNames g.definitions → All IsKeyed es → MatchResult (loaded g es) HavePlainKeys HasLineMessage
 loaded-plain g es all keyed = entries-plain g nothing_loaded es all (record { keys = All-nil IsPlainKey; entries = All-nil HasPlainKey }) keyed
-
--- ---- references
 
 some_is : {X : Type 0} (x y : X) → Some x ≡ Some y → x ≡ y
 some_is x y e = cc
@@ -127,8 +131,6 @@ of_heads : (es : List Source) → All HeadPlain (map head es) → All HasPlainKe
 of_heads [] all = All-nil HasPlainKey
 of_heads (e ∷ es) all = All-cons HasPlainKey e es (All-head HeadPlain (head e) (map head es) all) (of_heads es (All-tail HeadPlain (head e) (map head es) all))
 
--- ---- texts
-
 comes-plain : (read : Loaded) (answer : Result Listed Refusal) → HavePlainKeys read → ComesTo read answer → MatchResult answer FilePlain HasLineMessage
 comes-plain read (Ok resolved) plain comes = of_heads resolved.entries (subst (All HeadPlain) (sym comes.heads) (All-map HeadPlain head read.listed.entries plain.entries))
 comes-plain read (Err r) plain comes = unresolved-plain read.keys comes.error r plain.keys comes.refusal
@@ -142,7 +144,7 @@ meaning-plain r answer keyed m =
     let all : All HasNames m.glossary.definitions = subst (All HasNames) (sym m.definitions) keyed.abbreviations in
     means-plain (loaded m.glossary r.entries) answer (loaded-plain m.glossary r.entries all keyed.entries) m.means
 
--- what a text means
+-- the keys of what a text means go on one line, or the message for its refusal does
 pub text-plain : (cs : List ℕ) (answer : Result Listed Refusal) → TextMeans cs answer → MatchResult answer FilePlain HasLineMessage
 text-plain cs answer means = by_raw (raw_of cs) (raw-keyed cs) means
   where

@@ -5,17 +5,16 @@ use Rattle.laws.specs.Results.{◌>>=◌}
 use Rattle.laws.specs.Text.{text}
 use Rattle.biblatex_text.specs.Raw.{At, Entry}
 use Rattle.biblatex_fields.specs.Abbreviations.{Glossary}
-use Rattle.biblatex_fields.specs.Abbreviations as abbreviations
 use Rattle.biblatex_fields.specs.Fields.{Named, fields_of, AreJoined}
 use Rattle.biblatex_fields.proofs.FieldsJoined.{fields_joined}
 use Rattle.biblatex_entries.specs.Entries.{Source, HaveJoinedFields}
-use Rattle.biblatex_bibliography.specs.Reading.{Refusal, Loaded, nothing_loaded, or_refusal, source_of, unless_known, entry_after, entries_after, loaded}
+use Rattle.biblatex_bibliography.specs.Reading.{Refusal, Loaded, nothing_loaded, source_of, unless_known, entry_after, entries_after, loaded}
 
 abbrev inner : Loaded → Result Loaded Refusal → Loaded
 inner d (Ok l) = l
 inner d (Err r) = d
 
--- an entry goes last
+-- an entry whose chunks are joined may go last
 joined_last : (es : List Source) (e : Source) → HaveJoinedFields es → AreJoined e.fields → HaveJoinedFields (es ++ e ∷ [])
 joined_last [] e all one zero = one
 joined_last [] e all one (suc i) = tt
@@ -29,7 +28,7 @@ one_joined g l m e is all = by_fields (fields_of g e.fields) refl is
     by_key fs true one is = absurd cc
     by_key fs false one is = subst (λ (x : Loaded). HaveJoinedFields x.listed.entries) (ap (inner m) is) (joined_last l.listed.entries (source_of e fs) all one)
 
-    by_fields : (r : Result (List Named) abbreviations.Refusal) → fields_of g e.fields ≡ r → (or_refusal r >>= λ fs. unless_known (is_some (l.listed.index (text e.key.v))) l e.key (source_of e fs)) ≡ Ok m → HaveJoinedFields m.listed.entries
+    by_fields : (r : Result (List Named) Refusal) → fields_of g e.fields ≡ r → (r >>= λ fs. unless_known (is_some (l.listed.index (text e.key.v))) l e.key (source_of e fs)) ≡ Ok m → HaveJoinedFields m.listed.entries
     by_fields (Ok fs) read is = by_key fs (is_some (l.listed.index (text e.key.v))) (fields_joined g e.fields fs read) is
     by_fields (Err r) read is = absurd cc
 
@@ -42,6 +41,6 @@ entries_joined g l m (e ∷ es) is all = by_entry (entry_after g l e.v) refl is 
     by_entry (Ok k) step is more = more k is (one_joined g l k e.v step all)
     by_entry (Err r) step is more = absurd cc
 
--- all entries of a text
+-- the chunks of all entries of a text are joined
 pub loaded_joined : (g : Glossary) (m : Loaded) (es : List (At Entry)) → loaded g es ≡ Ok m → HaveJoinedFields m.listed.entries
 loaded_joined g m es is = entries_joined g nothing_loaded m es is (λ i. tt)

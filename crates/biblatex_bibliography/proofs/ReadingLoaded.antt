@@ -14,7 +14,7 @@ use Rattle.biblatex_inheritance.specs.declared.error.ResolveError.{ResolveError}
 use Rattle.biblatex_inheritance.specs.declared.error.ResolveError.TheVariants as errors
 use Rattle.biblatex_inheritance.proofs.SolutionAlong.{fault_within}
 use Rattle.biblatex_bibliography.specs.Bibliographies.{Listed, Indexed, listed_view, nothing, pushed, IsAsRead, references}
-use Rattle.biblatex_bibliography.specs.Reading.{Refusal, Loaded, nothing_loaded, refused_at, duplicate_key, or_refusal, source_of, unless_known, entry_after, entries_after, loaded}
+use Rattle.biblatex_bibliography.specs.Reading.{Refusal, Loaded, nothing_loaded, refused_at, duplicate_key, source_of, unless_known, entry_after, entries_after, loaded}
 use Rattle.biblatex_bibliography.specs.Resolved.{number_of, unresolved_at, ComesTo, Means, IsMeaningOf}
 use Rattle.biblatex_bibliography.specs.Errors.{loaded_with_keys}
 use Rattle.biblatex_bibliography.proofs.IndicesWithin.{length_last}
@@ -31,39 +31,39 @@ Same a b = a ≡ b
 ok_same : (l m : Loaded) → Same (Ok l) (Ok m) → l ≡ m
 ok_same l m e = ap (inner l) e
 
--- an entry whose key has a meaning already
-pub entry_known : (g : Glossary) (l : Loaded) (e : Entry) (fs : List Named) (key : List ℕ) → or_refusal (fields_of g e.fields) ≡ Ok fs → key ≡ text e.key.v → is_some (l.listed.index key) ≡ true
+-- an entry whose key has a meaning already is refused
+pub entry_known : (g : Glossary) (l : Loaded) (e : Entry) (fs : List Named) (key : List ℕ) → fields_of g e.fields ≡ Ok fs → key ≡ text e.key.v → is_some (l.listed.index key) ≡ true
     → entry_after g l e ≡ Err (refused_at e.key (duplicate_key key))
 entry_known g l e fs key read is known = rw (read, ← is, known) refl
 
--- an entry whose key has none
-pub entry_fresh : (g : Glossary) (l : Loaded) (e : Entry) (fs : List Named) (key : List ℕ) → or_refusal (fields_of g e.fields) ≡ Ok fs → key ≡ text e.key.v → is_some (l.listed.index key) ≡ false
+-- an entry whose key has no meaning yet is appended
+pub entry_fresh : (g : Glossary) (l : Loaded) (e : Entry) (fs : List Named) (key : List ℕ) → fields_of g e.fields ≡ Ok fs → key ≡ text e.key.v → is_some (l.listed.index key) ≡ false
     → entry_after g l e ≡ Ok (record { listed = pushed (source_of e fs) l.listed; keys = l.keys ++ e.key ∷ [] })
 entry_fresh g l e fs key read is fresh = rw (read, ← is, fresh) refl
 
--- at the start
+-- before the first entry nothing was read
 pub begins : (b : Indexed) (keys : List (Spanned (Bor (List ℕ)))) → listed_view b ≡ nothing → keys ≡ [] → loaded_with_keys b keys ≡ nothing_loaded
 begins b keys e k = ap (λ (l : Listed). loaded_with l (map spanned_text_view keys)) e ∙ ap (λ (ks : List (Spanned (Bor (List ℕ)))). loaded_with nothing (map spanned_text_view ks)) k
   where
     loaded_with : Listed → List (At (List ℕ)) → Loaded
     loaded_with l ks = record { listed = l; keys = ks }
 
--- one more was read
+-- an entry that was read goes after those before it
 pub goes_on : (g : Glossary) (l m : Loaded) (e : At Entry) (es : List (At Entry)) (total : Result Loaded Refusal) → entry_after g l e.v ≡ Ok m → entries_after g l (e ∷ es) ≡ total → entries_after g m es ≡ total
 goes_on g l m e es total step is = sym (ap (λ (r : Result Loaded Refusal). r >>= λ more. entries_after g more es) step) ∙ is
 
--- one is refused
+-- the refusal of an entry is that of all that is read
 pub fails : (g : Glossary) (l : Loaded) (e : At Entry) (es : List (At Entry)) (total : Result Loaded Refusal) (o : Option Refusal) → IfSome o (λ r. entry_after g l e.v ≡ Err r) → entries_after g l (e ∷ es) ≡ total → IfSome o (λ r. total ≡ Err r)
 fails g l e es total None step is = tt
 fails g l e es total (Some r) step is = sym is ∙ ap (λ (x : Result Loaded Refusal). x >>= λ more. entries_after g more es) step
 
--- so many entries and keys more
+-- one reading has n entries and n keys more than another
 pub record More (l m : Loaded) (n : ℕ) : Type 0 where
   pub entries : length m.listed.entries ≡ length l.listed.entries + n
   pub keys : length m.keys ≡ length l.keys + n
 
 one_more : (g : Glossary) (l m : Loaded) (e : Entry) → entry_after g l e ≡ Ok m → More l m 1
-one_more g l m e is = by_fields (or_refusal (fields_of g e.fields)) is
+one_more g l m e is = by_fields (fields_of g e.fields) is
   where
     added : (s : Source) → More l (record { listed = pushed s l.listed; keys = l.keys ++ e.key ∷ [] }) 1
     added s = let a = length_last l.listed.entries s in let b = length_last l.keys e.key in record { entries = omega (arith, a); keys = omega (arith, b) }
@@ -76,7 +76,7 @@ one_more g l m e is = by_fields (or_refusal (fields_of g e.fields)) is
     by_fields (Ok fs) is = by_key fs (is_some (l.listed.index (text e.key.v))) is
     by_fields (Err r) is = absurd cc
 
--- as many as there are
+-- after all entries there are as many entries and keys more
 pub loaded_more : (g : Glossary) (l m : Loaded) (es : List (At Entry)) → entries_after g l es ≡ Ok m → More l m (length es)
 loaded_more g l m [] is = subst (λ (x : Loaded). More l x 0) (ok_same l m is) (record { entries = omega arith; keys = omega arith })
 loaded_more g l m (e ∷ es) is = by_entry (entry_after g l e.v) refl is (λ k. loaded_more g k m es)
@@ -95,7 +95,7 @@ number_within es R (errors.ReferenceCycle n) is = is.0
 number_within es R (errors.UnreadableDate f) (none, (see, solves, only, (i, is, before))) = fault_within es R see i f is
 
 one_as_read : (g : Glossary) (l m : Loaded) (e : Entry) → entry_after g l e ≡ Ok m → IsAsRead l.listed → IsAsRead m.listed
-one_as_read g l m e is read = by_fields (or_refusal (fields_of g e.fields)) is
+one_as_read g l m e is read = by_fields (fields_of g e.fields) is
   where
     by_key : (fs : List Named) (b : Bool) → unless_known b l e.key (source_of e fs) ≡ Ok m → IsAsRead m.listed
     by_key fs true is = absurd cc

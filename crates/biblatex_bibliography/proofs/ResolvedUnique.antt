@@ -91,7 +91,7 @@ one_resolved read x y a b =
     let indices = a.index ∙ sym b.index in
     λ i. record { entries = es i; index = indices i }
 
--- faults are told alike by tables that agree
+-- references offer the same by tables that agree
 same_offers : (es : List Source) (see other : ℕ → Table) (rs : List ℕ) → ((i : ℕ) → i < length es → (q : List ℕ) → see i q ≡ other i q) → offers es see rs ≡ offers es other rs
 same_offers es see other [] same = refl
 same_offers es see other (r ∷ rs) same = rw (same_offers es see other rs same, here (slice_get es r) (λ e is. fun_ext (same r (slice_get_within es r e is)))) refl

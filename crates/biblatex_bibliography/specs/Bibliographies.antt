@@ -30,7 +30,7 @@ indexed entries indices = record { entries = sources_view entries; names = names
 abbrev pub IsWithin : Indexed → Type 0
 IsWithin b = AreWithin (meaning_in b.names) (length b.entries)
 
--- no entry
+-- a bibliography without entries
 abbrev pub nothing : Listed
 nothing = record { entries = []; index = λ name. None }
 
@@ -54,7 +54,7 @@ inserted_at (Some i) e b = record { entries = slice_set b.entries i e; index = b
 abbrev pub inserted : Source → Listed → Listed
 inserted e b = inserted_at (b.index e.key) e b
 
--- without the entry that a name means, and without all names of that entry
+-- a bibliography without the entry that a name means and without all names of that entry
 abbrev pub removed_at : Option ℕ → Listed → Listed
 removed_at None b = b
 removed_at (Some i) b = record { entries = remove b.entries i; index = without_index i b.index }

@@ -18,17 +18,17 @@ Meaning = List ℕ → Option ℕ
 abbrev pub meaning_in : Names → Meaning
 meaning_in names name = lookup (bytes_eq name) names
 
--- once these names mean the entry at an index, and others what they meant
+-- what names mean once these names mean the entry at an index, and the others what they meant
 abbrev pub bound : List (List ℕ) → ℕ → Meaning → Meaning
 bound names index meaning name = if list_any (bytes_eq name) names then Some index else meaning name
 
--- where an entry stands once the one at an index is taken out: those after it move up by one
-abbrev pub moved_up : ℕ → ℕ → Option ℕ
-moved_up out index = if index == out then None else Some (if nat_lt out index then index - 1 else index)
+-- the index of an entry once the one at an index is taken out: those after it are one less
+abbrev pub index_without : ℕ → ℕ → Option ℕ
+index_without out index = if index == out then None else Some (if nat_lt out index then index - 1 else index)
 
--- once the entry at an index is taken out with all its names
+-- what names mean once the entry at an index is taken out with all its names
 abbrev pub without_index : ℕ → Meaning → Meaning
-without_index out meaning name = option_and_then (moved_up out) (meaning name)
+without_index out meaning name = option_and_then (index_without out) (meaning name)
 
 -- each index that a name means is below the count
 abbrev pub AreWithin : Meaning → ℕ → Type 0

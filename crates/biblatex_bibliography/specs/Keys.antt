@@ -2,6 +2,6 @@
 use Rattle.std.specs.Prelude.{ℕ, List, map, string_bytes}
 use Rattle.biblatex_bibliography.specs.declared.keys.Keys.{Keys}
 
--- those that are still to come, as bytes
+-- the keys that are still to come, as bytes
 abbrev pub keys_left : Keys → List (List ℕ)
 keys_left k = map (λ e. string_bytes e.key) k.rest.now

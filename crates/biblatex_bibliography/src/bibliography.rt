@@ -41,7 +41,7 @@ impl Model for Bibliography {
 }
 
 impl Bibliography {
-    /// No entry.
+    /// A bibliography without entries.
     pub fn new(alloc: Global) -> Bibliography
         ensures empty { listed_view result ≡ nothing }
         ensures read { IsAsRead (listed_view result) }
@@ -59,7 +59,7 @@ impl Bibliography {
         self.entries.len()
     }
 
-    /// Whether there is none.
+    /// Whether there are no entries.
     pub fn is_empty(&self) -> bool
         ensures { result ≡ (length self.now.entries == 0) }
     {
@@ -146,9 +146,9 @@ impl Bibliography {
         put_last(&mut self.entries, &mut self.indices, names, entry)
     }
 
-    /// Puts an entry instead of the one that its key means, under the names of that one, and gives that one back. Where
-    /// its key means none, it goes last, under its key alone: its `ids` are not read. Unchanged where there is no memory for
-    /// it.
+    /// Replaces the entry that the key of the new one means, and returns it; the new one has all of its names. Where
+    /// the key means no entry, the new one is appended under its key alone: its `ids` are not read. Unchanged where
+    /// there is no memory for it.
     pub fn insert(&mut self, entry: Entry) -> Result<Option<Entry>, AllocError>
         ensures ok { OnOk result (listed_view self.new
             ≡ inserted (source_view entry) (listed_view self.old)) }
@@ -164,7 +164,8 @@ impl Bibliography {
         Ok(None)
     }
 
-    /// Takes the entry that the name means out, with all its names. The indices after it move up by one.
+    /// Removes the entry that the name means, with all its names, and returns it. The indices of the entries after it
+    /// are one less.
     pub fn remove(&mut self, name: &str) -> Option<Entry>
         ensures rest { listed_view self.new ≡ removed name.now (listed_view self.old) }
         ensures value { option_map source_view result
@@ -174,8 +175,8 @@ impl Bibliography {
         Some(take(&mut self.entries, &mut self.indices, index))
     }
 
-    /// Lets one more name mean the entry that a name means, also one that meant another entry; nothing where the name means
-    /// none. Unchanged where there is no memory for it.
+    /// Lets the alias mean the entry that the name means, also where it meant another one; does nothing where the name
+    /// means no entry. Unchanged where there is no memory for it.
     pub fn alias(&mut self, name: &str, alias: &str) -> Result<(), AllocError>
         ensures ok { OnOk result (listed_view self.new
             ≡ aliased name.now alias.now (listed_view self.old)) }

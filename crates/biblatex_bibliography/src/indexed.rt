@@ -41,7 +41,7 @@ pub(crate) fn put_last(
     Ok(())
 }
 
-/// Puts an entry instead of another, which is given back.
+/// Replaces the entry at an index, and returns it.
 pub(crate) fn replace(entries: &mut Vec<Entry>, index: usize, entry: Entry) -> Entry
     requires { index < length (sources_view entries.old.items) }
     ensures items { sources_view entries.new.items
@@ -51,7 +51,7 @@ pub(crate) fn replace(entries: &mut Vec<Entry>, index: usize, entry: Entry) -> E
     mem::replace(&mut entries[index], entry)
 }
 
-/// Takes the entry at an index out, with all its names. The indices after it move up by one.
+/// Removes the entry at an index, with all its names, and returns it. The indices of the entries after it are one less.
 pub(crate) fn take(
     entries: &mut Vec<Entry>,
     indices: &mut HashMap<String, usize>,

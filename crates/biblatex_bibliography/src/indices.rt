@@ -49,7 +49,7 @@ pub(crate) fn bind_all(
     Ok(())
 }
 
-/// Takes out the names that mean an index; indices after it move up by one.
+/// Removes the names that mean an index; the indices after it are one less.
 pub(crate) fn take_out(indices: &mut HashMap<String, usize>, out: usize)
     ensures { meaning_in (names_in indices.new)
         ≡ without_index out (meaning_in (names_in indices.old)) }

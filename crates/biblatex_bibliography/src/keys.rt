@@ -14,7 +14,7 @@ pub struct Keys<'a> {
 }
 
 impl<'a> Keys<'a> {
-    /// The keys of all of them.
+    /// The keys of the entries.
     pub(crate) fn new(entries: &'a [Entry]) -> Keys<'a>
         ensures { keys_left result ≡ map (λ e. e.key) (sources_view entries.now) }
     {

@@ -2,7 +2,6 @@
 #![tactic(auto)]
 
 mod bibliography;
-mod error;
 mod indexed;
 mod indices;
 mod iterators;
@@ -10,8 +9,8 @@ mod keys;
 mod parsing;
 mod reading;
 
+pub use biblatex_fields::{ParseError, ParseErrorKind};
 pub use bibliography::Bibliography;
-pub use error::{ParseError, ParseErrorKind};
 pub use keys::Keys;
 pub use parsing::Counted;
 pub use reading::parse_field;

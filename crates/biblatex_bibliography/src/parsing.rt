@@ -12,10 +12,9 @@ ghost use Rattle.biblatex_bibliography.specs.Bibliographies.{listed_view};
 ghost use Rattle.biblatex_bibliography.specs.Errors.{reason_view, refusal_of};
 
 use crate::Bibliography;
-use crate::error::{ParseError, ParseErrorKind};
 use crate::reading::load;
 use biblatex_dates::TypeErrorKind;
-use biblatex_fields::{Abbreviations, Spanned};
+use biblatex_fields::{Abbreviations, ParseError, ParseErrorKind, Spanned};
 use biblatex_inheritance::{DateFault, ResolveError};
 use biblatex_text::{Fault, RawBibliography, RawError};
 use std::alloc::{AllocError, Global};
@@ -60,7 +59,7 @@ fn unresolved(
     }
 }
 
-/// The entry of this key reaches itself.
+/// The error that the entry of this key reaches itself.
 fn circular(alloc: Global, key: &Spanned<&str>) -> Result<ParseError, AllocError>
     ensures { IfOk result (λ e. refusal_of e ≡ Some (refused_at
         (spanned_text_view key.now) (reference_cycle (text_of (chars key.now.v.now))))) }
@@ -71,7 +70,7 @@ fn circular(alloc: Global, key: &Spanned<&str>) -> Result<ParseError, AllocError
     })
 }
 
-/// The entry of this key has a date that cannot be read and that another one would inherit.
+/// The error that the entry of this key has a date that cannot be read and that another one would inherit.
 fn unreadable(key: &Spanned<&str>, kind: TypeErrorKind) -> ParseError
     ensures { refusal_of result
         ≡ Some (refused_at (spanned_text_view key.now) (unreadable_date kind)) }
@@ -110,7 +109,7 @@ impl Bibliography {
     /// Reads the entries of a raw text, and resolves their references. Chunks are joined and given spans as by `parse`.
     ///
     /// # Errors
-    /// As those of `parse`, but for faults of the raw grammar.
+    /// Those of `parse`, but for faults of the raw grammar.
     pub fn from_raw(alloc: Global, raw: RawBibliography) -> Result<Bibliography, ParseError>
         ensures meaning { Answers refusal_of listed_view result (IsMeaningOf (written raw.entry)) }
         ensures joined { IfOk result (λ b. HaveJoinedFields b.entries) }
@@ -118,7 +117,8 @@ impl Bibliography {
         Ok(Bibliography::from_raw_counted(alloc, raw)?.bibliography)
     }
 
-    /// As `from_raw`, with the number of entries that were made by resolving: one for each entry of the text.
+    /// Reads a raw text as `from_raw` does, and returns with it the number of entries that were made by resolving: one
+    /// for each entry of the text.
     ///
     /// # Errors
     /// Those of `from_raw`.

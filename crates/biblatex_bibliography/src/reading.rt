@@ -1,23 +1,20 @@
 //! Reading the entries of a text, before their references are resolved.
 
-ghost use Rattle.std.specs.Prelude.{◌≡◌, Some, IfOk, map, length, string_bytes};
+ghost use Rattle.std.specs.Prelude.{◌≡◌, IfOk, map, length, string_bytes};
 ghost use Rattle.std.specs.Str.{chars};
 ghost use Rattle.laws.specs.Text.{text as text_of, lowered};
-ghost use Rattle.biblatex_text.specs.Views.{entry_view, fields_view, piece_view, raw_entry_view};
+ghost use Rattle.biblatex_text.specs.Views.{entry_view, piece_view, raw_entry_view};
 ghost use Rattle.biblatex_fields.specs.Value.{field_value_view, value_in};
-ghost use Rattle.biblatex_fields.specs.Fields.{fields_of};
-ghost use Rattle.biblatex_fields.specs.Views.{refusal_view};
 ghost use Rattle.biblatex_entries.specs.Entries.{source_view};
 ghost use Rattle.biblatex_bibliography.specs.Reading as specs;
-ghost use Rattle.biblatex_bibliography.specs.Reading.{field_refusal, or_refusal, source_of, refused_at, duplicate_key};
+ghost use Rattle.biblatex_bibliography.specs.Reading.{source_of};
 ghost use Rattle.biblatex_bibliography.specs.Errors.{loaded_with_keys, loaded_view, refusal_of};
 ghost use Rattle.laws.specs.Results.{Leaves, Gives};
 
 use crate::Bibliography;
-use crate::error::{ParseError, ParseErrorKind};
 use biblatex_entries::{Entry, EntryType};
 use biblatex_fields::{
-    Abbreviations, Chunks, FieldError, FieldFault, Fields, Spanned, read_fields,
+    Abbreviations, Chunks, Fields, ParseError, ParseErrorKind, Spanned, read_fields,
 };
 use biblatex_text::{RawChunk, RawEntry};
 use std::alloc::{AllocError, Global};
@@ -28,26 +25,6 @@ use texts::owned;
 pub(crate) struct Loaded<'s> {
     pub(crate) bibliography: Bibliography,
     pub(crate) keys: Vec<Spanned<&'s str>>,
-}
-
-/// The fault of a field, as an error of the text.
-fn refused(alloc: Global, fault: FieldFault) -> Result<ParseError, AllocError>
-    ensures { IfOk result (λ e. refusal_of e ≡ Some (field_refusal (refusal_view fault.entry))) }
-{
-    match fault {
-        FieldFault::UnknownAbbreviation(name) => Ok(ParseError::Refused {
-            kind: ParseErrorKind::UnknownAbbreviation(owned(alloc, name.v)?),
-            span: name.span,
-        }),
-        FieldFault::AbbreviationCycle(name) => Ok(ParseError::Refused {
-            kind: ParseErrorKind::AbbreviationCycle(owned(alloc, name.v)?),
-            span: name.span,
-        }),
-        FieldFault::MalformedCommand(span) => Ok(ParseError::Refused {
-            kind: ParseErrorKind::MalformedCommand,
-            span,
-        }),
-    }
 }
 
 /// The value of a field of that name, with abbreviations opened: what its pieces give, one after the other, tidied. A verbatim
@@ -62,29 +39,9 @@ pub fn parse_field<'s>(
     abbreviations: &Abbreviations<'_, 's>,
 ) -> Result<Chunks, ParseError>
     ensures { Gives refusal_of (λ v. field_value_view v.items) result
-        (or_refusal (value_in abbreviations.now (chars key.now) (map piece_view field.now))) }
+        (value_in abbreviations.now (chars key.now) (map piece_view field.now)) }
 {
-    match abbreviations.parse_field(alloc, key, field) {
-        Ok(value) => Ok(value),
-        Err(FieldError::Memory) => Err(ParseError::Memory),
-        Err(FieldError::Fault(fault)) => Err(refused(alloc, fault)?),
-    }
-}
-
-/// The fields of an entry.
-fn fields_of(
-    alloc: Global,
-    abbreviations: &Abbreviations,
-    raw: &RawEntry,
-) -> Result<Fields, ParseError>
-    ensures { Gives refusal_of (λ fs. fs) result
-        (or_refusal (fields_of abbreviations.now (fields_view raw.now.fields))) }
-{
-    match read_fields(alloc, abbreviations, raw) {
-        Ok(fields) => Ok(fields),
-        Err(FieldError::Memory) => Err(ParseError::Memory),
-        Err(FieldError::Fault(fault)) => Err(refused(alloc, fault)?),
-    }
+    abbreviations.parse_field(alloc, key, field)
 }
 
 /// The entry of these fields.
@@ -112,7 +69,7 @@ fn load_entry<'s>(
         (specs.entry_after abbreviations.now
         (loaded_with_keys bibliography.old keys.old.items) (raw_entry_view raw.entry)) }
 {
-    let fields = fields_of(alloc, abbreviations, &raw)?;
+    let fields = read_fields(alloc, abbreviations, &raw)?;
     let entry = entry_of(alloc, &raw, fields)?;
     if bibliography.index(entry.key.as_str()).is_some() {
         return Err(ParseError::Refused {

@@ -1,3 +1,4 @@
+pub mod Tests
 pub mod StyledMembers
 pub mod OrdinaryShifted
 pub mod OrdinaryPieces

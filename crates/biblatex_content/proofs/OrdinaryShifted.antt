@@ -2,9 +2,10 @@
 use Rattle.std.proofs.Common.{◌≡◌, ℕ, Bool, true, false, cond, List, [], ◌∷◌, ◌++◌, length, Option, Some, None, Result, Ok, Err, refl, sym, ap, ◌∙◌, append_assoc}
 use Rattle.std.specs.Prelude.{◌==◌, ◌&&◌}
 use Rattle.std.proofs.lemmas.List.{append-nil}
+use Rattle.laws.specs.Characters.{dollar_sign, no_break_space}
 use Rattle.laws.specs.Results.{◌>>=◌}
 use Rattle.laws.specs.Text.{text}
-use Rattle.biblatex_tex.specs.declared.error.Malformed.{Malformed}
+use Rattle.biblatex_tex.specs.declared.error.ContentError.{ContentError}
 use Rattle.biblatex_content.specs.declared.ordinary.Frame.{Frame}
 use Rattle.biblatex_content.specs.declared.ordinary.Mode.{Mode}
 use Rattle.biblatex_content.specs.declared.ordinary.Mode.TheVariants.{Free, Argument, Groups, InMath}
@@ -19,7 +20,7 @@ use Rattle.biblatex_content.specs.Views.{following}
 abbrev shift : List Member → State → State
 shift p s = record s { done = p ++ s.done }
 
-abbrev shifted : List Member → Result State Malformed → Result State Malformed
+abbrev shifted : List Member → Result State ContentError → Result State ContentError
 shifted p r = r >>= λ s. Ok (shift p s)
 
 given-shift : (p : List Member) (cs : List ℕ) (s : State) → given cs (shift p s) ≡ shift p (given cs s)
@@ -58,11 +59,11 @@ command-shift p None name s = character-shift p (letter_character name) s
 unit-shift : (p : List Member) (t : Token) (s : State) → unit t (shift p s) ≡ shifted p (unit t s)
 unit-shift p (Text cs) s = text-shift p (text_in s.mode cs) s
 unit-shift p (Hyphens cs) s = given_ok-shift p (hyphens_in s.mode (length cs)) s
-unit-shift p Tie s = given_ok-shift p (160 ∷ []) s
+unit-shift p Tie s = given_ok-shift p (no_break_space ∷ []) s
 unit-shift p (Open is_command) s = refl
 unit-shift p Close s = closed_in-shift p s.mode s
 unit-shift p (Dollar true) s = refl
-unit-shift p (Dollar false) s = given_ok-shift p (36 ∷ []) s
+unit-shift p (Dollar false) s = given_ok-shift p (dollar_sign ∷ []) s
 unit-shift p (Sign c) s = sign-shift p (sign_mark c) c s
 unit-shift p (Command name blanks) s = command-shift p (letter_mark (text name)) (text name) s
 
@@ -77,10 +78,10 @@ braces-shift p (Sign c) s = refl
 braces-shift p (Command name blanks) s = refl
 
 -- a further token of a math piece
-abbrev more_math : Token → Result State Malformed → Result State Malformed
+abbrev more_math : Token → Result State ContentError → Result State ContentError
 more_math t r = r >>= λ s. Ok (record s { math = s.math ++ written t })
 
-more_math-shift : (p : List Member) (t : Token) (r : Result State Malformed) → more_math t (shifted p r) ≡ shifted p (more_math t r)
+more_math-shift : (p : List Member) (t : Token) (r : Result State ContentError) → more_math t (shifted p r) ≡ shifted p (more_math t r)
 more_math-shift p t (Ok s) = refl
 more_math-shift p t (Err f) = refl
 
@@ -113,9 +114,9 @@ step-shift p t s = step_in-shift p s.mode t s
 
 steps-shift : (p : List Member) (ts : List Token) (s : State) → steps ts (shift p s) ≡ shifted p (steps ts s)
 steps-shift p [] s = refl
-steps-shift p (t ∷ ts) s = ap (λ (r : Result State Malformed). r >>= λ x. steps ts x) (step-shift p t s) ∙ by_step (λ x. steps-shift p ts x) (step t s)
+steps-shift p (t ∷ ts) s = ap (λ (r : Result State ContentError). r >>= λ x. steps ts x) (step-shift p t s) ∙ by_step (λ x. steps-shift p ts x) (step t s)
   where
-    by_step : ((x : State) → steps ts (shift p x) ≡ shifted p (steps ts x)) → (r : Result State Malformed) → (shifted p r >>= λ x. steps ts x) ≡ shifted p (r >>= λ x. steps ts x)
+    by_step : ((x : State) → steps ts (shift p x) ≡ shifted p (steps ts x)) → (r : Result State ContentError) → (shifted p r >>= λ x. steps ts x) ≡ shifted p (r >>= λ x. steps ts x)
     by_step more (Ok x) = more x
     by_step more (Err f) = refl
 
@@ -128,18 +129,18 @@ ended-shift p (Argument kept) fs done = refl
 ended-shift p (InMath depth) fs done = refl
 
 -- a piece that is read after these members
-abbrev pub onto : List Member → Result (List Token) Malformed → Result (List Member) Malformed
+abbrev pub onto : List Member → Result (List Token) ContentError → Result (List Member) ContentError
 onto p tokens = tokens >>= λ ts. steps ts (begun p) >>= λ s. ended_in s.mode s.frames s.done
 
-ended_all-shift : (p : List Member) (r : Result State Malformed) → (shifted p r >>= λ s. ended_in s.mode s.frames s.done) ≡ following p (r >>= λ s. ended_in s.mode s.frames s.done)
+ended_all-shift : (p : List Member) (r : Result State ContentError) → (shifted p r >>= λ s. ended_in s.mode s.frames s.done) ≡ following p (r >>= λ s. ended_in s.mode s.frames s.done)
 ended_all-shift p (Ok s) = ended-shift p s.mode s.frames s.done
 ended_all-shift p (Err f) = refl
 
-onto-shift : (p : List Member) (tokens : Result (List Token) Malformed) → onto p tokens ≡ following p (onto [] tokens)
+onto-shift : (p : List Member) (tokens : Result (List Token) ContentError) → onto p tokens ≡ following p (onto [] tokens)
 onto-shift p (Err f) = refl
 onto-shift p (Ok ts) =
     ap (λ (d : List Member). steps ts (begun d) >>= λ s. ended_in s.mode s.frames s.done) (sym (append-nil p))
-    ∙ (ap (λ (r : Result State Malformed). r >>= λ s. ended_in s.mode s.frames s.done) (steps-shift p ts (begun [])) ∙ ended_all-shift p (steps ts (begun [])))
+    ∙ (ap (λ (r : Result State ContentError). r >>= λ s. ended_in s.mode s.frames s.done) (steps-shift p ts (begun [])) ∙ ended_all-shift p (steps ts (begun [])))
 
 -- what was read before a piece stands before what the piece gives
 pub ordinary-following : (p : List Member) (cs : List ℕ) → onto p (paired_of cs) ≡ following p (ordinary cs)

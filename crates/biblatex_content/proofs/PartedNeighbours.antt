@@ -1,27 +1,17 @@
 -- A chunk after others.
-use Rattle.std.proofs.Common.{◌≡◌, ℕ, Bool, true, false, ◌&&◌, List, [], ◌∷◌, ◌++◌, Option, Some, None, refl, sym}
+use Rattle.std.proofs.Common.{◌≡◌, ℕ, true, ◌&&◌, List, [], ◌∷◌, ◌++◌, Option, Some, None, refl, sym}
 use Rattle.biblatex_content.specs.declared.chunk.Kind.{Kind}
 use Rattle.biblatex_content.specs.declared.chunk.Kind.TheVariants.{Normal, Verbatim}
 use Rattle.biblatex_content.specs.declared.chunk.Chunk.{Chunk}
 use Rattle.biblatex_text.specs.declared.spanned.Spanned.{Spanned}
 use Rattle.laws.specs.Text.{is_filled}
 use Rattle.biblatex_content.specs.Parted.{is_full, kind_of, is_apart, are_parted, last_kind, IsLastOrNone}
+use Rattle.biblatex_content.proofs.Tests.{both, first_of_two, second_of_two}
 
 pub last_kind_after : (cs : List (Spanned Chunk)) (c : Spanned Chunk) → last_kind (cs ++ c ∷ []) ≡ kind_of c.v
 last_kind_after [] c = refl
 last_kind_after (d ∷ []) c = refl
 last_kind_after (d ∷ e ∷ cs) c = last_kind_after (e ∷ cs) c
-
-both : (a b : Bool) → a ≡ true → b ≡ true → a && b ≡ true
-both a b p q = rw (p, q) refl
-
-first_of_two : (a b : Bool) → a && b ≡ true → a ≡ true
-first_of_two true b e = refl
-first_of_two false b e = absurd cc
-
-second_of_two : (a b : Bool) → a && b ≡ true → b ≡ true
-second_of_two true b e = e
-second_of_two false b e = absurd cc
 
 apart_from_none : (kind : Option Kind) → is_apart kind None ≡ true
 apart_from_none None = refl

@@ -10,7 +10,7 @@ use Rattle.biblatex_content.specs.Tidy.{spaced, is_space, squeezed, without_last
 use Rattle.biblatex_content.specs.Spans.{all_at, without_spans, spanned, spanned_in, spanned_so_far, spaced_at, squeezed_at, without_last_space_at, tidied_at}
 use Rattle.biblatex_content.specs.Views.{members, styled, so_far}
 
--- members with a span, without it
+-- members that were given a span are the same without it
 at_forgotten : (start end : ℕ) (ms : List Member) → without_spans (all_at start end ms) ≡ ms
 at_forgotten start end [] = refl
 at_forgotten start end (m ∷ ms) = ap (λ (x : List Member). m ∷ x) (at_forgotten start end ms)
@@ -50,6 +50,6 @@ last_forgotten (m ∷ n ∷ ms) = ap (λ (x : List Member). m.v ∷ x) (last_for
 pub tidied_forgotten : (ms : List (At Member)) → without_spans (tidied_at ms) ≡ tidied (without_spans ms)
 tidied_forgotten ms = last_forgotten (squeezed_at true (map spaced_at ms)) ∙ ap without_last_space (squeezed_forgotten true ms)
 
--- members with one span after others
+-- members of two lists with one span are those of each
 pub at_append : (start end : ℕ) (ms ns : List Member) → all_at start end (ms ++ ns) ≡ all_at start end ms ++ all_at start end ns
 at_append start end ms ns = map-append (λ (m : Member). record { v = m; start = start; end = end }) ms ns

@@ -13,7 +13,7 @@ use Rattle.biblatex_content.specs.Spans.{all_at, kind_in, goes_on, before, membe
 abbrev letter : Kind → ℕ → ℕ → ℕ → At Member
 letter kind c start end = record { v = Letter kind c; start = start; end = end }
 
--- three in one chunk
+-- the span of a character that goes on with another reaches to where the later of the two ends
 merged : (goes : Bool) (kind : Kind) (s e c start end : ℕ) (ps : List (ℕ × ℕ))
     → before true (letter kind 0 s e) (before goes (letter kind c start end) ps) ≡ before goes (letter kind 0 s (max e end)) ps
 merged false kind s e c start end ps = refl
@@ -60,7 +60,7 @@ more_text kind s e c start end (d ∷ cs) ms =
     ap (λ (x : ℕ). member_spans (letter kind 0 s x ∷ ms)) h
     ∙ (more_text kind s (max e end) d start end cs ms ∙ more kind s e c start end (all_at start end (letters kind (d ∷ cs)) ++ ms))
 
--- a text that begins
+-- a text that begins a run has its span
 first_text : (kind : Kind) (c start end : ℕ) (cs : List ℕ) (ms : List (At Member))
     → member_spans (letter kind 0 start end ∷ ms) ≡ member_spans (all_at start end (letters kind (c ∷ cs)) ++ ms)
 first_text kind c start end [] ms = letter_same kind 0 c start end ms

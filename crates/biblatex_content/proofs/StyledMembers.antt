@@ -3,7 +3,7 @@ use Rattle.std.proofs.Common.{◌≡◌, ℕ, List, [], ◌++◌, refl, sym, ap,
 use Rattle.std.proofs.lemmas.List.{map-append}
 use Rattle.biblatex_content.specs.declared.chunk.Kind.{Kind}
 use Rattle.biblatex_content.specs.declared.tidy.Gap.{Gap}
-use Rattle.biblatex_content.specs.declared.tidy.Gap.TheVariants.{Beginning, Nothing, Space}
+use Rattle.biblatex_content.specs.declared.tidy.Gap.TheVariants.{Start, Nothing, Space}
 use Rattle.biblatex_content.specs.Styled.{Member, Letter, letters}
 use Rattle.biblatex_content.specs.Tidy.{tidied_after}
 
@@ -13,6 +13,6 @@ letters_more done kind cs ds = append_assoc done (letters kind cs) (letters kind
 
 -- at the end nothing is to come
 pub tidied_after-nil : (gap : Gap) → tidied_after gap [] ≡ []
-tidied_after-nil Beginning = refl
+tidied_after-nil Start = refl
 tidied_after-nil Nothing = refl
 tidied_after-nil (Space kind) = refl

@@ -1,31 +1,22 @@
 -- A prefix that tidying leaves as it is: where it ends, and what is still to be written after it.
-use Rattle.std.proofs.Common.{◌≡◌, ℕ, ◌+◌, Bool, true, false, ◌&&◌, ◌||◌, ◌==◌, List, [], ◌∷◌, ◌++◌, length, take, drop, refl, sym, ap, ◌∙◌, subst, append_assoc, arith}
+use Rattle.std.proofs.Common.{◌≡◌, ℕ, ◌+◌, Bool, true, false, ◌||◌, ◌==◌, List, [], ◌∷◌, ◌++◌, length, take, drop, refl, sym, ap, ◌∙◌, subst, append_assoc, arith}
 use Rattle.std.specs.Prelude.{encode_utf8}
 use Rattle.std.specs.Str.{chars, IsUtf8}
 use Rattle.std.proofs.lemmas.List.{append-nil, length-append, take_at, drop_at}
 use Rattle.std.proofs.lemmas.Str.{chars_past_char, chars-append, chars-nil, IsUtf8-past_char, IsUtf8-append, IsUtf8-nil}
 use Rattle.laws.proofs.Cut.{IsUtf8-first}
+use Rattle.laws.specs.Characters as character
 use Rattle.laws.specs.Text.{is_filled}
 use Rattle.biblatex_tex.specs.Character.{is_blank}
 use Rattle.biblatex_content.specs.Tidy.{stays, is_tidy, EndsTidily}
-
-first_of_two : (a b : Bool) → a && b ≡ true → a ≡ true
-first_of_two true b e = refl
-first_of_two false b e = absurd cc
-
-second_of_two : (a b : Bool) → a && b ≡ true → b ≡ true
-second_of_two true b e = e
-second_of_two false b e = absurd cc
-
-both : (a b : Bool) → a ≡ true → b ≡ true → a && b ≡ true
-both a b p q = rw (p, q) refl
+use Rattle.biblatex_content.proofs.Tests.{first_of_two, second_of_two, both}
 
 first_no : (a b : Bool) → a || b ≡ false → a ≡ false
 first_no true b e = e
 first_no false b e = refl
 
-no_space : (c : ℕ) → is_blank c ≡ false → (c == 32) ≡ false
-no_space c e = first_no (c == 32) _ (first_no _ _ (first_no _ _ (first_no _ _ e)))
+no_space : (c : ℕ) → is_blank c ≡ false → (c == character.space) ≡ false
+no_space c e = first_no (c == character.space) _ (first_no _ _ (first_no _ _ (first_no _ _ e)))
 
 -- what is no blank may follow a tidy text
 other_follows : (after_space : Bool) (cs : List ℕ) (d : ℕ) → is_blank d ≡ false → is_tidy after_space cs ≡ true → is_tidy after_space (cs ++ d ∷ []) ≡ true
@@ -33,18 +24,18 @@ other_follows after_space [] d other e =
     let none = no_space d other in
     rw (other, none) refl
 other_follows after_space (c ∷ cs) d other e =
-    both (stays after_space c) _ (first_of_two (stays after_space c) _ e) (other_follows (c == 32) cs d other (second_of_two (stays after_space c) _ e))
+    both (stays after_space c) _ (first_of_two (stays after_space c) _ e) (other_follows (c == character.space) cs d other (second_of_two (stays after_space c) _ e))
 
 -- so may a space and what is no blank
-space_follows : (after_space : Bool) (cs : List ℕ) (d : ℕ) → is_blank d ≡ false → is_tidy after_space cs ≡ true → is_tidy after_space (cs ++ 32 ∷ d ∷ []) ≡ true
+space_follows : (after_space : Bool) (cs : List ℕ) (d : ℕ) → is_blank d ≡ false → is_tidy after_space cs ≡ true → is_tidy after_space (cs ++ character.space ∷ d ∷ []) ≡ true
 space_follows true [] d other e = absurd cc
 space_follows false [] d other e =
     let none = no_space d other in
     rw (other, none) refl
 space_follows after_space (c ∷ cs) d other e =
-    both (stays after_space c) _ (first_of_two (stays after_space c) _ e) (space_follows (c == 32) cs d other (second_of_two (stays after_space c) _ e))
+    both (stays after_space c) _ (first_of_two (stays after_space c) _ e) (space_follows (c == character.space) cs d other (second_of_two (stays after_space c) _ e))
 
--- what begins a text
+-- a character that is no blank is tidy at the start
 other_begins : (d : ℕ) → is_blank d ≡ false → is_tidy true (d ∷ []) ≡ true
 other_begins d other =
     let none = no_space d other in
@@ -107,14 +98,14 @@ other_passed after_space whole rest more end at c p e other =
       closed = λ x. (refl, tidy);
     }
 
--- one more space
-pub space_passed : (whole rest more : List ℕ) (end at c : ℕ) → Passed false whole rest end at → rest ≡ encode_utf8 c ++ more → c ≡ 32
+-- a space after a tidy prefix is a gap
+pub space_passed : (whole rest more : List ℕ) (end at c : ℕ) → Passed false whole rest end at → rest ≡ encode_utf8 c ++ more → c ≡ character.space
     → Passed true whole more at (at + length (encode_utf8 c))
 space_passed whole rest more end at c p e is =
     let one : IsUtf8 (encode_utf8 c) = IsUtf8-first rest more c p.rest_utf8 e in
     let none : p.gap ≡ [] = (p.closed refl).0 in
     let tidy : is_tidy true (chars p.prefix) ≡ true = (p.closed refl).1 in
-    let space : chars (encode_utf8 c) ≡ 32 ∷ [] = single rest more c p.rest_utf8 e ∙ ap (λ (x : ℕ). x ∷ []) is in
+    let space : chars (encode_utf8 c) ≡ character.space ∷ [] = single rest more c p.rest_utf8 e ∙ ap (λ (x : ℕ). x ∷ []) is in
     let long = p.long in
     record {
       prefix = p.prefix;
@@ -130,7 +121,7 @@ space_passed whole rest more end at c p e is =
       closed = λ x. absurd cc;
     }
 
--- the front ends before the gap
+-- a prefix that ends before a gap ends tidily
 pub ends_before : (whole rest : List ℕ) (end at : ℕ) → Passed true whole rest end at → EndsTidily whole end
 ends_before whole rest end at p = record {
   prefix = p.prefix;
@@ -142,7 +133,7 @@ ends_before whole rest end at p = record {
   tidy = p.tidy;
 }
 
--- the front ends here
+-- where there is no gap, the prefix that ends here ends tidily
 pub ends_here : (whole rest : List ℕ) (end at : ℕ) → Passed false whole rest end at → EndsTidily whole at
 ends_here whole rest end at p =
     let none : p.gap ≡ [] = (p.closed refl).0 in
@@ -157,7 +148,7 @@ ends_here whole rest end at p =
       tidy = p.tidy;
     }
 
--- the text ends here
+-- where nothing is left, the whole text ends tidily
 pub ends_last : (whole rest : List ℕ) (end at : ℕ) → Passed false whole rest end at → length rest ≡ 0 → EndsTidily whole (length whole)
 ends_last whole rest end at p nothing =
     let none : p.gap ≡ [] = (p.closed refl).0 in

@@ -10,11 +10,12 @@ use Rattle.biblatex_content.specs.declared.chunk.Chunk.TheVariants as chunks
 use Rattle.biblatex_content.specs.Styled.{Member, Letter, letters}
 use Rattle.biblatex_tex.specs.Token.{begins_command}
 use Rattle.biblatex_content.specs.Views.{chunk_text, members, styled}
+use Rattle.laws.specs.Characters.{open_brace, close_brace}
 use Rattle.laws.specs.Text.{characters}
 use Rattle.biblatex_content.specs.Writing.{guard, turning, is_grouped, written_character, written_from, written_as_is, written_verbatim}
 
 -- a group that begins with a command has a guard
-pub guard_stands : (cs : List ℕ) → begins_command cs ≡ true → guard cs ≡ 123 ∷ 125 ∷ []
+pub guard_stands : (cs : List ℕ) → begins_command cs ≡ true → guard cs ≡ open_brace ∷ close_brace ∷ []
 guard_stands cs e = rw e refl
 
 -- one more character of an ordinary field
@@ -37,7 +38,7 @@ verbatim_members (chunks.Math s) ms = refl
 pub verbatim_more : (done : List ℕ) (c : Spanned Chunk) (cs : List (Spanned Chunk)) → (done ++ flat_map written_as_is (chunk_text c.v)) ++ written_verbatim (styled cs) ≡ done ++ written_verbatim (styled (c ∷ cs))
 verbatim_more done c cs = append_assoc done (flat_map written_as_is (chunk_text c.v)) (written_verbatim (styled cs)) ∙ ap (λ (x : List ℕ). done ++ x) (sym (verbatim_members c.v (styled cs)))
 
--- a chunk alone
+-- what is written of a chunk of a verbatim field that stands alone
 pub verbatim_alone : (c : Chunk) → flat_map written_as_is (chunk_text c) ≡ written_verbatim (members c)
 verbatim_alone c =
     let one : written_verbatim (members c) ≡ flat_map written_as_is (chunk_text c) ++ [] = ap written_verbatim (sym (append-nil (members c))) ∙ verbatim_members c [] in

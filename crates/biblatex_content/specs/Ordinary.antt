@@ -1,5 +1,6 @@
 -- Reading an ordinary field, token by token.
 use Rattle.std.specs.Prelude.{ℕ, ◌-◌, ◌/◌, ◌%◌, Bool, true, false, ◌==◌, ◌&&◌, List, [], ◌∷◌, ◌++◌, length, take, replicate, if◌then◌else◌, Option, Some, None, Result, Ok, Err}
+use Rattle.laws.specs.Characters.{dollar_sign, hyphen, no_break_space, en_dash, em_dash}
 use Rattle.laws.specs.Results.{◌>>=◌}
 use Rattle.laws.specs.Runs.{after}
 use Rattle.laws.specs.Text.{text}
@@ -7,8 +8,8 @@ use Rattle.biblatex_tex.specs.Character.{passes}
 use Rattle.biblatex_tex.specs.declared.character.Class.TheVariants.{Blank}
 use Rattle.biblatex_content.specs.declared.chunk.Kind.{Kind}
 use Rattle.biblatex_content.specs.declared.chunk.Kind.TheVariants.{Normal, Verbatim}
-use Rattle.biblatex_tex.specs.declared.error.Malformed.{Malformed}
-use Rattle.biblatex_tex.specs.declared.error.Malformed.TheVariants.{MalformedText}
+use Rattle.biblatex_tex.specs.declared.error.ContentError.{ContentError}
+use Rattle.biblatex_tex.specs.declared.error.ContentError.TheVariants.{MalformedCommand}
 use Rattle.biblatex_content.specs.declared.ordinary.Mode.{Mode}
 use Rattle.biblatex_content.specs.declared.ordinary.Mode.TheVariants.{Free, Argument, Groups, InMath}
 use Rattle.biblatex_content.specs.declared.ordinary.Frame.{Frame}
@@ -32,14 +33,14 @@ pub record State : Type 0 where
 
 -- a run of hyphens, three by three
 abbrev pub last_dash : ℕ → List ℕ
-last_dash n = if n == 1 then 45 ∷ [] else (if n == 2 then 8211 ∷ [] else [])
+last_dash n = if n == 1 then hyphen ∷ [] else (if n == 2 then en_dash ∷ [] else [])
 
 abbrev pub dashes : ℕ → List ℕ
-dashes n = replicate (n / 3) 8212 ++ last_dash (n % 3)
+dashes n = replicate (n / 3) em_dash ++ last_dash (n % 3)
 
 -- the first hyphen of a run is an argument by itself
 abbrev pub hyphens_in : Mode → ℕ → List ℕ
-hyphens_in (Argument kept) n = 45 ∷ dashes (n - 1)
+hyphens_in (Argument kept) n = hyphen ∷ dashes (n - 1)
 hyphens_in mode n = dashes n
 
 -- blanks before an argument are skipped
@@ -98,21 +99,21 @@ marks_after (Argument kept) marks = take kept marks
 marks_after mode marks = marks
 
 -- a group ends, if one is open
-abbrev pub closed_to : List Frame → State → Result State Malformed
-closed_to [] s = Err MalformedText
+abbrev pub closed_to : List Frame → State → Result State ContentError
+closed_to [] s = Err MalformedCommand
 closed_to (f ∷ fs) s = Ok (record s { frames = fs; kind = f.kind; marks = marks_after f.mode s.marks; mode = mode_after f.mode })
 
 -- no accent may wait for an argument at the end of a group
-abbrev pub closed_in : Mode → State → Result State Malformed
-closed_in (Argument kept) s = Err MalformedText
+abbrev pub closed_in : Mode → State → Result State ContentError
+closed_in (Argument kept) s = Err MalformedCommand
 closed_in mode s = closed_to s.frames s
 
 -- math begins, and takes no mark; a dollar sign without a partner is itself
 abbrev pub dollar : Bool → State → State
 dollar true s = record s { marks = []; mode = InMath (length s.frames) }
-dollar false s = given (36 ∷ []) s
+dollar false s = given (dollar_sign ∷ []) s
 
--- a backslash and a sign
+-- a backslash and a sign: the mark of an accent waits for its argument, another sign gives what it stands for
 abbrev pub sign : Option ℕ → ℕ → State → State
 sign (Some mark) c s = accented mark s
 sign None c s = given (sign_text c) s
@@ -127,10 +128,10 @@ command (Some mark) name s = accented mark s
 command None name s = character_or_groups (letter_character name) s
 
 -- a token outside math
-abbrev pub unit : Token → State → Result State Malformed
+abbrev pub unit : Token → State → Result State ContentError
 unit (Text cs) s = Ok (given_text (text_in s.mode cs) s)
 unit (Hyphens cs) s = Ok (given (hyphens_in s.mode (length cs)) s)
-unit Tie s = Ok (given (160 ∷ []) s)
+unit Tie s = Ok (given (no_break_space ∷ []) s)
 unit (Open is_command) s = Ok (opened is_command s)
 unit Close s = closed_in s.mode s
 unit (Dollar has_partner) s = Ok (dollar has_partner s)
@@ -146,8 +147,8 @@ abbrev pub settled : Bool → State → State
 settled true s = s
 settled false s = given [] s
 
--- braces in a math piece
-abbrev pub braces : Token → State → Result State Malformed
+-- braces in a math piece open and close groups, and other tokens change none
+abbrev pub braces : Token → State → Result State ContentError
 braces (Open is_command) s = Ok (opened is_command s)
 braces Close s = closed_to s.frames s
 braces t s = Ok s
@@ -157,35 +158,35 @@ is_dollar (Dollar has_partner) = true
 is_dollar t = false
 
 -- a token in a math piece: the dollar sign at its own depth ends it, all else stays as written
-abbrev pub in_math : ℕ → Token → State → Result State Malformed
+abbrev pub in_math : ℕ → Token → State → Result State ContentError
 in_math depth t s = if is_dollar t && length s.frames == depth
     then Ok (record s { done = s.done ++ Math s.math ∷ []; math = []; mode = Free })
     else (braces t s >>= λ r. Ok (record r { math = r.math ++ written t }))
 
-abbrev pub step_in : Mode → Token → State → Result State Malformed
+abbrev pub step_in : Mode → Token → State → Result State ContentError
 step_in (InMath depth) t s = in_math depth t s
 step_in (Groups kept) t s = unit t (settled (is_open t) s)
 step_in mode t s = unit t s
 
-unfoldable pub step : Token → State → Result State Malformed
+unfoldable pub step : Token → State → Result State ContentError
 step t s = step_in s.mode t s
 
-abbrev pub steps : List Token → State → Result State Malformed
+abbrev pub steps : List Token → State → Result State ContentError
 steps [] s = Ok s
 steps (t ∷ ts) s = step t s >>= λ r. steps ts r
 
 -- at the end no group is open, and no accent waits
-abbrev pub ended_in : Mode → List Frame → List Member → Result (List Member) Malformed
+abbrev pub ended_in : Mode → List Frame → List Member → Result (List Member) ContentError
 ended_in Free [] done = Ok done
 ended_in (Groups kept) [] done = Ok done
-ended_in mode fs done = Err MalformedText
+ended_in mode fs done = Err MalformedCommand
 
 -- at the start of a piece, after what was read before it
 abbrev pub begun : List Member → State
 begun done = record { done = done; kind = Normal; frames = []; marks = []; mode = Free; math = [] }
 
 -- what a piece of an ordinary field gives
-unfoldable pub ordinary : List ℕ → Result (List Member) Malformed
+unfoldable pub ordinary : List ℕ → Result (List Member) ContentError
 ordinary cs = do
   tokens ← paired_of cs
   s ← steps tokens (begun [])

@@ -44,7 +44,7 @@ last_kind [] = None
 last_kind (c ∷ []) = kind_of c.v
 last_kind (c ∷ d ∷ cs) = last_kind (d ∷ cs)
 
--- it is the last kind, or there is none
+-- the kind is that of the last chunk, if this has one
 abbrev pub IsLastOrNone : Kind → Option Kind → Type 0
 IsLastOrNone kind None = Unit {0}
 IsLastOrNone kind (Some last) = last ≡ kind

@@ -1,6 +1,7 @@
 -- Where chunks stand: each member of a styled text has the span of the piece that it came from, and a chunk the span from
 -- its first member's to its last one's.
 use Rattle.std.specs.Prelude.{◌≡◌, ℕ, max, Bool, true, false, not, List, [], ◌∷◌, ◌++◌, map, flat_map, if◌then◌else◌, Option, Some, None, Result, Ok}
+use Rattle.laws.specs.Characters.{space}
 use Rattle.laws.specs.Results.{◌>>=◌}
 use Rattle.biblatex_text.specs.Raw.{At}
 use Rattle.biblatex_text.specs.declared.spanned.Spanned.{Spanned}
@@ -8,9 +9,9 @@ use Rattle.biblatex_content.specs.declared.chunk.Kind.{Kind}
 use Rattle.biblatex_content.specs.declared.chunk.Chunk.{Chunk}
 use Rattle.biblatex_content.specs.declared.contents.Contents.{Contents}
 use Rattle.biblatex_content.specs.declared.joining.Joining.{Joining}
-use Rattle.biblatex_tex.specs.declared.error.Malformed.{Malformed}
+use Rattle.biblatex_tex.specs.declared.error.ContentError.{ContentError}
 use Rattle.biblatex_content.specs.declared.tidy.Gap.{Gap}
-use Rattle.biblatex_content.specs.declared.tidy.Gap.TheVariants.{Beginning, Nothing, Space}
+use Rattle.biblatex_content.specs.declared.tidy.Gap.TheVariants.{Start, Nothing, Space}
 use Rattle.biblatex_content.specs.declared.tidy.Tidying.{Tidying}
 use Rattle.biblatex_content.specs.Styled.{Member, Letter, Math}
 use Rattle.biblatex_content.specs.Parted.{is_apart, are_parted}
@@ -22,7 +23,6 @@ use Rattle.laws.specs.Text.{characters, is_filled}
 abbrev pub all_at : ℕ → ℕ → List Member → List (At Member)
 all_at start end ms = map (λ m. record { v = m; start = start; end = end }) ms
 
--- the members themselves
 abbrev pub without_spans : List (At Member) → List Member
 without_spans ms = map (λ m. m.v) ms
 
@@ -39,7 +39,7 @@ abbrev pub spanned_so_far : Contents → List (At Member)
 spanned_so_far c = spanned c.chunks.items
 
 -- what reading a piece with this span gives, after these members
-abbrev pub after_at : ℕ → ℕ → List (At Member) → Result (List Member) Malformed → Result (List (At Member)) Malformed
+abbrev pub after_at : ℕ → ℕ → List (At Member) → Result (List Member) ContentError → Result (List (At Member)) ContentError
 after_at start end done read = read >>= λ ms. Ok (done ++ all_at start end ms)
 
 -- Tidying: what goes leaves no trace, and what stays keeps its span.
@@ -88,7 +88,7 @@ abbrev pub member_spans : List (At Member) → List (ℕ × ℕ)
 member_spans [] = []
 member_spans (m ∷ ms) = before (goes_on m.v ms) m (member_spans ms)
 
--- the spans of chunks
+-- the span of a chunk
 abbrev pub chunk_span : Spanned Chunk → ℕ × ℕ
 chunk_span c = (c.span.start, c.span.end)
 
@@ -118,15 +118,15 @@ spans_with j ms = chunk_spans j.chunks.items ++ begun_with (is_filled (character
 
 -- the space that a gap becomes, where it stands
 abbrev pub owed_at : ℕ → ℕ → Gap → List (At Member)
-owed_at start end Beginning = []
+owed_at start end Start = []
 owed_at start end Nothing = []
-owed_at start end (Space kind) = record { v = Letter kind 32; start = start; end = end } ∷ []
+owed_at start end (Space kind) = record { v = Letter kind space; start = start; end = end } ∷ []
 
 -- what is still to be written of a text in which the gap stands before these members
 abbrev pub tidied_after_at : ℕ → ℕ → Gap → List (At Member) → List (At Member)
-tidied_after_at start end Beginning ms = tidied_at ms
+tidied_after_at start end Start ms = tidied_at ms
 tidied_after_at start end Nothing ms = without_last_space_at (squeezed_at false (map spaced_at ms))
-tidied_after_at start end (Space kind) ms = without_last_space_at (record { v = Letter kind 32; start = start; end = end } ∷ squeezed_at true (map spaced_at ms))
+tidied_after_at start end (Space kind) ms = without_last_space_at (record { v = Letter kind space; start = start; end = end } ∷ squeezed_at true (map spaced_at ms))
 
 -- the spans of the chunks of what was tidied, and of these members after it once they are tidied
 abbrev pub spans_to_come : Tidying → List (At Member) → List (ℕ × ℕ)

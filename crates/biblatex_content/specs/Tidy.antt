@@ -1,7 +1,7 @@
 -- Tidying: blanks become spaces, of neighbouring spaces the first stays, and none stays at an end.
 use Rattle.std.specs.Prelude.{◌≡◌, length, ℕ, not, ◌&&◌, ◌||◌, Bool, true, false, ◌==◌, List, [], ◌∷◌, ◌++◌, map, if◌then◌else◌}
 use Rattle.biblatex_content.specs.declared.tidy.Gap.{Gap}
-use Rattle.biblatex_content.specs.declared.tidy.Gap.TheVariants.{Beginning, Nothing, Space}
+use Rattle.biblatex_content.specs.declared.tidy.Gap.TheVariants.{Start, Nothing, Space}
 use Rattle.biblatex_content.specs.declared.tidy.Tidying.{Tidying}
 use Rattle.biblatex_tex.specs.Character.{is_blank}
 use Rattle.biblatex_content.specs.Styled.{Member, Letter, Math}
@@ -9,15 +9,16 @@ use Rattle.biblatex_content.specs.declared.chunk.Chunk.{Chunk}
 use Rattle.biblatex_content.specs.declared.chunk.Chunk.TheVariants as chunks
 use Rattle.biblatex_content.specs.Views.{joined}
 use Rattle.std.specs.Str.{chars, IsUtf8}
+use Rattle.laws.specs.Characters.{space}
 use Rattle.laws.specs.Text.{characters, is_filled}
 
 -- a blank becomes a space of its kind
 abbrev pub spaced : Member → Member
-spaced (Letter kind c) = if is_blank c then Letter kind 32 else Letter kind c
+spaced (Letter kind c) = if is_blank c then Letter kind space else Letter kind c
 spaced (Math text) = Math text
 
 abbrev pub is_space : Member → Bool
-is_space (Letter kind c) = c == 32
+is_space (Letter kind c) = c == space
 is_space (Math text) = false
 
 -- a space goes where a space, or the start, stands before it
@@ -37,13 +38,13 @@ tidied ms = without_last_space (squeezed true (map spaced ms))
 
 -- whether tidying leaves a character as it is: it is no blank, or a space after another character
 abbrev pub stays : Bool → ℕ → Bool
-stays after_space c = not (is_blank c && (after_space || not (c == 32)))
+stays after_space c = not (is_blank c && (after_space || not (c == space)))
 
 -- whether tidying leaves characters as they are, where a space, or the start, stands before them or not; no characters
 -- after a space are not, since the space would go
 abbrev pub is_tidy : Bool → List ℕ → Bool
 is_tidy after_space [] = not after_space
-is_tidy after_space (c ∷ cs) = stays after_space c && is_tidy (c == 32) cs
+is_tidy after_space (c ∷ cs) = stays after_space c && is_tidy (c == space) cs
 
 -- A text has a prefix of this length that is empty, or that tidying leaves as it is.
 pub record EndsTidily (whole : List ℕ) (end : ℕ) : Type 0 where
@@ -63,15 +64,15 @@ is_tidy_text (chunks.Math s) = false
 
 -- what is still to be written of a text in which the gap stands before these members
 abbrev pub tidied_after : Gap → List Member → List Member
-tidied_after Beginning ms = tidied ms
+tidied_after Start ms = tidied ms
 tidied_after Nothing ms = without_last_space (squeezed false (map spaced ms))
-tidied_after (Space kind) ms = without_last_space (Letter kind 32 ∷ squeezed true (map spaced ms))
+tidied_after (Space kind) ms = without_last_space (Letter kind space ∷ squeezed true (map spaced ms))
 
 -- the space that a gap becomes
 abbrev pub owed : Gap → List Member
-owed Beginning = []
+owed Start = []
 owed Nothing = []
-owed (Space kind) = Letter kind 32 ∷ []
+owed (Space kind) = Letter kind space ∷ []
 
 -- what has been written, and what is still to be written of these members
 abbrev pub to_come : Tidying → List Member → List Member

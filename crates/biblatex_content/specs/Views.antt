@@ -9,7 +9,7 @@ use Rattle.biblatex_content.specs.declared.chunk.Chunk.TheVariants as chunks
 use Rattle.biblatex_text.specs.declared.spanned.Spanned.{Spanned}
 use Rattle.biblatex_content.specs.declared.contents.Contents.{Contents}
 use Rattle.biblatex_content.specs.declared.joining.Joining.{Joining}
-use Rattle.biblatex_tex.specs.declared.error.Malformed.{Malformed}
+use Rattle.biblatex_tex.specs.declared.error.ContentError.{ContentError}
 use Rattle.laws.specs.Results.{◌>>=◌}
 use Rattle.biblatex_content.specs.Styled.{Member, Math, letters}
 
@@ -49,7 +49,7 @@ abbrev pub joined : Joining → List Member
 joined j = styled j.chunks.items ++ letters j.kind (characters j.run)
 
 -- what reading gives, after these members
-abbrev pub following : List Member → Result (List Member) Malformed → Result (List Member) Malformed
+abbrev pub following : List Member → Result (List Member) ContentError → Result (List Member) ContentError
 following done read = read >>= λ ms. Ok (done ++ ms)
 
 -- where chunks stand

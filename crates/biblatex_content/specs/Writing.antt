@@ -7,27 +7,28 @@ use Rattle.biblatex_content.specs.declared.chunk.Kind.TheVariants.{Normal, Verba
 use Rattle.biblatex_content.specs.Styled.{Member, Letter, Math}
 use Rattle.biblatex_tex.specs.Token.{begins_command}
 use Rattle.biblatex_content.specs.Verbatim.{is_escapable}
+use Rattle.laws.specs.Characters.{dollar_sign, backslash, circumflex, open_brace, close_brace, tilde, no_break_space}
 use Rattle.laws.specs.Text.{characters}
 
 -- a character, after a backslash or not
 abbrev pub escaped : Bool → ℕ → List ℕ
-escaped true c = 92 ∷ c ∷ []
+escaped true c = backslash ∷ c ∷ []
 escaped false c = c ∷ []
 
 -- a character of an ordinary field: some after a backslash, some by a command, a no-break space as a tie
 abbrev pub written_character : ℕ → List ℕ
-written_character c = if c == 92 then codes "\\textbackslash{}"
-    else (if c == 126 then codes "\\textasciitilde{}"
-    else (if c == 94 then codes "\\textasciicircum{}"
-    else (if c == 160 then 126 ∷ [] else escaped (is_escapable c false false) c)))
+written_character c = if c == backslash then codes "\\textbackslash{}"
+    else (if c == tilde then codes "\\textasciitilde{}"
+    else (if c == circumflex then codes "\\textasciicircum{}"
+    else (if c == no_break_space then tilde ∷ [] else escaped (is_escapable c false false) c)))
 
 -- an empty group, where else a group would begin with a command
 abbrev pub guard : List ℕ → List ℕ
-guard cs = if begins_command cs then 123 ∷ 125 ∷ [] else []
+guard cs = if begins_command cs then open_brace ∷ close_brace ∷ [] else []
 
 -- the end of a group, if one is open
 abbrev pub closing : Bool → List ℕ
-closing true = 125 ∷ []
+closing true = close_brace ∷ []
 closing false = []
 
 -- what stands before a character of the kind, where a group of verbatim characters may be open: the end of the group before
@@ -35,7 +36,7 @@ closing false = []
 abbrev pub turning : Bool → Kind → ℕ → List ℕ
 turning is_open Normal c = closing is_open
 turning true Verbatim c = []
-turning false Verbatim c = 123 ∷ guard (written_character c)
+turning false Verbatim c = open_brace ∷ guard (written_character c)
 
 -- characters of this kind stand in a group
 abbrev pub is_grouped : Kind → Bool
@@ -46,7 +47,7 @@ is_grouped Verbatim = true
 abbrev pub written_from : Bool → List Member → List ℕ
 written_from is_open [] = closing is_open
 written_from is_open (Letter kind c ∷ ms) = turning is_open kind c ++ written_character c ++ written_from (is_grouped kind) ms
-written_from is_open (Math text ∷ ms) = closing is_open ++ 36 ∷ text ++ 36 ∷ written_from false ms
+written_from is_open (Math text ∷ ms) = closing is_open ++ dollar_sign ∷ text ++ dollar_sign ∷ written_from false ms
 
 abbrev pub written_ordinary : List Member → List ℕ
 written_ordinary ms = written_from false ms

@@ -41,7 +41,7 @@ pub struct Contents {
 }
 
 impl Contents {
-    /// Nothing has been read.
+    /// Contents of which nothing has been read.
     pub fn new(alloc: Global) -> Contents
         ensures so_far { so_far result ≡ [] }
         ensures spanned { spanned_so_far result ≡ [] }
@@ -76,7 +76,7 @@ impl Contents {
         Ok(self.chunks.push(Spanned::new(chunk, span.start..span.end))?)
     }
 
-    /// Makes room for so many more chunks.
+    /// Makes room for `count` more chunks.
     fn make_room(&mut self, count: usize) -> Result<(), AllocError>
         ensures styled { OnOk result (so_far self.new ≡ so_far self.old) }
         ensures spanned { OnOk result (spanned_so_far self.new ≡ spanned_so_far self.old) }
@@ -111,12 +111,13 @@ impl Contents {
         self.push_chunk(&piece.span, chunk_of(kind, text))
     }
 
-    /// These contents with a piece of an ordinary field after them, whose first row that fits counts: `---`, `--` and `~` are
-    /// dashes and a tie; a backslash and one of `{ } # & % $ _` that character, a backslash before a backslash or a blank a
-    /// space, `\,` a thin space, `\-` and `\/` nothing; accents are composed with their arguments; commands of letters are
-    /// characters or are passed over; a backslash and another character is that character; groups are verbatim but for
-    /// arguments, groups after a command that is passed over, and groups that begin with a backslash; math stands between
-    /// dollar signs of one depth, and a dollar sign without a partner is itself. What the piece gives has its span.
+    /// These contents with what a piece of an ordinary field gives after them. `---`, `--` and `~` are dashes and a
+    /// no-break space. A backslash before one of `{ } # & % $ _` gives that character, and before a backslash or a
+    /// blank a space; `\,` gives a thin space, `\-` and `\/` nothing; an accent is composed with its argument; a
+    /// command of letters is a character or is passed over; a backslash before another character gives that character.
+    /// A group is verbatim unless it is an argument, follows a command that is passed over, or begins with a backslash.
+    /// Math stands between dollar signs of one depth; a dollar sign without a partner is itself. What the piece gives
+    /// has its span.
     ///
     /// # Errors
     ///
@@ -137,8 +138,9 @@ impl Contents {
         Ok(self)
     }
 
-    /// These contents with a piece of a verbatim field after them: a backslash before one of `{ } \ ~ ^ # & % $ _` gives that
-    /// character, other braces give nothing, and all else is itself. What the piece gives has its span.
+    /// These contents with what a piece of a verbatim field gives after them: a backslash before one of
+    /// `{ } \ ~ ^ # & % $ _` gives that character, other braces give nothing, and all else is itself. What the piece
+    /// gives has its span.
     pub fn push_verbatim(mut self, piece: Spanned<&str>) -> Result<Contents, AllocError>
         ensures read { IfOk result (λ c. so_far c
             ≡ so_far self ++ letters Verbatim (verbatim_text (chars piece.entry.v.now))) }
@@ -155,8 +157,9 @@ impl Contents {
         Ok(self)
     }
 
-    /// The chunks of the field: what its pieces gave, one after the other, tidied. A chunk stands from where the first piece
-    /// begins that it has a character of to where the one ends that ends last; a math piece where its piece stands.
+    /// The chunks of the field: what its pieces gave, one after the other, tidied. The span of a chunk is from where
+    /// the first piece begins that gave it a character to where the last of these ends; that of a math piece is the
+    /// span of its piece.
     pub fn finish(self) -> Result<Chunks, AllocError>
         ensures styled { IfOk result (λ cs. styled cs.items ≡ tidied (so_far self)) }
         ensures spans { IfOk result (λ cs. chunk_spans cs.items

@@ -22,7 +22,6 @@ pub fn copied(alloc: Global, chunks: &[Spanned<Chunk>]) -> Result<Chunks, AllocE
     Ok(copies)
 }
 
-/// The same chunk.
 fn copied_chunk(chunk: &Chunk) -> Result<Chunk, AllocError>
     ensures members { IfOk result (λ c. members c ≡ members chunk.now) }
     ensures kind { IfOk result (λ c. kind_of c ≡ kind_of chunk.now) }

@@ -82,7 +82,6 @@ impl Joining {
         }
     }
 
-    /// The allocator.
     pub(crate) fn allocator(&self) -> Global
         ensures { result ≡ self.now.alloc }
     {
@@ -127,7 +126,7 @@ impl Joining {
         Ok(())
     }
 
-    /// Sees to it that text of the kind may follow.
+    /// Makes a chunk of the text that was begun, unless it is of the kind.
     fn turn(&mut self, kind: Kind) -> Result<(), AllocError>
         ensures styled { OnOk result (joined self.new ≡ joined self.old) }
         ensures kind { OnOk result (self.new.kind ≡ kind) }
@@ -142,7 +141,7 @@ impl Joining {
         Ok(())
     }
 
-    /// Sees to it that text that stands at the span may follow what was begun.
+    /// Extends the span of the text that was begun to the end of the span, or begins one at the span.
     fn reach(&mut self, span: &Span)
         ensures start { self.new.span.start ≡ (if is_filled (characters self.old.run)
             then self.old.span.start else span.now.start) }

@@ -2,6 +2,7 @@
 
 ghost use Rattle.std.specs.Prelude.{◌≡◌, ◌-◌, ◌++◌, ◌∷◌, [], true, IfOk, OnOk, IsOkUnless, if◌then◌else◌, length, reverse};
 ghost use Rattle.std.specs.Str.{chars};
+ghost use Rattle.laws.specs.Characters.{hyphen};
 ghost use Rattle.laws.specs.Runs.{after};
 ghost use Rattle.laws.specs.Text.{text, characters};
 ghost use Rattle.biblatex_tex.specs.Character.{passes};
@@ -31,11 +32,11 @@ use texts::{empty_text, has_text, push_character, push_text, split_first, split_
 pub(crate) enum Mode {
     /// Anything.
     Free,
-    /// The argument of an accent; where it gives nothing, so many marks still wait.
+    /// The argument of an accent. The number is how many marks still wait where it gives nothing.
     Argument(usize),
-    /// Groups directly after a command; where they give nothing, so many marks still wait.
+    /// Groups directly after a command. The number is how many marks still wait where they give nothing.
     Groups(usize),
-    /// More of a math piece, in so many groups.
+    /// More of a math piece. The number is how many groups it stands in.
     InMath(usize),
 }
 
@@ -61,7 +62,7 @@ fn count_of(text: &str) -> usize
     text.chars().count()
 }
 
-/// Appends dashes, as a run of so many hyphens gives them.
+/// Appends the dashes of a run of `count` hyphens.
 fn push_dashes(text: &mut String, count: usize) -> Result<(), AllocError>
     ensures { OnOk result (characters text.new ≡ characters text.old ++ dashes count) }
 {
@@ -75,7 +76,7 @@ fn push_dashes(text: &mut String, count: usize) -> Result<(), AllocError>
     }
 }
 
-/// Puts a token last as it was written.
+/// Appends a token as it was written.
 fn push_written(text: &mut String, read: Token<'_>) -> Result<(), AllocError>
     ensures { OnOk result (characters text.new
         ≡ characters text.old ++ written (token_view read.entry)) }
@@ -177,7 +178,6 @@ impl Reading {
         self.push_letters(letters)
     }
 
-    /// Gives a character.
     fn give_character(&mut self, c: char) -> Result<(), AllocError>
         ensures { OnOk result (state_view self.new ≡ given (c ∷ []) (state_view self.old)) }
     {
@@ -290,7 +290,7 @@ impl Reading {
         }
     }
 
-    /// Gives the dashes of a run of so many hyphens.
+    /// Gives the dashes of a run of `count` hyphens.
     fn dashes(&mut self, count: usize) -> Result<(), AllocError>
         ensures { OnOk result (state_view self.new ≡ given (dashes count) (state_view self.old)) }
     {
@@ -305,10 +305,10 @@ impl Reading {
         }
     }
 
-    /// Gives a hyphen, and the dashes of the others of a run of so many.
+    /// Gives a hyphen, and the dashes of the other hyphens of a run of `count`.
     fn hyphen_argument(&mut self, count: usize) -> Result<(), AllocError>
         ensures { OnOk result (state_view self.new
-            ≡ given (45 ∷ dashes (count - 1)) (state_view self.old)) }
+            ≡ given (hyphen ∷ dashes (count - 1)) (state_view self.old)) }
     {
         if count <= 1 {
             return self.give_character('-');
@@ -382,7 +382,7 @@ impl Reading {
         Ok(())
     }
 
-    /// Reads a token in a math piece that stands in so many groups.
+    /// Reads a token in a math piece that stands in `depth` groups.
     fn in_math(&mut self, depth: usize, read: Token<'_>) -> Result<(), ContentError>
         ensures { Leaves refusal_of result (state_view self.new)
             (in_math depth (token_view read.entry) (state_view self.old)) }

@@ -24,7 +24,7 @@ use texts::{has_text, split_first};
 #[derive(Clone, Copy)]
 pub(crate) enum Gap {
     /// No such member has come yet.
-    Beginning,
+    Start,
     /// Nothing.
     Nothing,
     /// A space of the kind.
@@ -48,7 +48,7 @@ impl Tidying {
     {
         Tidying {
             contents: Joining::new(alloc),
-            gap: Gap::Beginning,
+            gap: Gap::Start,
             space: 0..0,
         }
     }
@@ -70,7 +70,6 @@ impl Tidying {
         Ok(())
     }
 
-    /// Appends a blank.
     fn push_blank(&mut self, span: &Span, kind: Kind, c: char)
         requires { is_blank c ≡ true }
         ensures to_come { (ms : List Member)
@@ -84,7 +83,7 @@ impl Tidying {
                 self.gap = Gap::Space(kind);
                 self.space = span.start..span.end;
             }
-            Gap::Beginning | Gap::Space(_) => {}
+            Gap::Start | Gap::Space(_) => {}
         }
     }
 
@@ -171,7 +170,6 @@ impl Tidying {
         Ok(())
     }
 
-    /// Appends a math piece.
     fn push_math(&mut self, span: &Span, text: String) -> Result<(), AllocError>
         ensures to_come { OnOk result ((ms : List Member)
             → to_come self.new ms ≡ to_come self.old (Math (characters text) ∷ ms)) }
@@ -185,7 +183,6 @@ impl Tidying {
         self.contents.push_math(span, text)
     }
 
-    /// Appends a chunk.
     fn push_chunk(&mut self, chunk: Spanned<Chunk>) -> Result<(), AllocError>
         ensures to_come { OnOk result ((ms : List Member)
             → to_come self.new ms ≡ to_come self.old (members chunk.v ++ ms)) }

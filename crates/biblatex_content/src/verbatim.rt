@@ -2,6 +2,7 @@
 
 ghost use Rattle.std.specs.Prelude.{◌≡◌, ◌++◌, ◌==◌, ◌||◌, not, true, IfOk, OnOk};
 ghost use Rattle.std.specs.Str.{chars, str_to_ascii_lowercase};
+ghost use Rattle.laws.specs.Characters.{backslash};
 ghost use Rattle.biblatex_content.specs.declared.chunk.Kind.TheVariants.{Verbatim};
 ghost use Rattle.biblatex_content.specs.Styled.{letters};
 ghost use Rattle.biblatex_content.specs.Verbatim.{is_brace, is_escapable, verbatim_piece, is_verbatim_escape, verbatim_text, is_verbatim_name};
@@ -38,7 +39,7 @@ pub fn is_verbatim_field(key: &str) -> bool
 
 /// Whether the character is no backslash and no brace.
 fn is_literal_character(c: char) -> bool
-    ensures { result ≡ not (c == 92 || is_brace c) }
+    ensures { result ≡ not (c == backslash || is_brace c) }
 {
     !matches!(c, '\\' | '{' | '}')
 }

@@ -7,6 +7,7 @@ ghost use Rattle.biblatex_content.specs.Styled.{Member, Letter, Math, letters};
 ghost use Rattle.biblatex_tex.specs.Token.{begins_command};
 ghost use Rattle.biblatex_content.specs.Writing.{escaped, written_character, guard, closing, turning, is_grouped, written_ordinary, written_as_is, written_verbatim, written_content, written_after};
 ghost use Rattle.biblatex_content.specs.Views.{members, styled};
+ghost use Rattle.laws.specs.Characters.{open_brace};
 ghost use Rattle.laws.specs.Text.{characters};
 
 use crate::chunk::{Chunk, Kind};
@@ -66,7 +67,7 @@ fn close_group(text: &mut String, is_open: bool) -> Result<(), AllocError>
 /// backslash.
 fn open_group(text: &mut String, c: char) -> Result<(), AllocError>
     ensures { OnOk result (characters text.new
-        ≡ characters text.old ++ 123 ∷ guard (written_character c)) }
+        ≡ characters text.old ++ open_brace ∷ guard (written_character c)) }
 {
     if is_command(c) {
         return push_text(text, "{{}");

@@ -3,12 +3,15 @@ use Rattle.std.proofs.Common.{◌≡◌, ℕ, zero, suc, ◌+◌, ◌≤◌, ◌
 use Rattle.std.specs.Prelude.{IfOk, IfSome}
 use Rattle.std.specs.Int.{is_in_range}
 use Rattle.std.proofs.lemmas.Bool.Decides.{nat_tests}
+use Rattle.laws.specs.Characters.{hyphen}
 use Rattle.laws.proofs.Results.{bind_if_ok}
 use Rattle.texts.specs.Reading.{digits_at, end_at, taken}
 use Rattle.texts.specs.declared.reader.Unreadable.{Unreadable}
 use Rattle.date_parts.specs.Calendar.{has_day}
+use Rattle.date_parts.specs.Dates.{in_month, on_day}
+use Rattle.date_parts.specs.declared.dates.CalendarDate.{CalendarDate}
 use Rattle.biblatex_dates.specs.Date.{value_without_time}
-use Rattle.biblatex_dates.specs.Datetime.{in_month, on_day, without_time}
+use Rattle.biblatex_dates.specs.Datetime.{at_time, without_time}
 use Rattle.biblatex_dates.specs.Parts.{year_part, number_part, first_of, month_named, is_month, month_numbered, month_part, day_numbered, day_read, month_read, parts_read, year_read, of_parts}
 use Rattle.biblatex_dates.specs.Written.{Exists, HasMonth, SidesExist}
 use Rattle.biblatex_dates.specs.declared.date.DateValue.{DateValue}
@@ -20,8 +23,8 @@ use Rattle.biblatex_dates.proofs.ShapeExists.{IsYear, IsDate, any_ok, digits_sma
 year_part_small : (cs : List ℕ) → IfOk (year_part cs) IsYear
 unfolding year_part
 year_part_small cs =
-    bind_if_ok (λ (p : ℕ × List ℕ). p.0 < 10000) IsYear (digits_at 1 4 (taken 45 cs).1) _ (digits_small 1 4 (taken 45 cs).1) (λ y small.
-    bind_if_ok (λ (rest : List ℕ). Unit {0}) IsYear (end_at y.1) _ (any_ok (end_at y.1)) (λ rest u. signed_small (taken 45 cs).0 y.0 small))
+    bind_if_ok (λ (p : ℕ × List ℕ). p.0 < 10000) IsYear (digits_at 1 4 (taken hyphen cs).1) _ (digits_small 1 4 (taken hyphen cs).1) (λ y small.
+    bind_if_ok (λ (rest : List ℕ). Unit {0}) IsYear (end_at y.1) _ (any_ok (end_at y.1)) (λ rest u. signed_small (taken hyphen cs).0 y.0 small))
 
 -- the number of a month
 abbrev IsMonth : ℕ → Type 0
@@ -50,23 +53,27 @@ numbered_within (Ok n) cs = by_test (is_in_range 1 12 n) refl
     by_test false e = tt
 numbered_within (Err e) cs = named_within cs
 
-day_numbered_exists : (y : ℤ) (m : ℕ) (r : Result ℕ Unreadable) → IsYear y → IsMonth m → Exists (day_numbered y m r)
+-- there is the date
+abbrev IsThere : CalendarDate → Type 0
+IsThere d = Exists (at_time None d)
+
+day_numbered_exists : (y : ℤ) (m : ℕ) (r : Result ℕ Unreadable) → IsYear y → IsMonth m → IsThere (day_numbered y m r)
 day_numbered_exists y m (Ok d) small e = by_test (has_day y m d) refl
   where
-    by_test : (b : Bool) → has_day y m d ≡ b → Exists (cond b (on_day y m d None) (in_month y m))
+    by_test : (b : Bool) → has_day y m d ≡ b → IsThere (cond b (on_day y m d) (in_month y m))
     by_test true has = day_exists y m d None small e has tt
-    by_test false has = month_exists y m small e
-day_numbered_exists y m (Err f) small e = month_exists y m small e
+    by_test false has = month_exists y m None small e
+day_numbered_exists y m (Err f) small e = month_exists y m None small e
 
-day_read_exists : (y : ℤ) (m : ℕ) (day : Option (List ℕ)) → IsYear y → IsMonth m → Exists (day_read y m day)
-day_read_exists y m None small e = month_exists y m small e
+day_read_exists : (y : ℤ) (m : ℕ) (day : Option (List ℕ)) → IsYear y → IsMonth m → IsThere (day_read y m day)
+day_read_exists y m None small e = month_exists y m None small e
 day_read_exists y m (Some day) small e = day_numbered_exists y m (number_part day) small e
 
-month_read_exists : (y : ℤ) (o : Option ℕ) (day : Option (List ℕ)) → IsYear y → IfSome o IsMonth → Exists (month_read y o day)
+month_read_exists : (y : ℤ) (o : Option ℕ) (day : Option (List ℕ)) → IsYear y → IfSome o IsMonth → IsThere (month_read y o day)
 month_read_exists y None day small is = (small, tt)
 month_read_exists y (Some m) day small is = day_read_exists y m day small is
 
-parts_read_exists : (y : ℤ) (month day : Option (List ℕ)) → IsYear y → Exists (parts_read y month day)
+parts_read_exists : (y : ℤ) (month day : Option (List ℕ)) → IsYear y → IsThere (parts_read y month day)
 parts_read_exists y None day small = (small, tt)
 parts_read_exists y (Some month) day small = month_read_exists y (month_part month) day small (numbered_within (number_part month) month)
 

@@ -7,6 +7,7 @@ use Rattle.std.specs.Str.Parse.{digits_value}
 use Rattle.std.proofs.lemmas.Bool.{leb-true, eqb-true, and_parts}
 use Rattle.std.proofs.lemmas.Bool.Decides.{nat_tests}
 use Rattle.jiff.specs.Words.{days_in_month}
+use Rattle.laws.specs.Characters.{plus_sign, hyphen, full_stop, slash, colon, upper_t, upper_z}
 use Rattle.laws.specs.Results.{◌>>=◌}
 use Rattle.laws.specs.Runs.{prefix_of, after}
 use Rattle.laws.proofs.Results.{bind_if_ok}
@@ -16,7 +17,9 @@ use Rattle.texts.specs.declared.character.Class.TheVariants.{Digit}
 use Rattle.texts.specs.declared.reader.Unreadable.{Unreadable}
 use Rattle.texts.specs.declared.reader.Unreadable.TheVariants.{NotThere}
 use Rattle.date_parts.specs.Calendar.{has_day}
-use Rattle.biblatex_dates.specs.Datetime.{of_month, of_year, datetime_of, in_month, on_day, year_alone}
+use Rattle.date_parts.specs.Dates.{of_month, of_year, in_month, on_day, year_alone}
+use Rattle.date_parts.specs.declared.dates.OutOfRange.TheVariants.{Month, Day}
+use Rattle.biblatex_dates.specs.Datetime.{at_time, meant, datetime_of}
 use Rattle.biblatex_dates.specs.Shape.{opening_at, last_at, slash_after, first_after, opening_after, shape_of, value_of, date_of}
 use Rattle.date_parts.specs.Parts.{part_at, signed}
 use Rattle.biblatex_dates.specs.Side.{four, four_at, year_at, minutes_at, seconds_after, signed_offset_at, offset_at, clock_at, clock_after, time_at, side_at}
@@ -25,7 +28,6 @@ use Rattle.biblatex_dates.specs.declared.date.Date.{Date}
 use Rattle.biblatex_dates.specs.declared.datetime.Time.{Time}
 use Rattle.biblatex_dates.specs.declared.datetime.TimeOffset.{TimeOffset}
 use Rattle.biblatex_dates.specs.declared.datetime.TimeOffset.TheVariants.{Utc}
-use Rattle.biblatex_dates.specs.declared.error.TypeErrorKind.TheVariants.{DayOutOfRange, MonthOutOfRange}
 use Rattle.biblatex_dates.specs.declared.shape.Shape.{Shape}
 use Rattle.biblatex_dates.specs.declared.shape.Shape.TheVariants.{One, Since, Until, Range}
 use Rattle.biblatex_dates.specs.declared.side.Side.{Side}
@@ -62,7 +64,7 @@ year_small : (is_negative : Bool) (cs : List ℕ) → IfOk (year_at is_negative 
 year_small is_negative cs =
     bind_if_ok (λ (p : Option ℕ × List ℕ). IfSome p.0 (λ n. n < 10000)) (λ (p : Option ℤ × List ℕ). IfSome p.0 IsYear) (four_at cs) (λ y. Ok (option_map (signed is_negative) y.0, y.1)) (four_at_small cs) (λ y small. option_small is_negative y.0 small)
 
--- a number of so many digits
+-- a number of at most so many digits is below that power of ten
 pub digits_small : (least most : ℕ) (cs : List ℕ) → IfOk (digits_at least most cs) (λ p. p.0 < 10 ^ most)
 digits_small least most cs = by_test (leb least (length (prefix_of (passes Digit) cs)) && leb (length (prefix_of (passes Digit) cs)) most) refl
   where
@@ -83,7 +85,7 @@ minutes_small : (cs : List ℕ) → IfOk (minutes_at cs) AreTwo
 unfolding minutes_at
 minutes_small cs =
     bind_if_ok (λ (h : ℕ × List ℕ). h.0 < 100) AreTwo (digits_at 2 2 cs) _ (digits_small 2 2 cs) (λ h h_small.
-    bind_if_ok (λ (c : List ℕ). Unit {0}) AreTwo (token_at 58 h.1) _ (any_ok (token_at 58 h.1)) (λ c u.
+    bind_if_ok (λ (c : List ℕ). Unit {0}) AreTwo (token_at colon h.1) _ (any_ok (token_at colon h.1)) (λ c u.
     bind_if_ok (λ (m : ℕ × List ℕ). m.0 < 100) AreTwo (digits_at 2 2 c) _ (digits_small 2 2 c) (λ m m_small. (h_small, m_small))))
 
 seconds_small : (p : Bool × List ℕ) → IfOk (seconds_after p) (λ q. q.0 < 100)
@@ -96,7 +98,7 @@ signed_offset_small positive cs =
 
 offset_small : (cs : List ℕ) → IfOk (offset_at cs) (λ p. IsOffset p.0)
 offset_small [] = tt
-offset_small (c ∷ cs) = by_test (eqb c 90) (eqb c 43) (eqb c 45)
+offset_small (c ∷ cs) = by_test (eqb c upper_z) (eqb c plus_sign) (eqb c hyphen)
   where
     by_test : (a b d : Bool) → IfOk (cond a (Ok (Some Utc, cs)) (cond b (signed_offset_at true cs) (cond d (signed_offset_at false cs) (Ok (None, c ∷ cs))))) (λ p. IsOffset p.0)
     by_test true b d = tt
@@ -108,7 +110,7 @@ clock_small : (cs : List ℕ) → IfOk (clock_at cs) (λ p. IsTime (Some p.0))
 unfolding clock_at
 clock_small cs =
     bind_if_ok AreTwo (λ (p : Time × List ℕ). IsTime (Some p.0)) (minutes_at cs) _ (minutes_small cs) (λ m m_small.
-    bind_if_ok (λ (q : ℕ × List ℕ). q.0 < 100) (λ (p : Time × List ℕ). IsTime (Some p.0)) (seconds_after (taken 58 m.1)) _ (seconds_small (taken 58 m.1)) (λ s s_small.
+    bind_if_ok (λ (q : ℕ × List ℕ). q.0 < 100) (λ (p : Time × List ℕ). IsTime (Some p.0)) (seconds_after (taken colon m.1)) _ (seconds_small (taken colon m.1)) (λ s s_small.
     bind_if_ok (λ (p : Option TimeOffset × List ℕ). IsOffset p.0) (λ (p : Time × List ℕ). IsTime (Some p.0)) (offset_at s.1) _ (offset_small s.1) (λ o o_small. (m_small.0, m_small.1, s_small, o_small))))
 
 clock_after_small : (p : Bool × List ℕ) → IfOk (clock_after p) (λ q. IsTime q.0)
@@ -118,7 +120,7 @@ clock_after_small (true, rest) =
 
 time_small : (day : Option ℕ) (cs : List ℕ) → IfOk (time_at day cs) (λ q. IsTime q.0)
 time_small None cs = tt
-time_small (Some d) cs = clock_after_small (taken 84 cs)
+time_small (Some d) cs = clock_after_small (taken upper_t cs)
 
 day_in : (d n : ℕ) → is_in_range 1 n d ≡ true → d - 1 < n
 day_in d n e = grind (arith, nat_tests)
@@ -127,28 +129,28 @@ month_in : (m : ℕ) → is_in_range 1 12 m ≡ true → (m - 1 < 12) × (m ≡ 
 month_in m e = (grind (arith, nat_tests), grind (arith, nat_tests))
 
 -- a month of the year, and a day of the month
-pub month_exists : (y : ℤ) (m : ℕ) → IsYear y → is_in_range 1 12 m ≡ true → Exists (in_month y m)
-month_exists y m small e = (small, ((month_in m e).0, tt))
+pub month_exists : (y : ℤ) (m : ℕ) (time : Option Time) → IsYear y → is_in_range 1 12 m ≡ true → Exists (at_time time (in_month y m))
+month_exists y m time small e = (small, ((month_in m e).0, tt))
 
-pub day_exists : (y : ℤ) (m d : ℕ) (time : Option Time) → IsYear y → is_in_range 1 12 m ≡ true → has_day y m d ≡ true → IsTime time → Exists (on_day y m d time)
+pub day_exists : (y : ℤ) (m d : ℕ) (time : Option Time) → IsYear y → is_in_range 1 12 m ≡ true → has_day y m d ≡ true → IsTime time → Exists (at_time time (on_day y m d))
 day_exists y m d time small e has is =
     let n = month_in m e in
     let below : d - 1 < days_in_month y m = day_in d (days_in_month y m) has in
     (small, (n.0, (subst (λ (k : ℕ). d - 1 < days_in_month y k) n.1 below, is)))
 
-of_month_exists : (y : ℤ) (m : ℕ) (day : Option ℕ) (time : Option Time) → IsYear y → is_in_range 1 12 m ≡ true → IsTime time → IfOk (of_month y m day time) Exists
-of_month_exists y m None time small e is = month_exists y m small e
+of_month_exists : (y : ℤ) (m : ℕ) (day : Option ℕ) (time : Option Time) → IsYear y → is_in_range 1 12 m ≡ true → IsTime time → IfOk (meant time (of_month y m day)) Exists
+of_month_exists y m None time small e is = month_exists y m time small e
 of_month_exists y m (Some d) time small e is = by_test (has_day y m d) refl
   where
-    by_test : (b : Bool) → has_day y m d ≡ b → IfOk (cond b (Ok (on_day y m d time)) (Err DayOutOfRange)) Exists
+    by_test : (b : Bool) → has_day y m d ≡ b → IfOk (meant time (cond b (Ok (on_day y m d)) (Err Day))) Exists
     by_test true has = day_exists y m d time small e has is
     by_test false has = tt
 
-of_year_exists : (y : ℤ) (month day : Option ℕ) (time : Option Time) → IsYear y → IsTime time → IfOk (of_year y month day time) Exists
+of_year_exists : (y : ℤ) (month day : Option ℕ) (time : Option Time) → IsYear y → IsTime time → IfOk (meant time (of_year y month day)) Exists
 of_year_exists y None day time small is = (small, tt)
 of_year_exists y (Some m) day time small is = by_tests (is_in_range 21 24 m) (is_in_range 1 12 m) refl
   where
-    by_tests : (a b : Bool) → is_in_range 1 12 m ≡ b → IfOk (cond a (Ok (year_alone y)) (cond b (of_month y m day time) (Err MonthOutOfRange))) Exists
+    by_tests : (a b : Bool) → is_in_range 1 12 m ≡ b → IfOk (meant time (cond a (Ok (year_alone y)) (cond b (of_month y m day) (Err Month)))) Exists
     by_tests true b e = (small, tt)
     by_tests false true e = of_month_exists y m day time small e is
     by_tests false false e = tt
@@ -164,7 +166,7 @@ IsSide s = IfOk s.datetime Exists
 side_exists : (cs : List ℕ) → IfOk (side_at cs) (λ p. IsSide p.0)
 unfolding side_at
 side_exists cs =
-    bind_if_ok (λ (p : Option ℤ × List ℕ). IfSome p.0 IsYear) (λ (p : Side × List ℕ). IsSide p.0) (year_at (taken 45 cs).0 (taken 45 cs).1) _ (year_small (taken 45 cs).0 (taken 45 cs).1) (λ year small.
+    bind_if_ok (λ (p : Option ℤ × List ℕ). IfSome p.0 IsYear) (λ (p : Side × List ℕ). IsSide p.0) (year_at (taken hyphen cs).0 (taken hyphen cs).1) _ (year_small (taken hyphen cs).0 (taken hyphen cs).1) (λ year small.
     bind_if_ok (λ (p : Option ℕ × List ℕ). Unit {0}) (λ (p : Side × List ℕ). IsSide p.0) (part_at year.1) _ (any_ok (part_at year.1)) (λ month u.
     bind_if_ok (λ (p : Option ℕ × List ℕ). Unit {0}) (λ (p : Side × List ℕ). IsSide p.0) (part_at month.1) _ (any_ok (part_at month.1)) (λ day v.
     bind_if_ok (λ (p : Option Time × List ℕ). IsTime p.0) (λ (p : Side × List ℕ). IsSide p.0) (time_at day.0 day.1) _ (time_small day.0 day.1) (λ time is.
@@ -184,11 +186,11 @@ IsShape (Range a b) = IsSide a × IsSide b
 
 slash_exists : (a : Side) (cs : List ℕ) → IsSide a → IfOk (slash_after a cs) IsShape
 slash_exists a [] is = is
-slash_exists a (c ∷ cs) is = by_test (eqb c 46)
+slash_exists a (c ∷ cs) is = by_test (eqb c full_stop)
   where
-    by_test : (b : Bool) → IfOk (cond b (token_at 46 cs >>= λ points. end_at points >>= λ rest. Ok (Since a)) (last_at (c ∷ cs) >>= λ s. Ok (Range a s))) IsShape
+    by_test : (b : Bool) → IfOk (cond b (token_at full_stop cs >>= λ points. end_at points >>= λ rest. Ok (Since a)) (last_at (c ∷ cs) >>= λ s. Ok (Range a s))) IsShape
     by_test true =
-        bind_if_ok (λ (points : List ℕ). Unit {0}) IsShape (token_at 46 cs) _ (any_ok (token_at 46 cs)) (λ points u.
+        bind_if_ok (λ (points : List ℕ). Unit {0}) IsShape (token_at full_stop cs) _ (any_ok (token_at full_stop cs)) (λ points u.
         bind_if_ok (λ (rest : List ℕ). Unit {0}) IsShape (end_at points) _ (any_ok (end_at points)) (λ rest v. is))
     by_test false = bind_if_ok IsSide IsShape (last_at (c ∷ cs)) _ (last_exists (c ∷ cs)) (λ s also. (is, also))
 
@@ -198,7 +200,7 @@ first_exists a (true, rest) is = slash_exists a rest is
 
 opening_exists : (p : Bool × List ℕ) → IfOk (opening_after p) IsShape
 opening_exists (true, rest) = bind_if_ok IsSide IsShape (last_at rest) _ (last_exists rest) (λ b is. is)
-opening_exists (false, rest) = bind_if_ok (λ (p : Side × List ℕ). IsSide p.0) IsShape (side_at rest) _ (side_exists rest) (λ a is. first_exists a.0 (taken 47 a.1) is)
+opening_exists (false, rest) = bind_if_ok (λ (p : Side × List ℕ). IsSide p.0) IsShape (side_at rest) _ (side_exists rest) (λ a is. first_exists a.0 (taken slash a.1) is)
 
 shape_exists : (cs : List ℕ) → IfOk (shape_of cs) IsShape
 unfolding shape_of

@@ -6,6 +6,7 @@ use Rattle.std.specs.Int.{is_negative}
 use Rattle.std.specs.Str.Parse.{digits_value}
 use Rattle.std.proofs.lemmas.Bool.Decides.{nat_tests}
 use Rattle.std.proofs.lemmas.Fmt.{digits_value-decimal}
+use Rattle.laws.specs.Characters as character
 use Rattle.laws.specs.Results.{◌>>=◌}
 use Rattle.laws.specs.Runs.{Bars}
 use Rattle.laws.proofs.Runs.{cuts}
@@ -49,7 +50,7 @@ four_again n rest small bars =
     rw (c.prefix, c.after, some, is_four) refl
 
 -- a year that was written is read back
-year_again : (y : ℤ) (rest : List ℕ) → unsigned_abs y ≤ 9999 → Bars (passes Digit) rest → year_at (taken 45 (year_text y ++ rest)).0 (taken 45 (year_text y ++ rest)).1 ≡ Ok (Some y, rest)
+year_again : (y : ℤ) (rest : List ℕ) → unsigned_abs y ≤ 9999 → Bars (passes Digit) rest → year_at (taken character.hyphen (year_text y ++ rest)).0 (taken character.hyphen (year_text y ++ rest)).1 ≡ Ok (Some y, rest)
 year_again y rest small bars =
     ap (λ (p : Bool × List ℕ). year_at p.0 p.1) (year_sign y rest small)
     ∙ ap (λ (r : Result (Option ℕ × List ℕ) Unreadable). r >>= λ n. Ok (option_map (signed (is_negative y)) n.0, n.1)) (four_again (unsigned_abs y) rest small bars)
@@ -59,15 +60,15 @@ year_again y rest small bars =
 record EndsSide (rest : List ℕ) : Type 0 where
   pub bars : Bars (passes Digit) rest
   pub no_part : part_at rest ≡ Ok (None, rest)
-  pub no_time : taken 84 rest ≡ (false, rest)
-  pub no_second : taken 58 rest ≡ (false, rest)
+  pub no_time : taken character.upper_t rest ≡ (false, rest)
+  pub no_second : taken character.colon rest ≡ (false, rest)
   pub no_offset : offset_at rest ≡ Ok (None, rest)
 
 ends_empty : EndsSide []
 unfolding part_at
 ends_empty = record { bars = tt; no_part = refl; no_time = refl; no_second = refl; no_offset = refl }
 
-ends_slash : (cs : List ℕ) → EndsSide (47 ∷ cs)
+ends_slash : (cs : List ℕ) → EndsSide (character.slash ∷ cs)
 unfolding part_at passes
 ends_slash cs = record { bars = refl; no_part = refl; no_time = refl; no_second = refl; no_offset = refl }
 
@@ -78,19 +79,19 @@ ends_mark true false rest ends = record { bars = refl; no_part = refl; no_time =
 ends_mark false true rest ends = record { bars = refl; no_part = refl; no_time = refl; no_second = refl; no_offset = refl }
 ends_mark true true rest ends = record { bars = refl; no_part = refl; no_time = refl; no_second = refl; no_offset = refl }
 
-hyphen_bars : (cs : List ℕ) → Bars (passes Digit) (45 ∷ cs)
+hyphen_bars : (cs : List ℕ) → Bars (passes Digit) (character.hyphen ∷ cs)
 unfolding passes
 hyphen_bars cs = refl
 
-colon_bars : (cs : List ℕ) → Bars (passes Digit) (58 ∷ cs)
+colon_bars : (cs : List ℕ) → Bars (passes Digit) (character.colon ∷ cs)
 unfolding passes
 colon_bars cs = refl
 
 -- hours and minutes that were written are read back
-minutes_again : (h m : ℕ) (rest : List ℕ) → h < 100 → m < 100 → Bars (passes Digit) rest → minutes_at (padded 2 h ++ (following 58 m ++ rest)) ≡ Ok ((h, m), rest)
+minutes_again : (h m : ℕ) (rest : List ℕ) → h < 100 → m < 100 → Bars (passes Digit) rest → minutes_at (padded 2 h ++ (following character.colon m ++ rest)) ≡ Ok ((h, m), rest)
 unfolding minutes_at
 minutes_again h m rest h_small m_small bars =
-    let hour = two_again h (following 58 m ++ rest) h_small (colon_bars (padded 2 m ++ rest)) in
+    let hour = two_again h (following character.colon m ++ rest) h_small (colon_bars (padded 2 m ++ rest)) in
     let minute = two_again m rest m_small bars in
     rw (hour, minute) refl
 
@@ -99,9 +100,9 @@ offset_again : (o : Option TimeOffset) (rest : List ℕ) → IsOffset o → Ends
 offset_again None rest is ends = ends.no_offset
 offset_again (Some Utc) rest is ends = refl
 offset_again (Some (Offset true h m)) rest is ends =
-    ap offset_at (append_assoc (following 43 h) (following 58 m) rest) ∙ (let minutes = minutes_again h m rest is.0 is.1 ends.bars in rw minutes refl)
+    ap offset_at (append_assoc (following character.plus_sign h) (following character.colon m) rest) ∙ (let minutes = minutes_again h m rest is.0 is.1 ends.bars in rw minutes refl)
 offset_again (Some (Offset false h m)) rest is ends =
-    ap offset_at (append_assoc (following 45 h) (following 58 m) rest) ∙ (let minutes = minutes_again h m rest is.0 is.1 ends.bars in rw minutes refl)
+    ap offset_at (append_assoc (following character.hyphen h) (following character.colon m) rest) ∙ (let minutes = minutes_again h m rest is.0 is.1 ends.bars in rw minutes refl)
 
 offset_bars : (o : Option TimeOffset) (rest : List ℕ) → EndsSide rest → Bars (passes Digit) (offset_text o ++ rest)
 unfolding passes
@@ -111,10 +112,10 @@ offset_bars (Some (Offset true h m)) rest ends = refl
 offset_bars (Some (Offset false h m)) rest ends = refl
 
 -- a time that was written is read back
-clock_again : (t : Time) (rest : List ℕ) → IsTime (Some t) → EndsSide rest → clock_at (padded 2 t.hour ++ (following 58 t.minute ++ (following 58 t.second ++ (offset_text t.offset ++ rest)))) ≡ Ok (t, rest)
+clock_again : (t : Time) (rest : List ℕ) → IsTime (Some t) → EndsSide rest → clock_at (padded 2 t.hour ++ (following character.colon t.minute ++ (following character.colon t.second ++ (offset_text t.offset ++ rest)))) ≡ Ok (t, rest)
 unfolding clock_at
 clock_again t rest is ends =
-    let minutes = minutes_again t.hour t.minute (following 58 t.second ++ (offset_text t.offset ++ rest)) is.0 is.1 (colon_bars (padded 2 t.second ++ (offset_text t.offset ++ rest))) in
+    let minutes = minutes_again t.hour t.minute (following character.colon t.second ++ (offset_text t.offset ++ rest)) is.0 is.1 (colon_bars (padded 2 t.second ++ (offset_text t.offset ++ rest))) in
     let second = two_again t.second (offset_text t.offset ++ rest) is.2 (offset_bars t.offset rest ends) in
     let offset = offset_again t.offset rest is.3 ends in
     rw (minutes, second, offset) refl
@@ -126,7 +127,7 @@ clock_parts a b c d rest =
 time_again : (d : ℕ) (time : Option Time) (rest : List ℕ) → IsTime time → EndsSide rest → time_at (Some d) (time_text time ++ rest) ≡ Ok (time, rest)
 time_again d None rest is ends = let none = ends.no_time in rw none refl
 time_again d (Some t) rest is ends =
-    ap (time_at (Some d)) (clock_parts (following 84 t.hour) (following 58 t.minute) (following 58 t.second) (offset_text t.offset) rest)
+    ap (time_at (Some d)) (clock_parts (following character.upper_t t.hour) (following character.colon t.minute) (following character.colon t.second) (offset_text t.offset) rest)
     ∙ (let clock = clock_again t rest is ends in rw clock refl)
 
 time_bars : (time : Option Time) (rest : List ℕ) → EndsSide rest → Bars (passes Digit) (time_text time ++ rest)
@@ -213,14 +214,14 @@ record Opens (cs : List ℕ) : Type 0 where
   pub first : ℕ
   pub others : List ℕ
   pub is : cs ≡ first ∷ others
-  pub not_slash : eqb first 47 ≡ false
-  pub not_point : eqb first 46 ≡ false
+  pub not_slash : eqb first character.slash ≡ false
+  pub not_point : eqb first character.full_stop ≡ false
 
-no_slash : (c : ℕ) → passes Digit c ≡ true → eqb c 47 ≡ false
+no_slash : (c : ℕ) → passes Digit c ≡ true → eqb c character.slash ≡ false
 unfolding passes
 no_slash c d = grind (arith, nat_tests)
 
-no_point : (c : ℕ) → passes Digit c ≡ true → eqb c 46 ≡ false
+no_point : (c : ℕ) → passes Digit c ≡ true → eqb c character.full_stop ≡ false
 unfolding passes
 no_point c d = grind (arith, nat_tests)
 
@@ -230,7 +231,7 @@ year_opens (pos n) rest small =
     let s = starts (passes Digit) (padded 4 n) rest (padded_digits 4 n (omega arith)) long in
     let plain : year_text (pos n) ++ rest ≡ padded 4 n ++ rest = (λ i. (sign_text (not_negative n i) ++ padded 4 n) ++ rest) in
     record { first = s.first; others = s.others; is = plain ∙ s.is; not_slash = no_slash s.first s.passes; not_point = no_point s.first s.passes }
-year_opens (negsuc n) rest small = record { first = 45; others = padded 4 (suc n) ++ rest; is = refl; not_slash = refl; not_point = refl }
+year_opens (negsuc n) rest small = record { first = character.hyphen; others = padded 4 (suc n) ++ rest; is = refl; not_slash = refl; not_point = refl }
 
 datetime_opens : (d : Datetime) (rest : List ℕ) → Exists d → Opens (datetime_text d ++ rest)
 datetime_opens d rest exists =
@@ -275,10 +276,10 @@ value_again (Before d) u a exists =
     rw last refl
 value_again (Between c d) u a exists =
     let tail : List ℕ = datetime_text d ++ (mark_text u a ++ []) in
-    let whole : (datetime_text c ++ (codes "/" ++ datetime_text d)) ++ (mark_text u a ++ []) ≡ datetime_text c ++ (47 ∷ tail) = append_assoc (datetime_text c) (codes "/" ++ datetime_text d) (mark_text u a ++ []) in
-    let opening = not_open _ (datetime_opens c (47 ∷ tail) exists.0) in
-    let side = written_again c (47 ∷ tail) exists.0 (ends_slash tail) in
-    let more = goes_on (marked_side c (47 ∷ tail)) tail (datetime_opens d (mark_text u a ++ []) exists.1) in
+    let whole : (datetime_text c ++ (codes "/" ++ datetime_text d)) ++ (mark_text u a ++ []) ≡ datetime_text c ++ (character.slash ∷ tail) = append_assoc (datetime_text c) (codes "/" ++ datetime_text d) (mark_text u a ++ []) in
+    let opening = not_open _ (datetime_opens c (character.slash ∷ tail) exists.0) in
+    let side = written_again c (character.slash ∷ tail) exists.0 (ends_slash tail) in
+    let more = goes_on (marked_side c (character.slash ∷ tail)) tail (datetime_opens d (mark_text u a ++ []) exists.1) in
     let last = last_again d u a exists.1 in
     ap (λ (t : List ℕ). date_of (shape_of t)) whole ∙ rw (opening, side, more, last) refl
 

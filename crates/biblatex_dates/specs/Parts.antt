@@ -3,22 +3,24 @@ use Rattle.std.specs.Prelude.{ℕ, zero, suc, ◌+◌, Bool, ◌==◌, ◌||◌,
 use Rattle.std.specs.Int.{is_in_range}
 use Rattle.std.specs.Str.{bytes_eq}
 use Rattle.caseless.specs.Caseless.{default_case_fold}
+use Rattle.laws.specs.Characters.{hyphen}
 use Rattle.laws.specs.Results.{◌>>=◌}
 use Rattle.texts.specs.Reading.{digits_at, end_at, taken}
 use Rattle.texts.specs.declared.reader.Unreadable.{Unreadable}
 use Rattle.date_parts.specs.Calendar.{has_day}
-use Rattle.biblatex_dates.specs.Datetime.{year_alone, in_month, on_day}
+use Rattle.date_parts.specs.Dates.{year_alone, in_month, on_day}
+use Rattle.date_parts.specs.declared.dates.CalendarDate.{CalendarDate}
+use Rattle.biblatex_dates.specs.Datetime.{at_time}
 use Rattle.date_parts.specs.Parts.{signed}
 use Rattle.biblatex_dates.specs.declared.date.Date.{Date}
 use Rattle.biblatex_dates.specs.declared.date.DateValue.TheVariants.{At}
-use Rattle.biblatex_dates.specs.declared.datetime.Datetime.{Datetime}
 
 -- one to four digits, negative after a hyphen
 unfoldable pub year_part : List ℕ → Result ℤ Unreadable
 year_part cs = do
-  year ← digits_at 1 4 (taken 45 cs).1
+  year ← digits_at 1 4 (taken hyphen cs).1
   rest ← end_at year.1
-  Ok (signed (taken 45 cs).0 year.0)
+  Ok (signed (taken hyphen cs).0 year.0)
 
 -- one or two digits
 unfoldable pub number_part : List ℕ → Result ℕ Unreadable
@@ -73,28 +75,28 @@ abbrev pub month_part : List ℕ → Option ℕ
 month_part cs = month_numbered (number_part cs) cs
 
 -- the day, where it can be read and the month has it
-abbrev pub day_numbered : ℤ → ℕ → Result ℕ Unreadable → Datetime
-day_numbered y m (Ok d) = if has_day y m d then on_day y m d None else in_month y m
+abbrev pub day_numbered : ℤ → ℕ → Result ℕ Unreadable → CalendarDate
+day_numbered y m (Ok d) = if has_day y m d then on_day y m d else in_month y m
 day_numbered y m (Err e) = in_month y m
 
 -- the month, and the day of it that can be read
-abbrev pub day_read : ℤ → ℕ → Option (List ℕ) → Datetime
+abbrev pub day_read : ℤ → ℕ → Option (List ℕ) → CalendarDate
 day_read y m None = in_month y m
 day_read y m (Some day) = day_numbered y m (number_part day)
 
 -- the month, where it can be read
-abbrev pub month_read : ℤ → Option ℕ → Option (List ℕ) → Datetime
+abbrev pub month_read : ℤ → Option ℕ → Option (List ℕ) → CalendarDate
 month_read y None day = year_alone y
 month_read y (Some m) day = day_read y m day
 
 -- the year, and the month and the day of it that can be read
-abbrev pub parts_read : ℤ → Option (List ℕ) → Option (List ℕ) → Datetime
+abbrev pub parts_read : ℤ → Option (List ℕ) → Option (List ℕ) → CalendarDate
 parts_read y None day = year_alone y
 parts_read y (Some month) day = month_read y (month_part month) day
 
 -- the date, where the year can be read, as far as its parts can be; it is sure
 abbrev pub year_read : Result ℤ Unreadable → Option (List ℕ) → Option (List ℕ) → Option Date
-year_read (Ok y) month day = Some (record { value = At (parts_read y month day); uncertain = false; approximate = false })
+year_read (Ok y) month day = Some (record { value = At (at_time None (parts_read y month day)); uncertain = false; approximate = false })
 year_read (Err e) month day = None
 
 abbrev pub of_parts : List ℕ → Option (List ℕ) → Option (List ℕ) → Option Date

@@ -1,5 +1,6 @@
 -- A date, read from the left as one side or two, and what it means. Characters are numbers.
 use Rattle.std.specs.Prelude.{ℕ, Bool, true, false, ◌==◌, ◌||◌, List, [], ◌∷◌, if◌then◌else◌, Result, Ok, Err}
+use Rattle.laws.specs.Characters.{full_stop, slash}
 use Rattle.laws.specs.Results.{◌>>=◌}
 use Rattle.texts.specs.Reading.{token_at, end_at, taken}
 use Rattle.texts.specs.declared.reader.Unreadable.{Unreadable}
@@ -17,7 +18,7 @@ use Rattle.biblatex_dates.specs.declared.side.Side.{Side}
 -- whether the start is open, as a slash after two points or nothing says, and what follows
 abbrev pub opening_at : List ℕ → Result (Bool × List ℕ) Unreadable
 opening_at [] = Ok (false, [])
-opening_at (c ∷ cs) = if c == 47 then Ok (true, cs) else (if c == 46 then (token_at 46 cs >>= λ points. token_at 47 points >>= λ rest. Ok (true, rest)) else Ok (false, c ∷ cs))
+opening_at (c ∷ cs) = if c == slash then Ok (true, cs) else (if c == full_stop then (token_at full_stop cs >>= λ points. token_at slash points >>= λ rest. Ok (true, rest)) else Ok (false, c ∷ cs))
 
 -- a side, and the end
 abbrev pub last_at : List ℕ → Result Side Unreadable
@@ -26,7 +27,7 @@ last_at cs = side_at cs >>= λ s. end_at s.1 >>= λ rest. Ok s.0
 -- after the slash: an open end, as two points or nothing say, or another side
 abbrev pub slash_after : Side → List ℕ → Result Shape Unreadable
 slash_after a [] = Ok (Since a)
-slash_after a (c ∷ cs) = if c == 46 then (token_at 46 cs >>= λ points. end_at points >>= λ rest. Ok (Since a)) else (last_at (c ∷ cs) >>= λ b. Ok (Range a b))
+slash_after a (c ∷ cs) = if c == full_stop then (token_at full_stop cs >>= λ points. end_at points >>= λ rest. Ok (Since a)) else (last_at (c ∷ cs) >>= λ b. Ok (Range a b))
 
 -- after the first side: the end, or a slash
 abbrev pub first_after : Side → Bool × List ℕ → Result Shape Unreadable
@@ -36,7 +37,7 @@ first_after a (true, rest) = slash_after a rest
 -- after the start, which may be open
 abbrev pub opening_after : Bool × List ℕ → Result Shape Unreadable
 opening_after (true, rest) = last_at rest >>= λ b. Ok (Until b)
-opening_after (false, rest) = side_at rest >>= λ a. first_after a.0 (taken 47 a.1)
+opening_after (false, rest) = side_at rest >>= λ a. first_after a.0 (taken slash a.1)
 
 -- one side, two sides with a slash between, or one side with an open end or start
 unfoldable pub shape_of : List ℕ → Result Shape Unreadable

@@ -2,6 +2,7 @@
 use Rattle.std.specs.Prelude.{ℕ, Bool, true, false, ◌==◌, ◌||◌, List, [], ◌∷◌, length, if◌then◌else◌, Option, Some, None, Result, Ok, Err, ℤ}
 use Rattle.std.specs.Option.{option_map}
 use Rattle.std.specs.Str.Parse.{digits_value}
+use Rattle.laws.specs.Characters.{percent_sign, plus_sign, hyphen, colon, question_mark, upper_t, upper_z, tilde, no_break_space}
 use Rattle.laws.specs.Results.{◌>>=◌}
 use Rattle.laws.specs.Runs.{prefix_of, after}
 use Rattle.texts.specs.Character.{passes}
@@ -21,7 +22,7 @@ use Rattle.biblatex_dates.specs.declared.side.Side.{Side}
 abbrev pub four : List ℕ → Option ℕ
 four digits = if length digits == 4 then Some (digits_value 10 digits) else None
 
--- one digit or more
+-- the number of one digit or more, which is none unless there are four
 abbrev pub four_at : List ℕ → Result (Option ℕ × List ℕ) Unreadable
 four_at cs = if length (prefix_of (passes Digit) cs) == 0 then Err NotThere else Ok (four (prefix_of (passes Digit) cs), after (passes Digit) cs)
 
@@ -33,8 +34,8 @@ year_at is_negative cs = four_at cs >>= λ y. Ok (option_map (signed is_negative
 unfoldable pub minutes_at : List ℕ → Result ((ℕ × ℕ) × List ℕ) Unreadable
 minutes_at cs = do
   hour ← digits_at 2 2 cs
-  colon ← token_at 58 hour.1
-  minute ← digits_at 2 2 colon
+  after_colon ← token_at colon hour.1
+  minute ← digits_at 2 2 after_colon
   Ok ((hour.0, minute.0), minute.1)
 
 -- after a colon two digits are wanted; else no second has passed
@@ -49,13 +50,16 @@ signed_offset_at positive cs = minutes_at cs >>= λ t. Ok (Some (Offset positive
 -- `Z`, or a sign, hours and minutes, or nothing
 abbrev pub offset_at : List ℕ → Result (Option TimeOffset × List ℕ) Unreadable
 offset_at [] = Ok (None, [])
-offset_at (c ∷ cs) = if c == 90 then Ok (Some Utc, cs) else (if c == 43 then signed_offset_at true cs else (if c == 45 then signed_offset_at false cs else Ok (None, c ∷ cs)))
+offset_at (c ∷ cs) =
+    if c == upper_z then Ok (Some Utc, cs)
+    else (if c == plus_sign then signed_offset_at true cs
+    else (if c == hyphen then signed_offset_at false cs else Ok (None, c ∷ cs)))
 
 -- hours and minutes, seconds or none, an offset or none
 unfoldable pub clock_at : List ℕ → Result (Time × List ℕ) Unreadable
 clock_at cs = do
   minutes ← minutes_at cs
-  second ← seconds_after (taken 58 minutes.1)
+  second ← seconds_after (taken colon minutes.1)
   offset ← offset_at second.1
   Ok (record { hour = minutes.0.0; minute = minutes.0.1; second = second.0; offset = offset.0 }, offset.1)
 
@@ -67,7 +71,7 @@ clock_after (true, rest) = clock_at rest >>= λ t. Ok (Some t.0, t.1)
 -- after a day, `T` and a time, or nothing
 abbrev pub time_at : Option ℕ → List ℕ → Result (Option Time × List ℕ) Unreadable
 time_at None cs = Ok (None, cs)
-time_at (Some d) cs = clock_after (taken 84 cs)
+time_at (Some d) cs = clock_after (taken upper_t cs)
 
 abbrev pub no_mark : Mark
 no_mark = record { uncertain = false; approximate = false }
@@ -76,14 +80,14 @@ no_mark = record { uncertain = false; approximate = false }
 abbrev pub mark_at : List ℕ → Mark × List ℕ
 mark_at [] = (no_mark, [])
 mark_at (c ∷ cs) =
-    if c == 63 then (record { uncertain = true; approximate = false }, cs)
-    else (if c == 126 || c == 160 then (record { uncertain = false; approximate = true }, cs)
-    else (if c == 37 then (record { uncertain = true; approximate = true }, cs) else (no_mark, c ∷ cs)))
+    if c == question_mark then (record { uncertain = true; approximate = false }, cs)
+    else (if c == tilde || c == no_break_space then (record { uncertain = false; approximate = true }, cs)
+    else (if c == percent_sign then (record { uncertain = true; approximate = true }, cs) else (no_mark, c ∷ cs)))
 
 -- a year, negative after a hyphen; a month, a day and a time, each after the one before it; a mark
 unfoldable pub side_at : List ℕ → Result (Side × List ℕ) Unreadable
 side_at cs = do
-  year ← year_at (taken 45 cs).0 (taken 45 cs).1
+  year ← year_at (taken hyphen cs).0 (taken hyphen cs).1
   month ← part_at year.1
   day ← part_at month.1
   time ← time_at day.0 day.1

@@ -1,5 +1,6 @@
 -- How dates are written, and which of them are read back. Characters are numbers.
 use Rattle.std.specs.Prelude.{ℕ, ◌+◌, ◌<◌, ◌≤◌, Bool, true, false, List, [], ◌∷◌, ◌++◌, Option, Some, None, ℤ, unsigned_abs, codes}
+use Rattle.laws.specs.Characters.{plus_sign, hyphen, colon, upper_t, upper_z}
 use Rattle.jiff.specs.Words.{days_in_month}
 use Rattle.date_parts.specs.Written.{padded, year_text, counted_text}
 use Rattle.biblatex_dates.specs.declared.date.Date.{Date}
@@ -16,22 +17,22 @@ following c n = c ∷ padded 2 n
 
 -- a plus or a hyphen
 abbrev pub sign : Bool → ℕ
-sign true = 43
-sign false = 45
+sign true = plus_sign
+sign false = hyphen
 
 -- a sign, hours, a colon and minutes
 abbrev pub signed_offset_text : Bool → ℕ → ℕ → List ℕ
-signed_offset_text positive hours minutes = following (sign positive) hours ++ following 58 minutes
+signed_offset_text positive hours minutes = following (sign positive) hours ++ following colon minutes
 
 -- `Z`, or how far a clock is from it
 abbrev pub offset_text : Option TimeOffset → List ℕ
 offset_text None = []
-offset_text (Some Utc) = 90 ∷ []
+offset_text (Some Utc) = upper_z ∷ []
 offset_text (Some (Offset positive hours minutes)) = signed_offset_text positive hours minutes
 
 -- `T`, hours, minutes and seconds with colons between, and the offset
 abbrev pub clock_text : Time → List ℕ
-clock_text t = following 84 t.hour ++ (following 58 t.minute ++ (following 58 t.second ++ offset_text t.offset))
+clock_text t = following upper_t t.hour ++ (following colon t.minute ++ (following colon t.second ++ offset_text t.offset))
 
 abbrev pub time_text : Option Time → List ℕ
 time_text None = []

@@ -1,10 +1,10 @@
 //! Points in time: a year, or a month, a day or a time of it.
 
 ghost use Rattle.std.specs.Prelude.{◌≡◌, ◌≤◌, unsigned_abs, IfSome};
-ghost use Rattle.biblatex_dates.specs.Datetime.{without_time, year_alone, in_month, on_day, of_month, of_year, datetime_of};
+ghost use Rattle.biblatex_dates.specs.Datetime.{without_time, at_time, meant, datetime_of};
 
 use crate::error::TypeErrorKind;
-use date_parts::has_day;
+use date_parts::{CalendarDate, OutOfRange};
 
 /// A year, or a month, a day or a time of it. Months and days count from zero. The year before 1 is 0.
 #[derive(Clone, Copy, Debug, PartialEq, Eq)]
@@ -27,7 +27,7 @@ pub struct Time {
 /// How far a clock is from universal time.
 #[derive(Clone, Copy, Debug, PartialEq, Eq)]
 pub enum TimeOffset {
-    /// Not at all.
+    /// Universal time itself.
     Utc,
     /// So many hours and minutes before it, or after it where it is not positive.
     Offset {
@@ -59,89 +59,32 @@ pub(crate) fn dated(
 {
     match year {
         None => Err(TypeErrorKind::WrongNumberOfDigits),
-        Some(year) => dated_in_year(year, month, day, time),
+        Some(year) => meant(date_parts::dated(year, month, day), time),
     }
 }
 
-/// The month, the day and the time of the year, as far as there are.
-fn dated_in_year(
-    year: i32,
-    month: Option<u16>,
-    day: Option<u16>,
+/// What is meant, with the time, or what there is not.
+fn meant(
+    date: Result<CalendarDate, OutOfRange>,
     time: Option<Time>,
 ) -> Result<Datetime, TypeErrorKind>
-    requires years { unsigned_abs year ≤ 9999 }
-    ensures { result ≡ of_year year month day time }
+    ensures { result ≡ meant time date }
 {
-    let Some(month) = month else {
-        return Ok(year_alone(year));
-    };
-    if (21..=24).contains(&month) {
-        return Ok(year_alone(year));
+    match date {
+        Ok(date) => Ok(at_time(date, time)),
+        Err(OutOfRange::Month) => Err(TypeErrorKind::MonthOutOfRange),
+        Err(OutOfRange::Day) => Err(TypeErrorKind::DayOutOfRange),
     }
-    if !(1..=12).contains(&month) {
-        return Err(TypeErrorKind::MonthOutOfRange);
-    }
-    dated_in_month(year, month, day, time)
 }
 
-/// The year, without month, day and time.
-pub(crate) fn year_alone(year: i32) -> Datetime
-    ensures { result ≡ year_alone year }
+/// The date with a time, which only a day has.
+pub(crate) fn at_time(date: CalendarDate, time: Option<Time>) -> Datetime
+    ensures { result ≡ at_time time date }
 {
     Datetime {
-        year,
-        month: None,
-        day: None,
-        time: None,
-    }
-}
-
-/// The month, and the day where there is one, which the month must have.
-fn dated_in_month(
-    year: i32,
-    month: u16,
-    day: Option<u16>,
-    time: Option<Time>,
-) -> Result<Datetime, TypeErrorKind>
-    requires years { unsigned_abs year ≤ 9999 }
-    requires first { 1 ≤ month }
-    requires last { month ≤ 12 }
-    ensures { result ≡ of_month year month day time }
-{
-    match day {
-        None => Ok(in_month(year, month)),
-        Some(day) if has_day(year, month, day) => Ok(on_day(year, month, day, time)),
-        Some(_) => Err(TypeErrorKind::DayOutOfRange),
-    }
-}
-
-/// The month, without day and time.
-pub(crate) fn in_month(year: i32, month: u16) -> Datetime
-    requires first { 1 ≤ month }
-    requires last { month ≤ 12 }
-    ensures { result ≡ in_month year month }
-{
-    Datetime {
-        year,
-        month: Some((month - 1) as u8),
-        day: None,
-        time: None,
-    }
-}
-
-/// The day of the month, and its time.
-pub(crate) fn on_day(year: i32, month: u16, day: u16, time: Option<Time>) -> Datetime
-    requires first { 1 ≤ month }
-    requires last { month ≤ 12 }
-    requires first_day { 1 ≤ day }
-    requires last_day { day ≤ 31 }
-    ensures { result ≡ on_day year month day time }
-{
-    Datetime {
-        year,
-        month: Some((month - 1) as u8),
-        day: Some((day - 1) as u8),
-        time,
+        year: date.year,
+        month: date.month,
+        day: date.day,
+        time: date.day.and(time),
     }
 }

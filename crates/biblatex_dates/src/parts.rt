@@ -9,9 +9,9 @@ ghost use Rattle.texts.specs.Views.{left};
 ghost use Rattle.biblatex_dates.specs.Parts.{year_part, number_part, is_same, is_month, month_named, month_part, day_read, parts_read, of_parts};
 
 use crate::date::{Date, DateValue};
-use crate::datetime::{Datetime, in_month, on_day, year_alone};
+use crate::datetime::at_time;
 use caseless::default_caseless_match_str;
-use date_parts::{has_day, signed_year};
+use date_parts::{CalendarDate, has_day, in_month, on_day, signed_year, year_alone};
 use texts::{Reader, Unreadable};
 
 /// The date, as far as its parts can be read.
@@ -22,7 +22,7 @@ pub(crate) fn dated_by_parts(year: &str, month: Option<&str>, day: Option<&str>)
     match read_year(year) {
         Err(_) => None,
         Ok(year) => Some(Date {
-            value: DateValue::At(parts_read(year, month, day)),
+            value: DateValue::At(at_time(parts_read(year, month, day), None)),
             uncertain: false,
             approximate: false,
         }),
@@ -30,7 +30,7 @@ pub(crate) fn dated_by_parts(year: &str, month: Option<&str>, day: Option<&str>)
 }
 
 /// The year, and the month and the day of it that can be read.
-fn parts_read(year: i32, month: Option<&str>, day: Option<&str>) -> Datetime
+fn parts_read(year: i32, month: Option<&str>, day: Option<&str>) -> CalendarDate
     requires years { unsigned_abs year ≤ 9999 }
     ensures { result ≡ parts_read year (option_map (λ m. chars m.now) month.entry)
         (option_map (λ d. chars d.now) day.entry) }
@@ -45,7 +45,7 @@ fn parts_read(year: i32, month: Option<&str>, day: Option<&str>) -> Datetime
 }
 
 /// The month, and the day of it that can be read.
-fn day_read(year: i32, month: u16, day: Option<&str>) -> Datetime
+fn day_read(year: i32, month: u16, day: Option<&str>) -> CalendarDate
     requires years { unsigned_abs year ≤ 9999 }
     requires first { 1 ≤ month }
     requires last { month ≤ 12 }
@@ -55,7 +55,7 @@ fn day_read(year: i32, month: u16, day: Option<&str>) -> Datetime
         return in_month(year, month);
     };
     match read_number(day) {
-        Ok(day) if has_day(year, month, day) => on_day(year, month, day, None),
+        Ok(day) if has_day(year, month, day) => on_day(year, month, day),
         _ => in_month(year, month),
     }
 }

@@ -137,7 +137,6 @@ fn write_day<W: fmt::Write>(
     }
 }
 
-/// Writes a time.
 fn write_clock<W: fmt::Write>(time: Time, f: &mut fmt::Formatter<W>) -> fmt::Result
     ensures { DisplaysOnOk W.write_str_gives f.old result (Some (text_of (clock_text time))) f.new }
 {
@@ -147,7 +146,6 @@ fn write_clock<W: fmt::Write>(time: Time, f: &mut fmt::Formatter<W>) -> fmt::Res
     write_offset(time.offset, f)
 }
 
-/// Writes an offset.
 fn write_offset<W: fmt::Write>(offset: Option<TimeOffset>, f: &mut fmt::Formatter<W>) -> fmt::Result
     ensures { DisplaysOnOk W.write_str_gives f.old result
         (Some (text_of (offset_text offset))) f.new }

@@ -3,19 +3,20 @@ use Rattle.std.proofs.Common.{◌≡◌, ℕ, suc, ◌<◌, ◌+◌, Bool, true,
 use Rattle.std.specs.Prelude.{MatchOption}
 use Rattle.std.specs.List.{slice_split, position_or_len, before_first, after_first, onto_first}
 use Rattle.std.proofs.lemmas.List.Splits.{slice_split_first}
+use Rattle.laws.specs.Characters.{comma}
 
-no_comma : (bs : List ℕ) → position_or_len (λ b. eqb b 44) bs ≡ length bs → slice_split (λ b. eqb b 44) bs ≡ bs ∷ []
+no_comma : (bs : List ℕ) → position_or_len (λ b. eqb b comma) bs ≡ length bs → slice_split (λ b. eqb b comma) bs ≡ bs ∷ []
 no_comma [] e = refl
-no_comma (b ∷ bs) e = by_test (eqb b 44) (no_comma bs) e
+no_comma (b ∷ bs) e = by_test (eqb b comma) (no_comma bs) e
   where
-    by_test : (is : Bool) → (position_or_len (λ b. eqb b 44) bs ≡ length bs → slice_split (λ b. eqb b 44) bs ≡ bs ∷ [])
-        → cond (not is) (1 + position_or_len (λ b. eqb b 44) bs) 0 ≡ suc (length bs)
-        → cond is ([] ∷ slice_split (λ b. eqb b 44) bs) (onto_first b (slice_split (λ b. eqb b 44) bs)) ≡ (b ∷ bs) ∷ []
+    by_test : (is : Bool) → (position_or_len (λ b. eqb b comma) bs ≡ length bs → slice_split (λ b. eqb b comma) bs ≡ bs ∷ [])
+        → cond (not is) (1 + position_or_len (λ b. eqb b comma) bs) 0 ≡ suc (length bs)
+        → cond is ([] ∷ slice_split (λ b. eqb b comma) bs) (onto_first b (slice_split (λ b. eqb b comma) bs)) ≡ (b ∷ bs) ∷ []
     by_test true more at = absurd (omega arith)
     by_test false more at = ap (onto_first b) (more (omega arith))
 
 pub commas : (bs : List ℕ) (r : Option (Bor (List ℕ) × Bor (List ℕ)))
-    → MatchOption r (position_or_len (λ b. eqb b 44) bs ≡ length bs) (λ x. (position_or_len (λ b. eqb b 44) bs < length bs) × (x.0.now ≡ before_first (λ b. eqb b 44) bs) × (x.1.now ≡ after_first (λ b. eqb b 44) bs))
-    → MatchOption r (slice_split (λ b. eqb b 44) bs ≡ bs ∷ []) (λ x. slice_split (λ b. eqb b 44) bs ≡ x.0.now ∷ slice_split (λ b. eqb b 44) x.1.now)
+    → MatchOption r (position_or_len (λ b. eqb b comma) bs ≡ length bs) (λ x. (position_or_len (λ b. eqb b comma) bs < length bs) × (x.0.now ≡ before_first (λ b. eqb b comma) bs) × (x.1.now ≡ after_first (λ b. eqb b comma) bs))
+    → MatchOption r (slice_split (λ b. eqb b comma) bs ≡ bs ∷ []) (λ x. slice_split (λ b. eqb b comma) bs ≡ x.0.now ∷ slice_split (λ b. eqb b comma) x.1.now)
 commas bs None h = no_comma bs h
-commas bs (Some x) h = rw (h.1, h.2) (slice_split_first (λ b. eqb b 44) bs 0 h.0)
+commas bs (Some x) h = rw (h.1, h.2) (slice_split_first (λ b. eqb b comma) bs 0 h.0)

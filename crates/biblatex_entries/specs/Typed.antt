@@ -12,9 +12,9 @@ use Rattle.biblatex_fields.specs.Fields.{Named, text_named}
 use Rattle.biblatex_dates.specs.Parts.{of_parts}
 use Rattle.biblatex_dates.specs.declared.date.Date.{Date}
 use Rattle.biblatex_dates.specs.declared.error.TypeErrorKind.{TypeErrorKind}
-use Rattle.biblatex_people.specs.Reading.{Named as PersonName, people_in}
-use Rattle.biblatex_people.specs.Views.{named_view}
-use Rattle.biblatex_people.specs.declared.person.Person.{Person}
+use Rattle.biblatex_lists.specs.Reading.{Named as PersonName, people_in}
+use Rattle.biblatex_lists.specs.Views.{named_view}
+use Rattle.biblatex_lists.specs.declared.person.Person.{Person}
 use Rattle.biblatex_values.specs.Dates.{reads_date}
 use Rattle.biblatex_values.specs.EditorType.{EditorName, known, editor_of, editor_name}
 use Rattle.biblatex_values.specs.Permissive.{Permitted, Value, reads_permissive}

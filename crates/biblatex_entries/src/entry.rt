@@ -47,7 +47,7 @@ impl Entry {
         self.fields.get(name)
     }
 
-    /// Gives the field of that name, in lower ASCII case, the value.
+    /// Sets the field of that name, in lower ASCII case, to the value.
     pub fn set(&mut self, name: &str, value: Chunks) -> Result<(), AllocError>
         ensures ok { OnOk result (source_view self.new ≡ with_value (source_view self.old)
             (lowered (chars name.now)) (field_value_view value.items)) }
@@ -57,7 +57,7 @@ impl Entry {
         self.fields.insert(name, value)
     }
 
-    /// Takes the field of that name in lower case out.
+    /// Removes the field of that name, which is in lower case, and returns its value.
     pub fn remove(&mut self, name: &str) -> Option<Chunks>
         ensures value { option_map (λ v. field_value_view v.items) result
             ≡ value_named name.now self.old.fields }

@@ -2,6 +2,7 @@
 
 ghost use Rattle.std.specs.Prelude.{◌≡◌, ◌++◌, ◌∷◌, ◌<◌, ◌==◌, [], map, length, IfOk, OnOk, MatchOption, string_bytes, ⊤};
 ghost use Rattle.std.specs.List.{slice_split};
+ghost use Rattle.laws.specs.Characters.{comma};
 ghost use Rattle.biblatex_entries.specs.Names.{trimmed, listed};
 
 use std::alloc::{AllocError, Global};
@@ -31,8 +32,10 @@ pub fn name_alone(alloc: Global, text: &str) -> Result<Vec<String>, AllocError>
 
 /// The text before the first comma, and what follows it.
 fn split_comma(text: &str) -> Option<(&str, &str)>
-    ensures parts { MatchOption result (slice_split (λ b. b == 44) text.now ≡ text.now ∷ []) (λ x.
-        slice_split (λ b. b == 44) text.now ≡ x.0.now ∷ slice_split (λ b. b == 44) x.1.now) }
+    ensures parts { MatchOption result
+        (slice_split (λ b. b == comma) text.now ≡ text.now ∷ [])
+        (λ x. slice_split (λ b. b == comma) text.now
+        ≡ x.0.now ∷ slice_split (λ b. b == comma) x.1.now) }
     ensures shorter { MatchOption result ⊤ (λ x. length x.1.now < length text.now) }
 {
     text.split_once(',')

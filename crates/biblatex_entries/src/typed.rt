@@ -7,7 +7,7 @@ ghost use Rattle.laws.specs.Text.{lowered, characters};
 ghost use Rattle.biblatex_content.specs.Views.{styled};
 ghost use Rattle.biblatex_fields.specs.Fields.{text_named};
 ghost use Rattle.biblatex_fields.specs.Value.{field_value_view};
-ghost use Rattle.biblatex_people.specs.Views.{named_view};
+ghost use Rattle.biblatex_lists.specs.Views.{named_view};
 ghost use Rattle.biblatex_values.specs.Dates.{reads_date};
 ghost use Rattle.biblatex_values.specs.EditorType.{editor_name};
 ghost use Rattle.biblatex_values.specs.Permissive.{reads_permissive};
@@ -22,7 +22,7 @@ use biblatex_content::{Chunk, Chunks, Spanned};
 use biblatex_dates::Date;
 use biblatex_field_types::{ChunksParse, FieldType, PermissiveType};
 use biblatex_fields::Fields;
-use biblatex_people::{Person, read_people};
+use biblatex_lists::{Person, read_people};
 use biblatex_values::{EditorType, plain_text};
 use std::alloc::{AllocError, Global};
 use texts::{empty_text, split_first};
@@ -36,7 +36,7 @@ impl Entry {
     pub fn get_as<T: FieldType>(&self, alloc: Global, name: &str) -> Result<T, RetrievalError>
         // What the field reads as, or its fault, or that it is missing.
         ensures reading { Retrieves T.view result (read_as T.reads name.now self.now.fields) }
-        // Of what is written of a value of the type's class that value comes back.
+        // Where the field is what a value of the type's class is written as, it is read as that value.
         ensures back { (v : T.View) → T.InClass v
             → text_named name.now self.now.fields ≡ Some (T.writes v)
             → GivesBack refusal_of T.view result v }
@@ -47,12 +47,12 @@ impl Entry {
         }
     }
 
-    /// Gives the field of that name, in lower ASCII case, what is written of the value.
+    /// Sets the field of that name, in lower ASCII case, to what the value is written as.
     #[tactic(auto, using(crate::proofs::TypedStored::has_set))]
     pub fn set_as<T: FieldType>(&mut self, name: &str, value: &T) -> Result<(), AllocError>
         ensures ok { OnOk result (HasSet (source_view self.old) (lowered (chars name.now))
             (T.writes (T.view value.now)) (source_view self.new)) }
-        // The field of that name has what is written of the value.
+        // The field of that name has what the value is written as.
         ensures written { OnOk result (text_named (lowered (chars name.now)) self.new.fields
             ≡ Some (T.writes (T.view value.now))) }
         ensures err { OnErr result (source_view self.new ≡ source_view self.old) }

@@ -24,11 +24,11 @@ same_as f g (inl p) = inl (f p)
 same_as f g (inr no_p) = inr (λ q. no_p (g q))
 
 -- whether it is true
-abbrev pub told : {P : Type 0} → Decided P → Bool
-told (inl p) = true
-told (inr no_p) = false
+abbrev pub is_true : {P : Type 0} → Decided P → Bool
+is_true (inl p) = true
+is_true (inr no_p) = false
 
-pub tells : {P : Type 0} → (d : Decided P) → IsTrue (told d) ↔ P
+pub tells : {P : Type 0} → (d : Decided P) → IsTrue (is_true d) ↔ P
 tells (inl p) = (λ e. p, λ q. refl)
 tells (inr no_p) = (λ e. absurd (true≢false (sym e)), λ q. absurd (no_p q))
 

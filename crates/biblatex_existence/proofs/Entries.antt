@@ -1,4 +1,4 @@
--- Entries that are viewed as the solution.
+-- Entries whose fields are the solution.
 use Rattle.std.proofs.Common.{◌≡◌, ℕ, zero, suc, ◌≤◌, false, List, [], ◌∷◌, length, map, slice_get, Option, Some, None, bytes_eq, refl, sym, ap, subst, arith}
 use Rattle.std.specs.Prelude.{IfSome}
 use Rattle.std.specs.List.{list_any}

@@ -7,7 +7,7 @@ use Rattle.reference_graph.specs.Order.{MarksCircular}
 use Rattle.biblatex_text.specs.Raw.{Field}
 use Rattle.biblatex_fields.specs.Abbreviations.{AreFlags, references}
 use Rattle.biblatex_inheritance.proofs.SolutionAlong.{circular_below}
-use Rattle.biblatex_existence.proofs.Decided.{told, tells}
+use Rattle.biblatex_existence.proofs.Decided.{is_true, tells}
 use Rattle.biblatex_existence.proofs.Walks.{circular}
 
 -- the answers for the numbers below a bound
@@ -30,21 +30,21 @@ tabled_past f (suc n) zero past = absurd (omega (arith, past))
 tabled_past f (suc n) (suc i) past = tabled_past (λ i. f (suc i)) n i (omega (arith, past))
 
 abbrev pub marks_of : List (List ℕ) → List Bool
-marks_of R = tabled (λ i. told (circular R i)) (length R)
+marks_of R = tabled (λ i. is_true (circular R i)) (length R)
 
 pub marks_long : (R : List (List ℕ)) → length (marks_of R) ≡ length R
-marks_long R = tabled_long (λ i. told (circular R i)) (length R)
+marks_long R = tabled_long (λ i. is_true (circular R i)) (length R)
 
 pub marks_exact : (R : List (List ℕ)) → MarksCircular R (marks_of R)
 marks_exact R i = elim (cases_lt i (length R)) [
-  | inl low ↦ subst (λ (b : Bool). IsTrue b ↔ IsCircular R i) (sym (tabled_at (λ i. told (circular R i)) (length R) i low)) (tells (circular R i))
-  | inr past ↦ subst (λ (b : Bool). IsTrue b ↔ IsCircular R i) (sym (tabled_past (λ i. told (circular R i)) (length R) i past)) (beyond past)
+  | inl low ↦ subst (λ (b : Bool). IsTrue b ↔ IsCircular R i) (sym (tabled_at (λ i. is_true (circular R i)) (length R) i low)) (tells (circular R i))
+  | inr past ↦ subst (λ (b : Bool). IsTrue b ↔ IsCircular R i) (sym (tabled_past (λ i. is_true (circular R i)) (length R) i past)) (beyond past)
 ]
   where
     beyond : length R ≤ i → IsTrue false ↔ IsCircular R i
     beyond past = (λ e. absurd (true≢false (sym e)), λ c. let low = circular_below R i c in absurd (omega (arith, low, past)))
 
--- the flags of definitions
+-- the marks of definitions are their flags
 pub flags_there : (ds : List Field) → AreFlags (marks_of (references ds)) ds
 flags_there ds = record {
   long = marks_long (references ds) ∙ length-map ds _;

@@ -26,7 +26,7 @@ use Rattle.biblatex_existence.proofs.Flags.{marks_of, flags_there}
 use Rattle.biblatex_existence.proofs.Entries.{resolved_entries, entries_resolved}
 use Rattle.biblatex_existence.proofs.Reading.{read_well}
 
--- what comes of entries
+-- there is an answer that entries come to
 abbrev Comes : Loaded → Type 0
 Comes read = (answer : Result Listed Refusal) × ComesTo read answer
 
@@ -58,7 +58,7 @@ no_fault : (o : Option DateFault) → ((f : DateFault) × (o ≡ Some f) → ⊥
 no_fault None none = refl
 no_fault (Some f) none = absurd (none (f, refl))
 
--- entries of which none reaches itself
+-- entries of which none reaches itself come to an answer
 acyclic_comes : (read : Loaded) → length read.keys ≡ length read.listed.entries → NoneIsCircular (references read.listed) → Comes read
 acyclic_comes read long none = by (first_or_none (Faulty es R see) (λ n. faulty (fault_at es R see n)) (length es))
   where

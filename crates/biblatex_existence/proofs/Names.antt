@@ -84,7 +84,7 @@ same_name to from q n = by (is_xdata to || is_xdata from)
     by true = refl
     by false = same_renamed to from q n
 
--- nothing comes of nothing
+-- a name that no field gets is offered by no reference
 none_offered : (q : List ℕ) → IsNotGiven q → (to : Role) (es : List Source) (see : ℕ → Table) (rs : List ℕ) → ((r : ℕ) → see r q ≡ None) → first_offer to (offers es see rs) q ≡ None
 none_offered q n to es see [] h = refl
 none_offered q n to es see (r ∷ rs) h = by (slice_get es r) (none_offered q n to es see rs h)
@@ -115,7 +115,7 @@ none_resolved q n e os no_own no_offer = none_dated q n (date_for (role_of e.ent
     both : (x y : Option Value) → x ≡ None → y ≡ None → first x y ≡ None
     both x y no_x no_y = ap (λ (z : Option Value). first z y) no_x ∙ no_y
 
--- a name that no entry has
+-- fields without a name have no value under it
 none_named : (q : List ℕ) (fs : List Named) → list_any (bytes_eq q) (keys_of fs) ≡ false → value_named q fs ≡ None
 none_named q [] e = refl
 none_named q (f ∷ fs) e = let parts = or_parts (bytes_eq q f.0) (list_any (bytes_eq q) (keys_of fs)) e in by (bytes_eq q f.0) parts.0 (none_named q fs parts.1)

@@ -5,9 +5,9 @@ use Rattle.std.specs.declared.ops.Range.{Range}
 use Rattle.biblatex_lists.specs.Laws.{IsReadBack}
 use Rattle.biblatex_values.specs.EditorType.{IsEditorName, known, known_names}
 use Rattle.biblatex_values.specs.Pages.{AllArePages}
-use Rattle.biblatex_people.specs.Laws.{AreReadBack}
-use Rattle.biblatex_people.specs.Reading.{Named}
-use Rattle.biblatex_people.proofs.ReadBack.{plain_people_are_back}
+use Rattle.biblatex_lists.specs.PeopleLaws.{AreReadBack}
+use Rattle.biblatex_lists.specs.Reading.{Named}
+use Rattle.biblatex_lists.proofs.PeopleBack.{plain_people_are_back}
 use Rattle.biblatex_field_types.specs.Classes.{Each, AreShort, AreFilled, ArePlain}
 
 pub editors_hold : Each (λ (name : List ℕ). IsEditorName (known name)) known_names

@@ -1,11 +1,11 @@
 -- Values that are read back, in plain words.
 use Rattle.std.specs.Prelude.{◌≡◌, true, ℕ, ◌<◌, ◌≤◌, List, [], ◌∷◌, length}
 use Rattle.std.specs.List.{list_all}
-use Rattle.biblatex_people.specs.Laws.{is_plain_person}
-use Rattle.biblatex_people.specs.Reading.{Named}
+use Rattle.biblatex_lists.specs.PeopleLaws.{is_plain_person}
+use Rattle.biblatex_lists.specs.Reading.{Named}
 use Rattle.std.specs.declared.ops.Range.{Range}
 
--- each of them is so
+-- each element of a list has the property
 abbrev pub Each : {X : Type 0} → (X → Type 0) → List X → Type 0
 Each P [] = Unit {0}
 Each P (x ∷ xs) = P x × Each P xs

@@ -3,7 +3,7 @@ use Rattle.std.specs.Prelude.{ℕ, List, Result, Ok}
 use Rattle.biblatex_content.specs.Styled.{Member}
 use Rattle.biblatex_dates.specs.declared.error.TypeErrorKind.{TypeErrorKind}
 use Rattle.biblatex_lists.specs.TextList.{texts_in}
-use Rattle.biblatex_people.specs.Reading.{Named, people_in}
+use Rattle.biblatex_lists.specs.Reading.{Named, people_in}
 use Rattle.biblatex_content.specs.Views.{styled}
 use Rattle.biblatex_values.specs.Permissive.{Permitted, Value, Text}
 use Rattle.biblatex_field_types.specs.declared.permissive.PermissiveType.{PermissiveType}

@@ -10,12 +10,12 @@ ghost use Rattle.biblatex_values.specs.EditorType.{known, known_names};
 ghost use Rattle.biblatex_values.specs.Permissive.{Value, Text};
 ghost use Rattle.biblatex_values.specs.declared.gender.Gender.{Gender as GenderValue};
 ghost use Rattle.biblatex_field_types.specs.Classes.{Each, IsShort, AreShort, AreFilled, ArePlain};
-ghost use Rattle.biblatex_people.specs.Reading.{Named};
+ghost use Rattle.biblatex_lists.specs.Reading.{Named};
 
 use crate::field_type::FieldType;
 use crate::permissive::PermissiveType;
 use biblatex_dates::Date;
-use biblatex_people::Person;
+use biblatex_lists::Person;
 use biblatex_values::{EditorType, Gender};
 use std::ops::Range;
 

@@ -56,10 +56,10 @@ pub trait FieldType: Drop {
 /// # Errors
 /// `Memory` where a request for memory was refused; `TypeError` for values outside the type's class alone.
 pub fn reread<T: FieldType>(alloc: Global, value: &T) -> Result<T, FieldTypeError>
-    // A value of the class comes back.
+    // A value of the class is read back.
     ensures back { T.InClass (T.view value.now)
         → GivesBack refusal_of T.view result (T.view value.now) }
-    // Of any other value comes what its text reads as.
+    // For any other value the result is what its text reads as.
     ensures reading { Gives refusal_of T.view result (T.reads (T.writes (T.view value.now))) }
 {
     let chunks = value.to_chunks(alloc)?;

@@ -12,7 +12,7 @@ mod permissive;
 mod scalars;
 
 pub use biblatex_dates::TypeErrorKind;
-pub use biblatex_people::Person;
+pub use biblatex_lists::Person;
 pub use biblatex_values::{EditorType, Gender};
 pub use classes::{
     editor_types_are_read_back, genders_are_read_back, integers_are_read_back,

@@ -2,17 +2,17 @@
 
 ghost use Rattle.std.specs.Prelude.{List, Ok, map};
 ghost use Rattle.std.proofs.Common.{ap};
-ghost use Rattle.biblatex_people.specs.Reading.{Named};
-ghost use Rattle.biblatex_people.specs.Views.{named_view};
-ghost use Rattle.biblatex_people.specs.Writing.{written_people};
-ghost use Rattle.biblatex_people.specs.Laws.{AreReadBack};
-ghost use Rattle.biblatex_people.proofs.ReadBack.{people_are_back};
+ghost use Rattle.biblatex_lists.specs.Reading.{Named};
+ghost use Rattle.biblatex_lists.specs.Views.{named_view};
+ghost use Rattle.biblatex_lists.specs.PeopleWriting.{written_people};
+ghost use Rattle.biblatex_lists.specs.PeopleLaws.{AreReadBack};
+ghost use Rattle.biblatex_lists.proofs.PeopleBack.{people_are_back};
 ghost use Rattle.biblatex_field_types.specs.Views.{reads_people};
 
 use crate::error::FieldTypeError;
 use crate::field_type::FieldType;
 use biblatex_content::{Chunk, Chunks, Spanned};
-use biblatex_people::{Person, read_people, write_people};
+use biblatex_lists::{Person, read_people, write_people};
 use std::alloc::{AllocError, Global};
 
 /// People with the word `and` between. No text is refused; empty people are left out, as is a last one who is `others`.

@@ -36,7 +36,7 @@ copied_more flags marks count b c e = record {
         let h = c.long in
         earlier flags b i (omega (arith, before, h)) ∙ c.same i before
 
--- all of them
+-- as many flags as there are definitions, copied from the marks, are the flags of the definitions
 pub copied_all : (flags marks : List Bool) (ds : List Field) → MarksCircular (references ds) marks → Copied flags marks (length ds) → AreFlags flags ds
 copied_all flags marks ds marked c = record {
   long = c.long;

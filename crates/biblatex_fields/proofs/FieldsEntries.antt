@@ -18,7 +18,7 @@ Chunks = Vec (Spanned Chunk) Global
 abbrev pub value_of : Chunks → Value
 value_of v = field_value_view v.items
 
--- what a look-up borrows
+-- what a look-up borrows is the value under the view
 pub borrowed : (r : Option (Bor Chunks)) (o : Option Chunks) → option_copied r ≡ o → option_map (λ (v : Bor Chunks). field_value_view v.now.items) r ≡ option_map value_of o
 borrowed None o e = ap (option_map value_of) e
 borrowed (Some v) o e = ap (option_map value_of) e

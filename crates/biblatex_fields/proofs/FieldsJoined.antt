@@ -4,7 +4,8 @@ use Rattle.laws.specs.Results.{◌>>=◌}
 use Rattle.laws.specs.Text.{lowered}
 use Rattle.biblatex_text.specs.Raw.{At, Field}
 use Rattle.biblatex_content.specs.Styled.{Member}
-use Rattle.biblatex_fields.specs.Abbreviations.{Refusal, Glossary}
+use Rattle.biblatex_fields.specs.Abbreviations.{Glossary}
+use Rattle.biblatex_fields.specs.Refusals.{Refusal}
 use Rattle.biblatex_fields.specs.Fields.{Named, value_named, with_field, fields_after, fields_of, IsJoined, AreJoined}
 use Rattle.biblatex_fields.specs.Value.{Value, value_from, members_of, value_in, value_of}
 use Rattle.biblatex_fields.proofs.FieldsLookUps.{put_found}
@@ -13,7 +14,7 @@ abbrev inner : {A : Type 0} → A → Result A Refusal → A
 inner d (Ok x) = x
 inner d (Err f) = d
 
--- the value of a field that is read
+-- the chunks of a field that is read are joined
 value_joined : (g : Glossary) (f : Field) (v : Value) → value_of g f ≡ Ok v → v.is_joined ≡ true
 unfolding value_in
 value_joined g f v is = by_members (members_of g f.name.v f.value.v) is
@@ -22,7 +23,7 @@ value_joined g f v is = by_members (members_of g f.name.v f.value.v) is
     by_members (Ok ms) is = ap (λ (x : Result Value Refusal). (inner v x).is_joined) (sym is)
     by_members (Err f) is = absurd cc
 
--- one field more
+-- fields whose chunks are joined still are with one more such field
 joined_put : (fs : List Named) (name : List ℕ) (v : Value) → AreJoined fs → v.is_joined ≡ true → AreJoined (with_field fs name v)
 joined_put fs name v all one q = subst IsJoined (sym (put_found fs name v q)) (by_test (bytes_eq q name))
   where
@@ -39,6 +40,6 @@ joined_after g done (f ∷ fs) read all is = by_value (value_of g f) refl is (λ
     by_value (Ok v) value_is is more = more v (value_joined g f v value_is) is
     by_value (Err e) value_is is more = absurd cc
 
--- the fields of an entry
+-- the chunks of an entry's fields are joined
 pub fields_joined : (g : Glossary) (fs : List Field) (read : List Named) → fields_of g fs ≡ Ok read → AreJoined read
 fields_joined g fs read is = joined_after g [] fs read (λ name. tt) is

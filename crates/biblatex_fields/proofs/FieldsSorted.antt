@@ -3,6 +3,6 @@ use Rattle.biblatex_fields.specs.contracts.fields.Fields.{the_view, the_invarian
 use Rattle.biblatex_fields.specs.declared.fields.Fields.TheInside.{Inside}
 use Rattle.biblatex_fields.specs.Fields.{AreInOrder}
 
--- as every value of `Fields` promises
+-- the fields of every value of `Fields` stand in the order of their names
 pub in_order : (fields : Inside) → the_invariant fields → AreInOrder (the_view fields)
 in_order fields h = h.0

@@ -1,9 +1,9 @@
 -- The names for which fields are refused stand in the text as names of abbreviations.
-use Rattle.std.proofs.Common.{ℕ, zero, suc, Bool, true, false, cond, All, List, [], ◌∷◌, length, get_or, Option, Some, None, Result, Ok, Err}
+use Rattle.std.proofs.Common.{◌≡◌, refl, ℕ, zero, suc, Bool, true, false, cond, All, List, [], ◌∷◌, length, get_or, Option, Some, None, Result, Ok, Err}
 use Rattle.std.specs.Prelude.{IfErr, MatchResult}
 use Rattle.std.proofs.lemmas.List.Elements.{All-nil, All-head, All-tail}
 use Rattle.laws.specs.Runs.{AllPassTest}
-use Rattle.laws.specs.Text.{lowered}
+use Rattle.laws.specs.Text.{text, lowered}
 use Rattle.laws.proofs.Throughout.{bind_match}
 use Rattle.biblatex_text.specs.Character.{is_id_continue}
 use Rattle.biblatex_text.specs.Raw.{At, Piece, normal, abbreviation, Field}
@@ -13,15 +13,28 @@ use Rattle.biblatex_content.specs.Verbatim.{is_verbatim_name}
 use Rattle.biblatex_content.specs.Ordinary.{ordinary}
 use Rattle.biblatex_content.specs.Spans.{after_at}
 use Rattle.biblatex_fields.specs.Month.{month}
-use Rattle.biblatex_fields.specs.Abbreviations.{Refusal, unknown, circular, malformed, Glossary, index_of, pieces_at, Sense, spelled, defined, month_or_unknown, sense_of, sense_in, sense}
+use Rattle.biblatex_fields.specs.Abbreviations.{circular, Glossary, index_of, pieces_at, Sense, spelled, defined, month_or_unknown, sense_of, sense_in, sense}
+use Rattle.biblatex_fields.specs.Refusals as refusals
+use Rattle.biblatex_fields.specs.Refusals.{Refusal}
 use Rattle.biblatex_fields.specs.Fields.{Named, with_field, fields_after, fields_of}
 use Rattle.biblatex_fields.specs.Value.{Reading, spanned, text_read, in_order, by_sense, reading, deep, read, members_of, value_in, value_of}
 
--- a name for which a field is refused has characters of identifiers
+-- a text that is spelled with characters of identifiers
+abbrev pub IsIdentifier : List ℕ → Type 0
+IsIdentifier name = (cs : List ℕ) × (name ≡ text cs) × AllPassTest is_id_continue cs
+
+-- a name for which a field is refused is one, and no field is refused for another reason than a name or a malformed command
+abbrev pub RefusesFor : refusals.Reason → Type 0
+RefusesFor (refusals.unknown_abbreviation name) = IsIdentifier name
+RefusesFor (refusals.abbreviation_cycle name) = IsIdentifier name
+RefusesFor refusals.malformed_command = Unit {0}
+RefusesFor (refusals.raw fault) = ⊥
+RefusesFor (refusals.duplicate_key key) = ⊥
+RefusesFor (refusals.reference_cycle key) = ⊥
+RefusesFor (refusals.unreadable_date kind) = ⊥
+
 abbrev pub RefusesName : Refusal → Type 0
-RefusesName (unknown name) = AllPassTest is_id_continue name.v
-RefusesName (circular name) = AllPassTest is_id_continue name.v
-RefusesName (malformed start end) = Unit {0}
+RefusesName r = RefusesFor r.reason
 
 -- a step refuses nothing else
 abbrev pub RefusesNames : {A : Type 0} → Result A Refusal → Type 0
@@ -41,7 +54,7 @@ pieces_at-named (d ∷ ds) zero all = All-head HasNames d ds all
 pieces_at-named (d ∷ ds) (suc index) all = pieces_at-named ds index (All-tail HasNames d ds all)
 
 month-named : (name : At (List ℕ)) (o : Option (List ℕ)) → AllPassTest is_id_continue name.v → MatchResult (month_or_unknown name o) SenseNamed RefusesName
-month-named name None is = is
+month-named name None is = (name.v, refl, is)
 month-named name (Some text) is = tt
 
 sense_of-named : (g : Glossary) (name : At (List ℕ)) (o : Option ℕ) → All HasNames g.definitions → AllPassTest is_id_continue name.v → MatchResult (sense_of g name o) SenseNamed RefusesName
@@ -49,7 +62,7 @@ sense_of-named g name None all is = month-named name (month (lowered name.v)) is
 sense_of-named g name (Some index) all is = by_flag (get_or g.flags index false)
   where
     by_flag : (b : Bool) → MatchResult (cond b (Err (circular name)) (Ok (defined (pieces_at g.definitions index)))) SenseNamed RefusesName
-    by_flag true = is
+    by_flag true = (name.v, refl, is)
     by_flag false = pieces_at-named g.definitions index all
 
 sense_in-named : (g : Glossary) (start end : ℕ) (p : Piece) → All HasNames g.definitions → HasName p → MatchResult (sense_in g start end p) SenseNamed RefusesName
@@ -97,6 +110,6 @@ fields_after-named g done (f ∷ fs) all named =
     bind_match Whatever Whatever RefusesName (value_of g f) (λ value. fields_after g (with_field done (lowered f.name.v) value) fs) (value_of-named g f all (All-head HasNames f fs named))
     (λ value _. fields_after-named g (with_field done (lowered f.name.v) value) fs all (All-tail HasNames f fs named))
 
--- the fields of an entry
+-- the fields of an entry are refused for names of abbreviations in the text alone
 pub fields_of-named : (g : Glossary) (fs : List Field) → All HasNames g.definitions → All HasNames fs → RefusesNames (fields_of g fs)
 fields_of-named g fs all named = fields_after-named g [] fs all named

@@ -4,7 +4,7 @@ use Rattle.std.proofs.lemmas.List.{length-replicate, get_or-replicate, length-se
 use Rattle.std.proofs.lemmas.Option.{slice_get_within, get_or_from_slice_get}
 use Rattle.laws.specs.Results.{◌>>=◌}
 use Rattle.biblatex_text.specs.Raw.{At, Piece, Field}
-use Rattle.biblatex_tex.specs.declared.error.Malformed.{Malformed}
+use Rattle.biblatex_tex.specs.declared.error.ContentError.{ContentError}
 use Rattle.biblatex_content.specs.declared.chunk.Kind.TheVariants.{Verbatim}
 use Rattle.biblatex_content.specs.Ordinary.{ordinary}
 use Rattle.biblatex_content.specs.Spans.{all_at, after_at}
@@ -13,7 +13,8 @@ use Rattle.biblatex_content.specs.Verbatim.{verbatim_text}
 use Rattle.biblatex_fields.specs.declared.openings.Opening.{Opening}
 use Rattle.biblatex_fields.specs.declared.openings.Opening.TheVariants.{Whole, Part, SameAs}
 use Rattle.biblatex_fields.specs.declared.openings.ResolvedPiece.{ResolvedPiece}
-use Rattle.biblatex_fields.specs.Abbreviations.{Refusal, Glossary, Sense, spelled, sense, pieces_at, AreFlags}
+use Rattle.biblatex_fields.specs.Abbreviations.{Glossary, Sense, spelled, sense, pieces_at, AreFlags}
+use Rattle.biblatex_fields.specs.Refusals.{Refusal}
 use Rattle.biblatex_fields.specs.Openings.{AreOpenings, AreResolved, Opens, OpensAlone, Resolved, Replacement, pieces_of_opening, pieces_in_opening, parts_in, resolved_piece_view, resolved_at, resolved_read, resolved_sense, resolved_steps, sense_by, steps, target, target_in, total, unresolved, unresolved_at}
 use Rattle.biblatex_fields.specs.Value.{Reading, in_order, by_sense, read, text_read, spanned}
 use Rattle.biblatex_fields.proofs.OpeningsEffort.{steps_unresolved}
@@ -27,8 +28,6 @@ replacement_on g v qs rs ss a b = record {
   same = λ done. a.same done ∙ b.same done;
   fewer = let x = a.fewer in let y = b.fewer in omega (arith, x, y);
 }
-
--- Pieces after others.
 
 in_order_after : (each : Resolved → Reading) (ps qs : List Resolved) (done : List (At Member))
     → in_order each (ps ++ qs) done ≡ (in_order each ps done >>= λ ms. in_order each qs ms)
@@ -62,8 +61,6 @@ replacement_after g v ps qs rs ss a b = record {
 pub replacement_without : (g : Glossary) (v : Bool) (ps qs : List Resolved) (p : Resolved) → Replacement g v ps qs → Replacement g v [] (p ∷ []) → Replacement g v ps (qs ++ p ∷ [])
 replacement_without g v ps qs p a b = subst (λ (x : List Resolved). Replacement g v x (qs ++ p ∷ [])) (append-nil ps) (replacement_after g v ps qs [] (p ∷ []) a b)
 
--- One piece.
-
 one_read : (r : Result (List (At Member)) Refusal) → (r >>= λ ms. Ok ms) ≡ r
 one_read (Ok ms) = refl
 one_read (Err f) = refl
@@ -82,7 +79,7 @@ replacement_opened g v flags p index = record {
   fewer = let s = steps_unresolved g flags (pieces_at g.definitions index) in omega (arith, s);
 }
 
--- a text that gives nothing
+-- no piece may be read instead of a text that gives nothing
 pub replacement_empty : (g : Glossary) (v : Bool) (r : Resolved) (cs : List ℕ) → resolved_sense g r ≡ Ok (spelled cs)
     → ((done : List (At Member)) → text_read v r.raw.start r.raw.end cs done ≡ Ok done) → Replacement g v [] (r ∷ [])
 replacement_empty g v r cs is nothing = record {
@@ -98,7 +95,7 @@ got ms = Ok ms
 ok_same : (ms ns : List (At Member)) → got ms ≡ got ns → ms ≡ ns
 ok_same ms ns e = cc
 
-empty_ordinary : (start end : ℕ) (r : Result (List Member) Malformed) → spanned start end (after_at start end [] r) ≡ Ok [] → (done : List (At Member)) → spanned start end (after_at start end done r) ≡ Ok done
+empty_ordinary : (start end : ℕ) (r : Result (List Member) ContentError) → spanned start end (after_at start end [] r) ≡ Ok [] → (done : List (At Member)) → spanned start end (after_at start end done r) ≡ Ok done
 empty_ordinary start end (Ok ms) e done = ap (λ (x : List (At Member)). Ok (done ++ x)) (ok_same (all_at start end ms) [] e) ∙ ap (λ (x : List (At Member)). Ok x) (append-nil done)
 empty_ordinary start end (Err f) e done = absurd cc
 
@@ -106,9 +103,7 @@ pub empty_anywhere : (v : Bool) (start end : ℕ) (cs : List ℕ) → text_read 
 empty_anywhere true start end cs e done = ap (λ (x : List (At Member)). Ok (done ++ x)) (ok_same (all_at start end (letters Verbatim (verbatim_text cs))) [] e) ∙ ap (λ (x : List (At Member)). Ok x) (append-nil done)
 empty_anywhere false start end cs e done = empty_ordinary start end (ordinary cs) e done
 
--- Openings.
-
--- what is read of a definition
+-- what is read of a definition may be read instead of its pieces
 pub replacement_read : (g : Glossary) (v : Bool) (vs : List (Vec ResolvedPiece Global)) (os : List Opening) (index : ℕ) → AreResolved g vs → AreOpenings g v vs os
     → Replacement g v (pieces_of_opening os vs (target os index)) (unresolved_at g.definitions index)
 replacement_read g v vs os index known all =
@@ -123,7 +118,7 @@ replacement_read g v vs os index known all =
     on_target None e = replacement_same g v (unresolved_at g.definitions index)
     on_target (Some o) e = (all.each index o e).another
 
--- those of its pieces that give something
+-- the pieces of a definition that may be read instead of all of them are an opening for it
 pub opens_part : (g : Glossary) (v : Bool) (vs : List (Vec ResolvedPiece Global)) (kept : Vec ResolvedPiece Global) (index : ℕ) → AreResolved g vs
     → Replacement g v (map resolved_piece_view kept.items) (resolved_at vs index) → Opens g v vs (Part kept) index
 opens_part g v vs kept index known stands = record {
@@ -134,7 +129,7 @@ opens_part g v vs kept index known stands = record {
 pub opens_whole : (g : Glossary) (v : Bool) (vs : List (Vec ResolvedPiece Global)) (index : ℕ) → AreResolved g vs → Opens g v vs Whole index
 opens_whole g v vs index known = record { itself = known.each v index; another = replacement_same g v (unresolved_at g.definitions index) }
 
--- what the one name opens that gives something
+-- what a piece opens is an opening for a definition instead of which that piece alone may be read
 pub opens_same : (g : Glossary) (v : Bool) (vs : List (Vec ResolvedPiece Global)) (os : List Opening) (kept : List Resolved) (index other : ℕ) → AreResolved g vs → AreOpenings g v vs os
     → Replacement g v kept (resolved_at vs index) → OpensAlone kept other → Opens g v vs (SameAs (target os other)) index
 opens_same g v vs os kept index other known all stands one = record {
@@ -151,7 +146,7 @@ opens_same g v vs os kept index other known all stands one = record {
     on_target None e = replacement_same g v (at other)
     on_target (Some o) e = (all.each other o e).another
 
--- each definition for itself
+-- each definition may be read as it is
 pub openings_whole : (g : Glossary) (v : Bool) (vs : List (Vec ResolvedPiece Global)) (count : ℕ) → AreResolved g vs → count ≡ length g.definitions → AreOpenings g v vs (replicate count Whole)
 openings_whole g v vs count known long = record {
   long = length-replicate count Whole ∙ long;
@@ -172,7 +167,7 @@ got_set (y ∷ os) (suc index) (suc i) o x is = one_on (got_set os index i o x i
     one_on (inl (e, h)) = inl (e, ap (λ (n : ℕ). suc n) h)
     one_on (inr e) = inr e
 
--- one more, where its name comes
+-- openings with another one for a definition are openings
 pub openings_set : (g : Glossary) (v : Bool) (vs : List (Vec ResolvedPiece Global)) (os : List Opening) (index : ℕ) (o : Opening) → AreOpenings g v vs os → Opens g v vs o index → AreOpenings g v vs (set os index o)
 openings_set g v vs os index o all one = record {
   long = length-set os index o ∙ all.long;
@@ -183,9 +178,7 @@ openings_set g v vs os index o all one = record {
     by_index i x (inl (e, h)) = subst (λ (n : ℕ). Opens g v vs x n) (sym h) (subst (λ (y : Opening). Opens g v vs y index) (sym e) one)
     by_index i x (inr is) = all.each i x is
 
--- Resolved definitions.
-
--- one more definition
+-- the pieces of one more definition are resolved
 pub resolved_more : (g : Glossary) (v : Bool) (vs : List (Vec ResolvedPiece Global)) (ds : List Field) (new : Vec ResolvedPiece Global) (d : Field) → length vs ≡ length ds
     → ((index : ℕ) → Replacement g v (resolved_at vs index) (unresolved_at ds index)) → Replacement g v (map resolved_piece_view new.items) (map unresolved d.value.v)
     → (index : ℕ) → Replacement g v (resolved_at (vs ++ new ∷ []) index) (unresolved_at (ds ++ d ∷ []) index)

@@ -3,7 +3,7 @@ use Rattle.std.proofs.Common.{◌≡◌, ℕ, ◌*◌, ◌%◌, ◌<◌, ◌^◌
 use Rattle.std.specs.Int.{bit_at}
 use Rattle.std.proofs.lemmas.Nat.Bits.{bit_at_set_same, bit_at_set_other}
 
--- each index has a mark that had one, and the index that was marked
+-- the bits that are set are those that were set and the one that is marked
 pub marked_too : (marks index : ℕ) → index < 64 → (i : ℕ) → (bit_at (bit_or marks (1 * 2 ^ index % 18446744073709551616)) i == 1) ≡ (i == index || bit_at marks i == 1)
 marked_too marks index within i = by_index (i == index) refl
   where

@@ -5,12 +5,11 @@ use Rattle.laws.proofs.Results.{bind_bind}
 use Rattle.std.proofs.lemmas.List.Elements.{All-head, All-tail}
 use Rattle.biblatex_text.specs.Raw.{At, Piece}
 use Rattle.biblatex_content.specs.Styled.{Member}
-use Rattle.biblatex_fields.specs.Abbreviations.{Refusal, Glossary, Sense, spelled, defined, sense, pieces_at, AreFlags}
+use Rattle.biblatex_fields.specs.Abbreviations.{Glossary, Sense, spelled, defined, sense, pieces_at, AreFlags}
+use Rattle.biblatex_fields.specs.Refusals.{Refusal}
 use Rattle.biblatex_fields.specs.Value.{Reading, in_order, by_sense, reading, read, text_read, ReadsByTheRule}
 use Rattle.biblatex_fields.specs.Openings.{Resolved, Replacement, parts_in, resolved_read, resolved_sense, unresolved, unresolved_at}
 use Rattle.biblatex_fields.proofs.ValueDepth.{IsLocal, deep_enough}
-
--- Reading.
 
 -- frames are read from the last to the first
 abbrev pub stack_read : {X : Type 0} → (X → Reading) → List (List X) → Reading
@@ -62,8 +61,6 @@ pub by_the_rule : (g : Glossary) → AreFlags g.flags g.definitions → ReadsByT
 unfolding read
 by_the_rule g flags is_verbatim p = deep_enough g (reading g is_verbatim) (λ ms. Ok ms) (reading_is_local g is_verbatim) flags p
 
--- Pieces as they are written.
-
 pub read_unresolved : (g : Glossary) (is_verbatim : Bool) → AreFlags g.flags g.definitions → (p : At Piece) (done : List (At Member)) → resolved_read g is_verbatim (unresolved p) done ≡ read g is_verbatim p done
 read_unresolved g is_verbatim flags p done = sym (λ i. by_the_rule g flags is_verbatim p i done)
 
@@ -86,13 +83,13 @@ after_frame g is_verbatim fs ps r = r >>= λ ms. stack_read (resolved_read g is_
 abbrev by_its_sense : Glossary → Bool → Resolved → List (At Member) → Result Sense Refusal → Result (List (At Member)) Refusal
 by_its_sense g is_verbatim p done r = r >>= λ s. by_sense (read g is_verbatim) is_verbatim p.raw.start p.raw.end s done
 
--- a fault of what the piece stands for
+-- a fault of what the first piece stands for is that of all that is left
 pub next_refused : (g : Glossary) (is_verbatim : Bool) (fs : List (List Resolved)) (p : Resolved) (ps : List Resolved) (done : List (At Member)) (f : Refusal)
     → resolved_sense g p ≡ Err f → stack_read (resolved_read g is_verbatim) (fs ++ (p ∷ ps) ∷ []) done ≡ Err f
 next_refused g is_verbatim fs p ps done f is = first_piece (resolved_read g is_verbatim) fs p ps done
     ∙ ap (λ (r : Result Sense Refusal). after_frame g is_verbatim fs ps (by_its_sense g is_verbatim p done r)) is
 
--- a text
+-- where the first piece stands for a text, the others are read after that
 pub next_spelled : (g : Glossary) (is_verbatim : Bool) (fs : List (List Resolved)) (p : Resolved) (ps : List Resolved) (done : List (At Member)) (cs : List ℕ) (r : Result (List (At Member)) Refusal)
     → resolved_sense g p ≡ Ok (spelled cs) → text_read is_verbatim p.raw.start p.raw.end cs done ≡ r
     → stack_read (resolved_read g is_verbatim) (fs ++ (p ∷ ps) ∷ []) done ≡ (r >>= λ ms. stack_read (resolved_read g is_verbatim) (fs ++ ps ∷ []) ms)
@@ -100,7 +97,7 @@ next_spelled g is_verbatim fs p ps done cs r is given = first_piece (resolved_re
     ∙ (ap (λ (x : Result Sense Refusal). after_frame g is_verbatim fs ps (by_its_sense g is_verbatim p done x)) is
     ∙ ap (after_frame g is_verbatim fs ps) given)
 
--- the pieces of a definition, of which others are read instead of them
+-- where the first piece opens a definition, what is read instead of its pieces is a frame of its own
 pub next_opened : (g : Glossary) (is_verbatim : Bool) → AreFlags g.flags g.definitions → (fs : List (List Resolved)) (p : Resolved) (ps qs : List Resolved) (index : ℕ) (done : List (At Member))
     → resolved_sense g p ≡ Ok (defined (pieces_at g.definitions index)) → Replacement g is_verbatim qs (unresolved_at g.definitions index)
     → stack_read (resolved_read g is_verbatim) (fs ++ (p ∷ ps) ∷ []) done ≡ stack_read (resolved_read g is_verbatim) ((fs ++ ps ∷ []) ++ qs ∷ []) done
@@ -109,7 +106,7 @@ next_opened g is_verbatim flags fs p ps qs index done is s = first_piece (resolv
     ∙ (ap (after_frame g is_verbatim fs ps) (sym (s.same done ∙ in_order_unresolved g is_verbatim flags (pieces_at g.definitions index) done))
     ∙ sym (pushed (resolved_read g is_verbatim) (fs ++ ps ∷ []) qs done)))
 
--- one frame
+-- one frame alone gives what the pieces give instead of which it is read
 pub one_frame : (g : Glossary) (is_verbatim : Bool) → AreFlags g.flags g.definitions → (qs : List Resolved) (index : ℕ) (done : List (At Member)) → Replacement g is_verbatim qs (unresolved_at g.definitions index)
     → stack_read (resolved_read g is_verbatim) (qs ∷ []) done ≡ in_order (read g is_verbatim) (pieces_at g.definitions index) done
 one_frame g is_verbatim flags qs index done s = s.same done ∙ in_order_unresolved g is_verbatim flags (pieces_at g.definitions index) done

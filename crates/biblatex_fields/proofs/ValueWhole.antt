@@ -9,7 +9,8 @@ use Rattle.biblatex_content.specs.Spans.{spanned_so_far, tidied_at, chunk_spans,
 use Rattle.biblatex_content.specs.Tidy.{tidied}
 use Rattle.biblatex_content.specs.Views.{so_far, styled}
 use Rattle.biblatex_content.proofs.SpansForgotten.{so_far_forgotten}
-use Rattle.biblatex_fields.specs.Abbreviations.{Refusal, Glossary}
+use Rattle.biblatex_fields.specs.Abbreviations.{Glossary}
+use Rattle.biblatex_fields.specs.Refusals.{Refusal}
 use Rattle.biblatex_fields.specs.Value.{Value, field_value_view, value_from, members_of, value_in}
 
 -- chunks that spell the members, each with its span, and that are joined

@@ -3,18 +3,23 @@
 use Rattle.std.specs.Prelude.{◌≡◌, ◌↔◌, ℕ, suc, ◌<◌, Bool, false, IsTrue, List, [], ◌∷◌, All, map, length, get_or, slice_get, if◌then◌else◌, Option, Some, None, Result, Ok, Err}
 use Rattle.std.specs.Str.{bytes_eq, chars}
 use Rattle.std.specs.List.{flat_map}
-use Rattle.laws.specs.Text.{lowered}
+use Rattle.laws.specs.Text.{text, lowered}
 use Rattle.biblatex_text.specs.Raw.{At, Piece, normal, abbreviation, Field}
 use Rattle.reference_graph.specs.References.{IsCircular}
 use Rattle.reference_graph.specs.Order.{Arranged, MarksCircular, is_marked}
 use Rattle.biblatex_fields.specs.Month.{month}
+use Rattle.biblatex_fields.specs.Refusals.{unknown_abbreviation, abbreviation_cycle, malformed_command, Refusal, refused_at}
 
 -- Why a field is refused: a name that means nothing, a circular name, each as it is written at the piece that is opened, or
 -- a malformed command in the piece at these bytes.
-pub data Refusal : Type 0 where
-  unknown : At (List ℕ) → Refusal
-  circular : At (List ℕ) → Refusal
-  malformed : ℕ → ℕ → Refusal
+abbrev pub unknown : At (List ℕ) → Refusal
+unknown name = refused_at name (unknown_abbreviation (text name.v))
+
+abbrev pub circular : At (List ℕ) → Refusal
+circular name = refused_at name (abbreviation_cycle (text name.v))
+
+abbrev pub malformed : ℕ → ℕ → Refusal
+malformed start end = record { reason = malformed_command; start = start; end = end }
 
 -- an index after another, or the first one
 abbrev pub later : Option ℕ → Bool → Option ℕ

@@ -14,7 +14,8 @@ use Rattle.biblatex_text.specs.Raw.{Field}
 use Rattle.biblatex_text.specs.declared.spanned.Spanned.{Spanned}
 use Rattle.biblatex_content.specs.Styled.{Member}
 use Rattle.biblatex_content.specs.declared.chunk.Chunk.{Chunk}
-use Rattle.biblatex_fields.specs.Abbreviations.{Refusal, Glossary}
+use Rattle.biblatex_fields.specs.Abbreviations.{Glossary}
+use Rattle.biblatex_fields.specs.Refusals.{Refusal}
 use Rattle.biblatex_fields.specs.Value.{Value, field_value_view, value_of}
 
 -- a name and its value
@@ -32,7 +33,7 @@ value_named name fs = lookup (bytes_eq name) fs
 abbrev pub text_named : List ℕ → List Named → Option (List Member)
 text_named name fs = option_map (λ v. v.text) (value_named name fs)
 
--- fields without a name
+-- fields without the one of a name
 abbrev pub without_field : List ℕ → List Named → List Named
 without_field name fs = remove_entry (bytes_eq name) fs
 

@@ -1,7 +1,9 @@
 pub mod Month
+pub mod Refusals
 pub mod Abbreviations
 pub mod Value
 pub mod Openings
 pub mod Fields
 pub mod Views
+pub mod Errors
 pub mod Slots

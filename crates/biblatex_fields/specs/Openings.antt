@@ -8,7 +8,8 @@ use Rattle.biblatex_content.specs.Styled.{Member}
 use Rattle.biblatex_fields.specs.declared.openings.Opening.{Opening}
 use Rattle.biblatex_fields.specs.declared.openings.Opening.TheVariants.{Whole, Part, SameAs}
 use Rattle.biblatex_fields.specs.declared.openings.ResolvedPiece.{ResolvedPiece}
-use Rattle.biblatex_fields.specs.Abbreviations.{Refusal, Glossary, AreFlags, Sense, spelled, defined, sense, pieces_at}
+use Rattle.biblatex_fields.specs.Abbreviations.{Glossary, AreFlags, Sense, spelled, defined, sense, pieces_at}
+use Rattle.biblatex_fields.specs.Refusals.{Refusal}
 use Rattle.biblatex_fields.specs.Value.{Reading, in_order, by_sense, read, deep}
 
 -- A piece of a definition, with the definition that its name opens, if this has been found.

@@ -14,7 +14,8 @@ use Rattle.biblatex_content.specs.Tidy.{tidied}
 use Rattle.biblatex_content.specs.Parted.{are_parted}
 use Rattle.biblatex_content.specs.Spans.{all_at, without_spans, after_at, tidied_at, chunk_spans, member_spans}
 use Rattle.biblatex_content.specs.Views.{styled}
-use Rattle.biblatex_fields.specs.Abbreviations.{Refusal, malformed, Glossary, Sense, spelled, defined, sense}
+use Rattle.biblatex_fields.specs.Abbreviations.{malformed, Glossary, Sense, spelled, defined, sense}
+use Rattle.biblatex_fields.specs.Refusals.{Refusal}
 
 -- The view of the chunks of a value: the styled text that they spell, where each of them stands, and whether they are joined, so
 -- that no text is empty and no two neighbours are text of one kind.

@@ -5,10 +5,11 @@ ghost use Rattle.biblatex_text.specs.Views.{field_view, piece_view};
 ghost use Rattle.biblatex_fields.specs.Abbreviations.{Glossary, AreFlags, sense};
 ghost use Rattle.biblatex_fields.specs.Openings.{AreOpenings, AreResolved, Replacement, resolved_piece_view, resolved_sense, unresolved_at};
 ghost use Rattle.biblatex_fields.specs.Value.{ReadsByTheRule};
-ghost use Rattle.biblatex_fields.specs.Views.{sense_view, refusal_of};
+ghost use Rattle.biblatex_fields.specs.Errors.{refusal_of};
+ghost use Rattle.biblatex_fields.specs.Views.{sense_view};
 ghost use Rattle.laws.specs.Results.{Gives};
 
-use crate::error::FieldError;
+use crate::error::ParseError;
 use crate::glossary::{Glossary, Sense, indices_of};
 use crate::openings::{Opening, ResolvedPiece};
 use crate::references::{circular_in, order_of};
@@ -73,7 +74,7 @@ impl<'r, 's> Abbreviations<'r, 's> {
         &self,
         alloc: Global,
         raw: &Spanned<RawChunk<'s>>,
-    ) -> Result<Sense<'s>, FieldError<'s>>
+    ) -> Result<Sense<'s>, ParseError>
         ensures sense { Gives refusal_of (sense_view self.now.definitions) result
             (sense self.now (piece_view raw.now)) }
         ensures flags { AreFlags self.now.flags self.now.definitions }
@@ -86,7 +87,7 @@ impl<'r, 's> Abbreviations<'r, 's> {
         &self,
         alloc: Global,
         piece: &ResolvedPiece<'s>,
-    ) -> Result<Sense<'s>, FieldError<'s>>
+    ) -> Result<Sense<'s>, ParseError>
         ensures { Gives refusal_of (sense_view self.now.definitions) result
             (resolved_sense self.now (resolved_piece_view piece.now)) }
     {

@@ -1,58 +1,102 @@
-//! Why a field could not be read.
+//! Why a text could not be read.
 
-ghost use Rattle.std.specs.Prelude.{◌≡◌};
-ghost use Rattle.biblatex_fields.specs.declared.error.FieldError.TheVariants.{Memory, Fault};
+ghost use Rattle.std.specs.Prelude.{◌≡◌, Some};
+ghost use Rattle.biblatex_fields.specs.Errors.{reason_view, reason_text, error_text};
+ghost use Rattle.biblatex_fields.specs.declared.error.ParseError.TheVariants.{Memory};
 
-use biblatex_content::{Span, Spanned};
+use biblatex_content::Span;
+use biblatex_dates::TypeErrorKind;
+use biblatex_text::Token;
 use std::alloc::{AllocError, AllocFailed};
-use thiserror::Error;
+use std::error::Error;
+use std::fmt;
 
-/// What is wrong with a field. Offsets are bytes of the whole source.
-#[derive(Clone, Debug, PartialEq, Eq, Drop, Error)]
-pub enum FieldFault<'s> {
-    /// The name that is opened there, as it is written, has no definition and is no month's.
-    #[error("unknown abbreviation {}", .0.v)]
-    UnknownAbbreviation(Spanned<&'s str>),
-    /// The name that is opened there, as it is written, reaches itself through the names in its definitions.
-    #[error("abbreviation {} reaches itself", .0.v)]
-    AbbreviationCycle(Spanned<&'s str>),
-    /// The piece that stands there has a brace without a partner, ends in a lone backslash, or has an accent without an
-    /// argument.
-    #[error("malformed command")]
-    MalformedCommand(Span),
+/// What is wrong with a text.
+#[derive(Debug, PartialEq, Eq, Drop)]
+pub enum ParseErrorKind {
+    /// The text ends where an item is open.
+    UnexpectedEof,
+    /// The mark may not stand there.
+    Unexpected(Token),
+    /// Another mark must stand there.
+    Expected(Token),
+    /// The name, as it is written, has no definition and is no month's.
+    UnknownAbbreviation(String),
+    /// The name, as it is written, reaches itself through the names in its definitions.
+    AbbreviationCycle(String),
+    /// A piece of a field has a brace without a partner, ends in a lone backslash, or has an accent without an argument.
+    MalformedCommand,
+    /// The key of an entry is the key or an alias of an earlier one.
+    DuplicateKey(String),
+    /// The entry of this key reaches itself by `crossref` and `xdata`.
+    ReferenceCycle(String),
+    /// An entry that needs a date refers to another one whose date cannot be read.
+    ResolutionError(TypeErrorKind),
 }
 
-/// Why a field was refused.
-#[derive(Debug, Drop, Error)]
-pub enum FieldError<'s> {
+/// Why a text could not be read.
+#[derive(Debug, Drop)]
+pub enum ParseError {
     /// A request for memory was refused.
-    #[error("out of memory")]
     Memory,
-    /// The field is not as it should be.
-    #[error("{0}")]
-    Fault(FieldFault<'s>),
+    /// The text is not as it should be.
+    Refused {
+        /// What is wrong.
+        kind: ParseErrorKind,
+        /// Where it stands, in bytes of the source: the one byte, or the end, at which the raw grammar refuses the text, as
+        /// an empty span; the written name of an abbreviation; the piece with a malformed command; the key of an entry. Of
+        /// an unreadable date it is the key of the entry that has it.
+        span: Span,
+    },
 }
 
-impl<'s> From<AllocError> for FieldError<'s> {
-    ghost from_gives = { λ _ e. e ≡ Memory };
+/// What is wrong, in a line.
+impl fmt::Display for ParseErrorKind {
+    ghost output = { λ kind. Some (reason_text (reason_view kind)) };
 
-    fn from(_error: AllocError) -> FieldError<'s> {
-        FieldError::Memory
+    fn fmt<W: fmt::Write>(&self, f: &mut fmt::Formatter<W>) -> fmt::Result {
+        match self {
+            ParseErrorKind::UnexpectedEof => f.write_str("unexpected end of file"),
+            ParseErrorKind::Unexpected(token) => write!(f, "unexpected {token}"),
+            ParseErrorKind::Expected(token) => write!(f, "expected {token}"),
+            ParseErrorKind::UnknownAbbreviation(name) => write!(f, "unknown abbreviation {name}"),
+            ParseErrorKind::AbbreviationCycle(name) => write!(f, "circular abbreviation {name}"),
+            ParseErrorKind::MalformedCommand => f.write_str("malformed command"),
+            ParseErrorKind::DuplicateKey(key) => write!(f, "duplicate key {key}"),
+            ParseErrorKind::ReferenceCycle(key) => write!(f, "circular reference {key}"),
+            ParseErrorKind::ResolutionError(_) => f.write_str("unreadable date"),
+        }
     }
 }
 
-impl<'s, T: Drop> From<AllocFailed<T>> for FieldError<'s> {
-    ghost from_gives = { λ _ e. e ≡ Memory };
+impl Error for ParseErrorKind {}
 
-    fn from(_error: AllocFailed<T>) -> FieldError<'s> {
-        FieldError::Memory
+/// Why the text could not be read, in a line.
+impl fmt::Display for ParseError {
+    ghost output = { λ error. Some (error_text error) };
+
+    fn fmt<W: fmt::Write>(&self, f: &mut fmt::Formatter<W>) -> fmt::Result {
+        match self {
+            ParseError::Memory => f.write_str("out of memory"),
+            ParseError::Refused { kind, .. } => write!(f, "{kind}"),
+        }
     }
 }
 
-impl<'s> From<FieldFault<'s>> for FieldError<'s> {
-    ghost from_gives = { λ fault e. e ≡ Fault fault };
+impl Error for ParseError {}
 
-    fn from(fault: FieldFault<'s>) -> FieldError<'s> {
-        FieldError::Fault(fault)
+impl From<AllocError> for ParseError {
+    ghost from_gives = { λ _ e. e ≡ Memory };
+
+    fn from(_error: AllocError) -> ParseError {
+        ParseError::Memory
+    }
+}
+
+impl<T: Drop> From<AllocFailed<T>> for ParseError {
+    ghost from_gives = { λ _ e. e ≡ Memory };
+
+    fn from(_error: AllocFailed<T>) -> ParseError {
+        ParseError::Memory
     }
 }

@@ -7,11 +7,11 @@ ghost use Rattle.biblatex_text.specs.Views.{fields_view};
 ghost use Rattle.biblatex_fields.specs.Fields.{Named, named_fields_view, value_named, with_field, without_field, AreInOrder, fields_of};
 ghost use Rattle.biblatex_fields.specs.Slots.{AreMarked};
 ghost use Rattle.biblatex_fields.specs.Value.{field_value_view};
-ghost use Rattle.biblatex_fields.specs.Views.{refusal_of};
+ghost use Rattle.biblatex_fields.specs.Errors.{refusal_of};
 ghost use Rattle.laws.specs.Results.{Gives};
 
 use crate::abbreviations::Abbreviations;
-use crate::error::FieldError;
+use crate::error::ParseError;
 use crate::glossary::lowered;
 use crate::slots::Slots;
 use biblatex_content::Chunks;
@@ -39,7 +39,7 @@ impl Model for Fields {
 }
 
 impl Fields {
-    /// No field.
+    /// The fields of an entry that has none.
     pub fn new(alloc: Global) -> Fields
         ensures { result ≡ [] }
     {
@@ -56,7 +56,7 @@ impl Fields {
         self.values.len()
     }
 
-    /// Whether there is none.
+    /// Whether there are no fields.
     pub fn is_empty(&self) -> bool
         ensures { result ≡ (length self.now == 0) }
     {
@@ -74,8 +74,8 @@ impl Fields {
         self.values.get(name)
     }
 
-    /// Puts a field in, instead of one of equal name. The name is taken as it is given; fields that are written in a text have names in
-    /// lower ASCII case.
+    /// Inserts a field, or replaces the one of equal name. The name is taken as it is given; fields that are written in
+    /// a text have names in lower ASCII case.
     pub fn insert(&mut self, name: String, value: Chunks) -> Result<(), AllocError>
         ensures ok { OnOk result (self.new
             ≡ with_field self.old (string_bytes name) (field_value_view value.items)) }
@@ -89,7 +89,7 @@ impl Fields {
         Ok(())
     }
 
-    /// Takes the field of that name out.
+    /// Removes the field of that name, and returns its value.
     pub fn remove(&mut self, name: &str) -> Option<Chunks>
         ensures value { option_map (λ v. field_value_view v.items) result
             ≡ value_named name.now self.old }
@@ -122,7 +122,7 @@ pub fn read_fields<'s>(
     alloc: Global,
     abbreviations: &Abbreviations<'_, 's>,
     entry: &RawEntry<'s>,
-) -> Result<Fields, FieldError<'s>>
+) -> Result<Fields, ParseError>
     ensures { Gives refusal_of (λ fs. fs) result
         (fields_of abbreviations.now (fields_view entry.now.fields)) }
 {

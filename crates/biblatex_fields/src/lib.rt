@@ -14,5 +14,5 @@ mod value;
 
 pub use abbreviations::Abbreviations;
 pub use biblatex_content::{Chunk, Chunks, ChunksExt, Span, Spanned};
-pub use error::{FieldError, FieldFault};
+pub use error::{ParseError, ParseErrorKind};
 pub use fields::{Fields, read_fields};

@@ -12,7 +12,7 @@ ghost use Rattle.biblatex_fields.specs.Openings.{AreOpenings, AreResolved, Opens
 ghost use Rattle.biblatex_fields.specs.Value.{text_read};
 ghost use Rattle.biblatex_fields.specs.declared.openings.Opening.TheVariants.{Whole};
 
-use crate::error::FieldError;
+use crate::error::ParseError;
 use crate::glossary::{Glossary, Sense};
 use crate::text::push_text;
 use biblatex_content::{Contents, Span};
@@ -29,9 +29,9 @@ pub(crate) struct ResolvedPiece<'s> {
 /// What is read instead of the pieces of a definition.
 #[derive(Drop)]
 pub(crate) enum Opening<'s> {
-    /// They themselves.
+    /// The pieces themselves.
     Whole,
-    /// Those of them that do not give nothing.
+    /// Those of the pieces that give something.
     Part(Vec<ResolvedPiece<'s>>),
     /// What is read of the definition at the index.
     SameAs(usize),
@@ -53,8 +53,8 @@ fn is_empty_text(
     }
     match push_text(Contents::new(alloc), is_verbatim, span, text) {
         Ok(contents) => Ok(contents.is_empty()),
-        Err(FieldError::Memory) => Err(AllocError),
-        Err(FieldError::Fault(_)) => Ok(false),
+        Err(ParseError::Memory) => Err(AllocError),
+        Err(ParseError::Refused { .. }) => Ok(false),
     }
 }
 
@@ -96,7 +96,7 @@ fn pieces_of_opening<'a, 's>(
     }
 }
 
-/// So many definitions of which all pieces are read.
+/// The openings of `count` definitions of which all pieces are read.
 fn all_whole<'s>(alloc: Global, count: usize) -> Result<Vec<Opening<'s>>, AllocError>
     ensures { IfOk result (λ v. v.items ≡ replicate count Whole) }
 {
@@ -129,8 +129,8 @@ impl<'r, 's> Glossary<'r, 's> {
     {
         match self.sense(alloc, raw) {
             Ok(Sense::Defined(index)) => Ok(Some(index)),
-            Err(FieldError::Memory) => Err(AllocError),
-            Ok(Sense::Spelled(_)) | Err(FieldError::Fault(_)) => Ok(None),
+            Err(ParseError::Memory) => Err(AllocError),
+            Ok(Sense::Spelled(_)) | Err(ParseError::Refused { .. }) => Ok(None),
         }
     }
 

@@ -1,4 +1,4 @@
-//! Slots of names, by which most names that are not there are told without a search.
+//! Slots of names, by which most names that are not there are recognised without a search.
 
 ghost use Rattle.std.specs.Prelude.{◌≡◌, ◌==◌, ◌<◌, ◌||◌, ℕ, false, List};
 ghost use Rattle.biblatex_fields.specs.Slots.{slot, is_marked};
@@ -11,7 +11,7 @@ pub(crate) struct Slots {
 }
 
 impl Slots {
-    /// No slot is marked.
+    /// Slots of which none is marked.
     pub fn new() -> Slots
         ensures { (q : List ℕ) → is_marked result.marks q ≡ false }
     {

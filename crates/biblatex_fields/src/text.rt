@@ -3,20 +3,20 @@
 ghost use Rattle.std.specs.Str.{chars};
 ghost use Rattle.biblatex_content.specs.Spans.{spanned_so_far};
 ghost use Rattle.biblatex_fields.specs.Value.{text_read};
-ghost use Rattle.biblatex_fields.specs.Views.{refusal_of};
+ghost use Rattle.biblatex_fields.specs.Errors.{refusal_of};
 ghost use Rattle.laws.specs.Results.{Gives};
 
-use crate::error::{FieldError, FieldFault};
+use crate::error::{ParseError, ParseErrorKind};
 use biblatex_content::{ContentError, Contents, Span};
 use biblatex_text::Spanned;
 
 /// Appends what a text gives after what was read. The text is of the piece at the span.
-pub(crate) fn push_text<'s>(
+pub(crate) fn push_text(
     contents: Contents,
     is_verbatim: bool,
     span: &Span,
     text: &str,
-) -> Result<Contents, FieldError<'s>>
+) -> Result<Contents, ParseError>
     ensures { Gives refusal_of spanned_so_far result (text_read is_verbatim
         span.now.start span.now.end (chars text.now) (spanned_so_far contents)) }
 {
@@ -26,9 +26,10 @@ pub(crate) fn push_text<'s>(
     }
     match contents.push_ordinary(piece) {
         Ok(contents) => Ok(contents),
-        Err(ContentError::Memory) => Err(FieldError::Memory),
-        Err(ContentError::MalformedCommand) => Err(FieldError::Fault(FieldFault::MalformedCommand(
-            span.start..span.end,
-        ))),
+        Err(ContentError::Memory) => Err(ParseError::Memory),
+        Err(ContentError::MalformedCommand) => Err(ParseError::Refused {
+            kind: ParseErrorKind::MalformedCommand,
+            span: span.start..span.end,
+        }),
     }
 }

@@ -6,12 +6,12 @@ ghost use Rattle.biblatex_text.specs.Views.{field_view, piece_view};
 ghost use Rattle.biblatex_content.specs.Spans.{spanned_so_far};
 ghost use Rattle.biblatex_fields.specs.Abbreviations.{pieces_at};
 ghost use Rattle.biblatex_fields.specs.Value.{in_order, read, field_value_view, value_in, value_of};
-ghost use Rattle.biblatex_fields.specs.Views.{refusal_of};
+ghost use Rattle.biblatex_fields.specs.Errors.{refusal_of};
 ghost use Rattle.laws.specs.Results.{Gives};
 ghost use Rattle.laws.specs.Text.{lowered};
 
 use crate::abbreviations::Abbreviations;
-use crate::error::FieldError;
+use crate::error::ParseError;
 use crate::glossary::{Sense, lowered};
 use crate::text::push_text;
 use biblatex_content::{Chunks, Contents, is_verbatim_field};
@@ -26,7 +26,7 @@ impl<'r, 's> Abbreviations<'r, 's> {
         is_verbatim: bool,
         mut contents: Contents,
         index: usize,
-    ) -> Result<Contents, FieldError<'s>>
+    ) -> Result<Contents, ParseError>
         ensures { Gives refusal_of spanned_so_far result (in_order (read self.now is_verbatim)
             (pieces_at self.now.definitions index) (spanned_so_far contents)) }
     {
@@ -54,7 +54,7 @@ impl<'r, 's> Abbreviations<'r, 's> {
         is_verbatim: bool,
         contents: Contents,
         raw: &Spanned<RawChunk<'s>>,
-    ) -> Result<Contents, FieldError<'s>>
+    ) -> Result<Contents, ParseError>
         ensures { Gives refusal_of spanned_so_far result
             (read self.now is_verbatim (piece_view raw.now) (spanned_so_far contents)) }
     {
@@ -70,7 +70,7 @@ impl<'r, 's> Abbreviations<'r, 's> {
         alloc: Global,
         is_verbatim: bool,
         pieces: &[Spanned<RawChunk<'s>>],
-    ) -> Result<Contents, FieldError<'s>>
+    ) -> Result<Contents, ParseError>
         ensures { Gives refusal_of spanned_so_far result
             (in_order (read self.now is_verbatim) (map piece_view pieces.now) []) }
     {
@@ -94,7 +94,7 @@ impl<'r, 's> Abbreviations<'r, 's> {
         alloc: Global,
         key: &str,
         field: &[Spanned<RawChunk<'s>>],
-    ) -> Result<Chunks, FieldError<'s>>
+    ) -> Result<Chunks, ParseError>
         ensures { Gives refusal_of (λ cs. field_value_view cs.items) result
             (value_in self.now (chars key.now) (map piece_view field.now)) }
     {
@@ -109,7 +109,7 @@ impl<'r, 's> Abbreviations<'r, 's> {
         alloc: Global,
         name: &str,
         field: &[Spanned<RawChunk<'s>>],
-    ) -> Result<Chunks, FieldError<'s>>
+    ) -> Result<Chunks, ParseError>
         ensures { (key : List ℕ) → name.now ≡ lowered key
             → Gives refusal_of (λ cs. field_value_view cs.items) result
             (value_in self.now key (map piece_view field.now)) }
@@ -123,7 +123,7 @@ impl<'r, 's> Abbreviations<'r, 's> {
     /// # Errors
     ///
     /// Those of `parse_field`.
-    pub fn read(&self, alloc: Global, pair: &Pair<'s>) -> Result<Chunks, FieldError<'s>>
+    pub fn read(&self, alloc: Global, pair: &Pair<'s>) -> Result<Chunks, ParseError>
         ensures { Gives refusal_of (λ cs. field_value_view cs.items) result
             (value_of self.now (field_view pair.now)) }
     {

@@ -5,6 +5,7 @@ use Rattle.std.specs.Fmt.{decimal, sign_text}
 use Rattle.std.specs.Int.{is_negative}
 use Rattle.std.specs.List.{AllByRecursion}
 use Rattle.std.proofs.lemmas.List.{length-replicate}
+use Rattle.laws.specs.Characters.{digit_zero}
 use Rattle.laws.specs.Text.{is_filled}
 use Rattle.date_parts.specs.Written.{padded, year_text}
 use Rattle.biblatex_dates.specs.Date.{date_without_time}
@@ -23,7 +24,7 @@ use Rattle.biblatex_inheritance.specs.Resolved.{Table, Offer, first, offered, fi
 
 -- no date is written as an empty text
 padded_long : (width n : ℕ) → width ≤ length (padded width n)
-padded_long width n = omega (arith, length-append (replicate (width - length (decimal n)) 48) (decimal n), length-replicate {A = ℕ} (width - length (decimal n)) 48)
+padded_long width n = omega (arith, length-append (replicate (width - length (decimal n)) digit_zero) (decimal n), length-replicate {A = ℕ} (width - length (decimal n)) digit_zero)
 
 datetime_long : (d : Datetime) → 0 < length (datetime_text d)
 datetime_long d =
@@ -80,7 +81,7 @@ joined_dated (Some d) t joined name = by_date (bytes_eq name (codes "date"))
     by_date true = date_filled (date_without_time d)
     by_date false = joined_unless (bytes_eq name (codes "year") || (bytes_eq name (codes "month") || bytes_eq name (codes "day"))) (t name) (joined name)
 
--- what an entry resolves to
+-- the values that an entry resolves to are joined
 pub joined_resolved : (e : Source) (os : List Offer) → IsJoinedTable (own e) → AllByRecursion (λ o. IsJoinedTable o.fields) os → IsJoinedTable (resolved e os)
 joined_resolved e os joined all =
     joined_dated (date_for (role_of e.entry_type) os) (undated e os) (λ name. joined_first (own e name) (first_offer (role_of e.entry_type) os name) (joined name) (joined_offers (role_of e.entry_type) os all name))

@@ -54,7 +54,7 @@ resolved_first old R faults many = record {
 head_at : (o c : Option Entry) (e d : Entry) → o ≡ Some e → c ≡ Some d → string_bytes d.key ≡ string_bytes e.key → type_name d.entry_type ≡ type_name e.entry_type → HasSameHead o c
 head_at o c e d is_o is_c key kind = rw (is_o, is_c) (key, kind)
 
--- one more was resolved
+-- with one more entry resolved, those so far are
 pub resolved_more : (old cur new : List Entry) (R : List (List ℕ)) (order : List ℕ) (k : ℕ) (faults : List (Option DateFault)) (fault : Option DateFault)
     → IsOrder R order → NoneIsCircular R → length R ≡ length old → k < length order
     → IsResolvedUpTo old cur R (take k order) faults → IsResolvedAt cur new (get_or order k 0) (offers_in cur (references_of R (get_or order k 0))) fault

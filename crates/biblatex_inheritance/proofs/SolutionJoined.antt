@@ -33,7 +33,7 @@ from_memory es all i = subst (λ (o : Option Source). IfSome o (λ e. AreJoined 
     by_entry None one = tt
     by_entry (Some e) one = one
 
--- what references have to offer
+-- the values that references have to offer are joined
 joined_offers : (es : List Entry) (rs : List ℕ) → AreJoinedEntries es → AllByRecursion (λ (o : Offer). IsJoinedTable o.fields) (offers_in es rs)
 joined_offers es [] all = tt
 joined_offers es (r ∷ rs) all = by_entry (slice_get es r) (all r) (joined_offers es rs all)
@@ -62,7 +62,7 @@ joined_set old n rs d low table all i = by_index (number_is i n)
     by_index (inl same) = subst (λ (k : ℕ). IsJoinedEntry (slice_get (set old n d) k)) (sym same) (subst IsJoinedEntry (sym (slice_get-set_same old n d low)) fields)
     by_index (inr apart) = subst IsJoinedEntry (sym (slice_get-set_other old n i d apart)) (all i)
 
--- one entry more is resolved
+-- with one more entry resolved, the chunks of all are still joined
 pub joined_more : (old new : List Entry) (n : ℕ) (rs : List ℕ) (d : Entry) → n < length old → new ≡ set old n d → IsTable d.fields (resolved (source_view (get_or old n d)) (offers_in old rs)) → HaveJoinedFields (sources_view old)
     → HaveJoinedFields (sources_view new)
 joined_more old new n rs d low is table all = from_memory new (subst AreJoinedEntries (sym is) (joined_set old n rs d low table (in_memory old all)))

@@ -53,7 +53,7 @@ not_from_before R order k i o none low before refers =
     let there = take_has at.0 order (get_or order k 0) (omega (arith, at.1)) following in
     not_before R order k o low (in_take k order there.0 (get_or order k 0) (omega arith) (omega (arith, at.1, there.1)) there.2)
 
--- those up to an index
+-- a number up to an index stands before it or at it
 pub up_to : (order : List ℕ) (k i : ℕ) → k < length order → Contains (take (k + 1) order) i → Contains (take k order) i ⊎ (get_or order k 0 ≡ i)
 up_to order k i low has =
     let e : k + 1 ≡ suc k = omega arith in

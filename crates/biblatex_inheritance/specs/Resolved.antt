@@ -31,12 +31,12 @@ pub record Offer : Type 0 where
   pub role : Role
   pub fields : Table
 
--- the first of two values
+-- the first of two values, or the second where there is no first
 abbrev pub first : Option Value → Option Value → Option Value
 first None other = other
 first (Some v) other = Some v
 
--- what one reference offers under a name, and what the first reference does that offers it
+-- what one reference offers under a name
 abbrev pub offered : Role → Role → Table → Table
 offered to from fields name = if inherits to name then fields (source_name to from name) else None
 
@@ -113,7 +113,7 @@ text_value cs = record { text = letters Normal cs; spans = (2 ^ 64 - 1, 2 ^ 64 -
 abbrev pub date_value : Date → Value
 date_value d = text_value (date_text (date_without_time d))
 
--- a date that comes stands for the entry's own date, year, month and day
+-- a date that is inherited replaces the entry's own date, year, month and day
 abbrev pub with_date : Date → Table → Table
 with_date d fields name =
     if bytes_eq name (codes "date") then Some (date_value d)

@@ -32,7 +32,7 @@ entry_table_view (Some e) name = value_named name e.fields
 abbrev pub tables_view : List Entry → ℕ → Table
 tables_view es i = entry_table_view (slice_get es i)
 
--- an index keeps its entry's key and type
+-- an entry keeps its key and type
 abbrev pub HasSameHead : Option Entry → Option Entry → Type 0
 HasSameHead None None = Unit {0}
 HasSameHead (Some e) (Some d) = (string_bytes d.key ≡ string_bytes e.key) × (type_name d.entry_type ≡ type_name e.entry_type)

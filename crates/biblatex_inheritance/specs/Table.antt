@@ -18,14 +18,14 @@ of_all =
     codes "langid" ∷ codes "institution" ∷ codes "school" ∷ codes "organization" ∷ codes "version" ∷ codes "pubstate" ∷
     codes "maintitle" ∷ codes "mainsubtitle" ∷ codes "eventtitle" ∷ codes "eventdate" ∷ codes "origdate" ∷ []
 
--- those that articles inherit as well, and those that parts of books and the like do
+-- the fields that articles inherit as well
 abbrev pub of_articles : List (List ℕ)
 of_articles = codes "journaltitle" ∷ codes "journalsubtitle" ∷ codes "journal" ∷ codes "issue" ∷ []
 
 abbrev pub of_parts : List (List ℕ)
 of_parts = codes "booktitle" ∷ codes "booksubtitle" ∷ codes "bookauthor" ∷ []
 
--- those that never come, not even where any field does
+-- the fields that are never inherited, not even by xdata entries, which inherit all others
 abbrev pub never : List (List ℕ)
 never = codes "crossref" ∷ codes "ids" ∷ codes "xdata" ∷ codes "title" ∷ codes "addendum" ∷ codes "note" ∷ []
 

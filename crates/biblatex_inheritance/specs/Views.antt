@@ -22,15 +22,11 @@ table_view fs name = value_named name fs
 abbrev pub offer : ℕ → Entry → Offer
 offer n e = record { number = n; role = role_of (type_name e.entry_type); fields = table_view e.fields }
 
--- borrowed texts
-abbrev pub texts_view : List (Bor (List ℕ)) → List (List ℕ)
-texts_view ts = map (λ t. t.now) ts
-
 -- what is lacking comes where it is offered
 abbrev pub PassesOn : List Named → List Named → Table → Type 0
 PassesOn old new offers = (name : List ℕ) → value_named name new ≡ first (value_named name old) (offers name)
 
--- fields that are borrowed one by one
+-- the fields that are borrowed one by one
 abbrev pub borrowed_fields_view : List (Bor (String Global) × Bor (Vec (Spanned Chunk) Global)) → List Named
 borrowed_fields_view es = map (λ e. (string_bytes e.0.now, field_value_view e.1.now.items)) es
 

@@ -53,7 +53,7 @@ fn needs_date(role: Role) -> bool
     !matches!(role, Role::XData | Role::Set)
 }
 
-/// Gives the fields what they lack from the first of the references that offers it to an entry of the role.
+/// Adds to the fields what they lack, each from the first of the references that offers it to an entry of the role.
 fn pass_on_all_of(
     alloc: Global,
     role: Role,
@@ -87,7 +87,7 @@ fn pass_on_where(
     }
 }
 
-/// Gives the fields a date, without its time, instead of their date, year, month and day.
+/// Replaces the date, year, month and day of the fields by a date, without its time.
 fn set_date(alloc: Global, fields: &mut Fields, date: Date) -> Result<(), AllocError>
     ensures { OnOk result (IsTable fields.new (with_date date (table_view fields.old))) }
 {

@@ -2,13 +2,14 @@
 
 ghost use Rattle.std.specs.Prelude.{◌≡◌, if◌then◌else◌, None, Some, IfOk, OnOk, ◌||◌};
 ghost use Rattle.std.specs.Str.{bytes_eq};
+ghost use Rattle.laws.specs.Borrowed.{borrowed};
 ghost use Rattle.biblatex_fields.specs.Fields.{value_named};
 ghost use Rattle.biblatex_fields.specs.Value.{field_value_view};
 ghost use Rattle.biblatex_entries.specs.Roles.{role_of};
 ghost use Rattle.biblatex_entries.specs.TypeNames.{type_name};
 ghost use Rattle.biblatex_inheritance.specs.Table.{is_among, never, of_all, source_name};
 ghost use Rattle.biblatex_inheritance.specs.Resolved.{offered};
-ghost use Rattle.biblatex_inheritance.specs.Views.{PassesOn, texts_view, table_view};
+ghost use Rattle.biblatex_inheritance.specs.Views.{PassesOn, table_view};
 
 use crate::table::{OF_ALL, OF_ARTICLES, OF_PARTS, is_never, source_name};
 use biblatex_content::{Chunks, copied};
@@ -16,7 +17,7 @@ use biblatex_entries::{Entry, Role};
 use biblatex_fields::Fields;
 use std::alloc::{AllocError, Global};
 
-/// Gives the fields what they lack and the reference offers to an entry of the role.
+/// Adds to the fields what they lack and the reference offers to an entry of the role.
 pub(crate) fn pass_on(
     alloc: Global,
     to: Role,
@@ -34,7 +35,7 @@ pub(crate) fn pass_on(
     }
 }
 
-/// Passes on the fields of every entry and of some.
+/// Passes on the fields that every entry inherits, and those of these names.
 fn pass_on_both(
     alloc: Global,
     to: Role,
@@ -43,7 +44,7 @@ fn pass_on_both(
     names: &[&str],
 ) -> Result<(), AllocError>
     ensures { OnOk result (PassesOn fields.old fields.new (λ name. if is_among of_all name
-        || is_among (texts_view names.now) name then value_named
+        || is_among (borrowed names.now) name then value_named
         (source_name to (role_of (type_name from.now.entry_type)) name) from.now.fields
         else None)) }
 {
@@ -60,7 +61,7 @@ fn pass_on_named(
     names: &[&str],
 ) -> Result<(), AllocError>
     ensures { OnOk result (PassesOn fields.old fields.new (λ name.
-        if is_among (texts_view names.now) name then value_named
+        if is_among (borrowed names.now) name then value_named
         (source_name to (role_of (type_name from.now.entry_type)) name) from.now.fields
         else None)) }
 {
@@ -88,7 +89,7 @@ fn pass_on_one(
     }
 }
 
-/// Passes on all fields but those that never come.
+/// Passes on all fields but those that are never inherited.
 fn pass_on_all(alloc: Global, fields: &mut Fields, from: &Fields) -> Result<(), AllocError>
     ensures { OnOk result (PassesOn fields.old fields.new (λ name. if is_among never name
         then None else value_named name from.now)) }
@@ -101,7 +102,7 @@ fn pass_on_all(alloc: Global, fields: &mut Fields, from: &Fields) -> Result<(), 
     Ok(())
 }
 
-/// Puts a field in, unless there is one of its name.
+/// Adds a field, unless there is one of its name.
 fn put_lacking(
     alloc: Global,
     fields: &mut Fields,

@@ -116,7 +116,7 @@ fn resolve_all(
     Ok(Faults { faults, count })
 }
 
-/// No fault at so many indices.
+/// A list of `count` entries that have no fault.
 fn no_faults(alloc: Global, count: usize) -> Result<Vec<Option<DateFault>>, AllocError>
     ensures { IfOk result (λ v. length v.items ≡ count) }
 {

@@ -41,13 +41,13 @@ pub(crate) const OF_ALL: [&str; 31] = [
     "origdate",
 ];
 
-/// Those that articles inherit as well.
+/// The fields that articles inherit as well.
 pub(crate) const OF_ARTICLES: [&str; 4] = ["journaltitle", "journalsubtitle", "journal", "issue"];
 
-/// Those that parts of books and of works like them inherit as well.
+/// The fields that parts of books and of works like them inherit as well.
 pub(crate) const OF_PARTS: [&str; 3] = ["booktitle", "booksubtitle", "bookauthor"];
 
-/// Whether the field never comes, not even to xdata entries, which inherit all others.
+/// Whether the field is never inherited, not even by xdata entries, which inherit all others.
 pub(crate) fn is_never(name: &str) -> bool
     ensures { result ≡ is_among never name.now }
 {
@@ -80,7 +80,7 @@ fn renamed<'n>(to: Role, from: Role, name: &'n str) -> &'n str
     }
 }
 
-/// The same where the entry is a part of a book or volume.
+/// The same where the entry is a part of a book or of a work like it.
 #[tactic(auto, unfolding(crate::specs::Table::renamed_in_part))]
 fn renamed_in_part<'n>(to: Role, from: Role, name: &'n str) -> &'n str
     ensures { result.now ≡ renamed_in_part to from name.now }

@@ -4,3 +4,9 @@ pub mod PartsCut
 pub mod PartsTrimmed
 pub mod WritingJoined
 pub mod ReadBack
+pub mod WordsCut
+pub mod ViewsLists
+pub mod WordsWindows
+pub mod WritingFields
+pub mod WritingLeading
+pub mod PeopleBack

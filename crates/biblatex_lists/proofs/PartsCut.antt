@@ -5,7 +5,7 @@ use Rattle.std.proofs.Math.Seq.{take-length}
 use Rattle.biblatex_lists.specs.declared.styled_char.StyledChar.{StyledChar}
 use Rattle.biblatex_lists.specs.Parts.{begins_and, before_first, cut_after, cut}
 
--- nothing before the first part
+-- nothing before the first part changes no part
 pub before_none : (n : ℕ) (ss : List StyledChar) → before_first [] (cut_after n ss) ≡ cut_after n ss
 before_none n [] = refl
 before_none (suc n) (s ∷ ss) = before_none n ss
@@ -21,11 +21,11 @@ pub before_more : (xs ys : List StyledChar) (ps : List (List StyledChar)) → be
 before_more xs ys [] = refl
 before_more xs ys (p ∷ ps) = ap (λ (q : List StyledChar). q ∷ ps) (sym (append_assoc xs ys p))
 
--- no cut before this character
+-- a text that does not begin with a word `and` is not cut at its start
 pub cut_goes_on : (s : StyledChar) (ss : List StyledChar) → begins_and (s ∷ ss) ≡ false → cut (s ∷ ss) ≡ before_first (s ∷ []) (cut ss)
 cut_goes_on s ss e = rw e refl
 
--- a cut before this character
+-- a text that begins with a word `and` is cut at its start
 pub cut_here : (ss : List StyledChar) → begins_and ss ≡ true → cut ss ≡ [] ∷ cut (drop 4 ss)
 cut_here [] e = absurd cc
 cut_here (s ∷ []) e = absurd cc
@@ -43,7 +43,7 @@ and_is_long (s ∷ a ∷ n ∷ []) e = absurd cc
 and_is_long (s ∷ a ∷ n ∷ d ∷ []) e = absurd cc
 and_is_long (s ∷ a ∷ n ∷ d ∷ t ∷ ss) e = omega arith
 
--- one more index without a cut
+-- a character before which there is no cut is of the first part
 pub one_more_uncut : (ss : List StyledChar) (i : ℕ) → i < length ss → begins_and (drop i ss) ≡ false → before_first (take i ss) (cut (drop i ss)) ≡ before_first (take (suc i) ss) (cut (drop (suc i) ss))
 one_more_uncut [] i below e = absurd (omega arith)
 one_more_uncut (s ∷ ss) zero below e = before_none 0 (s ∷ ss) ∙ cut_goes_on s ss e
@@ -51,7 +51,7 @@ one_more_uncut (s ∷ ss) (suc i) below e =
     sym (before_more (s ∷ []) (take i ss) (cut (drop i ss)))
     ∙ (ap (before_first (s ∷ [])) (one_more_uncut ss i (omega arith) e) ∙ before_more (s ∷ []) (take (suc i) ss) (cut (drop (suc i) ss)))
 
--- the first cut
+-- what stands before the first cut is the first part
 pub cut_first : (ss : List StyledChar) (i : ℕ) → cut ss ≡ before_first (take i ss) (cut (drop i ss)) → begins_and (drop i ss) ≡ true → cut ss ≡ take i ss ∷ cut (drop 4 (drop i ss))
 cut_first ss i so_far e = so_far ∙ (ap (before_first (take i ss)) (cut_here (drop i ss) e) ∙ ap (λ (p : List StyledChar). p ∷ cut (drop 4 (drop i ss))) (append-nil (take i ss)))
 

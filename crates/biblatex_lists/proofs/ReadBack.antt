@@ -6,6 +6,7 @@ use Rattle.biblatex_lists.specs.declared.styled_char.StyledChar.{StyledChar}
 use Rattle.biblatex_lists.specs.StyledChars.{is_gap, spells, in_style, of_style, styled_chars}
 use Rattle.biblatex_lists.specs.Parts.{begins_and, trimmed, without_first_gaps, before_others, without_last_gaps, parts}
 use Rattle.biblatex_lists.specs.TextList.{texts_of}
+use Rattle.laws.specs.Characters.{lower_a}
 use Rattle.laws.specs.Text.{is_filled}
 use Rattle.biblatex_lists.specs.Writing.{kind, and_word, after_and, space, begins_two_gaps, is_loose, holds, padded, is_plain, written_text, written_texts}
 use Rattle.biblatex_lists.specs.Laws.{IsReadBack, ReadsBack}
@@ -55,7 +56,7 @@ no_gap_no_and s (a ∷ n ∷ []) e = refl
 no_gap_no_and s (a ∷ n ∷ d ∷ []) e = refl
 no_gap_no_and s (a ∷ n ∷ d ∷ t ∷ ss) e = rw e refl
 
-pub no_letter_no_and : (s a : StyledChar) (ss : List StyledChar) → is_gap s && spells 97 a ≡ false → begins_and (s ∷ a ∷ ss) ≡ false
+pub no_letter_no_and : (s a : StyledChar) (ss : List StyledChar) → is_gap s && spells lower_a a ≡ false → begins_and (s ∷ a ∷ ss) ≡ false
 no_letter_no_and s a [] e = refl
 no_letter_no_and s a (n ∷ []) e = refl
 no_letter_no_and s a (n ∷ d ∷ []) e = refl

@@ -1,6 +1,7 @@
 -- Parts that are joined by ` and `, and cut again.
 use Rattle.std.proofs.Common.{◌≡◌, Bool, true, false, ◌&&◌, List, [], ◌∷◌, ◌++◌, map, refl, sym, ap, ◌∙◌}
 use Rattle.std.proofs.lemmas.List.{append-nil}
+use Rattle.laws.specs.Characters as character
 use Rattle.biblatex_lists.specs.declared.styled_char.StyledChar.{StyledChar}
 use Rattle.biblatex_lists.specs.StyledChars.{is_gap, spells, of_style}
 use Rattle.biblatex_lists.specs.Parts.{begins_and, before_first, cut, trimmed, parts}
@@ -40,9 +41,9 @@ same_window s [] (u ∷ v ∷ []) e = refl
 same_window s [] (u ∷ v ∷ w ∷ rest) e = rw (and_false (is_gap s)) refl
 same_window s (a ∷ []) [] e = refl
 same_window s (a ∷ []) (u ∷ []) e = refl
-same_window s (a ∷ []) (u ∷ v ∷ rest) e = rw (and_false (is_gap s && spells 97 a)) refl
+same_window s (a ∷ []) (u ∷ v ∷ rest) e = rw (and_false (is_gap s && spells character.lower_a a)) refl
 same_window s (a ∷ n ∷ []) [] e = refl
-same_window s (a ∷ n ∷ []) (u ∷ rest) e = rw (and_false ((is_gap s && spells 97 a) && spells 110 n)) refl
+same_window s (a ∷ n ∷ []) (u ∷ rest) e = rw (and_false ((is_gap s && spells character.lower_a a) && spells character.lower_n n)) refl
 same_window s (a ∷ n ∷ d ∷ []) rest e = e
 same_window s (a ∷ n ∷ d ∷ t ∷ x) rest e = e
 
@@ -75,7 +76,7 @@ part_alone (s ∷ x) e =
 cut_joined : (x : List StyledChar) (ps : List (List StyledChar)) → holds begins_and (x ++ space ∷ []) ≡ false → AreParts ps → cut (x ++ past_first ps) ≡ x ∷ map (λ (p : List StyledChar). space ∷ p) ps
 cut_joined x [] e all = ap cut (append-nil x) ∙ part_alone x e
 cut_joined x (p ∷ ps) e all =
-    part_at_start x (of_style true (97 ∷ 110 ∷ 100 ∷ 32 ∷ []) ++ (p ++ past_first ps)) e
+    part_at_start x (of_style true (character.lower_a ∷ character.lower_n ∷ character.lower_d ∷ character.space ∷ []) ++ (p ++ past_first ps)) e
     ∙ (ap (λ (q : List StyledChar). q ∷ cut ((space ∷ p) ++ past_first ps)) (append-nil x)
     ∙ ap (λ (qs : List (List StyledChar)). x ∷ qs) (cut_joined (space ∷ p) ps all.0.alone all.1))
 

@@ -5,7 +5,7 @@ use Rattle.biblatex_lists.specs.TextList.{texts_in}
 use Rattle.laws.specs.Text.{is_filled}
 use Rattle.biblatex_lists.specs.Writing.{written_texts}
 
--- the lists of texts of which none is empty
+-- the lists of texts that are read back are those of which no text is empty
 abbrev pub IsReadBack : List (List ℕ) → Type 0
 IsReadBack ts = list_all is_filled ts ≡ true
 

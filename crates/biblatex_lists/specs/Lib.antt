@@ -3,3 +3,8 @@ pub mod Parts
 pub mod TextList
 pub mod Writing
 pub mod Laws
+pub mod Words
+pub mod Reading
+pub mod Views
+pub mod PeopleWriting
+pub mod PeopleLaws

@@ -1,6 +1,6 @@
 -- A value is parted at each word `and` that stands between white space; parts have no white space at their ends.
 use Rattle.std.specs.Prelude.{ℕ, zero, suc, Bool, false, ◌&&◌, List, [], ◌∷◌, ◌++◌, map, if◌then◌else◌}
-use Rattle.std.specs.Borrow.{Bor}
+use Rattle.laws.specs.Characters.{lower_a, lower_d, lower_n}
 use Rattle.biblatex_lists.specs.declared.styled_char.StyledChar.{StyledChar}
 use Rattle.biblatex_lists.specs.StyledChars.{is_gap, spells}
 
@@ -11,7 +11,7 @@ begins_and (s ∷ []) = false
 begins_and (s ∷ a ∷ []) = false
 begins_and (s ∷ a ∷ n ∷ []) = false
 begins_and (s ∷ a ∷ n ∷ d ∷ []) = false
-begins_and (s ∷ a ∷ n ∷ d ∷ t ∷ ss) = is_gap s && spells 97 a && spells 110 n && spells 100 d && is_gap t
+begins_and (s ∷ a ∷ n ∷ d ∷ t ∷ ss) = is_gap s && spells lower_a a && spells lower_n n && spells lower_d d && is_gap t
 
 -- characters put before the first part
 abbrev pub before_first : List StyledChar → List (List StyledChar) → List (List StyledChar)
@@ -29,7 +29,7 @@ cut_after zero (s ∷ ss) = if begins_and (s ∷ ss) then [] ∷ cut_after 3 ss 
 abbrev pub cut : List StyledChar → List (List StyledChar)
 cut ss = cut_after 0 ss
 
--- without the white space at the start
+-- a text without the white space at its start
 abbrev pub without_first_gaps : List StyledChar → List StyledChar
 without_first_gaps [] = []
 without_first_gaps (s ∷ ss) = if is_gap s then without_first_gaps ss else s ∷ ss
@@ -39,19 +39,15 @@ abbrev pub before_others : StyledChar → List StyledChar → List StyledChar
 before_others s [] = if is_gap s then [] else s ∷ []
 before_others s (t ∷ ts) = s ∷ t ∷ ts
 
--- without the white space at the end
+-- a text without the white space at its end
 abbrev pub without_last_gaps : List StyledChar → List StyledChar
 without_last_gaps [] = []
 without_last_gaps (s ∷ ss) = before_others s (without_last_gaps ss)
 
--- without the white space at both ends
+-- a text without the white space at its ends
 abbrev pub trimmed : List StyledChar → List StyledChar
 trimmed ss = without_last_gaps (without_first_gaps ss)
 
 -- the parts of a value; a part may be empty
 abbrev pub parts : List StyledChar → List (List StyledChar)
 parts ss = map trimmed (cut ss)
-
--- what is borrowed of a value, as lists
-abbrev pub borrowed : List (Bor (List StyledChar)) → List (List StyledChar)
-borrowed ps = map (λ p. p.now) ps

@@ -4,6 +4,7 @@ use Rattle.biblatex_content.specs.declared.chunk.Kind.{Kind}
 use Rattle.biblatex_content.specs.declared.chunk.Kind.TheVariants.{Normal, Verbatim}
 use Rattle.biblatex_content.specs.Styled.{Member, letters}
 use Rattle.biblatex_content.specs.Views.{styled}
+use Rattle.laws.specs.Characters as character
 use Rattle.laws.specs.Text.{characters}
 use Rattle.biblatex_lists.specs.declared.styled_char.StyledChar.{StyledChar}
 use Rattle.biblatex_lists.specs.declared.writing.Writing.{Writing}
@@ -15,9 +16,9 @@ abbrev pub kind : Bool → Kind
 kind true = Normal
 kind false = Verbatim
 
--- ` and `
+-- the word that stands between two parts, with the spaces round it
 abbrev pub and_word : List ℕ
-and_word = 32 ∷ 97 ∷ 110 ∷ 100 ∷ 32 ∷ []
+and_word = character.space ∷ character.lower_a ∷ character.lower_n ∷ character.lower_d ∷ character.space ∷ []
 
 -- a part after ` and `
 abbrev pub after_and : List Member → List Member
@@ -30,7 +31,7 @@ joined (p ∷ ps) = p ++ flat_map after_and ps
 
 -- a Normal space
 abbrev pub space : StyledChar
-space = in_style true 32
+space = in_style true character.space
 
 -- a Normal text between two spaces
 abbrev pub padded : List ℕ → List StyledChar
@@ -59,7 +60,6 @@ is_plain cs = not (holds is_loose (padded cs))
 abbrev pub written_text : List ℕ → List Member
 written_text cs = letters (kind (is_plain cs)) cs
 
--- a list of texts
 abbrev pub written_texts : List (List ℕ) → List Member
 written_texts ts = joined (map written_text ts)
 

@@ -1,7 +1,8 @@
 //! Parts of a value between the words `and`.
 
 ghost use Rattle.std.specs.Prelude.{◌≡◌, ◌+◌, ◌≤◌, ◌∷◌, [], length, IfOk, MatchOption};
-ghost use Rattle.biblatex_lists.specs.Parts.{begins_and, cut, borrowed, parts, trimmed, without_first_gaps, without_last_gaps};
+ghost use Rattle.laws.specs.Borrowed.{borrowed};
+ghost use Rattle.biblatex_lists.specs.Parts.{begins_and, cut, parts, trimmed, without_first_gaps, without_last_gaps};
 
 use crate::styled_char::StyledChar;
 use std::alloc::{AllocError, Global};
@@ -32,7 +33,7 @@ fn split_at_and(text: &[StyledChar]) -> Option<(&[StyledChar], &[StyledChar])>
     None
 }
 
-/// Without the white space at the start.
+/// The text without the white space at its start.
 fn without_first_gaps(text: &[StyledChar]) -> &[StyledChar]
     ensures { result.now ≡ without_first_gaps text.now }
 {
@@ -44,7 +45,7 @@ fn without_first_gaps(text: &[StyledChar]) -> &[StyledChar]
     &[]
 }
 
-/// Without the white space at the end.
+/// The text without the white space at its end.
 fn without_last_gaps(text: &[StyledChar]) -> &[StyledChar]
     ensures { result.now ≡ without_last_gaps text.now }
 {
@@ -56,7 +57,7 @@ fn without_last_gaps(text: &[StyledChar]) -> &[StyledChar]
     &[]
 }
 
-/// Without the white space at both ends.
+/// The text without the white space at its ends.
 pub fn trimmed(text: &[StyledChar]) -> &[StyledChar]
     ensures { result.now ≡ trimmed text.now }
 {

@@ -3,7 +3,7 @@
 ghost use Rattle.std.specs.Prelude.{◌≡◌, ◌++◌, ◌∷◌, [], IfOk, OnOk, flat_map, map};
 ghost use Rattle.biblatex_content.specs.Views.{styled};
 ghost use Rattle.laws.specs.Text.{characters};
-ghost use Rattle.biblatex_lists.specs.Parts.{borrowed};
+ghost use Rattle.laws.specs.Borrowed.{borrowed};
 ghost use Rattle.biblatex_lists.specs.TextList.{texts_in, texts_of};
 ghost use Rattle.biblatex_lists.specs.Writing.{after_and, so_far, written_text, written_texts};
 

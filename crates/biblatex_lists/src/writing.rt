@@ -78,7 +78,7 @@ fn is_plain(alloc: Global, text: &str) -> Result<bool, AllocError>
 }
 
 impl Writing {
-    /// Nothing has been written.
+    /// A value of which nothing has been written.
     pub fn new(alloc: Global) -> Writing
         ensures { so_far result ≡ [] }
     {
@@ -103,7 +103,7 @@ impl Writing {
         Ok(self.chunks.push(Spanned::detached(chunk))?)
     }
 
-    /// Sees to it that text may follow that is Normal or not.
+    /// Makes a chunk of the text that was begun, unless it is of that style.
     fn turn(&mut self, is_normal: bool) -> Result<(), AllocError>
         ensures styled { OnOk result (so_far self.new ≡ so_far self.old) }
         ensures kind { OnOk result (self.new.is_normal ≡ is_normal) }

@@ -2,6 +2,7 @@
 use Rattle.std.proofs.Common.{◌≡◌, ℕ, ◌<◌, Bool, true, false, cond, eqb, List, [], ◌∷◌, ◌++◌, length, Option, Some, None, Result, Ok, Err, refl, sym, ap, ◌∙◌, append_assoc, arith}
 use Rattle.std.specs.Prelude.{IfOk, IfSome}
 use Rattle.std.proofs.lemmas.List.{append-nil}
+use Rattle.laws.specs.Characters.{dollar_sign, hyphen, backslash, open_brace, close_brace, tilde}
 use Rattle.laws.specs.Results.{◌>>=◌}
 use Rattle.laws.specs.Runs.{after}
 use Rattle.laws.specs.Steps.{Shortens, each}
@@ -10,7 +11,7 @@ use Rattle.laws.proofs.Runs.{length-after}
 use Rattle.laws.proofs.Steps.{each-none, each-some, each-err}
 use Rattle.biblatex_tex.specs.Character.{passes}
 use Rattle.biblatex_tex.specs.declared.character.Class.TheVariants.{Blank, Letter, Hyphen, Plain}
-use Rattle.biblatex_tex.specs.declared.error.Malformed.{Malformed}
+use Rattle.biblatex_tex.specs.declared.error.ContentError.{ContentError}
 use Rattle.biblatex_tex.specs.Token.{Token, command_at, named_at, token_at, tokens_of}
 
 -- where something is given, fewer than n characters are left
@@ -37,45 +38,45 @@ unfolding token_at passes
 token-leaves [] = tt
 token-leaves (c ∷ cs) =
     let Q = LeavesFewer (length (c ∷ cs)) in
-    either_if_ok Q (eqb c 92) _ _ (λ _. command-leaves cs) (λ e1.
-    either_if_ok Q (eqb c 123) _ _ (λ _. omega arith) (λ e2.
-    either_if_ok Q (eqb c 125) _ _ (λ _. omega arith) (λ e3.
-    either_if_ok Q (eqb c 36) _ _ (λ _. omega arith) (λ e4.
-    either_if_ok Q (eqb c 126) _ _ (λ _. omega arith) (λ e5.
-    either_if_ok Q (eqb c 45) _ _ (λ e. run-leaves (passes Hyphen) c cs e) (λ e6. run-leaves (passes Plain) c cs (rw (e1, e2, e3, e4, e5, e6) refl)))))))
+    either_if_ok Q (eqb c backslash) _ _ (λ _. command-leaves cs) (λ e1.
+    either_if_ok Q (eqb c open_brace) _ _ (λ _. omega arith) (λ e2.
+    either_if_ok Q (eqb c close_brace) _ _ (λ _. omega arith) (λ e3.
+    either_if_ok Q (eqb c dollar_sign) _ _ (λ _. omega arith) (λ e4.
+    either_if_ok Q (eqb c tilde) _ _ (λ _. omega arith) (λ e5.
+    either_if_ok Q (eqb c hyphen) _ _ (λ e. run-leaves (passes Hyphen) c cs e) (λ e6. run-leaves (passes Plain) c cs (rw (e1, e2, e3, e4, e5, e6) refl)))))))
 
 pub tokens_shorten : Shortens token_at
 tokens_shorten cs rest t is = if_ok_at (LeavesFewer (length cs)) (token_at cs) (Some t, rest) is (token-leaves cs)
 
 -- tokens after others
-abbrev pub gathered : List Token → Result (List Token) Malformed → Result (List Token) Malformed
+abbrev pub gathered : List Token → Result (List Token) ContentError → Result (List Token) ContentError
 gathered prefix r = r >>= λ ts. Ok (prefix ++ ts)
 
-gathered_none : (r : Result (List Token) Malformed) → gathered [] r ≡ r
+gathered_none : (r : Result (List Token) ContentError) → gathered [] r ≡ r
 gathered_none (Ok ts) = refl
 gathered_none (Err f) = refl
 
--- at the start there are none
+-- before the first token nothing was gathered
 pub gathered-begin : (cs : List ℕ) → gathered [] (tokens_of cs) ≡ tokens_of cs
 gathered-begin cs = gathered_none (tokens_of cs)
 
-regrouped : (prefix : List Token) (t : Token) (r : Result (List Token × List ℕ) Malformed)
+regrouped : (prefix : List Token) (t : Token) (r : Result (List Token × List ℕ) ContentError)
     → gathered (prefix ++ t ∷ []) (r >>= λ p. Ok p.0) ≡ gathered prefix (◌>>=◌ {B = List Token × List ℕ} r (λ p. Ok (t ∷ p.0, p.1)) >>= λ p. Ok p.0)
 regrouped prefix t (Ok p) = ap (λ (ts : List Token). Ok ts) (append_assoc prefix (t ∷ []) p.0)
 regrouped prefix t (Err f) = refl
 
--- a token goes after them
+-- a token stands after those that were gathered
 pub gathered-some : (prefix : List Token) (cs rest : List ℕ) (t : Token) → token_at cs ≡ Ok (Some t, rest) → gathered (prefix ++ t ∷ []) (tokens_of rest) ≡ gathered prefix (tokens_of cs)
 unfolding tokens_of
 gathered-some prefix cs rest t is =
-    regrouped prefix t (each token_at rest) ∙ ap (λ (r : Result (List Token × List ℕ) Malformed). gathered prefix (r >>= λ p. Ok p.0)) (sym (each-some token_at tokens_shorten cs rest t is))
+    regrouped prefix t (each token_at rest) ∙ ap (λ (r : Result (List Token × List ℕ) ContentError). gathered prefix (r >>= λ p. Ok p.0)) (sym (each-some token_at tokens_shorten cs rest t is))
 
--- the text ends
+-- at the end of the text the gathered tokens are all
 pub gathered-end : (prefix : List Token) (cs rest : List ℕ) → token_at cs ≡ Ok (None, rest) → gathered prefix (tokens_of cs) ≡ Ok prefix
 unfolding tokens_of
-gathered-end prefix cs rest is = ap (λ (r : Result (List Token × List ℕ) Malformed). gathered prefix (r >>= λ p. Ok p.0)) (each-none token_at cs rest is) ∙ ap (λ (ts : List Token). Ok ts) (append-nil prefix)
+gathered-end prefix cs rest is = ap (λ (r : Result (List Token × List ℕ) ContentError). gathered prefix (r >>= λ p. Ok p.0)) (each-none token_at cs rest is) ∙ ap (λ (ts : List Token). Ok ts) (append-nil prefix)
 
--- a fault stays
-pub gathered-err : (prefix : List Token) (cs : List ℕ) (f : Malformed) → token_at cs ≡ Err f → gathered prefix (tokens_of cs) ≡ Err f
+-- a fault of a token is that of the tokens
+pub gathered-err : (prefix : List Token) (cs : List ℕ) (f : ContentError) → token_at cs ≡ Err f → gathered prefix (tokens_of cs) ≡ Err f
 unfolding tokens_of
-gathered-err prefix cs f is = ap (λ (r : Result (List Token × List ℕ) Malformed). gathered prefix (r >>= λ p. Ok p.0)) (each-err token_at cs f is)
+gathered-err prefix cs f is = ap (λ (r : Result (List Token × List ℕ) ContentError). gathered prefix (r >>= λ p. Ok p.0)) (each-err token_at cs f is)

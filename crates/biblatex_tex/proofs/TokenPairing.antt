@@ -4,9 +4,8 @@ use Rattle.std.proofs.lemmas.List.{append-nil}
 use Rattle.biblatex_tex.specs.Token.{Token, partnered, paired, dollars_before, dollars_in, tokens_of, paired_of}
 use Rattle.biblatex_tex.specs.Results.{refusal_of}
 use Rattle.laws.specs.Results.{Gives}
-use Rattle.biblatex_tex.specs.declared.error.Malformed.{Malformed}
-use Rattle.biblatex_tex.specs.declared.error.Malformed.TheVariants.{MalformedText}
 use Rattle.biblatex_tex.specs.declared.error.ContentError.{ContentError}
+use Rattle.biblatex_tex.specs.declared.error.ContentError.TheVariants.{MalformedCommand}
 use Rattle.biblatex_tex.specs.declared.error.ContentError.TheVariants as errors
 
 -- the tokens that are left are followed by some that have been made what they are, and these have such dollar signs
@@ -32,12 +31,13 @@ goes_back-more whole left others made dollars t g e =
 pub goes_back-end : (whole made : List Token) (dollars : List Bool) → GoesBack whole [] made dollars → paired whole ≡ made
 goes_back-end whole made dollars g = ap paired g.parts ∙ sym g.made_are
 
--- there is one fault
-pub only_malformed : (f : Malformed) → f ≡ MalformedText
-only_malformed MalformedText = refl
+-- a call that reads the tokens of a text refuses it as they do
+pub tokens_of-fails : {X : Type 0} (view : X → List Token) (e : ContentError) (cs : List ℕ) → tokens_of cs ≡ Err e → Gives refusal_of view (Err e) (tokens_of cs)
+tokens_of-fails view errors.Memory cs is = tt
+tokens_of-fails view errors.MalformedCommand cs is = is
 
 -- a fault of the tokens is one of the paired tokens
-pub paired_of-err : (cs : List ℕ) → tokens_of cs ≡ Err MalformedText → paired_of cs ≡ Err MalformedText
+pub paired_of-err : (cs : List ℕ) → tokens_of cs ≡ Err MalformedCommand → paired_of cs ≡ Err MalformedCommand
 unfolding paired_of
 paired_of-err cs e = rw e refl
 

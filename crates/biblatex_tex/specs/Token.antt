@@ -1,12 +1,13 @@
 -- What an ordinary field is made of: tokens from the left, and which dollar signs have a partner.
 use Rattle.std.specs.Prelude.{ℕ, Bool, true, false, ◌==◌, List, [], ◌∷◌, ◌++◌, if◌then◌else◌, Option, Some, None, Result, Ok, Err}
+use Rattle.laws.specs.Characters.{dollar_sign, hyphen, backslash, open_brace, close_brace, tilde}
 use Rattle.laws.specs.Results.{◌>>=◌}
 use Rattle.laws.specs.Runs.{prefix_of, after}
 use Rattle.laws.specs.Steps.{each}
 use Rattle.biblatex_tex.specs.Character.{passes}
 use Rattle.biblatex_tex.specs.declared.character.Class.TheVariants.{Blank, Letter, Hyphen, Plain}
-use Rattle.biblatex_tex.specs.declared.error.Malformed.{Malformed}
-use Rattle.biblatex_tex.specs.declared.error.Malformed.TheVariants.{MalformedText}
+use Rattle.biblatex_tex.specs.declared.error.ContentError.{ContentError}
+use Rattle.biblatex_tex.specs.declared.error.ContentError.TheVariants.{MalformedCommand}
 
 pub data Token : Type 0 where
   Text : List ℕ → Token
@@ -22,43 +23,43 @@ pub data Token : Type 0 where
 abbrev pub written : Token → List ℕ
 written (Text cs) = cs
 written (Hyphens cs) = cs
-written Tie = 126 ∷ []
-written (Open is_command) = 123 ∷ []
-written Close = 125 ∷ []
-written (Dollar has_partner) = 36 ∷ []
-written (Sign c) = 92 ∷ c ∷ []
-written (Command name blanks) = 92 ∷ name ++ blanks
+written Tie = tilde ∷ []
+written (Open is_command) = open_brace ∷ []
+written Close = close_brace ∷ []
+written (Dollar has_partner) = dollar_sign ∷ []
+written (Sign c) = backslash ∷ c ∷ []
+written (Command name blanks) = backslash ∷ name ++ blanks
 
 -- whether the text begins with a backslash
 abbrev pub begins_command : List ℕ → Bool
 begins_command [] = false
-begins_command (c ∷ cs) = c == 92
+begins_command (c ∷ cs) = c == backslash
 
 -- a longest run of letters and the blanks after it
 abbrev pub named_at : List ℕ → Option Token × List ℕ
 named_at cs = (Some (Command (prefix_of (passes Letter) cs) (prefix_of (passes Blank) (after (passes Letter) cs))), after (passes Blank) (after (passes Letter) cs))
 
 -- after a backslash: a command's name, or one character
-abbrev pub command_at : List ℕ → Result (Option Token × List ℕ) Malformed
-command_at [] = Err MalformedText
+abbrev pub command_at : List ℕ → Result (Option Token × List ℕ) ContentError
+command_at [] = Err MalformedCommand
 command_at (c ∷ cs) = if passes Letter c then Ok (named_at (c ∷ cs)) else Ok (Some (Sign c), cs)
 
 -- the token that stands at the start, if the text has not ended; a dollar sign counts as one without a partner
-unfoldable pub token_at : List ℕ → Result (Option Token × List ℕ) Malformed
+unfoldable pub token_at : List ℕ → Result (Option Token × List ℕ) ContentError
 token_at [] = Ok (None, [])
-token_at (c ∷ cs) = if c == 92 then command_at cs
-    else (if c == 123 then Ok (Some (Open (begins_command cs)), cs)
-    else (if c == 125 then Ok (Some Close, cs)
-    else (if c == 36 then Ok (Some (Dollar false), cs)
-    else (if c == 126 then Ok (Some Tie, cs)
-    else (if c == 45 then Ok (Some (Hyphens (prefix_of (passes Hyphen) (c ∷ cs))), after (passes Hyphen) (c ∷ cs))
+token_at (c ∷ cs) = if c == backslash then command_at cs
+    else (if c == open_brace then Ok (Some (Open (begins_command cs)), cs)
+    else (if c == close_brace then Ok (Some Close, cs)
+    else (if c == dollar_sign then Ok (Some (Dollar false), cs)
+    else (if c == tilde then Ok (Some Tie, cs)
+    else (if c == hyphen then Ok (Some (Hyphens (prefix_of (passes Hyphen) (c ∷ cs))), after (passes Hyphen) (c ∷ cs))
     else Ok (Some (Text (prefix_of (passes Plain) (c ∷ cs))), after (passes Plain) (c ∷ cs)))))))
 
 -- all tokens of a text
-unfoldable pub tokens_of : List ℕ → Result (List Token) Malformed
+unfoldable pub tokens_of : List ℕ → Result (List Token) ContentError
 tokens_of cs = each token_at cs >>= λ p. Ok p.0
 
--- Which groups that are open here, the innermost first, have a dollar sign of their own further on.
+-- Whether the innermost open group has a dollar sign of its own further on; the list says so of each open group, the innermost first.
 abbrev pub innermost : List Bool → Bool
 innermost [] = false
 innermost (b ∷ bs) = b
@@ -88,5 +89,5 @@ paired [] = []
 paired (t ∷ ts) = partnered t (dollars_in ts) ∷ paired ts
 
 -- the tokens of a text, with their partners known
-unfoldable pub paired_of : List ℕ → Result (List Token) Malformed
+unfoldable pub paired_of : List ℕ → Result (List Token) ContentError
 paired_of cs = tokens_of cs >>= λ ts. Ok (paired ts)

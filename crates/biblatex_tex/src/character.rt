@@ -41,7 +41,8 @@ pub fn is_blank(c: char) -> bool
     matches!(c, ' ' | '\t' | '\n' | '\x0c' | '\r')
 }
 
-/// Whether the character begins nothing but itself. Most characters of a field are small letters, which are told first.
+/// Whether the character begins nothing but itself. Most characters of a field are small letters, which are tested
+/// first.
 fn is_plain(c: char) -> bool
     ensures { result ≡ is_plain c }
 {

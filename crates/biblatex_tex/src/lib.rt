@@ -10,5 +10,5 @@ mod token;
 pub use accent::{put_marks, reversed};
 pub use character::{Class, is_blank};
 pub use command::{letter_character, letter_mark, sign_character, sign_mark};
-pub use error::{ContentError, Malformed};
+pub use error::ContentError;
 pub use token::{Token, paired_tokens};

@@ -11,7 +11,7 @@ ghost use Rattle.biblatex_tex.specs.Token.{begins_command, command_at, token_at,
 ghost use Rattle.biblatex_tex.specs.TokenViews.{left, token_view, tokens_view};
 
 use crate::character::Class;
-use crate::error::{ContentError, Malformed};
+use crate::error::ContentError;
 use std::alloc::{AllocError, Global};
 use texts::{CharacterClass, split_first, split_run};
 
@@ -67,12 +67,12 @@ impl<'s> Lexer<'s> {
     }
 
     /// What stands after a backslash.
-    fn command(&mut self) -> Result<Option<Token<'s>>, Malformed>
+    fn command(&mut self) -> Result<Option<Token<'s>>, ContentError>
         ensures { Reads (option_map token_view) result
             (left self.new) (command_at (left self.old)) }
     {
         match split_first(self.rest) {
-            None => Err(Malformed::MalformedText),
+            None => Err(ContentError::MalformedCommand),
             Some((c, _)) if Class::Letter.contains(c) => {
                 let name = self.run(Class::Letter);
                 Ok(Some(Token::Command(name, self.run(Class::Blank))))
@@ -86,7 +86,7 @@ impl<'s> Lexer<'s> {
 
     /// The next token, or nothing at the end of the text.
     #[tactic(auto, unfolding(crate::specs::Token::token_at))]
-    fn next_token(&mut self) -> Result<Option<Token<'s>>, Malformed>
+    fn next_token(&mut self) -> Result<Option<Token<'s>>, ContentError>
         ensures { Reads (option_map token_view) result (left self.new) (token_at (left self.old)) }
     {
         let Some((c, rest)) = split_first(self.rest) else {

@@ -3,6 +3,7 @@ use Rattle.std.proofs.Common.{◌≡◌, ℕ, Bool, true, false, cond, not, ◌&
 use Rattle.std.specs.Prelude.{IfOk, IfSome, codes}
 use Rattle.std.specs.Option.{option_map_or}
 use Rattle.std.proofs.lemmas.List.Elements.{All-nil, All-cons}
+use Rattle.laws.specs.Characters.{double_quote, number_sign, close_parenthesis, comma, equals_sign, open_brace}
 use Rattle.laws.specs.Results.{◌>>=◌}
 use Rattle.laws.specs.Runs.{AllPassTest}
 use Rattle.laws.specs.Steps.{each}
@@ -46,8 +47,6 @@ pub record AreKeyed (r : Raw) : Type 0 where
   pub entries : All IsKeyed r.entries
   pub abbreviations : All HasNames r.abbreviations
 
--- ---- runs
-
 all-identifier : (cs : List ℕ) → AllPassTest is_id_continue (prefix_of Identifier cs)
 all-identifier [] = tt
 all-identifier (c ∷ cs) = by_test (all-identifier cs) (is_id_continue c) refl
@@ -66,7 +65,7 @@ all-brace_key (c ∷ cs) = by_test (all-brace_key cs) (is_key c) refl
 
 all-round_key : (cs : List ℕ) → AllPassTest is_key (prefix_of RoundKey cs)
 all-round_key [] = tt
-all-round_key (c ∷ cs) = by_test (all-round_key cs) (is_key c) (not (eqb c 41)) refl
+all-round_key (c ∷ cs) = by_test (all-round_key cs) (is_key c) (not (eqb c close_parenthesis)) refl
   where
     by_test : AllPassTest is_key (prefix_of RoundKey cs) → (b other : Bool) → is_key c ≡ b → AllPassTest is_key (option_map_or (λ more. c ∷ prefix_of more cs) (only_if (b && other) RoundKey) [])
     by_test more true true e = (e, more)
@@ -76,8 +75,6 @@ all-round_key (c ∷ cs) = by_test (all-round_key cs) (is_key c) (not (eqb c 41)
 all-key : (bracket : Bracket) (cs : List ℕ) → AllPassTest is_key (prefix_of (key_run bracket) cs)
 all-key Brace cs = all-brace_key cs
 all-key Parenthesis cs = all-round_key cs
-
--- ---- what steps give
 
 -- after a step of which nothing is known
 after_any : {A B : Type 0} (Q : B → Type 0) (r : Result A Refusal) (f : A → Result B Refusal) → ((x : A) → IfOk (f x) Q) → IfOk (r >>= f) Q
@@ -95,8 +92,6 @@ AllGiven P p = All P p.0
 
 abbrev ValueNamed : At (List (At Piece)) → Type 0
 ValueNamed value = All IsNamed value.v
-
--- ---- pieces and values
 
 bare-named : (cs : List ℕ) → AllPassTest is_id_continue cs → HasName (bare cs)
 bare-named cs all = by_test (is_number cs)
@@ -116,14 +111,14 @@ quoted-named n cs = after_any (First IsNamed) (unquoted_at (after (Quoted 0) cs)
 piece-named : (n : ℕ) (cs : List ℕ) → IfOk (piece_at n cs) (First IsNamed)
 piece-named n [] = tt
 piece-named n (c ∷ cs) =
-    either_if_ok (First IsNamed) (eqb c 123) (braced_at n cs) _ (braced-named n cs)
-    (either_if_ok (First IsNamed) (eqb c 34) (quoted_at n cs) _ (quoted-named n cs)
+    either_if_ok (First IsNamed) (eqb c open_brace) (braced_at n cs) _ (braced-named n cs)
+    (either_if_ok (First IsNamed) (eqb c double_quote) (quoted_at n cs) _ (quoted-named n cs)
     (test_if_ok (First IsNamed) (is_id_continue c) (Ok (at_map bare (run_at n Identifier (c ∷ cs)), after Identifier (c ∷ cs))) (Expected tokens.Identifier, c ∷ cs) (bare-named (prefix_of Identifier (c ∷ cs)) (all-identifier (c ∷ cs)))))
 
 piece_or_end-named : (n : ℕ) (end cs : List ℕ) → IfOk (piece_or_end_at n end cs) (Given IsNamed)
 piece_or_end-named n end [] = tt
 piece_or_end-named n end (c ∷ cs) =
-    either_if_ok (Given IsNamed) (eqb c 35) _ (Ok (None, end))
+    either_if_ok (Given IsNamed) (eqb c number_sign) _ (Ok (None, end))
     (bind_if_ok (First IsNamed) (Given IsNamed) (piece_at n (after_blanks cs)) _ (piece-named n (after_blanks cs)) (λ p named. named)) tt
 
 next_piece-named : (n : ℕ) (cs : List ℕ) → IfOk (next_piece_at n cs) (Given IsNamed)
@@ -137,13 +132,11 @@ value-named n cs =
     bind_if_ok (AllGiven IsNamed) (First ValueNamed) (each (next_piece_at n) first.1) _ (each-gives IsNamed (next_piece_at n) (next_piece-named n) first.1) (λ others all.
     All-cons IsNamed first.0 others.0 named all))
 
--- ---- fields
-
 field-named : (n : ℕ) (cs : List ℕ) → IfOk (field_at n cs) (First HasNames)
 unfolding field_at
 field-named n cs =
     after_any (First HasNames) (identifier_at n cs) _ (λ name.
-    after_any (First HasNames) (token_at 61 tokens.Equals (after_blanks name.1)) _ (λ following.
+    after_any (First HasNames) (token_at equals_sign tokens.Equals (after_blanks name.1)) _ (λ following.
     bind_if_ok (First ValueNamed) (First HasNames) (value_at n (after_blanks following)) _ (value-named n (after_blanks following)) (λ value all. all)))
 
 field_or_end-named : (n : ℕ) (bracket : Bracket) (cs : List ℕ) → IfOk (field_or_end_at n bracket cs) (Given HasNames)
@@ -156,7 +149,7 @@ comma_or_end-named : (n : ℕ) (bracket : Bracket) (cs : List ℕ) → IfOk (com
 comma_or_end-named n _ [] = tt
 comma_or_end-named n bracket (c ∷ cs) =
     either_if_ok (Given HasNames) (eqb c (closing bracket)) (Ok (None, cs)) _ tt
-    (test_if_ok (Given HasNames) (eqb c 44) (field_or_end_at n bracket (after_blanks cs)) (Expected tokens.Comma, c ∷ cs) (field_or_end-named n bracket (after_blanks cs)))
+    (test_if_ok (Given HasNames) (eqb c comma) (field_or_end_at n bracket (after_blanks cs)) (Expected tokens.Comma, c ∷ cs) (field_or_end-named n bracket (after_blanks cs)))
 
 next_field-named : (n : ℕ) (bracket : Bracket) (cs : List ℕ) → IfOk (next_field_at n bracket cs) (Given HasNames)
 unfolding next_field_at
@@ -174,8 +167,6 @@ unfolding definitions_at
 definitions-named n bracket cs =
     bind_if_ok (Given HasNames) (AllGiven HasNames) (field_or_end_at n bracket (after_blanks cs)) _ (field_or_end-named n bracket (after_blanks cs)) (λ first named.
     fields_from-named n bracket first.0 first.1 named)
-
--- ---- items
 
 -- the abbreviations of an item have names, and its entry has a key
 abbrev ItemKeyed : Item → Type 0
@@ -214,8 +205,6 @@ item_or_end-keyed n (c ∷ cs) = bind_if_ok (First ItemKeyed) (Given IsItemKeyed
 next_item-keyed : (n : ℕ) (cs : List ℕ) → IfOk (next_item_at n cs) (Given IsItemKeyed)
 unfolding next_item_at
 next_item-keyed n cs = item_or_end-keyed n (after Outside cs)
-
--- ---- texts
 
 entry_in-keyed : (start end : ℕ) (i : Item) → ItemKeyed i → All IsKeyed (entry_in start end i)
 entry_in-keyed start end nothing keyed = All-nil IsKeyed

@@ -40,15 +40,15 @@ moved : (r : Raw) (i : At Item) (read : Result (List (At Item) × List ℕ) Refu
 moved r i (Ok p) = ap (λ (x : Raw). Ok x) (joined-some r i p.0)
 moved r i (Err f) = refl
 
--- what an item gives goes last
+-- what an item gives stands after what the items before it gave
 pub onto-some : (n : ℕ) (r : Raw) (cs rest : List ℕ) (i : At Item) → next_item_at n cs ≡ Ok (Some i, rest) → onto r (each (next_item_at n) cs) ≡ onto (with_item r i) (each (next_item_at n) rest)
 onto-some n r cs rest i is = ap (onto r) (each-some (next_item_at n) (items_shorten n) cs rest i is) ∙ moved r i (each (next_item_at n) rest)
 
--- the text ends
+-- where no item follows, what the items before gave is all
 pub onto-none : (n : ℕ) (r : Raw) (cs rest : List ℕ) → next_item_at n cs ≡ Ok (None, rest) → onto r (each (next_item_at n) cs) ≡ Ok r
 onto-none n r cs rest is = ap (onto r) (each-none (next_item_at n) cs rest is) ∙ ap (λ (x : Raw). Ok x) (joined-none r)
 
--- a fault stays
+-- a fault of an item is that of the text
 pub onto-stops : (n : ℕ) (r : Raw) (cs rest : List ℕ) (s : Stop) → Stops s rest (next_item_at n cs) → Stops s rest (onto r (each (next_item_at n) cs))
 onto-stops n r cs rest stops.Memory is = tt
 onto-stops n r cs rest (stops.Fault f) is = ap (onto r) (each-err (next_item_at n) cs (f, rest) is)

@@ -3,6 +3,7 @@ use Rattle.std.proofs.Common.{ℕ, ◌≤◌, ◌<◌, cond, eqb, List, [], ◌�
 use Rattle.std.specs.Prelude.{IfOk, IfSome, Bool, true, false, codes}
 use Rattle.std.specs.Option.{option_map_or}
 use Rattle.std.proofs.lemmas.Result.{IfOk-weaker}
+use Rattle.laws.specs.Characters.{double_quote, number_sign, open_parenthesis, comma, equals_sign, open_brace}
 use Rattle.laws.specs.Results.{◌>>=◌}
 use Rattle.laws.specs.Steps.{Step, Shortens, each}
 use Rattle.laws.proofs.Results.{bind_if_ok, test_if_ok, if_ok_at}
@@ -33,8 +34,6 @@ record Leaves {X : Type 0} (n : ℕ) (p : Option X × List ℕ) : Type 0 where
   pub most : length p.1 ≤ n
   pub fewer : IfSome p.0 (λ _. length p.1 < n)
 
--- ---- runs and tests
-
 length-after : (run : Run) (cs : List ℕ) → length (after run cs) ≤ length cs
 length-after run [] = omega arith
 length-after run (c ∷ cs) = by_next (λ more. length-after more cs) (next run c)
@@ -64,8 +63,6 @@ each-most {X} step leaves n cs le =
 shortens : {X : Type 0} (step : Step Refusal X) → ((n : ℕ) (cs : List ℕ) → length cs ≤ n → IfOk (step cs) (Leaves n)) → Shortens step
 shortens step leaves cs rest x is = (if_ok_at (Leaves (length cs)) (step cs) (Some x, rest) is (leaves (length cs) cs (omega arith))).fewer
 
--- ---- characters and identifiers
-
 token-leaves : (n wanted : ℕ) (token : Token) (cs : List ℕ) → length cs ≤ n → IfOk (token_at wanted token cs) (AtMost n)
 token-leaves n wanted token [] le = tt
 token-leaves n wanted token (c ∷ cs) le = test_if_ok (AtMost n) (eqb c wanted) (Ok cs) (Expected token, c ∷ cs) (omega arith)
@@ -80,9 +77,7 @@ closed-leaves n (c ∷ cs) le = omega arith
 
 unquoted-leaves : (n : ℕ) (cs : List ℕ) → length cs ≤ n → IfOk (unquoted_at cs) (AtMost n)
 unquoted-leaves n [] le = tt
-unquoted-leaves n (c ∷ cs) le = test_if_ok (AtMost n) (eqb c 34) (Ok cs) (Unexpected tokens.ClosingBrace, c ∷ cs) (omega arith)
-
--- ---- pieces and values
+unquoted-leaves n (c ∷ cs) le = test_if_ok (AtMost n) (eqb c double_quote) (Ok cs) (Unexpected tokens.ClosingBrace, c ∷ cs) (omega arith)
 
 braced-leaves : (t : ℕ) (n : ℕ) (cs : List ℕ) → length cs ≤ n → IfOk (braced_at t cs) (LeavesAtMost n)
 unfolding braced_at
@@ -95,14 +90,14 @@ quoted-leaves t n cs le = bind_if_ok (AtMost n) (LeavesAtMost n) (unquoted_at (a
 piece-leaves : (t : ℕ) (n : ℕ) (cs : List ℕ) → length cs ≤ n → IfOk (piece_at t cs) (LeavesAtMost n)
 piece-leaves t n [] le = tt
 piece-leaves t n (c ∷ cs) le =
-    either_if_ok (LeavesAtMost n) (eqb c 123) (braced_at t cs) _ (braced-leaves t n cs (omega arith))
-    (either_if_ok (LeavesAtMost n) (eqb c 34) (quoted_at t cs) _ (quoted-leaves t n cs (omega arith))
+    either_if_ok (LeavesAtMost n) (eqb c open_brace) (braced_at t cs) _ (braced-leaves t n cs (omega arith))
+    (either_if_ok (LeavesAtMost n) (eqb c double_quote) (quoted_at t cs) _ (quoted-leaves t n cs (omega arith))
     (test_if_ok (LeavesAtMost n) (is_id_continue c) (Ok (at_map bare (run_at t Identifier (c ∷ cs)), after Identifier (c ∷ cs))) (Expected tokens.Identifier, c ∷ cs) (after-most n Identifier (c ∷ cs) le)))
 
 piece_or_end-leaves : (t : ℕ) (n : ℕ) (end cs : List ℕ) → length end ≤ n → length cs ≤ n → IfOk (piece_or_end_at t end cs) (Leaves n)
 piece_or_end-leaves t n end [] before le = record { most = before; fewer = tt }
 piece_or_end-leaves t n end (c ∷ cs) before le =
-    either_if_ok (Leaves n) (eqb c 35) _ (Ok (None, end))
+    either_if_ok (Leaves n) (eqb c number_sign) _ (Ok (None, end))
     (gives-leaves n (length cs) (piece_at t (after_blanks cs)) (omega arith) (piece-leaves t (length cs) (after_blanks cs) (length-after Blank cs)))
     (record { most = before; fewer = tt })
 
@@ -119,13 +114,11 @@ value-leaves t n cs le =
     bind_if_ok (LeavesAtMost n) (LeavesAtMost n) (piece_at t cs) _ (piece-leaves t n cs le) (λ first less.
     bind_if_ok (LeavesAtMost n) (LeavesAtMost n) (each (next_piece_at t) first.1) _ (each-most (next_piece_at t) (next_piece-leaves t) n first.1 less) (λ others fewer. fewer))
 
--- ---- fields
-
 field-leaves : (t : ℕ) (n : ℕ) (cs : List ℕ) → length cs ≤ n → IfOk (field_at t cs) (LeavesAtMost n)
 unfolding field_at
 field-leaves t n cs le =
     bind_if_ok (LeavesAtMost n) (LeavesAtMost n) (identifier_at t cs) _ (identifier-leaves t n cs le) (λ name le1.
-    bind_if_ok (AtMost n) (LeavesAtMost n) (token_at 61 tokens.Equals (after_blanks name.1)) _ (token-leaves n 61 tokens.Equals (after_blanks name.1) (after-most n Blank name.1 le1)) (λ following le2.
+    bind_if_ok (AtMost n) (LeavesAtMost n) (token_at equals_sign tokens.Equals (after_blanks name.1)) _ (token-leaves n equals_sign tokens.Equals (after_blanks name.1) (after-most n Blank name.1 le1)) (λ following le2.
     bind_if_ok (LeavesAtMost n) (LeavesAtMost n) (value_at t (after_blanks following)) _ (value-leaves t n (after_blanks following) (after-most n Blank following le2)) (λ value le3. le3)))
 
 -- where a field may stand nothing needs be taken: what is given leaves at most what there was
@@ -139,7 +132,7 @@ comma_or_end-leaves : (t : ℕ) (n : ℕ) (bracket : Bracket) (cs : List ℕ) �
 comma_or_end-leaves t n _ [] le = tt
 comma_or_end-leaves t n bracket (c ∷ cs) le =
     either_if_ok (Leaves n) (eqb c (closing bracket)) (Ok (None, cs)) _ (record { most = omega arith; fewer = tt })
-    (test_if_ok (Leaves n) (eqb c 44) (field_or_end_at t bracket (after_blanks cs)) (Expected tokens.Comma, c ∷ cs)
+    (test_if_ok (Leaves n) (eqb c comma) (field_or_end_at t bracket (after_blanks cs)) (Expected tokens.Comma, c ∷ cs)
     (field_or_end-leaves t n (length cs) bracket (after_blanks cs) (length-after Blank cs) (omega arith)))
 
 next_field-leaves : (t : ℕ) (bracket : Bracket) (n : ℕ) (cs : List ℕ) → length cs ≤ n → IfOk (next_field_at t bracket cs) (Leaves n)
@@ -152,12 +145,10 @@ fields_shorten t bracket = shortens (next_field_at t bracket) (next_field-leaves
 more_fields-leave : (t : ℕ) (n : ℕ) (bracket : Bracket) (cs : List ℕ) → length cs ≤ n → IfOk (more_fields_at t bracket cs) (LeavesAtMost n)
 more_fields-leave t n bracket cs le = each-most (next_field_at t bracket) (next_field-leaves t bracket) n cs le
 
--- ---- items
-
 remark-leaves : (n : ℕ) (cs : List ℕ) → length cs ≤ n → IfOk (remark_at cs) (AtMost n)
 remark-leaves n [] le = omega arith
 remark-leaves n (c ∷ cs) le =
-    either_if_ok (AtMost n) (eqb c 123) (closed_at (after (Remark 0) cs)) (Ok (c ∷ cs)) (closed-leaves n (after (Remark 0) cs) (after-most n (Remark 0) cs (omega arith))) le
+    either_if_ok (AtMost n) (eqb c open_brace) (closed_at (after (Remark 0) cs)) (Ok (c ∷ cs)) (closed-leaves n (after (Remark 0) cs) (after-most n (Remark 0) cs (omega arith))) le
 
 preamble-leaves : (t : ℕ) (n : ℕ) (bracket : Bracket) (cs : List ℕ) → length cs ≤ n → IfOk (preamble_at t bracket cs) (AtMost n)
 unfolding preamble_at
@@ -190,7 +181,7 @@ entry-leaves t n kind bracket cs le =
 
 opening-leaves : (n : ℕ) (cs : List ℕ) → length cs ≤ n → IfOk (opening_at cs) (LeavesAtMost n)
 opening-leaves n [] le = tt
-opening-leaves n (c ∷ cs) le = either_if_ok (LeavesAtMost n) (eqb c 123) _ _ (omega arith) (test_if_ok (LeavesAtMost n) (eqb c 40) _ (Expected tokens.OpeningBrace, c ∷ cs) (omega arith))
+opening-leaves n (c ∷ cs) le = either_if_ok (LeavesAtMost n) (eqb c open_brace) _ _ (omega arith) (test_if_ok (LeavesAtMost n) (eqb c open_parenthesis) _ (Expected tokens.OpeningBrace, c ∷ cs) (omega arith))
 
 body-leaves : (t : ℕ) (n : ℕ) (kind : At (List ℕ)) (bracket : Bracket) (cs : List ℕ) → length cs ≤ n → IfOk (body_at t kind bracket cs) (LeavesAtMost n)
 body-leaves t n kind bracket cs le =

@@ -7,7 +7,7 @@ use Rattle.biblatex_text.specs.Reading.{Refusal, offset}
 use Rattle.biblatex_text.specs.Value.{piece_at, next_piece_at, value_at}
 use Rattle.biblatex_text.specs.Views.{prepended}
 use Rattle.biblatex_text.proofs.ReadingShorter.{pieces_shorten}
-use Rattle.biblatex_text.proofs.FieldsRepeats.{prefix-some, prefix-none, prefix-err}
+use Rattle.biblatex_text.proofs.FieldsRepeats.{prepended-some, prepended-none, prepended-err}
 
 abbrev pub whole : (n start : ℕ) → Result (List (At Piece) × List ℕ) Refusal → Result (At (List (At Piece)) × List ℕ) Refusal
 whole n start read = read >>= λ p. Ok (record { v = p.0; start = start; end = offset n p.1 }, p.1)
@@ -25,10 +25,10 @@ value_onto-first n cs rest x is = rw is (joined (each (next_piece_at n) rest))
     joined (Err f) = refl
 
 pub value_onto-some : (n start : ℕ) (before : List (At Piece)) (cs rest : List ℕ) (x : At Piece) → next_piece_at n cs ≡ Ok (Some x, rest) → value_onto n start before cs ≡ value_onto n start (before ++ x ∷ []) rest
-value_onto-some n start before cs rest x is = ap (whole n start) (prefix-some (next_piece_at n) (pieces_shorten n) before cs rest x is)
+value_onto-some n start before cs rest x is = ap (whole n start) (prepended-some (next_piece_at n) (pieces_shorten n) before cs rest x is)
 
 pub value_onto-none : (n start : ℕ) (before : List (At Piece)) (cs rest : List ℕ) → next_piece_at n cs ≡ Ok (None, rest) → value_onto n start before cs ≡ Ok (record { v = before; start = start; end = offset n rest }, rest)
-value_onto-none n start before cs rest is = ap (whole n start) (prefix-none (next_piece_at n) before cs rest is)
+value_onto-none n start before cs rest is = ap (whole n start) (prepended-none (next_piece_at n) before cs rest is)
 
 pub value_onto-err : (n start : ℕ) (before : List (At Piece)) (cs : List ℕ) (f : Refusal) → next_piece_at n cs ≡ Err f → value_onto n start before cs ≡ Err f
-value_onto-err n start before cs f is = ap (whole n start) (prefix-err (next_piece_at n) before cs f is)
+value_onto-err n start before cs f is = ap (whole n start) (prepended-err (next_piece_at n) before cs f is)

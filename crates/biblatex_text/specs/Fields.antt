@@ -1,5 +1,6 @@
 -- Reading fields, up to the end of an item. Characters are numbers.
 use Rattle.std.specs.Prelude.{ℕ, ◌==◌, List, [], ◌∷◌, if◌then◌else◌, Option, Some, None, Result, Ok, Err}
+use Rattle.laws.specs.Characters.{close_parenthesis, comma, equals_sign, close_brace}
 use Rattle.laws.specs.Results.{◌>>=◌}
 use Rattle.laws.specs.Steps.{each}
 use Rattle.biblatex_text.specs.Raw.{Field}
@@ -13,14 +14,14 @@ use Rattle.biblatex_text.specs.Value.{value_at}
 unfoldable pub field_at : ℕ → List ℕ → Result (Field × List ℕ) Refusal
 field_at n cs = do
   name ← identifier_at n cs
-  following ← token_at 61 tokens.Equals (after_blanks name.1)
+  following ← token_at equals_sign tokens.Equals (after_blanks name.1)
   value ← value_at n (after_blanks following)
   Ok (record { name = name.0; value = value.0 }, value.1)
 
 -- what closes an item
 abbrev pub closing : Bracket → ℕ
-closing Brace = 125
-closing Parenthesis = 41
+closing Brace = close_brace
+closing Parenthesis = close_parenthesis
 
 -- where a field may stand: the end of the item, or a field
 abbrev pub field_or_end_at : ℕ → Bracket → List ℕ → Result (Option Field × List ℕ) Refusal
@@ -31,7 +32,7 @@ field_or_end_at n bracket (c ∷ cs) = if c == closing bracket then Ok (None, cs
 abbrev pub comma_or_end_at : ℕ → Bracket → List ℕ → Result (Option Field × List ℕ) Refusal
 comma_or_end_at _ _ [] = Err (UnexpectedEof, [])
 comma_or_end_at n bracket (c ∷ cs) = if c == closing bracket then Ok (None, cs)
-    else (if c == 44 then field_or_end_at n bracket (after_blanks cs)
+    else (if c == comma then field_or_end_at n bracket (after_blanks cs)
     else Err (Expected tokens.Comma, c ∷ cs))
 
 unfoldable pub next_field_at : ℕ → Bracket → List ℕ → Result (Option Field × List ℕ) Refusal

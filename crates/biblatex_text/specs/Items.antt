@@ -1,6 +1,7 @@
 -- Reading the items of a text. Characters are numbers.
 use Rattle.std.specs.Prelude.{ℕ, Bool, ◌==◌, List, [], ◌∷◌, length, if◌then◌else◌, Option, Some, None, Result, Ok, Err, codes}
 use Rattle.std.specs.Str.{bytes_eq}
+use Rattle.laws.specs.Characters.{open_parenthesis, open_brace}
 use Rattle.laws.specs.Results.{◌>>=◌}
 use Rattle.laws.specs.Steps.{each}
 use Rattle.laws.specs.Text.{lowered, text as text_of}
@@ -20,12 +21,12 @@ use Rattle.biblatex_text.specs.Fields.{closing, more_fields_at, definitions_at}
 -- the brace or the parenthesis that opens an item
 abbrev pub opening_at : List ℕ → Result (Bracket × List ℕ) Refusal
 opening_at [] = Err (UnexpectedEof, [])
-opening_at (c ∷ cs) = if c == 123 then Ok (Brace, cs) else (if c == 40 then Ok (Parenthesis, cs) else Err (Expected tokens.OpeningBrace, c ∷ cs))
+opening_at (c ∷ cs) = if c == open_brace then Ok (Brace, cs) else (if c == open_parenthesis then Ok (Parenthesis, cs) else Err (Expected tokens.OpeningBrace, c ∷ cs))
 
 -- a comment item after its kind: text in braces, or nothing where none opens
 abbrev pub remark_at : List ℕ → Result (List ℕ) Refusal
 remark_at [] = Ok []
-remark_at (c ∷ cs) = if c == 123 then closed_at (after (Remark 0) cs) else Ok (c ∷ cs)
+remark_at (c ∷ cs) = if c == open_brace then closed_at (after (Remark 0) cs) else Ok (c ∷ cs)
 
 -- a preamble's value, which says nothing here
 unfoldable pub preamble_at : ℕ → Bracket → List ℕ → Result (List ℕ) Refusal

@@ -2,6 +2,7 @@
 use Rattle.std.specs.Prelude.{ℕ, Bool, true, false, ◌==◌, ◌&&◌, List, [], ◌∷◌, if◌then◌else◌, Option, Some, None, Result, Ok, Err}
 use Rattle.std.specs.Char.{is_ascii_digit}
 use Rattle.std.specs.List.{list_any}
+use Rattle.laws.specs.Characters.{double_quote, number_sign, open_brace}
 use Rattle.laws.specs.Results.{◌>>=◌}
 use Rattle.laws.specs.Steps.{each}
 use Rattle.biblatex_text.specs.Character.{is_id_continue}
@@ -15,7 +16,7 @@ use Rattle.biblatex_text.specs.Reading.{Refusal, offset, after_blanks, run_at, c
 -- past the quotation mark that ends a piece; a brace that closes none may not stand there
 abbrev pub unquoted_at : List ℕ → Result (List ℕ) Refusal
 unquoted_at [] = Err (UnexpectedEof, [])
-unquoted_at (c ∷ cs) = if c == 34 then Ok cs else Err (Unexpected tokens.ClosingBrace, c ∷ cs)
+unquoted_at (c ∷ cs) = if c == double_quote then Ok cs else Err (Unexpected tokens.ClosingBrace, c ∷ cs)
 
 -- a piece after its opening brace
 unfoldable pub braced_at : ℕ → List ℕ → Result (At Piece × List ℕ) Refusal
@@ -43,15 +44,15 @@ bare cs = if is_number cs then normal cs else abbreviation cs
 
 abbrev pub piece_at : ℕ → List ℕ → Result (At Piece × List ℕ) Refusal
 piece_at _ [] = Err (UnexpectedEof, [])
-piece_at n (c ∷ cs) = if c == 123 then braced_at n cs
-    else (if c == 34 then quoted_at n cs
+piece_at n (c ∷ cs) = if c == open_brace then braced_at n cs
+    else (if c == double_quote then quoted_at n cs
     else (if is_id_continue c then Ok (at_map bare (run_at n Identifier (c ∷ cs)), after Identifier (c ∷ cs))
     else Err (Expected tokens.Identifier, c ∷ cs)))
 
 -- a number sign and a further piece, or the end of the value at an offset before
 abbrev pub piece_or_end_at : ℕ → List ℕ → List ℕ → Result (Option (At Piece) × List ℕ) Refusal
 piece_or_end_at _ end [] = Ok (None, end)
-piece_or_end_at n end (c ∷ cs) = if c == 35 then (piece_at n (after_blanks cs) >>= λ p. Ok (Some p.0, p.1)) else Ok (None, end)
+piece_or_end_at n end (c ∷ cs) = if c == number_sign then (piece_at n (after_blanks cs) >>= λ p. Ok (Some p.0, p.1)) else Ok (None, end)
 
 -- after a piece: white space, a number sign and a further piece, or the end of the value
 unfoldable pub next_piece_at : ℕ → List ℕ → Result (Option (At Piece) × List ℕ) Refusal

@@ -4,6 +4,7 @@ use Rattle.std.specs.Prelude.{◌≡◌, ◌≤◌, ℕ, List, ◌++◌, map, le
 use Rattle.std.specs.Str.{chars}
 use Rattle.std.specs.Borrow.{Bor}
 use Rattle.laws.specs.Results.{◌>>=◌}
+use Rattle.laws.specs.Text.{spelled}
 use Rattle.biblatex_text.specs.Raw.{At, Piece, normal, abbreviation, Field, Entry, Item, nothing, definitions, an_entry, Raw}
 use Rattle.biblatex_text.specs.Reading.{Refusal}
 use Rattle.biblatex_text.specs.declared.cursor.Reader.{Reader}
@@ -37,12 +38,8 @@ size r = length r.source.now
 abbrev pub spanned_view : {X Y : Type 0} → (X → Y) → Spanned X → At Y
 spanned_view view s = record { v = view s.v; start = s.span.start; end = s.span.end }
 
--- the characters of a borrowed text
-abbrev pub text_view : Bor (List ℕ) → List ℕ
-text_view t = chars t.now
-
 abbrev pub spanned_text_view : Spanned (Bor (List ℕ)) → At (List ℕ)
-spanned_text_view s = spanned_view text_view s
+spanned_text_view s = spanned_view spelled s
 
 abbrev pub chunk_view : RawChunk → Piece
 chunk_view (chunks.Normal t) = normal (chars t.now)

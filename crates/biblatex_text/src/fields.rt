@@ -30,7 +30,7 @@ impl<'s> Reader<'s> {
         Ok(Pair { key, value })
     }
 
-    /// Where a field may stand: the end of the item, or a field.
+    /// The field that stands here, or nothing at the end of the item, which is taken.
     pub(crate) fn field_or_end(
         &mut self,
         alloc: Global,
@@ -51,7 +51,7 @@ impl<'s> Reader<'s> {
         }
     }
 
-    /// After a key or a field: the end of the item, or a comma and what may follow it.
+    /// The field after a key or a field and a comma, or nothing at the end of the item, which is taken.
     #[tactic(auto, unfolding(crate::specs::Fields::next_field_at))]
     pub(crate) fn next_field(
         &mut self,

@@ -36,7 +36,7 @@ impl<'s> BiblatexParser<'s> {
     /// What the source holds, as `RawBibliography::parse` gives it.
     ///
     /// # Errors
-    /// As those of `RawBibliography::parse`.
+    /// Those of `RawBibliography::parse`.
     pub fn parse(self, alloc: Global) -> Result<RawBibliography<'s>, RawError>
         ensures reads { Gives refusal_of raw_view result (raw_of (chars self.entry)) }
         ensures slices { IfOk result (IsRawOf self.entry) }

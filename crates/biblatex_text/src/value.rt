@@ -103,7 +103,7 @@ impl<'s> Reader<'s> {
         }
     }
 
-    /// After a piece: a number sign and a further piece, or the end of the value.
+    /// The piece after a piece and a number sign, or nothing at the end of the value.
     #[tactic(auto, unfolding(crate::specs::Value::next_piece_at))]
     fn next_piece(&mut self) -> Result<Option<Spanned<RawChunk<'s>>>, Fault>
         ensures on { GoesOn self.old self.new }

@@ -9,6 +9,7 @@ use Rattle.std.proofs.lemmas.Bool.{and_parts}
 use Rattle.std.proofs.lemmas.Bool.Decides.{nat_tests}
 use Rattle.std.proofs.lemmas.Fmt.{IsAscii-signed, digits_decimal, digits_value-decimal, decimal_nonempty}
 use Rattle.std.proofs.lemmas.Int.{ints}
+use Rattle.laws.specs.Characters.{hyphen}
 use Rattle.laws.specs.Text.{text}
 use Rattle.texts.proofs.ReadingDigits.{own}
 use Rattle.texts.proofs.GrowingWritten.{text-ascii}
@@ -18,7 +19,7 @@ use Rattle.biblatex_values.proofs.IntegerPrinted.{natural-ok, negative-ok}
 use Rattle.biblatex_values.proofs.TextsPlain.{plain-letters}
 use lib.Signed.{mag}
 
-digit_no_hyphen : (d : ℕ) → is_ascii_digit d ≡ true → eqb d 45 ≡ false
+digit_no_hyphen : (d : ℕ) → is_ascii_digit d ≡ true → eqb d hyphen ≡ false
 digit_no_hyphen d is = grind (arith, nat_tests)
 
 -- digits are a natural number

@@ -11,6 +11,7 @@ use Rattle.std.proofs.lemmas.Int.{ints}
 use Rattle.std.proofs.lemmas.Str.{chars-IsAscii}
 use Rattle.std.proofs.lemmas.Str.Parse.{parse_signed_plain, parse_signed_minus}
 use Rattle.texts.proofs.ReadingDigits.{own}
+use Rattle.laws.specs.Characters.{plus_sign, hyphen}
 use Rattle.laws.specs.Text.{characters}
 use Rattle.biblatex_dates.specs.declared.error.TypeErrorKind.TheVariants.{Unreadable}
 use Rattle.biblatex_values.specs.Integer.{natural_of, negative_of, integer_of}
@@ -69,27 +70,27 @@ negative_parsed : {E : Type 0} (b : ℕ) (ds : List ℕ) (r : Result ℤ E) → 
 negative_parsed b ds (Ok z) k is = is ∙ negative-ok ds k.0 ∙ ap (λ (y : ℤ). Ok y) (sym k.1)
 negative_parsed b ds (Err f) k is = is ∙ negative-err ds k
 
-pub parsed : {E : Type 0} (bs : List ℕ) (r : Result ℤ E) → (get_or bs 0 0 ≡ 43 → ⊥) → ParsesSigned w64 10 bs r → Parsed r bs
+pub parsed : {E : Type 0} (bs : List ℕ) (r : Result ℤ E) → (get_or bs 0 0 ≡ plus_sign → ⊥) → ParsesSigned w64 10 bs r → Parsed r bs
 parsed [] r no_plus p = natural_parsed [] r (parse_signed_plain own w64 [] r p no_plus (λ e. omega arith)) refl
-parsed {E} (b ∷ bs) r no_plus p = by_test (eqb b 45) refl
+parsed {E} (b ∷ bs) r no_plus p = by_test (eqb b hyphen) refl
   where
-    by_test : (t : Bool) → eqb b 45 ≡ t → Parsed r (b ∷ bs)
-    by_test true e = negative_parsed b bs r (parse_signed_minus own w64 (b ∷ bs) r p (eqb-true b 45 e)) (rw e refl)
-    by_test false e = natural_parsed (b ∷ bs) r (parse_signed_plain own w64 (b ∷ bs) r p no_plus (λ (is : b ≡ 45). let f : eqb b 45 ≡ true = rw is refl in absurd (true_is_not_false f e))) (rw e refl)
+    by_test : (t : Bool) → eqb b hyphen ≡ t → Parsed r (b ∷ bs)
+    by_test true e = negative_parsed b bs r (parse_signed_minus own w64 (b ∷ bs) r p (eqb-true b hyphen e)) (rw e refl)
+    by_test false e = natural_parsed (b ∷ bs) r (parse_signed_plain own w64 (b ∷ bs) r p no_plus (λ (is : b ≡ hyphen). let f : eqb b hyphen ≡ true = rw is refl in absurd (true_is_not_false f e))) (rw e refl)
       where
-        true_is_not_false : eqb b 45 ≡ true → eqb b 45 ≡ false → ⊥
+        true_is_not_false : eqb b hyphen ≡ true → eqb b hyphen ≡ false → ⊥
         true_is_not_false f g = let h : true ≡ false = sym f ∙ g in absurd cc
 
-pub integer_parsed : {E : Type 0} (bs : List ℕ) (z : ℤ) (r : Result ℤ E) → r ≡ Ok z → (get_or bs 0 0 ≡ 43 → ⊥) → ParsesSigned w64 10 bs r → integer_of bs ≡ Ok z
+pub integer_parsed : {E : Type 0} (bs : List ℕ) (z : ℤ) (r : Result ℤ E) → r ≡ Ok z → (get_or bs 0 0 ≡ plus_sign → ⊥) → ParsesSigned w64 10 bs r → integer_of bs ≡ Ok z
 integer_parsed {E} bs z r e no_plus p = let h : Parsed {E = E} (Ok z) bs = rw e at (parsed bs r no_plus p) in h
 
-pub integer_refused : {E : Type 0} (bs : List ℕ) (f : E) → (get_or bs 0 0 ≡ 43 → ⊥) → ParsesSigned w64 10 bs (Err f) → integer_of bs ≡ Err Unreadable
+pub integer_refused : {E : Type 0} (bs : List ℕ) (f : E) → (get_or bs 0 0 ≡ plus_sign → ⊥) → ParsesSigned w64 10 bs (Err f) → integer_of bs ≡ Err Unreadable
 integer_refused bs f no_plus p = parsed bs (Err f) no_plus p
 
 -- a text does not begin with a plus where a test says so
-pub no_plus : (bs : List ℕ) (t : Bool) → t ≡ false → t ≡ eqb (get_or bs 0 0) 43 → get_or bs 0 0 ≡ 43 → ⊥
+pub no_plus : (bs : List ℕ) (t : Bool) → t ≡ false → t ≡ eqb (get_or bs 0 0) plus_sign → get_or bs 0 0 ≡ plus_sign → ⊥
 no_plus bs t false_is is e =
-    let yes : eqb (get_or bs 0 0) 43 ≡ true = rw e refl in
+    let yes : eqb (get_or bs 0 0) plus_sign ≡ true = rw e refl in
     let h : false ≡ true = sym false_is ∙ is ∙ yes in
     absurd cc
 

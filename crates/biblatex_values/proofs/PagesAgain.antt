@@ -4,6 +4,7 @@ use Rattle.std.specs.Fmt.{decimal}
 use Rattle.std.specs.List.{flat_map}
 use Rattle.std.specs.declared.ops.Range.{Range}
 use Rattle.std.proofs.lemmas.Bool.{eqb-true}
+use Rattle.laws.specs.Characters as character
 use Rattle.laws.specs.Results.{◌>>=◌}
 use Rattle.laws.specs.Runs.{Bars}
 use Rattle.laws.specs.Steps.{each}
@@ -21,8 +22,8 @@ use Rattle.biblatex_values.proofs.PagesRanges.{ranges_shorten}
 page_again : (n : ℕ) (rest : List ℕ) → n < 2 ^ 31 → Bars (passes Digit) rest → page_at (decimal n ++ rest) ≡ Ok (n, rest)
 page_again n rest small bars = let e = number_again n rest small bars in rw e refl
 
--- an en dash before a number
-dash_again : (n : ℕ) (rest : List ℕ) → n < 2 ^ 31 → dashes_after (8211 ∷ (decimal n ++ rest)) ≡ Some (decimal n ++ rest)
+-- an en dash that was written before a number is read back
+dash_again : (n : ℕ) (rest : List ℕ) → n < 2 ^ 31 → dashes_after (character.en_dash ∷ (decimal n ++ rest)) ≡ Some (decimal n ++ rest)
 unfolding passes
 dash_again n rest small =
     let b = digit_bars (decimal n ++ rest) (decimal_starts n rest small) in
@@ -30,7 +31,7 @@ dash_again n rest small =
     let spaces = (cuts (passes Space) [] (decimal n ++ rest) tt b.1).after in
     rw (dashes, spaces) refl
 
-dash_bars : (cs : List ℕ) → Bars (passes Digit) (8211 ∷ cs)
+dash_bars : (cs : List ℕ) → Bars (passes Digit) (character.en_dash ∷ cs)
 unfolding passes
 dash_bars cs = refl
 
@@ -51,12 +52,12 @@ range_again_before r rest are stops = by_test (eqb r.start r.end) refl
         let same : r.start ≡ r.end = eqb-true r.start r.end is in
         rw (first, none) (ap (λ (last : ℕ). Ok (from_to r.start last, rest)) same)
 
-    two : range_at ((decimal r.start ++ 8211 ∷ decimal r.end) ++ rest) ≡ Ok (r, rest)
+    two : range_at ((decimal r.start ++ character.en_dash ∷ decimal r.end) ++ rest) ≡ Ok (r, rest)
     two =
-        let first = page_again r.start (8211 ∷ (decimal r.end ++ rest)) are.0 (dash_bars (decimal r.end ++ rest)) in
+        let first = page_again r.start (character.en_dash ∷ (decimal r.end ++ rest)) are.0 (dash_bars (decimal r.end ++ rest)) in
         let dash = dash_again r.end rest are.1 in
         let last = page_again r.end rest are.1 stops.bars in
-        ap range_at (append_assoc (decimal r.start) (8211 ∷ decimal r.end) rest) ∙ rw (first, dash, last) refl
+        ap range_at (append_assoc (decimal r.start) (character.en_dash ∷ decimal r.end) rest) ∙ rw (first, dash, last) refl
 
     by_test : (t : Bool) → eqb r.start r.end ≡ t → range_at (range_text r ++ rest) ≡ Ok (r, rest)
     by_test true is = rw is (alone is)
@@ -76,9 +77,9 @@ range_starts r rest are = by_test (eqb r.start r.end) refl
   where
     by_test : (t : Bool) → eqb r.start r.end ≡ t → Starts (passes Digit) (range_text r ++ rest)
     by_test true is = rw is (decimal_starts r.start rest are.0)
-    by_test false is = rw (is, append_assoc (decimal r.start) (8211 ∷ decimal r.end) rest) (decimal_starts r.start (8211 ∷ (decimal r.end ++ rest)) are.0)
+    by_test false is = rw (is, append_assoc (decimal r.start) (character.en_dash ∷ decimal r.end) rest) (decimal_starts r.start (character.en_dash ∷ (decimal r.end ++ rest)) are.0)
 
-comma_again : (cs : List ℕ) → Starts (passes Digit) cs → comma_after (44 ∷ 32 ∷ cs) ≡ Some cs
+comma_again : (cs : List ℕ) → Starts (passes Digit) cs → comma_after (character.comma ∷ character.space ∷ cs) ≡ Some cs
 unfolding passes
 comma_again cs s =
     let b = digit_bars cs s in

@@ -2,6 +2,7 @@
 use Rattle.std.proofs.Common.{◌≡◌, ℕ, ◌<◌, ◌≤◌, Bool, true, false, cond, List, [], ◌∷◌, ◌++◌, length, Option, Some, None, Result, Ok, Err, refl, sym, ap, ◌∙◌, append_assoc, arith, eqb, ◌||◌}
 use Rattle.std.specs.Prelude.{IfOk, unsigned_abs}
 use Rattle.std.specs.declared.ops.Range.{Range}
+use Rattle.laws.specs.Characters.{ampersand, comma}
 use Rattle.laws.specs.Results.{◌>>=◌}
 use Rattle.laws.specs.Runs.{after}
 use Rattle.laws.specs.Steps.{each, Shortens}
@@ -15,7 +16,7 @@ use Rattle.texts.specs.declared.reader.Unreadable.{Unreadable}
 use Rattle.texts.proofs.ReadingShorter.{LeavesAtMost, number-leaves}
 use Rattle.biblatex_values.specs.Pages.{from_to, page_at, dashes_from, dashes_after, last_from, last_following, range_at, comma_from, comma_after, range_from, next_range_at, ranges_at}
 
--- how much reading leaves
+-- reading a page leaves no more than there was
 page-leaves : (cs : List ℕ) → IfOk (page_at cs) (LeavesAtMost (length cs))
 page-leaves cs = bind_if_ok (LeavesAtMost (length cs)) (LeavesAtMost (length cs)) (number_at cs) (λ n. Ok (unsigned_abs n.0, n.1)) (number-leaves cs) (λ n less. less)
 
@@ -54,7 +55,7 @@ range-leaves n cs le = bind_if_ok (LeavesAtMost (length cs)) (LeavesAtMost n) (p
 
 comma_from-leaves : (cs : List ℕ) → AfterLess (length cs) (comma_from cs)
 comma_from-leaves [] = tt
-comma_from-leaves (c ∷ cs) = by_test (eqb c 44 || eqb c 38)
+comma_from-leaves (c ∷ cs) = by_test (eqb c comma || eqb c ampersand)
   where
     by_test : (t : Bool) → AfterLess (length (c ∷ cs)) (cond t (Some (after (passes Space) cs)) None)
     by_test true = omega (arith, length-after (passes Space) cs)
@@ -90,17 +91,17 @@ ranges_shorten text rest x is = by_comma (comma_after text) (comma_from-leaves (
 unfoldable pub ranges_onto : List (Range ℕ) → List ℕ → Result (List (Range ℕ) × List ℕ) Unreadable
 ranges_onto rs cs = each next_range_at cs >>= λ p. Ok (rs ++ p.0, p.1)
 
--- the first range
+-- where a first range stands, what is left makes of it all ranges of the text
 pub ranges_onto-first : (cs rest : List ℕ) (r : Range ℕ) → range_at cs ≡ Ok (r, rest) → ranges_onto (r ∷ []) rest ≡ ranges_at cs
 unfolding ranges_onto ranges_at
 ranges_onto-first cs rest r is = rw is refl
 
--- no range
+-- where no range stands first, the text has the fault of that
 pub ranges_at-err : (cs : List ℕ) (f : Unreadable) → range_at cs ≡ Err f → ranges_at cs ≡ Err f
 unfolding ranges_at
 ranges_at-err cs f is = rw is refl
 
--- one more range
+-- a further range stands after those so far
 pub ranges_onto-some : (rs : List (Range ℕ)) (r : Range ℕ) (cs rest : List ℕ) → next_range_at cs ≡ Ok (Some r, rest) → ranges_onto rs cs ≡ ranges_onto (rs ++ r ∷ []) rest
 unfolding ranges_onto
 ranges_onto-some rs r cs rest is =
@@ -108,12 +109,12 @@ ranges_onto-some rs r cs rest is =
     ∙ bind_bind (each next_range_at rest) (λ p. Ok (r ∷ p.0, p.1)) (λ p. Ok (rs ++ p.0, p.1))
     ∙ ap (λ (f : List (Range ℕ) × List ℕ → Result (List (Range ℕ) × List ℕ) Unreadable). each next_range_at rest >>= f) (λ i p. Ok (sym (append_assoc rs (r ∷ []) p.0) i, p.1))
 
--- no further range
+-- where no further range follows, the ranges so far are all
 pub ranges_onto-end : (rs : List (Range ℕ)) (cs rest : List ℕ) → next_range_at cs ≡ Ok (None, rest) → ranges_onto rs cs ≡ Ok (rs ++ [], rest)
 unfolding ranges_onto
 ranges_onto-end rs cs rest is = rw (each-none next_range_at cs rest is) refl
 
--- a comma without a range
+-- a comma that no range follows is a fault
 pub ranges_onto-err : (rs : List (Range ℕ)) (cs : List ℕ) (f : Unreadable) → next_range_at cs ≡ Err f → ranges_onto rs cs ≡ Err f
 unfolding ranges_onto
 ranges_onto-err rs cs f is = rw (each-err next_range_at cs f is) refl

@@ -5,15 +5,16 @@ use Rattle.std.specs.Fmt.{decimal}
 use Rattle.std.specs.Str.{chars}
 use Rattle.std.proofs.lemmas.Fmt.{IsAscii-decimal}
 use Rattle.std.proofs.lemmas.Str.{chars-IsAscii}
+use Rattle.laws.specs.Characters as character
 use Rattle.laws.specs.Text.{characters}
 
--- an en dash
-dash : chars (226 ∷ 128 ∷ 147 ∷ []) ≡ 8211 ∷ []
+-- the bytes that spell an en dash
+dash : chars (226 ∷ 128 ∷ 147 ∷ []) ≡ character.en_dash ∷ []
 unfolding chars
 dash = refl
 
--- a comma and a space
-comma : chars (44 ∷ 32 ∷ []) ≡ 44 ∷ 32 ∷ []
+-- a comma and a space spell themselves
+comma : chars (character.comma ∷ character.space ∷ []) ≡ character.comma ∷ character.space ∷ []
 unfolding chars
 comma = refl
 
@@ -22,11 +23,11 @@ put_two : {E : Type 0} (r : Result (Unit {0}) E) (old middle new first more : Li
 put_two (Ok x) old middle new first more e f = f ∙ ap (λ (t : List ℕ). t ++ more) e ∙ append_assoc old first more
 put_two (Err x) old middle new first more e f = tt
 
-pub after_dash : {E : Type 0} (r : Result (Unit {0}) E) (old middle new more : List ℕ) → middle ≡ old ++ chars (226 ∷ 128 ∷ 147 ∷ []) → OnOk r (new ≡ middle ++ more) → OnOk r (new ≡ old ++ 8211 ∷ more)
-after_dash r old middle new more e f = put_two r old middle new (8211 ∷ []) more (e ∙ ap (λ (t : List ℕ). old ++ t) dash) f
+pub after_dash : {E : Type 0} (r : Result (Unit {0}) E) (old middle new more : List ℕ) → middle ≡ old ++ chars (226 ∷ 128 ∷ 147 ∷ []) → OnOk r (new ≡ middle ++ more) → OnOk r (new ≡ old ++ character.en_dash ∷ more)
+after_dash r old middle new more e f = put_two r old middle new (character.en_dash ∷ []) more (e ∙ ap (λ (t : List ℕ). old ++ t) dash) f
 
-pub after_comma : {E : Type 0} (r : Result (Unit {0}) E) (old middle new more : List ℕ) → middle ≡ old ++ chars (44 ∷ 32 ∷ []) → OnOk r (new ≡ middle ++ more) → OnOk r (new ≡ old ++ 44 ∷ 32 ∷ more)
-after_comma r old middle new more e f = put_two r old middle new (44 ∷ 32 ∷ []) more (e ∙ ap (λ (t : List ℕ). old ++ t) comma) f
+pub after_comma : {E : Type 0} (r : Result (Unit {0}) E) (old middle new more : List ℕ) → middle ≡ old ++ chars (character.comma ∷ character.space ∷ []) → OnOk r (new ≡ middle ++ more) → OnOk r (new ≡ old ++ character.comma ∷ character.space ∷ more)
+after_comma r old middle new more e f = put_two r old middle new (character.comma ∷ character.space ∷ []) more (e ∙ ap (λ (t : List ℕ). old ++ t) comma) f
 
 -- a number is printed in ASCII
 pub shown_page : {E : Type 0} (r : Result (String Global) E) (n : ℕ) → n < 2 ^ 64 → IfOk r (λ s. string_bytes s ≡ decimal n) → IfOk r (λ s. characters s ≡ decimal n)

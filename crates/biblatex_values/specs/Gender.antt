@@ -27,7 +27,7 @@ gender_among (g ∷ gs) name = if bytes_eq name (gender_name g) then Some g else
 abbrev pub gender_of : List ℕ → Option Gender
 gender_of name = gender_among (SingularFemale ∷ SingularMale ∷ SingularNeuter ∷ PluralFemale ∷ PluralMale ∷ PluralNeuter ∷ []) name
 
--- what is there, or a fault
+-- the value, or the fault that there is none
 abbrev pub or_unreadable : {X : Type 0} → Option X → Result X TypeErrorKind
 or_unreadable (Some x) = Ok x
 or_unreadable None = Err Unreadable
@@ -69,7 +69,7 @@ is_male _ = false
 abbrev pub coalesced_many : List Gender → Gender
 coalesced_many gs = if list_all is_female gs then PluralFemale else (if list_all is_male gs then PluralMale else PluralNeuter)
 
--- one is itself, and two or more are plural
+-- the gender of a list together: of one its own, of two or more plural, of none nothing
 abbrev pub coalesced : List Gender → Option Gender
 coalesced [] = None
 coalesced (g ∷ []) = Some g

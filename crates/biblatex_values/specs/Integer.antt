@@ -3,6 +3,7 @@ use Rattle.std.specs.Prelude.{ℕ, ◌^◌, Bool, ◌==◌, ◌&&◌, nat_lt, na
 use Rattle.std.specs.Fmt.{signed_decimal}
 use Rattle.std.specs.Str.{all_ascii_digits}
 use Rattle.std.specs.Str.Parse.{digits_value}
+use Rattle.laws.specs.Characters.{hyphen}
 use Rattle.laws.specs.Text.{text}
 use Rattle.biblatex_content.specs.declared.chunk.Kind.TheVariants.{Normal}
 use Rattle.biblatex_content.specs.Styled.{Member, letters, plain}
@@ -24,7 +25,7 @@ negative_of ds = if is_numeral ds && nat_le (digits_value 10 ds) (2 ^ 63) then O
 -- the integer that bytes spell: digits, negative after a hyphen
 abbrev pub integer_of : List ℕ → Result ℤ TypeErrorKind
 integer_of [] = Err Unreadable
-integer_of (b ∷ bs) = if b == 45 then negative_of bs else natural_of (b ∷ bs)
+integer_of (b ∷ bs) = if b == hyphen then negative_of bs else natural_of (b ∷ bs)
 
 abbrev pub reads_integer : List Member → Result ℤ TypeErrorKind
 reads_integer ms = integer_of (text (plain ms))

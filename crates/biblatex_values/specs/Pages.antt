@@ -3,6 +3,7 @@ use Rattle.std.specs.Prelude.{ℕ, ◌<◌, ◌^◌, ◌==◌, ◌||◌, List, [
 use Rattle.std.specs.List.{flat_map}
 use Rattle.std.specs.Fmt.{decimal}
 use Rattle.std.specs.declared.ops.Range.{Range}
+use Rattle.laws.specs.Characters.{space, ampersand, comma, en_dash}
 use Rattle.laws.specs.Results.{◌>>=◌}
 use Rattle.laws.specs.Runs.{after}
 use Rattle.laws.specs.Steps.{each}
@@ -35,7 +36,7 @@ dashes_after cs = dashes_from (after (passes Space) cs)
 -- after a comma or an ampersand, and the spaces after it
 abbrev pub comma_from : List ℕ → Option (List ℕ)
 comma_from [] = None
-comma_from (c ∷ cs) = if c == 44 || c == 38 then Some (after (passes Space) cs) else None
+comma_from (c ∷ cs) = if c == comma || c == ampersand then Some (after (passes Space) cs) else None
 
 -- what stands after a comma or an ampersand with spaces round it, if there is one
 abbrev pub comma_after : List ℕ → Option (List ℕ)
@@ -91,11 +92,11 @@ reads_ranges ms = ranges_of (plain ms)
 
 -- the first page, and where the last one is another, an en dash and the last one
 abbrev pub range_text : Range ℕ → List ℕ
-range_text r = if r.start == r.end then decimal r.start else decimal r.start ++ 8211 ∷ decimal r.end
+range_text r = if r.start == r.end then decimal r.start else decimal r.start ++ en_dash ∷ decimal r.end
 
 -- a comma, a space and a range
 abbrev pub more_text : Range ℕ → List ℕ
-more_text r = 44 ∷ 32 ∷ range_text r
+more_text r = comma ∷ space ∷ range_text r
 
 -- the ranges, with a comma and a space between
 abbrev pub ranges_text : List (Range ℕ) → List ℕ

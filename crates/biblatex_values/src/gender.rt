@@ -42,7 +42,7 @@ impl Gender {
         }
     }
 
-    /// The same of several people.
+    /// The same gender, of several people.
     pub fn plural(self) -> Gender
         ensures { result ≡ plural self }
     {
@@ -53,7 +53,7 @@ impl Gender {
         }
     }
 
-    /// The same of one person.
+    /// The same gender, of one person.
     pub fn singular(self) -> Gender
         ensures { result ≡ singular self }
     {
@@ -104,7 +104,6 @@ fn coalesced_many(list: &[Gender]) -> Gender
     Gender::PluralNeuter
 }
 
-/// Whether all are female.
 fn are_female(list: &[Gender]) -> bool
     ensures { result ≡ list_all is_female list.now }
 {
@@ -116,7 +115,6 @@ fn are_female(list: &[Gender]) -> bool
     true
 }
 
-/// Whether all are male.
 fn are_male(list: &[Gender]) -> bool
     ensures { result ≡ list_all is_male list.now }
 {

@@ -4,6 +4,7 @@ ghost use Rattle.std.specs.Prelude.{◌≡◌, ◌++◌, ◌∷◌, [], MatchOpt
 ghost use Rattle.std.specs.Fmt.{decimal};
 ghost use Rattle.std.specs.List.{flat_map};
 ghost use Rattle.std.specs.Str.{chars};
+ghost use Rattle.laws.specs.Characters.{en_dash};
 ghost use Rattle.laws.specs.Results.{Gives, GivesRestOrRefuses, Reads};
 ghost use Rattle.texts.specs.Views.{left};
 ghost use Rattle.laws.specs.Text.{characters};
@@ -146,7 +147,7 @@ fn push_page(alloc: Global, text: &mut String, page: u32) -> Result<(), AllocErr
 
 /// Appends an en dash and the digits of a page.
 fn push_last(alloc: Global, text: &mut String, page: u32) -> Result<(), AllocError>
-    ensures { OnOk result (characters text.new ≡ characters text.old ++ 8211 ∷ decimal page) }
+    ensures { OnOk result (characters text.new ≡ characters text.old ++ en_dash ∷ decimal page) }
 {
     push_text(text, "\u{2013}")?;
     push_page(alloc, text, page)

@@ -22,7 +22,7 @@ fn parse<'a>(alloc: Global, line: &'a str, scratch: &'a mut Scratch) -> Result<V
 
 /// Writes the members of the answer to a case; false where no kind has this name.
 fn is_answered(session: &mut Session, kind: &str, case: &Value<'_>) -> bool {
-    cases_text::answer(session, kind, case)
+    cases::answer_texts(session, kind, case)
         || cases_values::answer(session, kind, case)
         || cases_entries::answer(session, kind, case)
         || cases_literature::answer(session, kind, case)
@@ -77,7 +77,6 @@ fn no_case(alloc: Global, refusal: &Refusal) -> Result<Vec<u8>, Refusal> {
     session.finish()
 }
 
-/// The text of an answer.
 fn text_of(alloc: Global, answer: Vec<u8>) -> String {
     match String::from_utf8(answer) {
         Ok(text) => text,

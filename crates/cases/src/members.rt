@@ -151,8 +151,8 @@ impl Session {
         }
     }
 
-    /// The number of a member that counts from 0; one that is left out is 0.
-    pub fn place(&mut self, object: &Value<'_>, name: &'static str) -> usize {
+    /// The number of a member that counts from 0, as an index; one that is left out is 0.
+    pub fn index_or_zero(&mut self, object: &Value<'_>, name: &'static str) -> usize {
         self.maybe_count(object, name).unwrap_or(0)
     }
 
@@ -187,13 +187,13 @@ impl Session {
         texts
     }
 
-    /// A text of its own of a member.
+    /// A copy of the text of a member.
     pub fn owned_text(&mut self, object: &Value<'_>, name: &'static str) -> String {
         let text = self.text(object, name);
         self.owned(text)
     }
 
-    /// A text of its own of a member that may be left out.
+    /// A copy of the text of a member that may be left out.
     pub fn maybe_owned_text(&mut self, object: &Value<'_>, name: &'static str) -> Option<String> {
         match self.maybe_text(object, name) {
             Some(text) => Some(self.owned(text)),
@@ -201,7 +201,7 @@ impl Session {
         }
     }
 
-    /// A text of its own of a member; one that is left out is empty.
+    /// A copy of the text of a member; empty where it is left out.
     pub fn text_or_empty(&mut self, object: &Value<'_>, name: &'static str) -> String {
         match self.maybe_text(object, name) {
             Some(text) => self.owned(text),

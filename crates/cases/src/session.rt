@@ -67,7 +67,7 @@ impl Session {
         }
     }
 
-    /// A text of its own.
+    /// A copy of a text.
     pub fn owned(&mut self, text: &str) -> String {
         match String::from_str(self.alloc, text) {
             Ok(text) => text,

@@ -1,4 +1,4 @@
-//! The steps of one who prints by itself.
+//! The steps of a caller who prints by itself.
 
 use crate::nodes::{ask, put_name_options, render};
 use cases::{Session, Value};

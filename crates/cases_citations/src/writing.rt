@@ -7,7 +7,7 @@ use literature::Entry;
 use rendering::{CiteProperties, LocaleCode, StyleContext, Walk, Words, YearSuffixText};
 use rendering_writing::{Context, WritingContext};
 
-/// `writing`: what nodes are asked on the way, and what the steps append.
+/// `writing`: what is asked of nodes on the way, and what the steps append.
 pub(crate) fn put_writing(
     session: &mut Session,
     case: &Value<'_>,

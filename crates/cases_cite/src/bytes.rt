@@ -29,7 +29,6 @@ pub(crate) fn bytes_of(session: &mut Session, value: &Value<'_>, name: &'static 
     }
 }
 
-/// The bytes of a text.
 fn bytes_in_text(session: &mut Session, text: &str) -> Vec<u8> {
     let copied = text.as_bytes().to_vec(session.alloc);
     match session.allocated(copied) {
@@ -64,7 +63,6 @@ pub(crate) fn put_taken(session: &mut Session, name: &str, taker: &Taker) {
     }
 }
 
-/// Writes bytes as a list.
 fn put_list(session: &mut Session, bytes: &[u8]) {
     session.begin_array();
     for byte in bytes {

@@ -21,7 +21,7 @@ pub(crate) fn put_cite_error(session: &mut Session, case: &Value<'_>, error: &Ci
     session.put_message(case, error);
 }
 
-/// Writes why the bib text of a document was refused. The message for it stands in that of the document's refusal alone.
+/// Writes why the bib text of a document was refused, without the message, which the refusal of the document has.
 fn put_bib_error(session: &mut Session, error: &BibTextError) {
     match error {
         BibTextError::Utf8 => session.put_refused("Utf8"),

@@ -33,7 +33,6 @@ pub(crate) fn style(session: &mut Session, case: &Value<'_>) -> Option<Box<Style
     }
 }
 
-/// The style of that word.
 fn style_named(session: &mut Session, word: &str) -> Option<Box<Style>> {
     let made = match word {
         "numeric" => numeric(session.alloc),
@@ -74,7 +73,6 @@ const FORMATS: &[(&str, BufWriteFormat)] = &[
     ("html", BufWriteFormat::Html),
 ];
 
-/// The format of a case.
 pub(crate) fn format(session: &mut Session, case: &Value<'_>) -> BufWriteFormat {
     session.word_or(case, "format", FORMATS, BufWriteFormat::default())
 }

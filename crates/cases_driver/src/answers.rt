@@ -43,7 +43,6 @@ fn put_citations(session: &mut Session, has_trees: bool, citations: &[RenderedCi
     session.end_array();
 }
 
-/// Writes a bibliography.
 fn put_bibliography(session: &mut Session, has_trees: bool, bibliography: &RenderedBibliography) {
     session.begin_object();
     session.put_bool("hanging_indent", bibliography.hanging_indent);
@@ -62,7 +61,6 @@ fn put_bibliography(session: &mut Session, has_trees: bool, bibliography: &Rende
     session.end_object();
 }
 
-/// Writes an item of a bibliography.
 fn put_item(session: &mut Session, has_trees: bool, item: &BibliographyItem) {
     session.begin_object();
     session.put_text("key", item.key.as_str());
@@ -83,7 +81,6 @@ fn put_child(session: &mut Session, has_trees: bool, child: &ElemChild) {
     put_tree(session, has_trees, &tree);
 }
 
-/// Appends a copy of a child.
 fn push_copy(tree: &mut ElemChildren, child: &ElemChild) -> Result<(), AllocError> {
     tree.push(child.clone()?)
 }

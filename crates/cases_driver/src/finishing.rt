@@ -66,7 +66,7 @@ fn driver_of<'s>(
     case: &'s Value<'_>,
     sources: Sources<'s>,
 ) -> Option<BibliographyDriver<'s, Entry, i64>> {
-    let offset = session.place(case, "offset");
+    let offset = session.index_or_zero(case, "offset");
     let mut driver = BibliographyDriver::new(session.alloc).with_citation_number_offset(offset);
     let Some(requests) = session.items(case, "requests") else {
         return Some(driver);

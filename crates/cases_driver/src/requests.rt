@@ -26,7 +26,6 @@ pub(crate) fn request<'s>(
     Some(CitationRequest::new(cited, style, locale, sources.files, note_number))
 }
 
-/// The items of a value.
 pub(crate) fn cited<'s>(
     session: &mut Session,
     given: &'s Value<'_>,
@@ -45,7 +44,6 @@ pub(crate) fn cited<'s>(
     Some(cited)
 }
 
-/// An item.
 fn item<'s>(
     session: &mut Session,
     given: &'s Value<'_>,

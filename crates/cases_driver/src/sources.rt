@@ -27,9 +27,9 @@ impl<'s> Sources<'s> {
         entry
     }
 
-    /// The style of a request: the first one, where it says none.
+    /// The style of a request: the first one, where it names none.
     pub(crate) fn style(self, session: &mut Session, given: &Value<'_>) -> Option<&'s Style> {
-        let style = self.styles.get(session.place(given, "style"));
+        let style = self.styles.get(session.index_or_zero(given, "style"));
         if style.is_none() {
             session.want("style", "the place of a style");
         }

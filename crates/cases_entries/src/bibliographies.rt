@@ -6,7 +6,7 @@ use crate::refusals::{put_parse_error, put_raw_error};
 use biblatex::{Bibliography, Entry, RawBibliography};
 use cases::{Session, Value};
 
-/// Returns a case of the kind `bibliography`.
+/// Answers a case of the kind `bibliography`.
 pub(crate) fn answer_bibliography(session: &mut Session, case: &Value<'_>) {
     session.only(
         case,
@@ -24,7 +24,7 @@ pub(crate) fn answer_bibliography(session: &mut Session, case: &Value<'_>) {
     }
 }
 
-/// Returns a case of a text that is read in two steps, with the number of entries that were made.
+/// Answers a case of a text that is read in two steps, with the number of entries that were made.
 fn answer_counted(session: &mut Session, case: &Value<'_>, bib: &str) {
     match RawBibliography::parse(session.alloc, bib) {
         Ok(raw) => answer_raw(session, case, raw),
@@ -32,7 +32,7 @@ fn answer_counted(session: &mut Session, case: &Value<'_>, bib: &str) {
     }
 }
 
-/// Returns a case of what the grammar reads of a text, with the number of entries that were made.
+/// Answers a case of what the grammar reads of a text, with the number of entries that were made.
 fn answer_raw(session: &mut Session, case: &Value<'_>, raw: RawBibliography<'_>) {
     match Bibliography::from_raw_counted(session.alloc, raw) {
         Ok(mut counted) => {
@@ -211,7 +211,6 @@ fn put_references(session: &mut Session, bibliography: &Bibliography) {
     session.end_array();
 }
 
-/// Writes indices.
 fn put_indices(session: &mut Session, indices: &[usize]) {
     session.begin_array();
     for index in indices {

@@ -1,8 +1,7 @@
 //! Entries and values of fields that a case has as data.
 
 use biblatex::{Chunks, Entry, EntryType};
-use cases::{Session, Value};
-use cases_text::{normal_chunks, read_chunks_in};
+use cases::{Session, Value, normal_chunks, read_chunks_in};
 
 /// What a value of a field has to be.
 const VALUE: &str = "a text or a list of chunks";

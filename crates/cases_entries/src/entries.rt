@@ -8,7 +8,7 @@ use crate::refusals::put_parse_error;
 use biblatex::{Bibliography, Entry};
 use cases::{Session, Value};
 
-/// Returns a case of the kind `entry`.
+/// Answers a case of the kind `entry`.
 pub(crate) fn answer_entry(session: &mut Session, case: &Value<'_>) {
     session.only(
         case,
@@ -23,14 +23,14 @@ pub(crate) fn answer_entry(session: &mut Session, case: &Value<'_>) {
     }
 }
 
-/// Returns a case of an entry as data.
+/// Answers a case of an entry as data.
 fn answer_data(session: &mut Session, case: &Value<'_>) {
     if let Some(mut entry) = read_entry(session, case) {
         answer_of(session, case, &mut entry);
     }
 }
 
-/// Returns a case of an entry of a text.
+/// Answers a case of an entry of a text.
 fn answer_parsed(session: &mut Session, case: &Value<'_>, bib: &str) {
     match Bibliography::parse(session.alloc, bib) {
         Ok(mut bibliography) => answer_in(session, case, &mut bibliography),
@@ -38,7 +38,7 @@ fn answer_parsed(session: &mut Session, case: &Value<'_>, bib: &str) {
     }
 }
 
-/// Returns a case of an entry of a bibliography: that of the member `entry`, or the first.
+/// Answers a case of an entry of a bibliography: that of the member `entry`, or the first.
 fn answer_in(session: &mut Session, case: &Value<'_>, bibliography: &mut Bibliography) {
     let entry = match session.maybe_text(case, "entry") {
         Some(name) => bibliography.get_mut(name),

@@ -3,7 +3,7 @@
 use biblatex::{EntryType, Role};
 use cases::{Session, Value};
 
-/// Returns a case of the kind `entry_type`.
+/// Answers a case of the kind `entry_type`.
 pub(crate) fn answer_entry_type(session: &mut Session, case: &Value<'_>) {
     session.only(case, &["case", "name", "type"]);
     let entry_type = EntryType::new(session.alloc, session.text(case, "type"));

@@ -4,8 +4,7 @@ use crate::entry_types::role_name;
 use crate::printing::put_entry;
 use crate::refusals::put_retrieval_error;
 use biblatex::{Entry, RetrievalError};
-use cases::{Session, Value};
-use cases_text::put_chunks;
+use cases::{Session, Value, put_chunks};
 use cases_values::{CaseValue, put_member};
 use std::alloc::AllocError;
 
@@ -61,7 +60,6 @@ fn put_whole(session: &mut Session, case: &Value<'_>, entry: &Entry) {
     put_entry(session, entry, has_spans);
 }
 
-/// Writes the title.
 fn put_title(session: &mut Session, case: &Value<'_>, entry: &Entry) {
     let has_spans = session.is_set(case, "places");
     session.key("title");

@@ -1,8 +1,7 @@
 //! Entries, their fields and their values, as they are written in answers.
 
 use biblatex::{Chunks, Entry};
-use cases::Session;
-use cases_text::put_chunks;
+use cases::{Session, put_chunks};
 
 /// Writes an entry: its key, its type and its fields in the order of their names, of which chunks have their spans if that is asked.
 pub(crate) fn put_entry(session: &mut Session, entry: &Entry, has_spans: bool) {

@@ -1,8 +1,7 @@
 //! What is refused, and where it stands.
 
 use biblatex::{ParseError, ParseErrorKind, RawError, RetrievalError};
-use cases::{Refusal, Session, Value};
-use cases_text::{put_fault, put_span, token_name};
+use cases::{Refusal, Session, Value, put_fault, put_span, token_name};
 use cases_values::type_error_name;
 
 /// Writes the members that say why a text was not read, and the message for it where the case asks for that.

@@ -4,10 +4,9 @@ use crate::refusals::{put_parse_error, put_raw_error};
 use biblatex::{
     Abbreviations, Chunks, Pair, ParseError, RawBibliography, RawChunk, Spanned, parse_field,
 };
-use cases::{Refusal, Session, Value};
-use cases_text::put_chunks;
+use cases::{Refusal, Session, Value, put_chunks};
 
-/// Returns a case of the kind `field`.
+/// Answers a case of the kind `field`.
 pub(crate) fn answer_field(session: &mut Session, case: &Value<'_>) {
     session.only(case, &["case", "name", "bib", "field", "pieces", "message"]);
     let bib = session.maybe_text(case, "bib").unwrap_or("");
@@ -70,7 +69,7 @@ fn put_found(session: &mut Session, case: &Value<'_>, found: Result<Chunks, Pars
     }
 }
 
-/// Returns a case of the kind `abbreviations`.
+/// Answers a case of the kind `abbreviations`.
 pub(crate) fn answer_abbreviations(session: &mut Session, case: &Value<'_>) {
     session.only(case, &["case", "name", "bib", "message"]);
     match RawBibliography::parse(session.alloc, session.text(case, "bib")) {
@@ -102,7 +101,6 @@ fn put_definitions(
     session.end_array();
 }
 
-/// Writes a definition with what it gives.
 fn put_definition(
     session: &mut Session,
     case: &Value<'_>,

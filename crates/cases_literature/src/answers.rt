@@ -34,7 +34,7 @@ fn put_answer(session: &mut Session, case: &Value<'_>, entry: &Entry) {
     }
 }
 
-/// Writes a text.
+/// Writes the text that the entry answers to the variable, or null.
 fn put_standard(
     session: &mut Session,
     entry: &Entry,
@@ -81,7 +81,7 @@ fn put_untyped(session: &mut Session, text: &str) {
     session.end_object();
 }
 
-/// Writes the pages.
+/// Writes the pages that the entry answers, or null.
 fn put_pages(session: &mut Session, entry: &Entry) {
     let answered = entry.resolve_page_variable(session.alloc);
     if let Some(pages) = session.allocated(answered) {
@@ -110,7 +110,6 @@ fn put_person(session: &mut Session, answered: &Cow<'_, Person>) {
     }
 }
 
-/// Writes a date.
 fn put_date(session: &mut Session, entry: &Entry, variable: DateVariable) {
     match entry.resolve_date_variable(variable) {
         Some(Cow::Borrowed(date)) => date.put(session),

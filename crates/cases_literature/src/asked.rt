@@ -59,7 +59,7 @@ impl Asked for PageRanges {
     }
 }
 
-/// Nothing.
+/// Of a date nothing is asked beside what is printed of it.
 impl Asked for Date {
     fn put_asked(&self, _session: &mut Session, _case: &Value<'_>) {}
 }

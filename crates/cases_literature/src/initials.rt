@@ -3,7 +3,7 @@
 use cases::{Refusal, Session, Value};
 use literature::Person;
 
-/// `initials`: those of a person of a given name.
+/// `initials`: the initials of a person of a given name.
 pub(crate) fn initials(session: &mut Session, case: &Value<'_>) {
     session.only(case, &["case", "name", "given_name", "delimiter", "hyphen"]);
     let person = Person {

@@ -58,7 +58,6 @@ fn date_fault(fault: DateError) -> &'static str {
     }
 }
 
-/// Reads a date.
 fn read_date(session: &mut Session, case: &Value<'_>, text: &str) {
     match Date::read(text) {
         Ok(date) => put_answer(session, case, &date),

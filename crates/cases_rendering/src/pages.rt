@@ -7,6 +7,7 @@ use cases::{Session, Value, member};
 use cases_styles::{DISPLAYS, formatting};
 use cases_values::maybe_given;
 use literature::StringChunk;
+use rendering_building::into_tree;
 use rendering_page::{Frame, Manner, Page};
 
 /// How deep elements may nest.
@@ -270,7 +271,7 @@ fn put_compared<'a>(
 
 /// Writes the tree of a page as the member `tree`.
 pub(crate) fn put_page_tree(session: &mut Session, page: Page<'_>) {
-    if let Some(tree) = session.allocated(page.into_tree()) {
+    if let Some(tree) = session.allocated(into_tree(page)) {
         put_tree(session, "tree", &tree);
     }
 }

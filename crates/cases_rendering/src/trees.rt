@@ -17,7 +17,6 @@ fn formatted(session: &mut Session, object: &Value<'_>, name: &'static str) -> F
     }
 }
 
-/// A link.
 fn link(session: &mut Session, object: &Value<'_>) -> ElemChild {
     session.only(object, &["link", "url", "formatting"]);
     ElemChild::Link {
@@ -69,7 +68,6 @@ fn plain_text(session: &mut Session, text: &str) -> ElemChild {
     })
 }
 
-/// A child.
 #[cycle(tree)]
 fn child(session: &mut Session, given: &Value<'_>, depth: u32) -> ElemChild {
     if let Some(text) = given.as_str() {

@@ -16,7 +16,6 @@ fn put_formatted(session: &mut Session, text: &Formatted) {
     session.end_object();
 }
 
-/// Writes a link.
 fn put_link(session: &mut Session, text: &Formatted, url: &str) {
     session.begin_object();
     session.put_text("link", text.text.as_str());
@@ -25,7 +24,6 @@ fn put_link(session: &mut Session, text: &Formatted, url: &str) {
     session.end_object();
 }
 
-/// Writes a child.
 #[cycle(writing)]
 fn put_child(session: &mut Session, child: &ElemChild) {
     match child {

@@ -1,11 +1,11 @@
-//! The message for a cite: what it is for, its locator, and how much work it was.
+//! What a case says of a cite: its purpose and its locator; and how many calls it took.
 
 use cases::{Session, Value, member};
 use cases_styles::LOCATORS;
 use rendering_context::{LocatorPayload, SpecificLocator, TransparentLocator};
 use rendering_taxonomy::{CitePurpose, Locator};
 
-/// The words of what a cite is for.
+/// The words of the purposes of cites.
 pub const PURPOSES: &[(&str, CitePurpose)] = &[
     ("author", CitePurpose::Author),
     ("year", CitePurpose::Year),

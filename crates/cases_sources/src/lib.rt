@@ -1,5 +1,5 @@
-//! What cases of citations have in common: the entries and the locales that they are made from, the message for a cite, and why a case
-//! has no entry.
+//! What cases of citations have in common: the entries and the locales that they are made from, the locator and the purpose of a cite, and
+//! why a case has no entry.
 #![tactic(auto)]
 
 mod cites;

@@ -2,7 +2,7 @@
 
 use cases::{Session, Value};
 use cases_styles::locale;
-use rendering_english::english;
+use cite_styles::english;
 use rendering_locale::Locale;
 
 /// The locale of a value: that of English by its word, or a locale as data. No other word has one.

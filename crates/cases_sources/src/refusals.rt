@@ -10,7 +10,7 @@ pub fn put_unknown(session: &mut Session, name: &str) {
     session.put_text("entry", name);
 }
 
-/// The same, with the name as a member `name`.
+/// Writes a name that means no entry, with the name as a member `name`.
 pub fn put_unknown_name(session: &mut Session, name: &str) {
     session.put_refused("Name");
     session.put_text("name", name);

@@ -1,4 +1,4 @@
-//! What locales answer that are asked for words, dates and endings.
+//! What locales answer to requests for words, dates and endings.
 
 use crate::date_words::FORMS as DATE_FORMS;
 use crate::given_locales::locales;
@@ -101,7 +101,7 @@ const MEMBERS: [&str; 10] = [
     "show",
 ];
 
-/// `asked_locales`: what those of a style's own locales and of the locales of files answer that are asked for a code.
+/// `asked_locales`: what a style's own locales and the locales of files answer to requests for a code.
 pub(crate) fn answer(session: &mut Session, case: &Value<'_>) {
     session.only(case, &MEMBERS);
     session.only_shown(case, &SHOWN);

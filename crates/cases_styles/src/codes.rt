@@ -16,7 +16,7 @@ fn put_code(session: &mut Session, code: &LocaleCode) {
     }
 }
 
-/// Writes that of the code of `LocaleCode::en_us`.
+/// Writes the code of `LocaleCode::en_us` with its base language and its fallback, or null.
 fn put_own_code(session: &mut Session) {
     let code = LocaleCode::en_us(session.alloc);
     if let Some(code) = session.allocated(code) {

@@ -30,7 +30,6 @@ const DAYS: &[(&str, DateDayForm)] = &[
     ("ordinal", DateDayForm::Ordinal),
 ];
 
-/// A part in its form.
 pub(crate) fn part_form(session: &mut Session, part: &Value<'_>) -> DatePartForm {
     match session.text(part, "name") {
         "month" => {

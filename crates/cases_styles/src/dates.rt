@@ -15,7 +15,6 @@ const MEMBERS: [&str; 6] = [
     "suffix",
 ];
 
-/// A part of a date.
 fn date_part(session: &mut Session, part: &Value<'_>) -> DatePart {
     session.only(part, &MEMBERS);
     DatePart {

@@ -75,7 +75,6 @@ const TEXT_MEMBERS: [&str; 13] = [
     "display",
 ];
 
-/// A text.
 fn text_node(session: &mut Session, node: &Value<'_>) -> Node {
     session.only(node, &TEXT_MEMBERS);
     Node::Text(Text {

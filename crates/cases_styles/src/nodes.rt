@@ -33,7 +33,6 @@ fn nodes(session: &mut Session, object: &Value<'_>, name: &'static str, depth: u
     nodes
 }
 
-/// A node.
 #[cycle(reading)]
 fn node(session: &mut Session, given: &Value<'_>, depth: u32) -> Node {
     match session.text(given, "node") {
@@ -112,7 +111,6 @@ const GROUP_MEMBERS: [&str; 7] = [
     "display",
 ];
 
-/// A group.
 #[cycle(reading)]
 fn group_node(session: &mut Session, given: &Value<'_>, depth: u32) -> Node {
     session.only(given, &GROUP_MEMBERS);

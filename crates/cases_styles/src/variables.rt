@@ -102,7 +102,7 @@ pub(crate) fn printed(word: &str) -> Option<Variable> {
 }
 
 /// The variable of a word whose answer is people or a date.
-fn told(word: &str) -> Option<Variable> {
+fn people_or_date(word: &str) -> Option<Variable> {
     match value_of(NAMES, word) {
         Some(name) => Some(Variable::Name(name)),
         None => value_of(DATES, word).map(Variable::Date),
@@ -111,7 +111,7 @@ fn told(word: &str) -> Option<Variable> {
 
 /// The variable of a word.
 pub(crate) fn any(word: &str) -> Option<Variable> {
-    printed(word).or(told(word))
+    printed(word).or(people_or_date(word))
 }
 
 /// The number or page variable of a node.

@@ -6,12 +6,13 @@ use biblatex::{
     ParseError, PermissiveType, Person, RawChunk, Span, Spanned, TypeErrorKind, parse_field,
     reread,
 };
-use cases::{Refusal, Session, Value};
-use cases_text::{maybe_span, normal_chunks, put_chunks, put_span, read_chunks};
+use cases::{
+    Refusal, Session, Value, maybe_span, normal_chunks, put_chunks, put_span, read_chunks,
+};
 use std::alloc::Global;
 use std::ops::Range;
 
-/// The content that a case gives: chunks, or a text that is none, with its span.
+/// The content that a case gives: chunks, or the span of a text that spells none.
 #[derive(Drop)]
 enum Given {
     Chunks(Chunks),

@@ -2,8 +2,7 @@
 
 use crate::case_value::CaseValue;
 use biblatex::{EditorType, PermissiveType};
-use cases::{Session, Value};
-use cases_text::{put_chunks, read_chunks};
+use cases::{Session, Value, put_chunks, read_chunks};
 use std::ops::Range;
 
 impl CaseValue for i64 {
@@ -51,7 +50,6 @@ impl CaseValue for EditorType {
     }
 }
 
-/// A page.
 fn page(value: &Value<'_>) -> Option<u32> {
     u32::try_from(value.as_u64()?).ok()
 }

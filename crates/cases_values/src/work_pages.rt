@@ -4,7 +4,6 @@ use crate::case_value::{CaseValue, given, put_member};
 use cases::{Session, Value, member};
 use literature::{Numeric, PageRanges, PageRangesPart};
 
-/// A page or a range.
 fn page_or_range(session: &mut Session, value: &Value<'_>) -> PageRangesPart {
     session.only(value, &["page", "first", "last"]);
     if let Some(page) = member(value, "page") {

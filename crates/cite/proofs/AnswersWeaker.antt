@@ -2,8 +2,8 @@
 use Rattle.std.proofs.Common.{◌≡◌, ℕ, Option, Some, None, Result, Ok, Err}
 use Rattle.biblatex.specs.Errors.{refusal_of}
 use Rattle.biblatex.specs.Reading as reading
-use Rattle.literature_selectors.specs.Reading.{Fault}
-use Rattle.literature_selectors.specs.Views.{fault}
+use Rattle.literature.specs.Reading.{Fault}
+use Rattle.literature.specs.Views.{fault}
 use Rattle.cite.specs.Answers.{Wanted, IsBibRefusal, IsSectionRefusal, IsRefusal, Answers}
 use Rattle.cite.specs.Stages.{Refusal}
 use Rattle.cite.specs.declared.error.CiteError.{CiteError}

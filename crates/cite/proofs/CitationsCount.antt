@@ -7,9 +7,10 @@ use Rattle.driver_requests.specs.Cites.{cites_after, cites_of}
 use Rattle.driver_requests.specs.Errors.{Overflow, overflow}
 use Rattle.driver_requests.specs.Positions.{with_previous}
 use Rattle.driver_requests.specs.Requests.{Request}
-use Rattle.driver.specs.Documents.{Document}
+use Rattle.driver_rounds.specs.Documents.{Document}
 use Rattle.driver.specs.Finish.{Rendered, citation_in, finish, overflows, rendered_from}
-use Rattle.driver.specs.Stages.{Final, FirstPrint, arranged_for, disambiguated_in, final, finals_in, first_print, first_prints_in, numbered_after}
+use Rattle.driver.specs.Stages.{Final, arranged_for, final, finals_in}
+use Rattle.driver_rounds.specs.FirstPrints.{FirstPrint, disambiguated_in, first_print, first_prints_in, numbered_after}
 
 zip_count : {A B : Type 0} (xs : List A) (ys : List B) → length ys ≡ length xs → length (zip xs ys) ≡ length xs
 zip_count [] ys e = refl

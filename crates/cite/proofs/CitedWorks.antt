@@ -13,7 +13,7 @@ use Rattle.biblatex.specs.Bibliographies.{Listed, entry_named}
 use Rattle.biblatex.specs.Entries.{Source}
 use Rattle.biblatex.specs.TypeNames.{written_type}
 use Rattle.literature.specs.Keys.{with_key}
-use Rattle.literature_entries.specs.Wholes.{Whole}
+use Rattle.literature_entries.specs.EntriesData.{EntryData}
 use Rattle.interop.specs.Bridge.{unless_faulty}
 use Rattle.interop.specs.Library.{key_of, is_xdata, all_faults, library_of}
 use Rattle.interop.proofs.LibraryKeys.{found_under}
@@ -31,7 +31,7 @@ or_true : (b : Bool) → (b || true) ≡ true
 or_true true = refl
 or_true false = refl
 
-module _ (file : Listed) (some all : List Whole) where
+module _ (file : Listed) (some all : List EntryData) where
   -- both libraries have the same under each of the keys
   abbrev AreSameUnder : List (List ℕ) → Type 0
   AreSameUnder keys = (k : List ℕ) → is_among keys k ≡ true → with_key key_of k some ≡ with_key key_of k all
@@ -44,7 +44,7 @@ module _ (file : Listed) (some all : List Whole) where
 
   work_same : (e : Source) → AreSameUnder (e.key ∷ []) → work_of some e ≡ work_of all e
   work_same e h =
-      ap (λ (o : Option Whole). cond (is_xdata (written_type e.entry_type)) None o) (h e.key (ap (λ (b : Bool). b || false) ((bytes_eq-Decides e.key e.key).1 refl)))
+      ap (λ (o : Option EntryData). cond (is_xdata (written_type e.entry_type)) None o) (h e.key (ap (λ (b : Bool). b || false) ((bytes_eq-Decides e.key e.key).1 refl)))
 
   meant_same : (o : Option Source) → AreSameUnder (option_to_list (option_map (λ e. e.key) o)) → option_and_then (work_of some) o ≡ option_and_then (work_of all) o
   meant_same None h = refl
@@ -91,10 +91,10 @@ rendered_needed file x [] ps =
     no_section file some all x ps (ap (refused_as unknown_name) (pieces_same file some all ps (λ k is. found_under (is_among keys) k is file.entries)))
 rendered_needed file x (s ∷ ss) ps = refl
 
-pub rendered_with : (file : Listed) (library : List Whole) (x : StyleContext) (sections : List (List ℕ)) (ps : List Piece) → library_needed file sections ps ≡ library
+pub rendered_with : (file : Listed) (library : List EntryData) (x : StyleContext) (sections : List (List ℕ)) (ps : List Piece) → library_needed file sections ps ≡ library
     → rendered_stage (record { file = file; library = library }) x sections ps ≡ rendered_stage (works_of file) x sections ps
 rendered_with file library x sections ps is =
-    ap (λ (ws : List Whole). rendered_stage (record { file = file; library = ws }) x sections ps) (sym is) ∙ rendered_needed file x sections ps
+    ap (λ (ws : List EntryData). rendered_stage (record { file = file; library = ws }) x sections ps) (sym is) ∙ rendered_needed file x sections ps
 
 not_none : (s : Bor (List ℕ)) (ss : List (Bor (List ℕ))) → (length (s ∷ ss) == 0) ≡ false
 not_none s ss = search rules
@@ -110,5 +110,5 @@ needs_all file [] ps some = absurd (true≢false some)
 needs_all file (s ∷ ss) ps some = refl
 
 -- the library of entries without a faulty date, in the terms of a stage
-pub needed_is : (es : List Source) (ws : List Whole) → all_faults es ≡ [] → library_from es ≡ ws → refused_as fields_refused (library_of es) ≡ Ok ws
+pub needed_is : (es : List Source) (ws : List EntryData) → all_faults es ≡ [] → library_from es ≡ ws → refused_as fields_refused (library_of es) ≡ Ok ws
 needed_is es ws none is = λ i. refused_as fields_refused (unless_faulty (none i) (is i))

@@ -9,10 +9,10 @@ use Rattle.biblatex.specs.Bibliographies.{entry_named}
 use Rattle.biblatex.specs.Entries.{Source}
 use Rattle.biblatex.specs.TypeNames.{written_type}
 use Rattle.literature.specs.Keys.{with_key}
-use Rattle.literature_entries.specs.Wholes.{Whole, entry_view}
+use Rattle.literature_entries.specs.EntriesData.{EntryData, entry_view}
 use Rattle.literature_entries.specs.declared.entry.Entry.{Entry}
 use Rattle.literature_entries.specs.contracts.entry.EntryPartialEq.TheImpl as entry
-use Rattle.literature_selectors.specs.Trees.{Tree}
+use Rattle.literature.specs.Trees.{Tree}
 use Rattle.interop.specs.Library.{key_of, is_xdata}
 use Rattle.rendering_entries.specs.Library.{answers_of}
 use Rattle.rendering_context.specs.Contexts.{StyleContext}
@@ -22,7 +22,7 @@ use Rattle.driver_requests.specs.declared.request.CitationRequest.{CitationReque
 use Rattle.cite_markers.specs.Marker.{Cite}
 use Rattle.cite.specs.Asked.{asked_request, asked_request_view}
 use Rattle.cite.specs.Finished.{document_asked}
-use Rattle.literature_selectors.specs.Holding.{holds_at}
+use Rattle.literature.specs.Holding.{holds_at}
 use Rattle.cite.specs.Markers.{CitedWork, cited_work, with_work}
 use Rattle.cite.specs.Requests.{OwnLocator, requests_of, works_in}
 use Rattle.cite.specs.Sections.{chosen}
@@ -34,11 +34,11 @@ use Rattle.cite.proofs.EntriesIndices.{IsListed, AreListed, AreListedWorks, chos
 use Rattle.cite.proofs.StepsRefused.{all_give}
 
 module _ (works : Works) where
-  named_if : (b : Bool) (k : List ℕ) (w : Whole) → cond b None (with_key key_of k works.library) ≡ Some w → IsListed works.library w
+  named_if : (b : Bool) (k : List ℕ) (w : EntryData) → cond b None (with_key key_of k works.library) ≡ Some w → IsListed works.library w
   named_if true k w is = absurd cc
   named_if false k w is = found_listed works.library k w is
 
-  meant_by : (o : Option Source) (w : Whole) → option_and_then (work_of works.library) o ≡ Some w → IsListed works.library w
+  meant_by : (o : Option Source) (w : EntryData) → option_and_then (work_of works.library) o ≡ Some w → IsListed works.library w
   meant_by None w is = absurd cc
   meant_by (Some e) w is = named_if (is_xdata (written_type e.entry_type)) e.key w is
 
@@ -46,7 +46,7 @@ module _ (works : Works) where
   abbrev IsListedCite : CitedWork → Type 0
   IsListedCite c = IsListed works.library c.work
 
-  cited_by : (c : Cite) (o : Option Whole) (found : CitedWork) → ((w : Whole) → o ≡ Some w → IsListed works.library w) → with_work c o ≡ Ok found → IsListedCite found
+  cited_by : (c : Cite) (o : Option EntryData) (found : CitedWork) → ((w : EntryData) → o ≡ Some w → IsListed works.library w) → with_work c o ≡ Ok found → IsListedCite found
   cited_by c None found h is = absurd cc
   cited_by c (Some w) found h is = subst IsListedCite (ok_is {F = List ℕ} (record { cite = c; work = w }) found is) (h w refl)
 
@@ -72,25 +72,25 @@ module _ (works : Works) where
       (all_give IsListedMarker (all_ok (cited_work works)) (λ m cs e. marker_listed cs (all_give IsListedCite (cited_work works) cite_listed m cs e)) ms found is)
 
 -- the chosen works are those of a library whose works are listed
-pub chosen_works_listed : (library : List Whole) (selectors : List Tree) (ws : List Whole) → AreListedWorks library ws → AreListedWorks library (chosen selectors ws)
+pub chosen_works_listed : (library : List EntryData) (selectors : List Tree) (ws : List EntryData) → AreListedWorks library ws → AreListedWorks library (chosen selectors ws)
 chosen_works_listed library [] ws h = tt
 chosen_works_listed library (x ∷ xs) ws h = joined library (filter (holds_at x) ws) (chosen xs ws) (chosen_listed library (holds_at x) ws h) (chosen_works_listed library xs ws h)
 
 -- all cited entries have the indices of their works
-indices_at : (library : List Whole) (cited : List Entry) → AreListed library cited → (es : List Entry) → AreListed library es
+indices_at : (library : List EntryData) (cited : List Entry) → AreListed library cited → (es : List Entry) → AreListed library es
     → AreAt (index_among entry.ghosts.eq cited) (index_among is_same (map entry_view cited)) es
 indices_at library cited hs [] h = tt
 indices_at library cited hs (e ∷ es) h = (index_is library cited hs e h.0, indices_at library cited hs es h.1)
 
-first_part : (index : Entry → ℕ) (own : Whole → ℕ) (es fs : List Entry) → AreAt index own (es ++ fs) → AreAt index own es
+first_part : (index : Entry → ℕ) (own : EntryData → ℕ) (es fs : List Entry) → AreAt index own (es ++ fs) → AreAt index own es
 first_part index own [] fs h = tt
 first_part index own (e ∷ es) fs h = (h.0, first_part index own es fs h.1)
 
-second_part : (index : Entry → ℕ) (own : Whole → ℕ) (es fs : List Entry) → AreAt index own (es ++ fs) → AreAt index own fs
+second_part : (index : Entry → ℕ) (own : EntryData → ℕ) (es fs : List Entry) → AreAt index own (es ++ fs) → AreAt index own fs
 second_part index own [] fs h = h
 second_part index own (e ∷ es) fs h = second_part index own es fs h.1
 
-requests_by : (index : Entry → ℕ) (own : Whole → ℕ) (rs : List (CitationRequest Entry OwnLocator)) → AreAt index own (entries_in rs)
+requests_by : (index : Entry → ℕ) (own : EntryData → ℕ) (rs : List (CitationRequest Entry OwnLocator)) → AreAt index own (entries_in rs)
     → map (request_view index (λ e. answers_of (entry_view e))) rs ≡ map (indexed_request own) (map asked_request_view rs)
 requests_by index own [] h = refl
 requests_by index own (r ∷ rs) h =
@@ -98,7 +98,7 @@ requests_by index own (r ∷ rs) h =
     ∷ requests_by index own rs (second_part index own (entries_of r) (entries_in rs) h) i
 
 -- The driver's document, where the requests are those of markers with listed works, and the chosen entries are listed.
-pub document_is : (library : List Whole) (x : StyleContext) (rs : List (CitationRequest Entry OwnLocator)) (ms : List (List CitedWork)) (es : List Entry) (wanted : List Whole)
+pub document_is : (library : List EntryData) (x : StyleContext) (rs : List (CitationRequest Entry OwnLocator)) (ms : List (List CitedWork)) (es : List Entry) (wanted : List EntryData)
     → map asked_request_view rs ≡ map (asked_request x) (enumerate_from 1 ms) → AreListedWorks library (works_in ms) → map entry_view es ≡ wanted → AreListedWorks library wanted
     → document_asked entry.ghosts.eq x rs es ≡ driver_document x wanted ms
 document_is library x rs ms es wanted asked listed is chosen =

@@ -10,23 +10,23 @@ use Rattle.std.specs.Str.{bytes_eq}
 use Rattle.std.proofs.lemmas.Bool.Decides.{Decides-like, same_from_decides}
 use Rattle.std.proofs.lemmas.Slice.Eq.{bytes_eq-Decides}
 use Rattle.literature.specs.Keys.{with_key, are_distinct}
-use Rattle.literature_entries.specs.Wholes.{Whole, entry_view}
+use Rattle.literature_entries.specs.EntriesData.{EntryData, entry_view}
 use Rattle.literature_entries.specs.declared.entry.Entry.{Entry}
 use Rattle.literature_entries.specs.contracts.entry.EntryPartialEq.TheImpl as entry
-use Rattle.literature_entries.proofs.WholesEquality.{Shows-Entry}
+use Rattle.literature_entries.proofs.EntriesDataEquality.{Shows-Entry}
 use Rattle.interop.specs.Library.{key_of}
 use Rattle.driver_requests.specs.CitedEntries.{once, index_among, indices_among}
 use Rattle.cite.specs.Works.{is_same}
 
 -- what is found passes the test
-passes_if : (p : Whole → Bool) (x : Whole) (xs : List Whole) (w : Whole) → (find p xs ≡ Some w → p w ≡ true) → (b : Bool) → p x ≡ b → cond b (Some x) (find p xs) ≡ Some w → p w ≡ true
+passes_if : (p : EntryData → Bool) (x : EntryData) (xs : List EntryData) (w : EntryData) → (find p xs ≡ Some w → p w ≡ true) → (b : Bool) → p x ≡ b → cond b (Some x) (find p xs) ≡ Some w → p w ≡ true
 passes_if p x xs w more true is found = ap p (sym (ap (λ o. unwrap_or o x) found)) ∙ is
 passes_if p x xs w more false is found = more found
 
-found_passes : (p : Whole → Bool) (xs : List Whole) (w : Whole) → find p xs ≡ Some w → p w ≡ true
-found_passes p [] w found = absurd (true≢false (sym (ap (λ (o : Option Whole). is_there o) found)))
+found_passes : (p : EntryData → Bool) (xs : List EntryData) (w : EntryData) → find p xs ≡ Some w → p w ≡ true
+found_passes p [] w found = absurd (true≢false (sym (ap (λ (o : Option EntryData). is_there o) found)))
   where
-    is_there : Option Whole → Bool
+    is_there : Option EntryData → Bool
     is_there None = false
     is_there (Some x) = true
 found_passes p (x ∷ xs) w found = passes_if p x xs w (found_passes p xs w) (p x) refl found
@@ -40,21 +40,21 @@ extends : {X : Type 0} (f : X → Option ℕ) (x : X) (xs : List X) (o : Option 
 extends f x xs None is = rw is refl
 extends f x xs (Some y) is = rw is refl
 
-module _ (library : List Whole) where
+module _ (library : List EntryData) where
   -- a work that the library has under its key
-  abbrev pub IsListed : Whole → Type 0
+  abbrev pub IsListed : EntryData → Type 0
   IsListed w = with_key key_of (key_of w) library ≡ Some w
 
   -- what is found under a key is listed
-  pub found_listed : (k : List ℕ) (w : Whole) → with_key key_of k library ≡ Some w → IsListed w
+  pub found_listed : (k : List ℕ) (w : EntryData) → with_key key_of k library ≡ Some w → IsListed w
   found_listed k w found =
       let same : k ≡ key_of w = (bytes_eq-Decides k (key_of w)).0 (found_passes (λ x. bytes_eq k (key_of x)) library w found) in
       subst (λ (n : List ℕ). with_key key_of n library ≡ Some w) same found
 
-  same_key : (v w : Whole) → IsListed v → IsListed w → key_of v ≡ key_of w → v ≡ w
+  same_key : (v w : EntryData) → IsListed v → IsListed w → key_of v ≡ key_of w → v ≡ w
   same_key v w hv hw k = ap (λ o. unwrap_or o v) (sym hv ∙ ap (λ (n : List ℕ). with_key key_of n library) k ∙ hw)
 
-  keys_decide : (v w : Whole) → IsListed v → IsListed w → Decides (is_same v w) (v ≡ w)
+  keys_decide : (v w : EntryData) → IsListed v → IsListed w → Decides (is_same v w) (v ≡ w)
   keys_decide v w hv hw = Decides-like (is_same v w) (same_key v w hv hw) (λ e. ap key_of e) (bytes_eq-Decides (key_of v) (key_of w))
 
   pub same_is : (a b : Entry) → IsListed (entry_view a) → IsListed (entry_view b) → entry.ghosts.eq a b ≡ is_same (entry_view a) (entry_view b)
@@ -77,7 +77,7 @@ module _ (library : List Whole) where
   once_listed same [] h = tt
   once_listed same (e ∷ es) h = (h.0, filtered (λ y. not (same e y)) (once same es) (once_listed same es h.1))
 
-  kept_if : (b : Bool) (f : Entry) (fs : List Entry) (ws : List Whole) → map entry_view fs ≡ ws → map entry_view (cond b (f ∷ fs) fs) ≡ cond b (entry_view f ∷ ws) ws
+  kept_if : (b : Bool) (f : Entry) (fs : List Entry) (ws : List EntryData) → map entry_view fs ≡ ws → map entry_view (cond b (f ∷ fs) fs) ≡ cond b (entry_view f ∷ ws) ws
   kept_if true f fs ws is = ap (λ vs. entry_view f ∷ vs) is
   kept_if false f fs ws is = is
 
@@ -92,7 +92,7 @@ module _ (library : List Whole) where
   once_is : (es : List Entry) → AreListed es → map entry_view (once entry.ghosts.eq es) ≡ once is_same (map entry_view es)
   once_is [] h = refl
   once_is (e ∷ es) h =
-      ap (λ (ws : List Whole). entry_view e ∷ ws)
+      ap (λ (ws : List EntryData). entry_view e ∷ ws)
       (filter_is e h.0 (once entry.ghosts.eq es) (once_listed entry.ghosts.eq es h.1) ∙ ap (filter (λ w. not (is_same (entry_view e) w))) (once_is es h.1))
 
   position_is : (e : Entry) → IsListed (entry_view e) → (es : List Entry) → AreListed es → position_or_len (entry.ghosts.eq e) es ≡ position_or_len (is_same (entry_view e)) (map entry_view es)
@@ -120,7 +120,7 @@ module _ (library : List Whole) where
       ∙ sym (extends (λ w. position (is_same w) (once is_same (map entry_view cited))) (entry_view e) (map entry_view es) _ refl)
 
   -- the same of works
-  abbrev pub AreListedWorks : List Whole → Type 0
+  abbrev pub AreListedWorks : List EntryData → Type 0
   AreListedWorks [] = Unit {0}
   AreListedWorks (w ∷ ws) = IsListed w × AreListedWorks ws
 
@@ -128,20 +128,20 @@ module _ (library : List Whole) where
   listed_entries [] h = tt
   listed_entries (e ∷ es) h = (h.0, listed_entries es h.1)
 
-  pub joined : (vs ws : List Whole) → AreListedWorks vs → AreListedWorks ws → AreListedWorks (vs ++ ws)
+  pub joined : (vs ws : List EntryData) → AreListedWorks vs → AreListedWorks ws → AreListedWorks (vs ++ ws)
   joined [] ws hv hw = hw
   joined (v ∷ vs) ws hv hw = (hv.0, joined vs ws hv.1 hw)
 
-  chosen_if : (b : Bool) (w : Whole) (ws : List Whole) → IsListed w → AreListedWorks ws → AreListedWorks (cond b (w ∷ ws) ws)
+  chosen_if : (b : Bool) (w : EntryData) (ws : List EntryData) → IsListed w → AreListedWorks ws → AreListedWorks (cond b (w ∷ ws) ws)
   chosen_if true w ws h hs = (h, hs)
   chosen_if false w ws h hs = hs
 
-  pub chosen_listed : (test : Whole → Bool) (ws : List Whole) → AreListedWorks ws → AreListedWorks (filter test ws)
+  pub chosen_listed : (test : EntryData → Bool) (ws : List EntryData) → AreListedWorks ws → AreListedWorks (filter test ws)
   chosen_listed test [] h = tt
   chosen_listed test (w ∷ ws) h = chosen_if (test w) w (filter test ws) h.0 (chosen_listed test ws h.1)
 
   -- a work behind another one is listed as before, where their keys differ
-  passed_over : (b : Bool) (v w : Whole) (ws : List Whole) → b ≡ false → with_key key_of (key_of v) ws ≡ Some v → cond b (Some w) (with_key key_of (key_of v) ws) ≡ Some v
+  passed_over : (b : Bool) (v w : EntryData) (ws : List EntryData) → b ≡ false → with_key key_of (key_of v) ws ≡ Some v → cond b (Some w) (with_key key_of (key_of v) ws) ≡ Some v
   passed_over true v w ws is h = absurd (true≢false is)
   passed_over false v w ws is h = h
 
@@ -153,20 +153,20 @@ both_true : (b c : Bool) → (not b && c) ≡ true → (b ≡ false) × (c ≡ t
 both_true true c is = absurd (true≢false (sym is))
 both_true false c is = (refl, is)
 
-turned : (v w : Whole) → bytes_eq (key_of w) (key_of v) ≡ false → bytes_eq (key_of v) (key_of w) ≡ false
+turned : (v w : EntryData) → bytes_eq (key_of w) (key_of v) ≡ false → bytes_eq (key_of v) (key_of w) ≡ false
 turned v w is = same_from_decides (bytes_eq (key_of v) (key_of w)) (bytes_eq (key_of w) (key_of v)) (bytes_eq-Decides (key_of v) (key_of w)) (Decides-like (bytes_eq (key_of w) (key_of v)) sym sym (bytes_eq-Decides (key_of w) (key_of v))) ∙ is
 
-behind : (w : Whole) (ws vs : List Whole) → list_any (λ y. bytes_eq (key_of w) (key_of y)) vs ≡ false → AreListedWorks ws vs → AreListedWorks (w ∷ ws) vs
+behind : (w : EntryData) (ws vs : List EntryData) → list_any (λ y. bytes_eq (key_of w) (key_of y)) vs ≡ false → AreListedWorks ws vs → AreListedWorks (w ∷ ws) vs
 behind w ws [] none h = tt
 behind w ws (v ∷ vs) none h =
     let parts = either_false (bytes_eq (key_of w) (key_of v)) (list_any (λ y. bytes_eq (key_of w) (key_of y)) vs) none in
     (passed_over ws (bytes_eq (key_of v) (key_of w)) v w ws (turned v w parts.0) h.0, behind w ws vs parts.1 h.1)
 
-first_listed : (w : Whole) (ws : List Whole) → IsListed (w ∷ ws) w
+first_listed : (w : EntryData) (ws : List EntryData) → IsListed (w ∷ ws) w
 first_listed w ws = ap (λ (b : Bool). cond b (Some w) (with_key key_of (key_of w) ws)) ((bytes_eq-Decides (key_of w) (key_of w)).1 refl)
 
 -- where keys are distinct each work is listed
-pub all_listed : (ws : List Whole) → are_distinct key_of ws ≡ true → AreListedWorks ws ws
+pub all_listed : (ws : List EntryData) → are_distinct key_of ws ≡ true → AreListedWorks ws ws
 all_listed [] d = tt
 all_listed (w ∷ ws) d =
     let parts = both_true (list_any (λ y. bytes_eq (key_of w) (key_of y)) ws) (are_distinct key_of ws) d in

@@ -1,15 +1,16 @@
 -- What the driver of the code is asked.
 use Rattle.std.proofs.Common.{◌≡◌, ℕ, Bool, List, map, Ok, Err, sym, ap, ◌∙◌}
-use Rattle.literature_entries.specs.Wholes.{entry_view}
+use Rattle.laws.specs.Borrowed.{borrowed}
+use Rattle.literature_entries.specs.EntriesData.{entry_view}
 use Rattle.literature_entries.specs.declared.entry.Entry.{Entry}
 use Rattle.rendering_entries.specs.Library.{answers_of}
 use Rattle.rendering_context.specs.Contexts.{StyleContext}
 use Rattle.driver_requests.specs.CitedEntries.{index_among, indices_among}
-use Rattle.driver_requests.specs.Views.{entries_in, lent, request_view}
+use Rattle.driver_requests.specs.Views.{entries_in, request_view}
 use Rattle.driver_requests.specs.declared.bibliography_request.BibliographyRequest.{BibliographyRequest}
 use Rattle.driver_requests.specs.declared.request.CitationRequest.{CitationRequest}
 use Rattle.driver.specs.Finish.{Rendered, finish}
-use Rattle.driver.specs.Views.{bibliography_context_of, document_view}
+use Rattle.driver_rounds.specs.Views.{bibliography_context_of, document_view}
 use Rattle.driver_requests.specs.Errors.{overflow}
 use Rattle.cite.specs.Finished.{document_asked, finished}
 use Rattle.cite.specs.Requests.{OwnLocator, is_same_own}
@@ -17,7 +18,7 @@ use Rattle.cite.specs.Stages as stages
 use Rattle.cite.specs.Stages.{refused_as}
 
 module _ (same : Entry → Entry → Bool) (x : StyleContext) (own rs : List (CitationRequest Entry OwnLocator)) (offset : ℕ) (r : BibliographyRequest Entry) (es : List Entry)
-    (requests : own ≡ rs) (none : offset ≡ 0) (context : bibliography_context_of r ≡ x) (order : lent r.order.now ≡ es) where
+    (requests : own ≡ rs) (none : offset ≡ 0) (context : bibliography_context_of r ≡ x) (order : borrowed r.order.now ≡ es) where
   asks : document_view same (λ e. answers_of (entry_view e)) own offset r ≡ document_asked same x rs es
   asks = λ i. record {
     requests = map (request_view (index_among same (entries_in (requests i))) (λ e. answers_of (entry_view e))) (requests i);

@@ -3,6 +3,7 @@ use Rattle.std.proofs.Common.{◌≡◌, ℕ, Bool, true, false, cond, All, List
 use Rattle.std.specs.Prelude.{not, ◌==◌, ◌||◌, IfOk, IfSome}
 use Rattle.std.specs.Char.{is_whitespace}
 use Rattle.std.proofs.lemmas.List.Elements.{All-nil, All-cons, All-head, All-tail}
+use Rattle.laws.specs.Characters.{line_feed, space, semicolon, open_bracket, close_bracket}
 use Rattle.laws.specs.Results.{◌>>=◌}
 use Rattle.laws.specs.Runs.{prefix_of, after}
 use Rattle.laws.specs.Steps.{each}
@@ -43,17 +44,17 @@ abbrev SpelledPlain : List ℕ → Type 0
 SpelledPlain name = HasNoLineFeed (text name)
 
 -- a cite after its beginning, where names have characters of a class without the line feed
-named_plain : (test : ℕ → Bool) (b : Beginning × List ℕ) → test 10 ≡ false
-    → IfOk (passing (is_filled (prefix_of test b.1)) (prefix_of test b.1) >>= λ name. locator_if_space (taken 32 (after test b.1)) >>= λ l. Ok (record { name = name; hidden = b.0.hidden; purpose = b.0.purpose; locator = l.0 }, l.1)) CitePlain
+named_plain : (test : ℕ → Bool) (b : Beginning × List ℕ) → test line_feed ≡ false
+    → IfOk (passing (is_filled (prefix_of test b.1)) (prefix_of test b.1) >>= λ name. locator_if_space (taken space (after test b.1)) >>= λ l. Ok (record { name = name; hidden = b.0.hidden; purpose = b.0.purpose; locator = l.0 }, l.1)) CitePlain
 named_plain test b bars =
     let name = prefix_of test b.1 in
     bind_if_ok SpelledPlain CitePlain (passing (is_filled name) name) _
     (test_if_ok SpelledPlain (is_filled name) (Ok name) NotThere (lines.spelled name (lines.passing test name bars (all-prefix test b.1)))) (λ n plain.
-    after_any CitePlain (locator_if_space (taken 32 (after test b.1))) _ (λ l. plain))
+    after_any CitePlain (locator_if_space (taken space (after test b.1))) _ (λ l. plain))
 
 -- the characters of a name
 abbrev in_name : ℕ → Bool
-in_name c = not (is_whitespace c || c == 59 || c == 93)
+in_name c = not (is_whitespace c || c == semicolon || c == close_bracket)
 
 cite_plain : (cs : List ℕ) → IfOk (cite_at cs) CitePlain
 unfolding cite_at passes
@@ -61,11 +62,11 @@ cite_plain cs = after_any CitePlain (beginning_at cs) _ (λ b. named_plain in_na
 
 further_plain : (cs : List ℕ) → IfOk (further_cite_at cs) NextPlain
 unfolding further_cite_at
-further_plain cs = after_any NextPlain (token_at 32 cs) _ (λ rest. bind_if_ok CitePlain NextPlain (cite_at rest) _ (cite_plain rest) (λ c plain. plain))
+further_plain cs = after_any NextPlain (token_at space cs) _ (λ rest. bind_if_ok CitePlain NextPlain (cite_at rest) _ (cite_plain rest) (λ c plain. plain))
 
 next_plain : (cs : List ℕ) → IfOk (next_cite_at cs) NextPlain
 unfolding next_cite_at
-next_plain cs = by_sign (taken 59 cs)
+next_plain cs = by_sign (taken semicolon cs)
   where
     by_sign : (p : Bool × List ℕ) → IfOk (cite_if_semicolon p) NextPlain
     by_sign (true, rest) = further_plain rest
@@ -81,9 +82,9 @@ cites_plain cs =
 marker_plain : (cs : List ℕ) → IfOk (marker_at cs) CitesPlain
 unfolding marker_at
 marker_plain cs =
-    after_any CitesPlain (token_at 91 cs) _ (λ opened.
+    after_any CitesPlain (token_at open_bracket cs) _ (λ opened.
     bind_if_ok CitesPlain CitesPlain (cites_at opened) _ (cites_plain opened) (λ cites all.
-    after_any CitesPlain (token_at 93 cites.1) _ (λ rest. all)))
+    after_any CitesPlain (token_at close_bracket cites.1) _ (λ rest. all)))
 
 -- ---- documents
 

@@ -1,4 +1,4 @@
--- The message for a refusal goes on one line.
+-- The messages for refusals are one line each.
 use Rattle.std.proofs.Common.{ℕ, Bool, true, false, cond, All, List, ◌++◌, Option, Some, None, Result, Ok, Err, codes, decimal, refl, sym, subst}
 use Rattle.std.specs.List.{enumerate_from}
 use Rattle.std.specs.Prelude.{IfErr, IfOk, MatchResult}
@@ -13,9 +13,9 @@ use Rattle.biblatex.specs.Reading as reading
 use Rattle.biblatex.specs.Errors.{reason_text}
 use Rattle.biblatex.proofs.Lines.{append, of_number}
 use Rattle.biblatex.proofs.OneLine.{HasLineMessage, HasPlainKey, FilePlain, text-plain}
-use Rattle.literature_entries.specs.Wholes.{Whole}
-use Rattle.literature_selectors.specs.Reading.{Fault as SelectorFault, selector_of}
-use Rattle.literature_selectors.specs.Trees.{Tree}
+use Rattle.literature_entries.specs.EntriesData.{EntryData}
+use Rattle.literature.specs.Reading.{Fault as SelectorFault, selector_of}
+use Rattle.literature.specs.Trees.{Tree}
 use Rattle.interop.specs.Bridge.{Fault}
 use Rattle.interop.specs.Library.{library_of}
 use Rattle.interop.specs.DateFields.{field_name}
@@ -29,7 +29,8 @@ use Rattle.driver.specs.Finish.{finish}
 use Rattle.cite.specs.Markers.{CitedWork, cited_work, cited_works, markers_of, with_work}
 use Rattle.cite.specs.OneLine.{HasLineMessages, RefusalsHaveLineMessages}
 use Rattle.cite.specs.Program.{fault_message}
-use Rattle.cite.specs.Refusals.{marker_text, selector_text}
+use Rattle.cite.specs.Refusals.{marker_text}
+use Rattle.literature.specs.Errors.{fault_text}
 use Rattle.cite.specs.Requests.{is_same_own}
 use Rattle.cite.specs.Sections.{SectionFault, chosen, selector_in, selector_or_fault, selectors_of}
 use Rattle.cite.specs.Stages.{Refusal, bib_refused, document_not_utf8, no_marker, overflow, section_refused, unknown_name, refused_as, IsReadIf, IsRead, works_from, library_stage, AreWorksOf, document_stage, name_stage, section_stage}
@@ -74,7 +75,7 @@ fault-plain : (key : List ℕ) → HasNoLineFeed key → HoldsOfFaults HasPlainM
 fault-plain key plain field kind =
     append (codes "fields: ") (key ++ (codes ": " ++ field_name field)) refl (append key (codes ": " ++ field_name field) plain (append (codes ": ") (field_name field) refl (field-plain field)))
 
-works-plain : (file : Listed) (r : Result (List Whole) (List Fault)) → IfErr r (All HasPlainMessage) → RefusesInLines (works_from file r)
+works-plain : (file : Listed) (r : Result (List EntryData) (List Fault)) → IfErr r (All HasPlainMessage) → RefusesInLines (works_from file r)
 works-plain file (Ok library) all = tt
 works-plain file (Err faults) all = record { text = refl; faults = all }
 
@@ -107,7 +108,7 @@ document-plain document = by_utf8 (is_utf8 document)
 cite-plain : (works : Works) (c : Cite) → HasPlainName c → IfErr (cited_work works c) HasNoLineFeed
 cite-plain works c plain = by_work (meaning (text c.name) works)
   where
-    by_work : (o : Option Whole) → IfErr (with_work c o) HasNoLineFeed
+    by_work : (o : Option EntryData) → IfErr (with_work c o) HasNoLineFeed
     by_work None = plain
     by_work (Some w) = tt
 
@@ -123,7 +124,7 @@ SectionPlain s = FaultPlain s.fault
 
 section-plain : (s : SectionFault) → SectionPlain s → HasLineMessages (section_refused s)
 section-plain s plain = record {
-  text = append (codes "section ") (decimal s.index ++ (codes ": " ++ selector_text s.fault)) refl (append (decimal s.index) (codes ": " ++ selector_text s.fault) (of_number s.index) (append (codes ": ") (selector_text s.fault) refl plain));
+  text = append (codes "section ") (decimal s.index ++ (codes ": " ++ fault_text s.fault)) refl (append (decimal s.index) (codes ": " ++ fault_text s.fault) (of_number s.index) (append (codes ": ") (fault_text s.fault) refl plain));
   faults = All-nil HasPlainMessage;
 }
 
@@ -140,7 +141,7 @@ sections-plain sections =
 
 -- ---- all stages
 
-driver-plain : (x : StyleContext) (wanted : List Whole) (markers : List (List CitedWork)) → RefusesInLines (driver_stage x wanted markers)
+driver-plain : (x : StyleContext) (wanted : List EntryData) (markers : List (List CitedWork)) → RefusesInLines (driver_stage x wanted markers)
 driver-plain x wanted markers =
     refused_plain Whatever Whatever (λ _. overflow) (λ o _. record { text = refl; faults = All-nil HasPlainMessage }) (finish is_same_own (driver_document x wanted markers)) (whatever (finish is_same_own (driver_document x wanted markers)))
 

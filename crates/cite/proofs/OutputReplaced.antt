@@ -10,7 +10,7 @@ use Rattle.laws.specs.Results.{◌>>=◌}
 use Rattle.laws.specs.Text.{text}
 use Rattle.laws.proofs.Results.{bind_ok, ok_is, test_ok}
 use Rattle.laws.proofs.Text.{text_of_chars}
-use Rattle.literature_entries.specs.Wholes.{Whole}
+use Rattle.literature_entries.specs.EntriesData.{EntryData}
 use Rattle.rendering_output.specs.declared.writing.BufWriteFormat.{BufWriteFormat}
 use Rattle.rendering_context.specs.Contexts.{StyleContext}
 use Rattle.driver.specs.Finish.{Citation, Rendered, finish}
@@ -33,7 +33,7 @@ use Rattle.cite.proofs.VerdictStages.{ends}
 -- ---- a citation for each marker
 
 module _ (works : Works) (x : StyleContext) (sections : List (List ℕ)) where
-  driven_count : (wanted : List Whole) (markers : List (List CitedWork)) (r : Rendered) → driver_stage x wanted markers ≡ Ok r → length r.citations ≡ length markers
+  driven_count : (wanted : List EntryData) (markers : List (List CitedWork)) (r : Rendered) → driver_stage x wanted markers ≡ Ok r → length r.citations ≡ length markers
   driven_count wanted markers r is =
       citations_count is_same_own (driver_document x wanted markers) r (given (λ _. overflow) (finish is_same_own (driver_document x wanted markers)) r is)
       ∙ length-map (enumerate_from 1 markers) (request_of x (works_in markers)) ∙ length-enumerate_from 1 markers

@@ -3,10 +3,10 @@ use Rattle.std.proofs.Common.{◌≡◌, ℕ, List, map, Result, Ok, Err, refl, 
 use Rattle.std.specs.List.{enumerate_from}
 use Rattle.laws.specs.Results.{◌>>=◌}
 use Rattle.laws.proofs.Results.{bind_ok, ok_is}
-use Rattle.literature_entries.specs.Wholes.{entry_view}
+use Rattle.literature_entries.specs.EntriesData.{entry_view}
 use Rattle.literature_entries.specs.declared.entry.Entry.{Entry}
 use Rattle.literature_entries.specs.contracts.entry.EntryPartialEq.TheImpl as entry
-use Rattle.literature_selectors.specs.Trees.{Tree}
+use Rattle.literature.specs.Trees.{Tree}
 use Rattle.rendering_context.specs.Contexts.{StyleContext}
 use Rattle.driver.specs.Finish.{finish}
 use Rattle.driver_requests.specs.declared.request.CitationRequest.{CitationRequest}

@@ -3,6 +3,7 @@ use Rattle.std.proofs.Common.{ℕ, zero, suc, Bool, true, false, cond, All, List
 use Rattle.std.specs.Prelude.{◌==◌, IfErr, IfSome, MatchResult}
 use Rattle.std.specs.Option.{option_map_or}
 use Rattle.std.proofs.lemmas.List.Elements.{All-nil, All-cons, All-head, All-tail}
+use Rattle.laws.specs.Characters.{exclamation_mark, ampersand, open_parenthesis, close_parenthesis, asterisk, comma, colon, greater_than_sign, open_bracket, close_bracket, vertical_bar}
 use Rattle.laws.specs.Results.{◌>>=◌}
 use Rattle.laws.specs.Runs.{prefix_of, after}
 use Rattle.laws.specs.Text.{text}
@@ -12,13 +13,13 @@ use Rattle.texts.specs.Character.{passes}
 use Rattle.texts.specs.declared.character.Class.TheVariants.{Blank}
 use Rattle.literature_values.specs.EntryTypes.{type_called}
 use Rattle.literature_values.specs.declared.entry_type.EntryType.{EntryType}
-use Rattle.literature_selectors.specs.Reading.{Fault, MissingValue, Reading, taken, one_more, each_below, each_after, name_at, list_end, names_at, lists_at, listed_at, parted, alternatives_of, multi_of, Level, typed, named, closed, parenthesised, signed, unary_in, above, ancestry_in, level, selector_at, selector_of}
-use Rattle.literature_selectors.specs.Tokens.{Token, Name, Sign, is_name_character, is_sign, token_here, token_at, tokens_below, tokens}
-use Rattle.literature_selectors.specs.Trees as trees
-use Rattle.literature_selectors.specs.Trees.{Tree, Any, Entry, one_or_alternatives, one_or_multi}
+use Rattle.literature.specs.Errors.{fault_text}
+use Rattle.literature.specs.Reading.{Fault, MissingValue, Reading, taken, one_more, each_below, each_after, name_at, list_end, names_at, lists_at, listed_at, parted, alternatives_of, multi_of, Level, typed, named, closed, parenthesised, signed, unary_in, above, ancestry_in, level, selector_at, selector_of}
+use Rattle.literature.specs.Tokens.{Token, Name, Sign, is_name_character, is_sign, token_here, token_at, tokens_below, tokens}
+use Rattle.literature.specs.Trees as trees
+use Rattle.literature.specs.Trees.{Tree, Any, Entry, one_or_alternatives, one_or_multi}
 use Rattle.biblatex.specs.Lines.{HasNoLineFeed}
 use Rattle.biblatex.proofs.Lines.{append, passing, spelled}
-use Rattle.cite.specs.Refusals.{selector_text}
 
 abbrev TokenPlain : Token → Type 0
 TokenPlain (Name n) = HasNoLineFeed (text n)
@@ -28,7 +29,7 @@ abbrev ArePlain : List Token → Type 0
 ArePlain ts = All TokenPlain ts
 
 abbrev pub FaultPlain : Fault → Type 0
-FaultPlain f = HasNoLineFeed (selector_text f)
+FaultPlain f = HasNoLineFeed (fault_text f)
 
 -- ---- tokens
 
@@ -113,12 +114,12 @@ names_plain : IsPlain names_at
 unfolding names_at
 names_plain ts all =
     bind_match LeftPlain LeftPlain FaultPlain (name_at ts) _ (name_at_plain ts all) (λ first left.
-    bind_match LeftPlain LeftPlain FaultPlain (each_after 44 name_at first.1) _ (each_after_plain 44 name_at name_at_plain first.1 left) (λ others more.
-    bind_match ArePlain LeftPlain FaultPlain (list_end (taken 93 others.1)) _ (list_end_plain (taken 93 others.1) (taken_plain 93 others.1 more)) (λ rest end. end)))
+    bind_match LeftPlain LeftPlain FaultPlain (each_after comma name_at first.1) _ (each_after_plain comma name_at name_at_plain first.1 left) (λ others more.
+    bind_match ArePlain LeftPlain FaultPlain (list_end (taken close_bracket others.1)) _ (list_end_plain (taken close_bracket others.1) (taken_plain close_bracket others.1 more)) (λ rest end. end)))
 
 lists_plain : IsPlain lists_at
 unfolding lists_at
-lists_plain ts all = bind_match LeftPlain LeftPlain FaultPlain (each_after 91 names_at ts) _ (each_after_plain 91 names_at names_plain ts all) (λ lists left. left)
+lists_plain ts all = bind_match LeftPlain LeftPlain FaultPlain (each_after open_bracket names_at ts) _ (each_after_plain open_bracket names_at names_plain ts all) (λ lists left. left)
 
 listed_plain : (x : Tree) → IsPlain (listed_at x)
 unfolding listed_at
@@ -152,11 +153,11 @@ module _ (inner : Level) (plain : LevelPlain inner) where
   parenthesised_plain : IsPlain (parenthesised inner)
   unfolding parenthesised
   parenthesised_plain ts all =
-      bind_match LeftPlain LeftPlain FaultPlain (alternatives_of inner.ancestry ts) _ (parted_plain 124 one_or_alternatives inner.ancestry plain.ancestry ts all) (λ inside left.
-      closed_plain inside.0 (taken 41 inside.1) (taken_plain 41 inside.1 left))
+      bind_match LeftPlain LeftPlain FaultPlain (alternatives_of inner.ancestry ts) _ (parted_plain vertical_bar one_or_alternatives inner.ancestry plain.ancestry ts all) (λ inside left.
+      closed_plain inside.0 (taken close_parenthesis inside.1) (taken_plain close_parenthesis inside.1 left))
 
   signed_plain : (c : ℕ) → IsPlain (signed inner c)
-  signed_plain c ts all = by_sign (c == 33) (c == 42) (c == 91) (c == 40)
+  signed_plain c ts all = by_sign (c == exclamation_mark) (c == asterisk) (c == open_bracket) (c == open_parenthesis)
     where
       by_sign : (negates star list opens : Bool)
           → MatchResult (cond negates (inner.unary ts >>= λ p. Ok (trees.Not p.0, p.1)) (cond star (listed_at Any ts) (cond list (listed_at Any (Sign c ∷ ts)) (cond opens (parenthesised inner ts) (Err MissingValue))))) LeftPlain FaultPlain
@@ -169,7 +170,7 @@ module _ (inner : Level) (plain : LevelPlain inner) where
   unary_plain : IsPlain (unary_in inner)
   unfolding unary_in
   unary_plain [] all = refl
-  unary_plain (Name n ∷ ts) all = named_plain n (All-head TokenPlain (Name n) ts all) (taken 58 ts) (taken_plain 58 ts (All-tail TokenPlain (Name n) ts all))
+  unary_plain (Name n ∷ ts) all = named_plain n (All-head TokenPlain (Name n) ts all) (taken colon ts) (taken_plain colon ts (All-tail TokenPlain (Name n) ts all))
   unary_plain (Sign c ∷ ts) all = signed_plain c ts (All-tail TokenPlain (Sign c) ts all)
 
   above_plain : (x : Tree) (p : Bool × List Token) → ArePlain p.1 → MatchResult (above inner x p) LeftPlain FaultPlain
@@ -179,8 +180,8 @@ module _ (inner : Level) (plain : LevelPlain inner) where
   ancestry_plain : IsPlain (ancestry_in inner)
   unfolding ancestry_in
   ancestry_plain ts all =
-      bind_match LeftPlain LeftPlain FaultPlain (multi_of (unary_in inner) ts) _ (parted_plain 38 one_or_multi (unary_in inner) unary_plain ts all) (λ of left.
-      above_plain of.0 (taken 62 of.1) (taken_plain 62 of.1 left))
+      bind_match LeftPlain LeftPlain FaultPlain (multi_of (unary_in inner) ts) _ (parted_plain ampersand one_or_multi (unary_in inner) unary_plain ts all) (λ of left.
+      above_plain of.0 (taken greater_than_sign of.1) (taken_plain greater_than_sign of.1 left))
 
 level_plain : (n : ℕ) → LevelPlain (level n)
 unfolding level
@@ -189,7 +190,7 @@ level_plain (suc n) = record { unary = unary_plain (level n) (level_plain n); an
 
 whole_plain : IsPlain selector_at
 unfolding selector_at
-whole_plain ts all = parted_plain 124 one_or_alternatives (level 129).ancestry (level_plain 129).ancestry ts all
+whole_plain ts all = parted_plain vertical_bar one_or_alternatives (level 129).ancestry (level_plain 129).ancestry ts all
 
 abbrev Whatever : {A : Type 0} → A → Type 0
 Whatever x = Unit {0}

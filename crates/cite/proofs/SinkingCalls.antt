@@ -5,7 +5,8 @@ use Rattle.std.specs.Io.KnownBytes.{Appends}
 use Rattle.std.specs.List.{concat, FoldsTo}
 use Rattle.std.proofs.KnownBytes.{Appends-nil, Appends-trans}
 use Rattle.laws.specs.Text.{text}
-use Rattle.sinks.specs.Sinks.{next_count, HasFailed, AppendsPrefix}
+use Rattle.laws.specs.Counts.{next_count}
+use Rattle.sinks.specs.Sinks.{HasFailed, AppendsPrefix}
 use Rattle.sinks.specs.declared.sink.SinkFault.{SinkFault}
 use Rattle.rendering_output.specs.Writing.{WritesCharacters}
 use Rattle.cite.specs.Sinking.{IsWritten, IsWrittenAfter, TakesUntilFault}
@@ -16,7 +17,7 @@ prefix_after : (old mid new : Option (List ℕ)) (bytes more : List ℕ) → App
 prefix_after old mid new bytes more before (prefix, rest, parted, taken) =
     (bytes ++ prefix, rest, ap (λ xs. bytes ++ xs) parted ∙ sym (append_assoc bytes prefix rest), Appends-trans old mid new bytes prefix before taken)
 
--- a beginning is one of what goes on, too
+-- a prefix of bytes is a prefix of what they begin
 prefix_before : (old new : Option (List ℕ)) (bytes more : List ℕ) → AppendsPrefix old new bytes → AppendsPrefix old new (bytes ++ more)
 prefix_before old new bytes more (prefix, rest, parted, taken) = (prefix, rest ++ more, ap (λ xs. xs ++ more) parted ∙ append_assoc prefix rest more, taken)
 

@@ -4,7 +4,7 @@ use Rattle.std.specs.Option.{option_map}
 use Rattle.std.specs.Str.{bytes_eq}
 use Rattle.std.specs.Borrow.{Bor}
 use Rattle.literature_entries.specs.Views.{key_view}
-use Rattle.literature_entries.specs.Wholes.{entry_view}
+use Rattle.literature_entries.specs.EntriesData.{entry_view}
 use Rattle.literature_entries.specs.declared.entry.Entry.{Entry, the_lemmas}
 use Rattle.literature.specs.Keys.{with_key}
 use Rattle.interop.specs.Library.{key_of}

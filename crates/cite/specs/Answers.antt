@@ -5,8 +5,8 @@ use Rattle.biblatex.specs.Errors.{refusal_of}
 use Rattle.interop.specs.Views.{fault_view}
 use Rattle.interop.specs.declared.error.BridgeError.{BridgeError}
 use Rattle.interop.specs.declared.error.BridgeError.TheVariants as bridge
-use Rattle.literature_selectors.specs.Reading.{Fault}
-use Rattle.literature_selectors.specs.Views as selectors
+use Rattle.literature.specs.Reading.{Fault}
+use Rattle.literature.specs.Views as selectors
 use Rattle.cite.specs.Stages.{Refusal, bib_not_utf8, bib_refused, fields_refused, document_not_utf8, no_marker, unknown_name, section_refused, overflow}
 use Rattle.sinks.specs.declared.sink.SinkFault.{SinkFault}
 use Rattle.cite.specs.declared.error.CiteError.{CiteError}

@@ -1,7 +1,7 @@
 -- Requests of markers before their entries have indices: what each cite cites and how.
 use Rattle.std.specs.Prelude.{ℕ, ◌+◌, Bool, List, [], ◌∷◌, ◌++◌, map, length, Option, Some, Result, Ok}
 use Rattle.std.specs.Option.{option_map}
-use Rattle.literature_entries.specs.Wholes.{Whole, entry_view}
+use Rattle.literature_entries.specs.EntriesData.{EntryData, entry_view}
 use Rattle.literature_entries.specs.declared.entry.Entry.{Entry}
 use Rattle.laws.specs.Results.{◌>>=◌}
 use Rattle.rendering_context.specs.Contexts.{StyleContext}
@@ -20,7 +20,7 @@ use Rattle.cite.specs.Works.{Works}
 
 -- an item: the work, the part of it, whether it is hidden, and its purpose
 pub record AskedItem : Type 0 where
-  pub work : Whole
+  pub work : EntryData
   pub locator : Option (SpecificLocator OwnLocator)
   pub is_hidden : Bool
   pub purpose : Option CitePurpose
@@ -39,7 +39,7 @@ asked_item c = record { work = c.work; locator = option_map locator_of c.cite.lo
 abbrev pub asked_request : StyleContext → ℕ × List CitedWork → AskedRequest
 asked_request x (number, cites) = record { context = x; note_number = note_number_in x.style.class (Some number); items = map asked_item cites }
 
--- the same with the works that names mean, or the first name that means none
+-- the item of a cite with the work that its name means, or the name, where it means none
 abbrev pub item_asked : Works → Cite → Result AskedItem Refusal
 item_asked works c = refused_as unknown_name (cited_work works c >>= λ found. Ok (asked_item found))
 

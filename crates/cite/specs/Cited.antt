@@ -6,14 +6,14 @@ use Rattle.std.specs.Str.{bytes_eq}
 use Rattle.laws.specs.Text.{text, is_filled}
 use Rattle.biblatex.specs.Bibliographies.{Listed, entry_named}
 use Rattle.biblatex.specs.Entries.{Source}
-use Rattle.literature_entries.specs.Wholes.{Whole}
+use Rattle.literature_entries.specs.EntriesData.{EntryData}
 use Rattle.interop.specs.Library.{all_works, put_after}
 use Rattle.cite_markers.specs.Document.{Piece, Text, Marker}
 use Rattle.cite_markers.specs.Marker.{Cite}
 use Rattle.cite.specs.Works.{Works}
 
 -- the library that entries come to where all their dates can be read
-abbrev pub library_from : List Source → List Whole
+abbrev pub library_from : List Source → List EntryData
 library_from es = put_after [] (all_works es)
 
 -- a file with that of all its entries
@@ -49,5 +49,5 @@ abbrev pub entries_needed : Listed → List (List ℕ) → List Piece → List S
 entries_needed file sections pieces = if is_filled sections then file.entries else entries_with (keys_cited file pieces) file.entries
 
 -- their library
-abbrev pub library_needed : Listed → List (List ℕ) → List Piece → List Whole
+abbrev pub library_needed : Listed → List (List ℕ) → List Piece → List EntryData
 library_needed file sections pieces = library_from (entries_needed file sections pieces)

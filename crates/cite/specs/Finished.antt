@@ -1,13 +1,13 @@
 -- What a driver gives of requests of the code.
 use Rattle.std.specs.Prelude.{Bool, List, map, Result}
-use Rattle.literature_entries.specs.Wholes.{entry_view}
+use Rattle.literature_entries.specs.EntriesData.{entry_view}
 use Rattle.literature_entries.specs.declared.entry.Entry.{Entry}
 use Rattle.rendering_entries.specs.Library.{answers_of}
 use Rattle.rendering_context.specs.Contexts.{StyleContext}
 use Rattle.driver_requests.specs.CitedEntries.{index_among, indices_among}
 use Rattle.driver_requests.specs.Views.{entries_in, request_view}
 use Rattle.driver_requests.specs.declared.request.CitationRequest.{CitationRequest}
-use Rattle.driver.specs.Documents.{Document}
+use Rattle.driver_rounds.specs.Documents.{Document}
 use Rattle.driver.specs.Finish.{Rendered, finish}
 use Rattle.cite.specs.Requests.{OwnLocator, is_same_own}
 use Rattle.cite.specs.Stages.{Refusal, overflow, refused_as}

@@ -1,7 +1,7 @@
 -- The markers of a document, and the works that their cites cite.
 use Rattle.std.specs.Prelude.{ℕ, List, filter_map, Option, Some, None, Result, Ok, Err}
 use Rattle.laws.specs.Text.{text}
-use Rattle.literature_entries.specs.Wholes.{Whole}
+use Rattle.literature_entries.specs.EntriesData.{EntryData}
 use Rattle.cite_markers.specs.Document.{Piece, Text, Marker}
 use Rattle.cite_markers.specs.Marker.{Cite}
 use Rattle.cite.specs.Steps.{all_ok}
@@ -10,7 +10,7 @@ use Rattle.cite.specs.Works.{Works, meaning}
 -- a cite, and the work that its name means
 pub record CitedWork : Type 0 where
   pub cite : Cite
-  pub work : Whole
+  pub work : EntryData
 
 -- the cites of a marker
 abbrev pub marker_in : Piece → Option (List Cite)
@@ -22,7 +22,7 @@ abbrev pub markers_of : List Piece → List (List Cite)
 markers_of pieces = filter_map marker_in pieces
 
 -- a cite with its work; where it has none, its name, in bytes
-abbrev pub with_work : Cite → Option Whole → Result CitedWork (List ℕ)
+abbrev pub with_work : Cite → Option EntryData → Result CitedWork (List ℕ)
 with_work c None = Err (text c.name)
 with_work c (Some w) = Ok (record { cite = c; work = w })
 

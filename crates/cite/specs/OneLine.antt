@@ -1,4 +1,4 @@
--- The message for refusals goes on one line each.
+-- The messages for refusals, each of which is one line.
 use Rattle.std.specs.Prelude.{ℕ, All, List, [], Err}
 use Rattle.biblatex.specs.Lines.{HasNoLineFeed}
 use Rattle.interop.specs.Bridge.{Fault}
@@ -7,7 +7,7 @@ use Rattle.cite.specs.Verdict.{Task, IsVerdict}
 use Rattle.cite.specs.Refusals.{refusal_text}
 use Rattle.cite.specs.Program.{fault_message}
 
--- the fields that a refusal tells of
+-- the fields that a refusal reports
 abbrev pub faults_in : Refusal → List Fault
 faults_in (fields_refused faults) = faults
 faults_in other = []
@@ -17,6 +17,6 @@ pub record HasLineMessages (refusal : Refusal) : Type 0 where
   pub text : HasNoLineFeed (refusal_text refusal)
   pub faults : All (λ f. HasNoLineFeed (fault_message f)) (faults_in refusal)
 
--- the same of every refusal that a call comes to
+-- the messages of every refusal that a call comes to are one line each
 abbrev pub RefusalsHaveLineMessages : Type 0
 RefusalsHaveLineMessages = (bib : List ℕ) (task : Task) (refusal : Refusal) → IsVerdict bib task (Err refusal) → HasLineMessages refusal

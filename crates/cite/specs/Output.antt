@@ -2,6 +2,7 @@
 use Rattle.std.specs.Prelude.{ℕ, List, [], ◌∷◌, ◌++◌, Option, Some, None, codes}
 use Rattle.std.specs.List.{flat_map}
 use Rattle.std.specs.Option.{option_map_or}
+use Rattle.laws.specs.Characters.{line_feed}
 use Rattle.rendering_output.specs.Writing.{divided, tag_text}
 use Rattle.rendering_output.specs.declared.writing.BufWriteFormat.{BufWriteFormat}
 use Rattle.rendering_output.specs.declared.writing.BufWriteFormat.TheVariants as formats
@@ -15,7 +16,7 @@ use Rattle.cite_markers.specs.Document.{Piece, Text, Marker}
 abbrev pub tree_text : BufWriteFormat → Children → List ℕ
 tree_text format tree = flat_map (tag_text format) (tags tree)
 
--- the same of a first field, where there is one
+-- a first field as a format writes it, where there is one
 abbrev pub field_text : BufWriteFormat → Option Element → List ℕ
 field_text format None = []
 field_text format (Some e) = flat_map (tag_text format) (divided e.display (tags e.children))
@@ -33,8 +34,8 @@ item_opening formats.Plain = []
 item_opening formats.Html = codes "<p>"
 
 abbrev pub item_end : BufWriteFormat → List ℕ
-item_end formats.Plain = 10 ∷ []
-item_end formats.Html = codes "</p>" ++ 10 ∷ []
+item_end formats.Plain = line_feed ∷ []
+item_end formats.Html = codes "</p>" ++ line_feed ∷ []
 
 -- an item, in a line
 abbrev pub item_text : BufWriteFormat → Fields → List ℕ
@@ -42,7 +43,7 @@ item_text format f = item_opening format ++ (field_text format f.first_field ++ 
 
 -- a line feed and the items
 abbrev pub bibliography_text : BufWriteFormat → RenderedBibliography → List ℕ
-bibliography_text format b = 10 ∷ flat_map (item_text format) b.items
+bibliography_text format b = line_feed ∷ flat_map (item_text format) b.items
 
 -- the document with its citations, and the bibliography where the style has one
 abbrev pub output_text : BufWriteFormat → List Piece → Rendered → List ℕ

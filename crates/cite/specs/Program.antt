@@ -1,5 +1,6 @@
 -- What the program serves and says.
-use Rattle.std.specs.Prelude.{◌≡◌, ℕ, Bool, true, false, List, [], ◌∷◌, ◌++◌, map, Option, Some, None, is_ok, Result, Ok, Err, codes, if◌then◌else◌}
+use Rattle.std.specs.Global.{Global}
+use Rattle.std.specs.Prelude.{◌≡◌, ℕ, Bool, true, false, List, [], ◌∷◌, ◌++◌, map, Option, Some, None, is_ok, Result, Ok, Err, String, string_bytes, codes, if◌then◌else◌}
 use Rattle.std.specs.List.{flat_map}
 use Rattle.std.specs.Option.{ok_or}
 use Rattle.std.specs.Str.{bytes_eq}
@@ -13,7 +14,7 @@ use Rattle.interop.specs.Bridge.{Fault}
 use Rattle.interop.specs.Views.{fault_view}
 use Rattle.rendering_output.specs.declared.writing.BufWriteFormat.{BufWriteFormat}
 use Rattle.rendering_output.specs.declared.writing.BufWriteFormat.TheVariants.{Plain, Html}
-use Rattle.rendering_english.specs.English.{english}
+use Rattle.cite_styles.specs.English.{english}
 use Rattle.rendering_style.specs.Styles.{Style}
 use Rattle.cite_styles.specs.Styles.{numeric, author_date, note}
 use Rattle.cite.specs.Answers.{Writes}
@@ -96,7 +97,7 @@ ServesBytes job (Ok bib) (Ok document) P = Writes (IsVerdict bib (task_in job do
 ServesBytes job (Ok bib) (Err fault) P = ⊥
 ServesBytes job (Err fault) document P = ⊥
 
--- the same of a job, where words ask for one
+-- words ask for a job, and there is an output to be written of its files, of which this holds
 abbrev pub ServesJob : Reads → Result Job (List ℕ) → (List ℕ → Type 0) → Type 0
 ServesJob read (Ok job) P = ServesBytes job (read job.bib) (read job.document) P
 ServesJob read (Err message) P = ⊥
@@ -117,9 +118,9 @@ abbrev pub fault_lines : List Fault → List ℕ
 fault_lines faults = flat_map (λ f. line (fault_message f)) faults
 
 -- the message for a refusal
-abbrev pub told : Refusal → List ℕ
-told (fields_refused faults) = fault_lines faults
-told other = line (refusal_text other)
+abbrev pub refusal_message : Refusal → List ℕ
+refusal_message (fields_refused faults) = fault_lines faults
+refusal_message other = line (refusal_text other)
 
 -- the message for a file that cannot be read
 abbrev pub path_text : List ℕ → List ℕ
@@ -133,7 +134,7 @@ CannotRead (Err Unreadable) path message = message ≡ line (path_text path)
 
 -- Why bytes are not served: their verdict is a refusal.
 abbrev pub IsRefused : List ℕ → Task → List ℕ → Type 0
-IsRefused bib task message = (refusal : Refusal) × IsVerdict bib task (Err refusal) × (message ≡ told refusal)
+IsRefused bib task message = (refusal : Refusal) × IsVerdict bib task (Err refusal) × (message ≡ refusal_message refusal)
 
 -- Why a job is not served: the first file cannot be read; or it was read, and the second cannot be; or both were, and are refused.
 abbrev pub IsBytesFault : Job → Outcome → Outcome → List ℕ → Type 0
@@ -156,21 +157,20 @@ fault_text (faults.Style style) = style_text style.now
 fault_text (faults.Format format) = format_text format.now
 fault_text (faults.Path path) = path_text path.now
 fault_text faults.Memory = codes "out of memory"
-fault_text faults.Write = codes "write failed"
-fault_text (faults.Fields found) = codes "fields that cannot be read"
-fault_text (faults.Refused error) = error_text error
 
--- the message for it: of fields that cannot be read each in a line, of another one its text
+-- the message for it
 abbrev pub message_of : RunFault → List ℕ
-message_of (faults.Fields found) = fault_lines (map fault_view found.items)
-message_of other = line (fault_text other)
+message_of fault = line (fault_text fault)
 
--- the fault where `cite` refuses
-abbrev pub fault_of : CiteError → RunFault
-fault_of errors.Memory = faults.Memory
-fault_of (errors.Write fault) = faults.Write
-fault_of (errors.Fields found) = faults.Fields found
-fault_of other = faults.Refused other
+-- the message where `cite` refuses: of fields that cannot be read each in a line, of another error its text
+abbrev pub error_message : CiteError → List ℕ
+error_message (errors.Fields found) = fault_lines (map fault_view found.items)
+error_message other = line (error_text other)
+
+-- what is said where lines were made, or there was no memory for them
+abbrev pub said : {E : Type 0} → Result (String Global) E → List ℕ
+said (Ok lines) = string_bytes lines
+said (Err error) = programs.no_memory (codes "cite")
 
 -- there was no memory, or the output was not taken whole, or it is one of these faults
 abbrev pub IsReason : (List ℕ → Type 0) → programs.Served → ℕ → ℕ → List ℕ → Type 0

@@ -2,7 +2,7 @@
 use Rattle.std.specs.Prelude.{ℕ, Bool, true, List, [], ◌∷◌, map, Some}
 use Rattle.std.specs.List.{flat_map, enumerate_from}
 use Rattle.std.specs.Option.{option_map}
-use Rattle.literature_entries.specs.Wholes.{Whole}
+use Rattle.literature_entries.specs.EntriesData.{EntryData}
 use Rattle.rendering_entries.specs.Library.{answers_of}
 use Rattle.rendering_locale.specs.Locales.{Locale}
 use Rattle.rendering_style.specs.Styles.{Style}
@@ -29,11 +29,11 @@ abbrev pub locator_of : CiteLocator → SpecificLocator OwnLocator
 locator_of l = record { label = l.label; payload = written l.value }
 
 -- the works of all cites, in order
-abbrev pub works_in : List (List CitedWork) → List Whole
+abbrev pub works_in : List (List CitedWork) → List EntryData
 works_in markers = flat_map (map (λ c. c.work)) markers
 
 -- A cite as an item. Its entry has its index among the works that are cited, by first cite.
-abbrev pub item_of : List Whole → CitedWork → Item OwnLocator
+abbrev pub item_of : List EntryData → CitedWork → Item OwnLocator
 item_of cited c = record {
   entry = record { index = index_among is_same cited c.work; answers = answers_of c.work };
   locator = option_map locator_of c.cite.locator;
@@ -42,7 +42,7 @@ item_of cited c = record {
 }
 
 -- a marker as a request; in a style of notes it is the note of that number
-abbrev pub request_of : StyleContext → List Whole → ℕ × List CitedWork → Request OwnLocator
+abbrev pub request_of : StyleContext → List EntryData → ℕ × List CitedWork → Request OwnLocator
 request_of context cited (number, cites) = record {
   context = context;
   note_number = note_number_in context.style.class (Some number);

@@ -1,10 +1,10 @@
 -- Sections: selectors that choose works, in the order in which a bibliography lists them.
 use Rattle.std.specs.Prelude.{ℕ, List, filter, Result, Ok, Err}
 use Rattle.std.specs.List.{flat_map, enumerate_from}
-use Rattle.literature_entries.specs.Wholes.{Whole}
-use Rattle.literature_selectors.specs.Holding.{holds_at}
-use Rattle.literature_selectors.specs.Reading.{Fault, selector_of}
-use Rattle.literature_selectors.specs.Trees.{Tree}
+use Rattle.literature_entries.specs.EntriesData.{EntryData}
+use Rattle.literature.specs.Holding.{holds_at}
+use Rattle.literature.specs.Reading.{Fault, selector_of}
+use Rattle.literature.specs.Trees.{Tree}
 use Rattle.cite.specs.Steps.{all_ok}
 
 -- a section that is no selector: its index, from zero, and its fault
@@ -26,5 +26,5 @@ abbrev pub selectors_of : List (List ℕ) → Result (List Tree) SectionFault
 selectors_of sections = all_ok selector_in (enumerate_from 0 sections)
 
 -- the works that selectors choose: for each selector those at which it holds, in the order of the library
-abbrev pub chosen : List Tree → List Whole → List Whole
+abbrev pub chosen : List Tree → List EntryData → List EntryData
 chosen selectors library = flat_map (λ x. filter (holds_at x) library) selectors

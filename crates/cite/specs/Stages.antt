@@ -5,8 +5,8 @@ use Rattle.laws.specs.Results.{◌>>=◌}
 use Rattle.biblatex.specs.Bibliographies.{Listed}
 use Rattle.biblatex.specs.Reading as reading
 use Rattle.biblatex.specs.Resolved.{TextMeans}
-use Rattle.literature_entries.specs.Wholes.{Whole}
-use Rattle.literature_selectors.specs.Trees.{Tree}
+use Rattle.literature_entries.specs.EntriesData.{EntryData}
+use Rattle.literature.specs.Trees.{Tree}
 use Rattle.interop.specs.Bridge.{Fault}
 use Rattle.interop.specs.Library.{library_of}
 use Rattle.cite_markers.specs.Document.{Piece, document_of}
@@ -39,7 +39,7 @@ abbrev pub IsRead : List ℕ → Result Listed Refusal → Type 0
 IsRead bib read = IsReadIf (is_utf8 bib) bib read
 
 -- the second stage, where entries with fields that cannot be read are refused, all faults together
-abbrev pub works_from : Listed → Result (List Whole) (List Fault) → Result Works Refusal
+abbrev pub works_from : Listed → Result (List EntryData) (List Fault) → Result Works Refusal
 works_from file (Ok library) = Ok (record { file = file; library = library })
 works_from file (Err faults) = Err (fields_refused faults)
 

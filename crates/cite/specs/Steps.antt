@@ -10,7 +10,7 @@ all_ok step (x ∷ xs) = do
   ys ← all_ok step xs
   Ok (y ∷ ys)
 
--- the same after what other members gave
+-- what a step gives of each member, after what other members gave
 unfoldable pub all_ok_after : {F X Y : Type 0} → (X → Result Y F) → List Y → List X → Result (List Y) F
 all_ok_after step done [] = Ok done
 all_ok_after step done (x ∷ xs) = step x >>= λ y. all_ok_after step (done ++ y ∷ []) xs

@@ -2,12 +2,12 @@
 use Rattle.std.specs.Prelude.{◌≡◌, ℕ, List, Result, Ok}
 use Rattle.laws.specs.Results.{◌>>=◌}
 use Rattle.laws.specs.Text.{text}
-use Rattle.literature_entries.specs.Wholes.{Whole}
+use Rattle.literature_entries.specs.EntriesData.{EntryData}
 use Rattle.rendering_output.specs.declared.writing.BufWriteFormat.{BufWriteFormat}
 use Rattle.rendering_context.specs.Contexts.{StyleContext}
 use Rattle.driver_requests.specs.CitedEntries.{indices_among}
 use Rattle.cite_markers.specs.Document.{Piece}
-use Rattle.driver.specs.Documents.{Document}
+use Rattle.driver_rounds.specs.Documents.{Document}
 use Rattle.driver.specs.Finish.{Rendered, finish}
 use Rattle.cite.specs.Markers.{CitedWork}
 use Rattle.cite.specs.Output.{output_text}
@@ -25,7 +25,7 @@ pub record Task : Type 0 where
   pub format : BufWriteFormat
 
 -- the requests, and the bibliography in which the chosen works come first, so far as they are cited
-abbrev pub driver_document : StyleContext → List Whole → List (List CitedWork) → Document OwnLocator
+abbrev pub driver_document : StyleContext → List EntryData → List (List CitedWork) → Document OwnLocator
 driver_document context chosen markers = record {
   requests = requests_of context markers;
   bibliography_context = context;
@@ -33,8 +33,8 @@ driver_document context chosen markers = record {
   offset = 0;
 }
 
--- where no stage refuses: citations and bibliography, or a number or letters are beyond the last
-abbrev pub driver_stage : StyleContext → List Whole → List (List CitedWork) → Result Rendered Refusal
+-- where no stage refuses: citations and bibliography, or that a number or a year suffix is too great
+abbrev pub driver_stage : StyleContext → List EntryData → List (List CitedWork) → Result Rendered Refusal
 driver_stage context wanted markers = refused_as (λ _. overflow) (finish is_same_own (driver_document context wanted markers))
 
 -- what the pieces of a document come to: its names, then the sections, and then citations and bibliography

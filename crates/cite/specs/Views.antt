@@ -8,7 +8,7 @@ use Rattle.laws.specs.Text.{spelled}
 use Rattle.biblatex.specs.Bibliographies.{listed_view}
 use Rattle.interop.specs.Views.{library_view}
 use Rattle.literature.specs.declared.library.Library.{Library}
-use Rattle.literature_entries.specs.Wholes.{Whole, entry_view}
+use Rattle.literature_entries.specs.EntriesData.{EntryData, entry_view}
 use Rattle.literature_entries.specs.declared.entry.Entry.{Entry}
 use Rattle.rendering_locale.specs.Views.{locale_view}
 use Rattle.rendering_locale.specs.declared.locale.Locale.{Locale}
@@ -43,5 +43,5 @@ task_of document style locale sections format = record {
 }
 
 -- borrowed entries as works
-abbrev pub lent_works_view : List (Bor Entry) → List Whole
+abbrev pub lent_works_view : List (Bor Entry) → List EntryData
 lent_works_view es = map (λ (e : Bor Entry). entry_view e.now) es

@@ -4,7 +4,7 @@ ghost use Rattle.std.specs.Prelude.{◌≡◌, []};
 ghost use Rattle.std.specs.Option.{option_map};
 ghost use Rattle.biblatex.specs.Bibliographies.{listed_view};
 ghost use Rattle.biblatex.specs.Entries.{source_view};
-ghost use Rattle.literature_entries.specs.Wholes.{entry_view};
+ghost use Rattle.literature_entries.specs.EntriesData.{entry_view};
 ghost use Rattle.interop.specs.Library.{all_faults, library_of};
 ghost use Rattle.interop.specs.Views.{lent_sources_view, library_view};
 ghost use Rattle.cite.specs.Works.{work_of};
@@ -33,7 +33,7 @@ impl BibFile {
     ghost use Rattle.std.specs.Option.{option_map};
     ghost use Rattle.laws.specs.Text.{spelled};
     ghost use Rattle.biblatex.specs.Bibliographies.{listed_view};
-    ghost use Rattle.literature_entries.specs.Wholes.{entry_view};
+    ghost use Rattle.literature_entries.specs.EntriesData.{entry_view};
     ghost use Rattle.interop.specs.Views.{library_view};
     ghost use Rattle.cite_markers.specs.Views.{document_view};
     ghost use Rattle.cite.specs.Answers.{Answers, Gives};
@@ -87,7 +87,7 @@ impl BibFile {
     }
 
     /// The work of the library that a name means, by its key or an alias. Entries of type `xdata`, which only lend their fields,
-    /// are none.
+    /// are no works.
     pub(crate) fn get<'l>(&self, library: &'l Library, name: &str) -> Option<&'l Entry>
         ensures { option_map (λ e. entry_view e.now) result
             ≡ meaning name.now (file_works_with self.now library.now) }

@@ -104,7 +104,6 @@ pub(crate) fn entries_with<'f>(
     Ok(found)
 }
 
-/// Appends an entry, if it has one of the keys.
 fn push_known<'f>(
     keys: &HashSet<&str>,
     entry: &'f SourceEntry,

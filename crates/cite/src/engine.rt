@@ -4,11 +4,12 @@ ghost use Rattle.std.specs.Prelude.{◌≡◌, map, IfErr, IfOk, OnOk, string_by
 ghost use Rattle.laws.specs.Text.{spelled};
 ghost use Rattle.rendering_locale.specs.Views.{locale_view};
 ghost use Rattle.rendering_style.specs.StyleViews.{style_view};
-ghost use Rattle.driver_requests.specs.Views.{lent};
 ghost use Rattle.cite.specs.Finished.{finished};
 ghost use Rattle.cite.specs.Requests.{context_of};
 ghost use Rattle.std.specs.Io.KnownBytes.{Appends};
-ghost use Rattle.sinks.specs.Sinks.{next_count, HasFailed, AppendsPrefix};
+ghost use Rattle.laws.specs.Counts.{next_count};
+ghost use Rattle.laws.specs.Borrowed.{borrowed};
+ghost use Rattle.sinks.specs.Sinks.{HasFailed, AppendsPrefix};
 ghost use Rattle.cite_markers.specs.Views.{document_view};
 ghost use Rattle.driver.specs.RenderedViews.{rendered_view};
 ghost use Rattle.cite.specs.Stages.{document_stage};
@@ -86,7 +87,7 @@ fn finish<'x>(
 ) -> Result<Rendered, CiteError>
     ensures { Gives rendered_view result (finished ⟦<Entry as PartialEq>⟧.eq
         (context_of (style_view style.now) (locale_view locale.now)) requests.entry.items
-        (lent chosen.now)) }
+        (borrowed chosen.now)) }
 {
     let driver = BibliographyDriver::from_citations(alloc, requests);
     let request = BibliographyRequest::new(style, language(locale)?, slice::from_ref(locale));

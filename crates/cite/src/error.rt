@@ -2,12 +2,12 @@
 
 ghost use Rattle.std.specs.Prelude.{◌≡◌, Some};
 ghost use Rattle.cite.specs.Answers.{bridge_error};
-ghost use Rattle.cite.specs.Refusals.{bib_text, document_text, error_text, selector_error_text};
+ghost use Rattle.cite.specs.Refusals.{bib_text, document_text, error_text};
 ghost use Rattle.cite.specs.declared.error.CiteError.TheVariants.{Memory};
 
 use biblatex::ParseError;
 use interop::{BridgeError, FieldFault};
-use literature_selectors::SelectorError;
+use literature::SelectorError;
 use sinks::SinkFault;
 use std::alloc::{AllocError, AllocFailed};
 use std::error::Error;
@@ -80,26 +80,6 @@ pub enum CiteError {
     Write(SinkFault),
 }
 
-/// The message for a text that is no selector.
-#[derive(Clone, Copy)]
-struct SelectorText<'e>(&'e SelectorError);
-
-impl fmt::Display for SelectorText<'_> {
-    ghost output = { λ text. Some (selector_error_text text.0.now) };
-
-    fn fmt<W: fmt::Write>(&self, f: &mut fmt::Formatter<W>) -> fmt::Result {
-        match self.0 {
-            SelectorError::MissingValue => f.write_str("missing value"),
-            SelectorError::MalformedAttribute => f.write_str("malformed attribute"),
-            SelectorError::MissingComma => f.write_str("missing comma"),
-            SelectorError::UnbalancedParens => f.write_str("unbalanced parentheses"),
-            SelectorError::UnknownEntryType(name) => write!(f, "unknown entry type {name}"),
-            SelectorError::TooDeep => f.write_str("too deep"),
-            SelectorError::Memory => f.write_str("out of memory"),
-        }
-    }
-}
-
 /// Why the call refused, in a line.
 impl fmt::Display for CiteError {
     ghost output = { λ error. Some (error_text error) };
@@ -110,9 +90,7 @@ impl fmt::Display for CiteError {
             CiteError::Fields(_) => f.write_str("fields that cannot be read"),
             CiteError::Document(error) => write!(f, "document: {error}"),
             CiteError::Name(name) => write!(f, "unknown name {name}"),
-            CiteError::Selector { index, error } => {
-                write!(f, "section {index}: {}", SelectorText(error))
-            }
+            CiteError::Selector { index, error } => write!(f, "section {index}: {error}"),
             CiteError::Memory => f.write_str("out of memory"),
             CiteError::Overflow => f.write_str("number too large"),
             CiteError::Write(_) => f.write_str("write failed"),

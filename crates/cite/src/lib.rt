@@ -20,7 +20,7 @@ pub use cite_styles::{author_date, english, note, numeric};
 pub use engine::{cite, cite_to_string};
 pub use error::{BibTextError, CiteError, DocumentTextError};
 pub use interop::{DateField, FieldFault};
-pub use literature_selectors::SelectorError;
+pub use literature::SelectorError;
 pub use one_line::refusals_have_line_messages;
 pub use output_laws::{citations_depend_on_markers_alone, texts_come_out_unchanged};
 pub use program::{paths, run};

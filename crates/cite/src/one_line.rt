@@ -1,4 +1,4 @@
-//! The message for refusals goes on one line.
+//! The messages for refusals, each of which is one line.
 
 ghost use Rattle.cite.specs.OneLine.{RefusalsHaveLineMessages};
 

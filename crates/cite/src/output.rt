@@ -5,8 +5,10 @@ ghost use Rattle.std.specs.Io.KnownBytes.{Appends};
 ghost use Rattle.std.specs.List.{flat_map};
 ghost use Rattle.std.specs.Option.{option_and_then, option_map, option_map_or};
 ghost use Rattle.std.specs.Str.{chars};
+ghost use Rattle.laws.specs.Characters.{line_feed};
 ghost use Rattle.laws.specs.Text.{text as text_of};
-ghost use Rattle.sinks.specs.Sinks.{next_count, HasFailed, AppendsPrefix};
+ghost use Rattle.laws.specs.Counts.{next_count};
+ghost use Rattle.sinks.specs.Sinks.{HasFailed, AppendsPrefix};
 ghost use Rattle.rendering_output.specs.Writing.{WritesCharacters};
 ghost use Rattle.rendering_tree.specs.Views.{child_view};
 ghost use Rattle.cite_markers.specs.Views.{piece_view, document_view};
@@ -157,7 +159,7 @@ fn push_bibliography<T: TextTarget>(
 /// Hands over a line feed and items.
 fn push_items<T: TextTarget>(target: &mut T, items: &[BibliographyItem], format: BufWriteFormat)
     ensures { WritesCharacters T.takes target.old
-        (10 ∷ flat_map (item_text format) (map item_fields_view items.now)) target.new }
+        (line_feed ∷ flat_map (item_text format) (map item_fields_view items.now)) target.new }
 {
     target.push_str("\n");
     for item in items {

@@ -10,7 +10,8 @@ ghost use Rattle.sinks.specs.Programs.{IsUntouched, Says, no_memory};
 ghost use Rattle.interop.specs.Views.{fault_view};
 ghost use Rattle.std.specs.Option.{option_map};
 ghost use Rattle.rendering_style.specs.StyleViews.{style_view};
-ghost use Rattle.cite.specs.Program.{asked, job_of, ServesJob, IsJobFault, Serves, CannotRead, IsFault, IsReason, line, fault_message, fault_lines, fault_text, message_of, fault_of, format_named, style_named};
+ghost use Rattle.cite.specs.Program.{asked, job_of, ServesJob, IsJobFault, Serves, CannotRead, IsFault, IsReason, line, fault_message, fault_lines, fault_text, error_message, message_of, said, format_named, style_named};
+ghost use Rattle.cite.specs.Refusals.{error_text};
 
 use crate::engine::cite;
 use crate::error::CiteError;
@@ -25,7 +26,7 @@ use std::fmt;
 /// The line where there is no memory to say more.
 const NO_MEMORY: &str = "cite: out of memory\n";
 
-/// Why the program ends with status 1.
+/// Why the program ends with status 1 before it calls `cite`.
 #[derive(Debug, Drop)]
 enum RunFault<'w> {
     Usage,
@@ -33,9 +34,6 @@ enum RunFault<'w> {
     Format(&'w str),
     Path(&'w str),
     Memory,
-    Write,
-    Fields(Vec<FieldFault>),
-    Refused(CiteError),
 }
 
 impl From<AllocError> for RunFault<'_> {
@@ -46,7 +44,7 @@ impl From<AllocError> for RunFault<'_> {
     }
 }
 
-/// What the program's line says.
+/// The message for the fault.
 impl fmt::Display for RunFault<'_> {
     ghost output = { λ f. Some (fault_text f) };
 
@@ -57,9 +55,6 @@ impl fmt::Display for RunFault<'_> {
             RunFault::Format(format) => write!(f, "unknown format {format}"),
             RunFault::Path(path) => write!(f, "cannot read {path}"),
             RunFault::Memory => f.write_str("out of memory"),
-            RunFault::Write => f.write_str("write failed"),
-            RunFault::Fields(_) => f.write_str("fields that cannot be read"),
-            RunFault::Refused(error) => write!(f, "{error}"),
         }
     }
 }
@@ -102,33 +97,36 @@ pub fn run<O: Sink, E: Sink>(
     ensures silent { result ≡ 0 → err.new ≡ err.old }
 {
     match serve(alloc, words, files, out) {
-        Ok(()) => 0,
+        Ok(Ok(())) => 0,
+        Ok(Err(error)) => {
+            say(error_lines(alloc, &error), err);
+            1
+        }
         Err(fault) => {
-            say(alloc, &fault, err);
+            say(fault_line(alloc, &fault), err);
             1
         }
     }
 }
 
-/// Writes the lines that say why not. A fault of `err` is passed over.
-fn say<E: Sink>(alloc: Global, fault: &RunFault<'_>, err: &mut E)
-    ensures { Says
-        (λ message. (message ≡ message_of fault.now) ⊎ (message ≡ no_memory (codes "cite")))
+/// Writes the lines that report the fault, or that there was no memory for them. A fault of `err` is ignored.
+fn say<E: Sink>(lines: Result<String, AllocError>, err: &mut E)
+    ensures { Says (λ message. message ≡ said lines)
         (E.contents err.old) (E.contents err.new) (E.failures err.old) (E.failures err.new) }
 {
-    match lines_of(alloc, fault) {
+    match lines {
         Ok(text) => sinks::say(text.as_bytes(), err),
         Err(_) => sinks::say(NO_MEMORY.as_bytes(), err),
     }
 }
 
-/// The lines that say why not: one for each field that cannot be read, of other faults one.
-fn lines_of(alloc: Global, fault: &RunFault<'_>) -> Result<String, AllocError>
-    ensures { IfOk result (λ s. string_bytes s ≡ message_of fault.now) }
+/// The lines that report the error of `cite`: one for each field that cannot be read, of other errors one.
+fn error_lines(alloc: Global, error: &CiteError) -> Result<String, AllocError>
+    ensures { IfOk result (λ s. string_bytes s ≡ error_message error.now) }
 {
-    match fault {
-        RunFault::Fields(found) => field_lines(alloc, found),
-        _ => line_of(alloc, fault),
+    match error {
+        CiteError::Fields(found) => field_lines(alloc, found),
+        _ => error_line(alloc, error),
     }
 }
 
@@ -164,9 +162,17 @@ fn push_message(written: &mut String, found: &FieldFault) -> Result<(), AllocErr
     written.push_str(found.field.name())
 }
 
-/// The line that says why not.
-fn line_of(alloc: Global, fault: &RunFault<'_>) -> Result<String, AllocError>
-    ensures { IfOk result (λ s. string_bytes s ≡ line (fault_text fault.now)) }
+/// The line that reports the error of `cite`.
+fn error_line(alloc: Global, error: &CiteError) -> Result<String, AllocError>
+    ensures { IfOk result (λ s. string_bytes s ≡ line (error_text error.now)) }
+{
+    let text = error.to_string(alloc)?;
+    sinks::line_of(alloc, "cite", text.as_str(), "")
+}
+
+/// The line that reports why `cite` was not called.
+fn fault_line(alloc: Global, fault: &RunFault<'_>) -> Result<String, AllocError>
+    ensures { IfOk result (λ s. string_bytes s ≡ message_of fault.now) }
 {
     let text = fault.to_string(alloc)?;
     sinks::line_of(alloc, "cite", text.as_str(), "")
@@ -204,47 +210,56 @@ fn read_words<'w, 's>(alloc: Global, words: &'s [&'w str]) -> Result<Job<'w, 's>
     })
 }
 
-/// Writes the output, or says why not.
+/// What `cite` returns for the words, or why it is not called.
 fn serve<'w, O: Sink>(
     alloc: Global,
     words: &[&'w str],
     files: &[FileRead<'_>],
     out: &mut O,
-) -> Result<(), RunFault<'w>>
-    ensures served { OnOk result (Serves (read_at files.now) words.now (λ output.
-        Appends (O.contents out.old) (O.contents out.new) output)) }
-    ensures untouched { OnErr result
+) -> Result<Result<(), CiteError>, RunFault<'w>>
+    ensures served { IfOk result (λ cited.
+        OnOk cited (Serves (read_at files.now) words.now (λ output.
+        Appends (O.contents out.old) (O.contents out.new) output))) }
+    ensures untouched { IfOk result (λ cited. OnErr cited
         (IsUntouched (Serves (read_at files.now) words.now) out.old out.new
-        (O.contents out.old) (O.contents out.new) (O.failures out.old) (O.failures out.new)) }
-    ensures fault { IfErr result (λ f.
+        (O.contents out.old) (O.contents out.new) (O.failures out.old) (O.failures out.new))) }
+    ensures refused { IfOk result (λ cited. IfErr cited (λ e.
         IsReason (IsFault (read_at files.now) words.now) (Serves (read_at files.now) words.now)
-        (O.failures out.old) (O.failures out.new) (message_of f)) }
+        (O.failures out.old) (O.failures out.new) (error_message e))) }
+    ensures unused { OnErr result (out.new ≡ out.old) }
+    ensures fault { IfErr result (λ f. IsFault (read_at files.now) words.now (message_of f)
+        ⊎ (message_of f ≡ no_memory (codes "cite"))) }
 {
     let job = read_words(alloc, words)?;
     cite_files(alloc, &job, files, out)
 }
 
-/// Writes the output of the files of a job.
+/// What `cite` returns for the files of a job, or why it is not called.
 fn cite_files<'w, O: Sink>(
     alloc: Global,
     job: &Job<'w, '_>,
     files: &[FileRead<'_>],
     out: &mut O,
-) -> Result<(), RunFault<'w>>
-    ensures served { OnOk result (ServesJob (read_at files.now) (Ok (job_view job.now)) (λ output.
-        Appends (O.contents out.old) (O.contents out.new) output)) }
-    ensures untouched { OnErr result
+) -> Result<Result<(), CiteError>, RunFault<'w>>
+    ensures served { IfOk result (λ cited. OnOk cited
+        (ServesJob (read_at files.now) (Ok (job_view job.now)) (λ output.
+        Appends (O.contents out.old) (O.contents out.new) output))) }
+    ensures untouched { IfOk result (λ cited. OnErr cited
         (IsUntouched (ServesJob (read_at files.now) (Ok (job_view job.now))) out.old out.new
-        (O.contents out.old) (O.contents out.new) (O.failures out.old) (O.failures out.new)) }
-    ensures fault { IfErr result (λ f.
+        (O.contents out.old) (O.contents out.new) (O.failures out.old) (O.failures out.new))) }
+    ensures refused { IfOk result (λ cited. IfErr cited (λ e.
         IsReason (IsJobFault (read_at files.now) (Ok (job_view job.now)))
         (ServesJob (read_at files.now) (Ok (job_view job.now)))
-        (O.failures out.old) (O.failures out.new) (message_of f)) }
+        (O.failures out.old) (O.failures out.new) (error_message e))) }
+    ensures unused { OnErr result (out.new ≡ out.old) }
+    ensures fault { IfErr result (λ f.
+        IsJobFault (read_at files.now) (Ok (job_view job.now)) (message_of f)
+        ⊎ (message_of f ≡ no_memory (codes "cite"))) }
 {
     let bib = read(files, job.bib)?;
     let document = read(files, job.document)?;
     let locale = english(alloc)?;
-    match cite(
+    Ok(cite(
         alloc,
         bib,
         document,
@@ -253,32 +268,15 @@ fn cite_files<'w, O: Sink>(
         job.sections,
         job.format,
         out,
-    ) {
-        Ok(()) => Ok(()),
-        Err(error) => Err(fault_of(error)),
-    }
+    ))
 }
 
-/// Why the program ends where `cite` refuses.
-fn fault_of<'w>(error: CiteError) -> RunFault<'w>
-    ensures { result ≡ fault_of error }
-{
-    match error {
-        CiteError::Memory => RunFault::Memory,
-        CiteError::Write(_) => RunFault::Write,
-        CiteError::Fields(found) => RunFault::Fields(found),
-        other => RunFault::Refused(other),
-    }
-}
-
-/// Whether a style has that name.
 fn is_style(name: &str) -> bool
     ensures { result ≡ is_some (style_named name.now) }
 {
     matches!(name, "numeric" | "author-date" | "note")
 }
 
-/// The style of that name.
 fn style_named(alloc: Global, name: &str) -> Result<Option<Style>, AllocError>
     ensures { IfOk result (λ s. option_map style_view s ≡ style_named name.now) }
 {
@@ -290,7 +288,6 @@ fn style_named(alloc: Global, name: &str) -> Result<Option<Style>, AllocError>
     }
 }
 
-/// The format of that name.
 fn format_named(name: &str) -> Option<BufWriteFormat>
     ensures { result ≡ format_named name.now }
 {

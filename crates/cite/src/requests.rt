@@ -3,7 +3,7 @@
 ghost use Rattle.std.specs.Prelude.{◌≡◌, map, IfOk, MatchOption, None, Some};
 ghost use Rattle.std.specs.Str.{chars};
 ghost use Rattle.laws.specs.Text.{text as text_of};
-ghost use Rattle.literature_entries.specs.Wholes.{entry_view};
+ghost use Rattle.literature_entries.specs.EntriesData.{entry_view};
 ghost use Rattle.cite.specs.Works.{meaning};
 ghost use Rattle.rendering_locale.specs.Views.{locale_view};
 ghost use Rattle.rendering_style.specs.StyleViews.{style_view};
@@ -103,7 +103,6 @@ fn request<'a>(
     ))
 }
 
-/// The language of a locale.
 pub(crate) fn language(locale: &Locale) -> Result<Option<LocaleCode>, AllocError>
     ensures { IfOk result (λ code. option_map code_view code ≡ (locale_view locale.now).lang) }
 {

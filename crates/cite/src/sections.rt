@@ -3,10 +3,10 @@
 ghost use Rattle.std.specs.Prelude.{◌≡◌, ◌++◌, filter, map, IfOk, OnOk};
 ghost use Rattle.std.specs.Str.{chars};
 ghost use Rattle.laws.specs.Text.{spelled};
-ghost use Rattle.literature_entries.specs.Wholes.{entry_view};
+ghost use Rattle.literature_entries.specs.EntriesData.{entry_view};
 ghost use Rattle.literature.specs.Entries.{entries};
-ghost use Rattle.literature_selectors.specs.Holding.{holds_at};
-ghost use Rattle.literature_selectors.specs.Views.{selector_view};
+ghost use Rattle.literature.specs.Holding.{holds_at};
+ghost use Rattle.literature.specs.Views.{selector_view};
 ghost use Rattle.interop.specs.Views.{library_view};
 ghost use Rattle.cite.specs.Answers.{Gives};
 ghost use Rattle.cite.specs.Sections.{chosen, selector_in};
@@ -14,9 +14,8 @@ ghost use Rattle.cite.specs.Stages.{refused_as, section_refused, section_stage};
 ghost use Rattle.cite.specs.Views.{lent_works_view};
 
 use crate::error::CiteError;
-use literature::Library;
+use literature::{Library, Selector, SelectorError};
 use literature_entries::Entry;
-use literature_selectors::{Selector, SelectorError};
 use std::alloc::{AllocError, Global};
 
 /// The selectors of sections, or the first section that is none.
@@ -31,7 +30,6 @@ pub(crate) fn selectors(alloc: Global, sections: &[&str]) -> Result<Vec<Selector
     Ok(selectors)
 }
 
-/// The selector of the section at an index.
 fn selector(alloc: Global, index: usize, section: &str) -> Result<Selector, CiteError>
     ensures { Gives selector_view result
         (refused_as section_refused (selector_in (index, chars section.now))) }

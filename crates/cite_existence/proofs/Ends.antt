@@ -2,7 +2,7 @@
 use Rattle.std.proofs.Common.{◌≡◌, ℕ, true≢false, List, is_ok, Result, Ok, Err, refl, sym, ap, ◌∙◌}
 use Rattle.sinks.specs.Files.{Outcome}
 use Rattle.sinks.specs.declared.files.ReadFault.TheVariants.{Memory, Unreadable}
-use Rattle.cite.specs.Program.{Reads, Job, job_of, line, told, path_text, task_in, ServesBytes, IsBytesFault, ServesJob, IsJobFault}
+use Rattle.cite.specs.Program.{Reads, Job, job_of, line, refusal_message, path_text, task_in, ServesBytes, IsBytesFault, ServesJob, IsJobFault}
 use Rattle.cite.specs.Stages.{Refusal}
 use Rattle.cite.specs.Verdict.{IsVerdict}
 use Rattle.cite_existence.specs.Ends.{End, output, message, IsEndOf, HasMemory, HasOneEnd, EachRunHasOneEnd}
@@ -44,13 +44,13 @@ of_bytes job b d = let one = one_verdict_there b (task_in job d) in by one.answe
     only_output o is (output bytes) (served, too, same) = ap output (sym same ∙ same_value served o (one_verdict b (task_in job d) (Ok served) (Ok o) too is))
     only_output o is (message bytes) (refusal, too, same) = apart o refusal (message bytes ≡ output o) (one_verdict b (task_in job d) (Ok o) (Err refusal) is too)
 
-    only_message : (r : Refusal) → IsVerdict b (task_in job d) (Err r) → (other : End) → IsBytesEnd job (Ok b) (Ok d) other → other ≡ message (told r)
-    only_message r is (output bytes) (served, too, same) = apart served r (output bytes ≡ message (told r)) (one_verdict b (task_in job d) (Ok served) (Err r) too is)
-    only_message r is (message bytes) (refusal, too, same) = ap message (same ∙ ap told (same_fault refusal r (one_verdict b (task_in job d) (Err refusal) (Err r) too is)))
+    only_message : (r : Refusal) → IsVerdict b (task_in job d) (Err r) → (other : End) → IsBytesEnd job (Ok b) (Ok d) other → other ≡ message (refusal_message r)
+    only_message r is (output bytes) (served, too, same) = apart served r (output bytes ≡ message (refusal_message r)) (one_verdict b (task_in job d) (Ok served) (Err r) too is)
+    only_message r is (message bytes) (refusal, too, same) = ap message (same ∙ ap refusal_message (same_fault refusal r (one_verdict b (task_in job d) (Err refusal) (Err r) too is)))
 
     by : (answer : Result (List ℕ) Refusal) → IsVerdict b (task_in job d) answer → HasOneBytesEnd job (Ok b) (Ok d)
     by (Ok o) is = record { end = output o; is = (o, is, refl); only = only_output o is }
-    by (Err r) is = record { end = message (told r); is = (r, is, refl); only = only_message r is }
+    by (Err r) is = record { end = message (refusal_message r); is = (r, is, refl); only = only_message r is }
 
 of_outcomes : (job : Job) (b d : Outcome) → (b ≡ Err Memory → ⊥) → (d ≡ Err Memory → ⊥) → HasOneBytesEnd job b d
 of_outcomes job (Err Memory) d b_memory d_memory = absurd (b_memory refl)

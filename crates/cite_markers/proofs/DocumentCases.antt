@@ -1,5 +1,5 @@
 -- Cases of documents, computed.
-use Rattle.std.proofs.Common.{◌≡◌, ℕ, Bool, true, false, List, [], ◌∷◌, ◌++◌, codes, map, refl, Some, None, Result, Ok, Err}
+use Rattle.std.proofs.Common.{◌≡◌, ℕ, Bool, true, false, List, [], ◌∷◌, codes, map, refl, Some, None, Result, Ok, Err}
 use Rattle.std.specs.Str.{chars, trim_start, trim_end}
 use Rattle.laws.specs.Steps.{each_below, each}
 use Rattle.rendering_taxonomy.specs.declared.cite.CitePurpose.{CitePurpose}
@@ -86,23 +86,23 @@ unfolding document_of piece_at is_opening opening_at marker_at cites_at next_cit
 cites_with_locators = refl
 
 -- a backslash before an opening
-an_escape : document_of (92 ∷ codes "[@a]") ≡ read (Text (codes "[@a]") ∷ [])
+an_escape : document_of (codes "\\[@a]") ≡ read (Text (codes "[@a]") ∷ [])
 unfolding document_of piece_at is_opening opening_at marker_at cites_at next_cite_at further_cite_at cite_at locator_at beginning_at purpose_at word_at purpose_of label_of passes each each_below lib.Utf8.encode
 an_escape = refl
 
-a_backslash_before_an_escape : document_of (92 ∷ 92 ∷ codes "[@a]") ≡ read (Text (92 ∷ []) ∷ Text (codes "[@a]") ∷ [])
+a_backslash_before_an_escape : document_of (codes "\\\\[@a]") ≡ read (Text (codes "\\") ∷ Text (codes "[@a]") ∷ [])
 unfolding document_of piece_at is_opening opening_at marker_at cites_at next_cite_at further_cite_at cite_at locator_at beginning_at purpose_at word_at purpose_of label_of passes each each_below lib.Utf8.encode
 a_backslash_before_an_escape = refl
 
-two_backslashes_before_an_escape : document_of (92 ∷ 92 ∷ 92 ∷ codes "[@a]") ≡ read (Text (92 ∷ 92 ∷ []) ∷ Text (codes "[@a]") ∷ [])
+two_backslashes_before_an_escape : document_of (codes "\\\\\\[@a]") ≡ read (Text (codes "\\\\") ∷ Text (codes "[@a]") ∷ [])
 unfolding document_of piece_at is_opening opening_at marker_at cites_at next_cite_at further_cite_at cite_at locator_at beginning_at purpose_at word_at purpose_of label_of passes each each_below lib.Utf8.encode
 two_backslashes_before_an_escape = refl
 
-a_marker_in_an_escape : document_of (92 ∷ codes "[@[@a]") ≡ read (Text (codes "[@") ∷ one (codes "a") ∷ [])
+a_marker_in_an_escape : document_of (codes "\\[@[@a]") ≡ read (Text (codes "[@") ∷ one (codes "a") ∷ [])
 unfolding document_of piece_at is_opening opening_at marker_at cites_at next_cite_at further_cite_at cite_at locator_at beginning_at purpose_at word_at purpose_of label_of passes each each_below lib.Utf8.encode
 a_marker_in_an_escape = refl
 
-other_backslashes : document_of (92 ∷ codes "[a]") ≡ read (Text (92 ∷ codes "[a]") ∷ [])
+other_backslashes : document_of (codes "\\[a]") ≡ read (Text (codes "\\[a]") ∷ [])
 unfolding document_of piece_at is_opening opening_at marker_at cites_at next_cite_at further_cite_at cite_at locator_at beginning_at purpose_at word_at purpose_of label_of passes each each_below lib.Utf8.encode
 other_backslashes = refl
 
@@ -131,10 +131,10 @@ no_value : document_of (codes "[@a page]") ≡ refused 0
 unfolding document_of piece_at is_opening opening_at marker_at cites_at next_cite_at further_cite_at cite_at locator_at beginning_at purpose_at word_at purpose_of label_of passes each each_below lib.Utf8.encode
 no_value = refl
 
-a_value_over_two_lines : document_of (codes "[@a page 3" ++ 10 ∷ codes "4]") ≡ refused 0
+a_value_over_two_lines : document_of (codes "[@a page 3\n4]") ≡ refused 0
 unfolding document_of piece_at is_opening opening_at marker_at cites_at next_cite_at further_cite_at cite_at locator_at beginning_at purpose_at word_at purpose_of label_of passes each each_below chars trim_start trim_end lib.Utf8.encode
 a_value_over_two_lines = refl
 
-offsets_are_bytes : document_of (233 ∷ codes " [@b] [@") ≡ refused 8
+offsets_are_bytes : document_of (codes "é [@b] [@") ≡ refused 8
 unfolding document_of piece_at is_opening opening_at marker_at cites_at next_cite_at further_cite_at cite_at locator_at beginning_at purpose_at word_at purpose_of label_of passes each each_below lib.Utf8.encode
 offsets_are_bytes = refl

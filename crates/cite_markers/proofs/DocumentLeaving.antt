@@ -1,11 +1,12 @@
 -- What a piece of a document leaves.
 use Rattle.std.proofs.Common.{◌≡◌, ℕ, Bool, true, false, cond, List, [], ◌∷◌, Option, Some, None, Result, Ok, Err, refl, arith}
 use Rattle.std.specs.Prelude.{IfOk, ◌==◌, ◌&&◌}
+use Rattle.laws.specs.Characters.{backslash}
 use Rattle.laws.specs.Steps.{Shortens}
 use Rattle.laws.proofs.Results.{if_ok_at}
 use Rattle.texts.specs.declared.reader.Unreadable.{Unreadable}
 use Rattle.cite_markers.specs.Marker.{Cite, marker_at, opening_at}
-use Rattle.cite_markers.specs.Document.{Piece, is_opening, escaped, is_mark, from_mark, Step, text_at, marker_or_fault, piece_if_escaped, piece_at}
+use Rattle.cite_markers.specs.Document.{Piece, is_opening, escaped, is_opening_or_escape, from_opening_or_escape, Step, text_at, marker_or_fault, piece_if_escaped, piece_at}
 use Rattle.cite_markers.proofs.Leaving.{Leaves, LeavesRest, leaves_all, leaves_more, leaves_past, end_length}
 use Rattle.cite_markers.proofs.MarkerLeaving.{marker_leaves}
 
@@ -15,22 +16,22 @@ TakesOne cs (None, rest) = Unit {0}
 TakesOne [] (Some p, rest) = ⊥
 TakesOne (c ∷ cs) (Some p, rest) = Leaves cs rest
 
-from_mark_leaves : (cs : List ℕ) → Leaves cs (from_mark cs)
-from_mark_leaves [] = leaves_all []
-from_mark_leaves (c ∷ cs) = by_test (from_mark_leaves cs) (is_mark (c ∷ cs))
+from_opening_or_escape_leaves : (cs : List ℕ) → Leaves cs (from_opening_or_escape cs)
+from_opening_or_escape_leaves [] = leaves_all []
+from_opening_or_escape_leaves (c ∷ cs) = by_test (from_opening_or_escape_leaves cs) (is_opening_or_escape (c ∷ cs))
   where
-    by_test : Leaves cs (from_mark cs) → (b : Bool) → Leaves (c ∷ cs) (cond b (c ∷ cs) (from_mark cs))
+    by_test : Leaves cs (from_opening_or_escape cs) → (b : Bool) → Leaves (c ∷ cs) (cond b (c ∷ cs) (from_opening_or_escape cs))
     by_test more true = leaves_all (c ∷ cs)
-    by_test more false = leaves_more (c ∷ cs) cs (from_mark cs) (leaves_past (c ∷ cs) c cs (leaves_all (c ∷ cs))) more
+    by_test more false = leaves_more (c ∷ cs) cs (from_opening_or_escape cs) (leaves_past (c ∷ cs) c cs (leaves_all (c ∷ cs))) more
 
 text_takes : (cs : List ℕ) → IfOk (text_at cs) (TakesOne cs)
 text_takes [] = tt
-text_takes (c ∷ cs) = from_mark_leaves cs
+text_takes (c ∷ cs) = from_opening_or_escape_leaves cs
 
 -- a text after a backslash
 text_takes_after : (c : ℕ) (cs : List ℕ) → IfOk (text_at cs) (TakesOne (c ∷ cs))
 text_takes_after c [] = tt
-text_takes_after c (d ∷ cs) = leaves_more (d ∷ cs) cs (from_mark cs) (leaves_past (d ∷ cs) d cs (leaves_all (d ∷ cs))) (from_mark_leaves cs)
+text_takes_after c (d ∷ cs) = leaves_more (d ∷ cs) cs (from_opening_or_escape cs) (leaves_past (d ∷ cs) d cs (leaves_all (d ∷ cs))) (from_opening_or_escape_leaves cs)
 
 marker_takes : (c : ℕ) (cs : List ℕ) (r : Result (List Cite × List ℕ) Unreadable) → IfOk r (LeavesRest cs) → IfOk (marker_or_fault (c ∷ cs) r) (TakesOne (c ∷ cs))
 marker_takes c cs (Ok p) a = a
@@ -44,7 +45,7 @@ none_at_end = tt
 pub piece_takes : (cs : List ℕ) → IfOk (piece_at cs) (TakesOne cs)
 unfolding piece_at
 piece_takes [] = none_at_end
-piece_takes (c ∷ cs) = by_escape (c == 92 && is_opening cs)
+piece_takes (c ∷ cs) = by_escape (c == backslash && is_opening cs)
   where
     by_opening : (b : Bool) → IfOk (cond b (marker_or_fault (c ∷ cs) (marker_at (c ∷ cs))) (text_at (c ∷ cs))) (TakesOne (c ∷ cs))
     by_opening true = marker_takes c cs (marker_at (c ∷ cs)) (marker_leaves c cs)

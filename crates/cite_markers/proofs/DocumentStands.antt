@@ -2,6 +2,7 @@
 use Rattle.std.proofs.Common.{◌≡◌, inl, inr, ℕ, zero, suc, ◌-◌, ◌<◌, Bool, true, false, cond, List, [], ◌∷◌, ◌++◌, length, Some, None, Result, Ok, Err, eqb, refl, sym, ap, subst, arith}
 use Rattle.std.specs.Prelude.{◌==◌, ◌&&◌}
 use Rattle.std.proofs.lemmas.Bool.{eqb-true, and_parts}
+use Rattle.laws.specs.Characters.{backslash}
 use Rattle.laws.specs.Results.{◌>>=◌}
 use Rattle.laws.specs.Steps.{go_on, each_below, each}
 use Rattle.laws.specs.Text.{text}
@@ -9,7 +10,7 @@ use Rattle.laws.proofs.Results.{ok_is}
 use Rattle.texts.specs.declared.reader.Unreadable.{Unreadable}
 use Rattle.texts.specs.declared.reader.Unreadable.TheVariants.{NotThere}
 use Rattle.cite_markers.specs.Marker.{Cite, marker_at, opening_at}
-use Rattle.cite_markers.specs.Document.{Piece, is_opening, is_mark, plain, from_mark, Step, text_at, marker_or_fault, piece_if_escaped, piece_at, or_offset, document_of, Stands, FollowInOrder, LacksMarker}
+use Rattle.cite_markers.specs.Document.{Piece, is_opening, is_opening_or_escape, plain, from_opening_or_escape, Step, text_at, marker_or_fault, piece_if_escaped, piece_at, or_offset, document_of, Stands, FollowInOrder, LacksMarker}
 use Rattle.cite_markers.proofs.DocumentLeaving.{pieces_shorten}
 
 -- what a step gives stands in the text; it gives nothing at the end alone, and refuses where no marker follows an opening
@@ -18,11 +19,11 @@ StepStands cs (Ok (None, rest)) = (cs ≡ []) × (rest ≡ [])
 StepStands cs (Ok (Some p, rest)) = Stands cs p rest
 StepStands cs (Err fault) = (cs ≡ fault) × LacksMarker cs
 
-plain_and_rest : (cs : List ℕ) → cs ≡ plain cs ++ from_mark cs
+plain_and_rest : (cs : List ℕ) → cs ≡ plain cs ++ from_opening_or_escape cs
 plain_and_rest [] = refl
-plain_and_rest (c ∷ cs) = by_test (plain_and_rest cs) (is_mark (c ∷ cs))
+plain_and_rest (c ∷ cs) = by_test (plain_and_rest cs) (is_opening_or_escape (c ∷ cs))
   where
-    by_test : cs ≡ plain cs ++ from_mark cs → (b : Bool) → c ∷ cs ≡ cond b [] (c ∷ plain cs) ++ cond b (c ∷ cs) (from_mark cs)
+    by_test : cs ≡ plain cs ++ from_opening_or_escape cs → (b : Bool) → c ∷ cs ≡ cond b [] (c ∷ plain cs) ++ cond b (c ∷ cs) (from_opening_or_escape cs)
     by_test more true = refl
     by_test more false = ap (λ (x : List ℕ). c ∷ x) more
 
@@ -37,10 +38,10 @@ no_opening_at_end e = absurd cc
 text_stands : (c : ℕ) (cs : List ℕ) → StepStands (c ∷ cs) (text_at (c ∷ cs))
 text_stands c cs = inl (ap (λ (x : List ℕ). c ∷ x) (plain_and_rest cs))
 
-escaped_stands : (c : ℕ) (cs : List ℕ) → c ≡ 92 → is_opening cs ≡ true → StepStands (c ∷ cs) (text_at cs)
+escaped_stands : (c : ℕ) (cs : List ℕ) → c ≡ backslash → is_opening cs ≡ true → StepStands (c ∷ cs) (text_at cs)
 escaped_stands c [] is opens = absurd (no_opening_at_end opens)
 escaped_stands c (d ∷ cs) is opens =
-    let whole : d ∷ cs ≡ (d ∷ plain cs) ++ from_mark cs = ap (λ (x : List ℕ). d ∷ x) (plain_and_rest cs) in
+    let whole : d ∷ cs ≡ (d ∷ plain cs) ++ from_opening_or_escape cs = ap (λ (x : List ℕ). d ∷ x) (plain_and_rest cs) in
     inr ((λ i. is i ∷ whole i), subst (λ (x : List ℕ). is_opening x ≡ true) whole opens)
 
 marker_stands : (cs : List ℕ) → is_opening cs ≡ true → (r : Result (List Cite × List ℕ) Unreadable) → marker_at cs ≡ r → StepStands cs (marker_or_fault cs r)
@@ -50,16 +51,16 @@ marker_stands cs opens (Err NotThere) is = (refl, (opens, is))
 piece_stands : (cs : List ℕ) → StepStands cs (piece_at cs)
 unfolding piece_at
 piece_stands [] = none_at_end
-piece_stands (c ∷ cs) = by_escape (c == 92 && is_opening cs) refl
+piece_stands (c ∷ cs) = by_escape (c == backslash && is_opening cs) refl
   where
     by_opening : (b : Bool) → is_opening (c ∷ cs) ≡ b → StepStands (c ∷ cs) (cond b (marker_or_fault (c ∷ cs) (marker_at (c ∷ cs))) (text_at (c ∷ cs)))
     by_opening true e = marker_stands (c ∷ cs) e (marker_at (c ∷ cs)) refl
     by_opening false e = text_stands c cs
 
-    by_escape : (b : Bool) → (c == 92 && is_opening cs) ≡ b → StepStands (c ∷ cs) (piece_if_escaped (c ∷ cs) (cond b (Some cs) None))
+    by_escape : (b : Bool) → (c == backslash && is_opening cs) ≡ b → StepStands (c ∷ cs) (piece_if_escaped (c ∷ cs) (cond b (Some cs) None))
     by_escape true e =
-        let both = and_parts (eqb c 92) (is_opening cs) e in
-        escaped_stands c cs (eqb-true c 92 both.0) both.1
+        let both = and_parts (eqb c backslash) (is_opening cs) e in
+        escaped_stands c cs (eqb-true c backslash both.0) both.1
     by_escape false e = by_opening (is_opening (c ∷ cs)) refl
 
 -- the same of all steps

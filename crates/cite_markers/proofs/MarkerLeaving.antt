@@ -2,6 +2,7 @@
 use Rattle.std.proofs.Common.{◌≡◌, ℕ, ◌<◌, Bool, true, false, cond, eqb, List, [], ◌∷◌, length, Option, Some, None, Result, Ok, Err, ap, arith}
 use Rattle.std.specs.Prelude.{IfOk}
 use Rattle.std.specs.Option.{ok_or}
+use Rattle.laws.specs.Characters.{space, hyphen, semicolon, at_sign, open_bracket, close_bracket}
 use Rattle.laws.specs.Results.{◌>>=◌}
 use Rattle.laws.specs.Runs.{prefix_of, after}
 use Rattle.laws.specs.Steps.{each, Shortens}
@@ -33,15 +34,15 @@ of_tested false a = tt
 word_leaves : (whole cs : List ℕ) → Leaves whole cs → IfOk (word_at cs) (LeavesRest whole)
 unfolding word_at
 word_leaves whole cs a =
-    bind_if_ok (Leaves whole) (λ (p : List ℕ × List ℕ). LeavesRest whole p) (token_at 32 (after (passes Word) cs)) (λ rest. Ok (text (prefix_of (passes Word) cs), rest))
-    (leaves_token whole 32 (after (passes Word) cs) (leaves_run whole (passes Word) cs a)) (λ rest b. b)
+    bind_if_ok (Leaves whole) (λ (p : List ℕ × List ℕ). LeavesRest whole p) (token_at space (after (passes Word) cs)) (λ rest. Ok (text (prefix_of (passes Word) cs), rest))
+    (leaves_token whole space (after (passes Word) cs) (leaves_run whole (passes Word) cs a)) (λ rest b. b)
 
 purpose_leaves : (whole cs : List ℕ) → Leaves whole cs → IfOk (purpose_at cs) (LeavesRest whole)
 unfolding purpose_at
 purpose_leaves whole cs a =
-    bind_if_ok (λ (w : List ℕ × List ℕ). LeavesRest whole w) (λ (p : Option CitePurpose × List ℕ). LeavesRest whole p) (word_at cs) (λ word. ok_or (purpose_of word.0) NotThere >>= λ purpose. token_at 64 word.1 >>= λ rest. Ok (Some purpose, rest)) (word_leaves whole cs a)
-    (λ word b. bind_if_ok (λ (x : CitePurpose). anything x) (λ (p : Option CitePurpose × List ℕ). LeavesRest whole p) (ok_or (purpose_of word.0) NotThere) (λ purpose. token_at 64 word.1 >>= λ rest. Ok (Some purpose, rest)) (of_looked_up (purpose_of word.0))
-    (λ purpose _. bind_if_ok (Leaves whole) (λ (p : Option CitePurpose × List ℕ). LeavesRest whole p) (token_at 64 word.1) (λ rest. Ok (Some purpose, rest)) (leaves_token whole 64 word.1 b) (λ rest d. d)))
+    bind_if_ok (λ (w : List ℕ × List ℕ). LeavesRest whole w) (λ (p : Option CitePurpose × List ℕ). LeavesRest whole p) (word_at cs) (λ word. ok_or (purpose_of word.0) NotThere >>= λ purpose. token_at at_sign word.1 >>= λ rest. Ok (Some purpose, rest)) (word_leaves whole cs a)
+    (λ word b. bind_if_ok (λ (x : CitePurpose). anything x) (λ (p : Option CitePurpose × List ℕ). LeavesRest whole p) (ok_or (purpose_of word.0) NotThere) (λ purpose. token_at at_sign word.1 >>= λ rest. Ok (Some purpose, rest)) (of_looked_up (purpose_of word.0))
+    (λ purpose _. bind_if_ok (Leaves whole) (λ (p : Option CitePurpose × List ℕ). LeavesRest whole p) (token_at at_sign word.1) (λ rest. Ok (Some purpose, rest)) (leaves_token whole at_sign word.1 b) (λ rest d. d)))
 
 purpose_if_leaves : (whole : List ℕ) (t : Bool × List ℕ) → LeavesRest whole t → IfOk (purpose_if_no_sign t) (LeavesRest whole)
 purpose_if_leaves whole (true, rest) a = a
@@ -50,8 +51,8 @@ purpose_if_leaves whole (false, rest) a = purpose_leaves whole rest a
 pub beginning_leaves : (whole cs : List ℕ) → Leaves whole cs → IfOk (beginning_at cs) (LeavesRest whole)
 unfolding beginning_at
 beginning_leaves whole cs a =
-    bind_if_ok (λ (p : Option CitePurpose × List ℕ). LeavesRest whole p) (λ (b : Beginning × List ℕ). LeavesRest whole b) (purpose_if_no_sign (taken 64 (taken 45 cs).1)) (λ purpose. Ok (record { hidden = (taken 45 cs).0; purpose = purpose.0 }, purpose.1))
-    (purpose_if_leaves whole (taken 64 (taken 45 cs).1) (leaves_taken whole 64 (taken 45 cs).1 (leaves_taken whole 45 cs a))) (λ p b. b)
+    bind_if_ok (λ (p : Option CitePurpose × List ℕ). LeavesRest whole p) (λ (b : Beginning × List ℕ). LeavesRest whole b) (purpose_if_no_sign (taken at_sign (taken hyphen cs).1)) (λ purpose. Ok (record { hidden = (taken hyphen cs).0; purpose = purpose.0 }, purpose.1))
+    (purpose_if_leaves whole (taken at_sign (taken hyphen cs).1) (leaves_taken whole at_sign (taken hyphen cs).1 (leaves_taken whole hyphen cs a))) (λ p b. b)
 
 locator_leaves : (whole cs : List ℕ) → Leaves whole cs → IfOk (locator_at cs) (LeavesRest whole)
 unfolding locator_at
@@ -79,8 +80,8 @@ unfolding cite_at
 cite_leaves whole cs a =
     bind_if_ok (λ (b : Beginning × List ℕ). LeavesRest whole b) Rests (beginning_at cs) (λ b. passing (is_filled (run b)) (run b) >>= located b) (beginning_leaves whole cs a)
     (λ b l. bind_if_ok (λ (x : List ℕ). anything x) Rests (passing (is_filled (run b)) (run b)) (located b) (of_tested (is_filled (run b)) (run b))
-    (λ name _. bind_if_ok (λ (p : Option CiteLocator × List ℕ). LeavesRest whole p) Rests (locator_if_space (taken 32 (after (passes Name) b.1))) (λ locator. Ok (record { name = name; hidden = b.0.hidden; purpose = b.0.purpose; locator = locator.0 }, locator.1))
-    (locator_if_leaves whole (taken 32 (after (passes Name) b.1)) (leaves_taken whole 32 (after (passes Name) b.1) (leaves_run whole (passes Name) b.1 l))) (λ p d. d)))
+    (λ name _. bind_if_ok (λ (p : Option CiteLocator × List ℕ). LeavesRest whole p) Rests (locator_if_space (taken space (after (passes Name) b.1))) (λ locator. Ok (record { name = name; hidden = b.0.hidden; purpose = b.0.purpose; locator = locator.0 }, locator.1))
+    (locator_if_leaves whole (taken space (after (passes Name) b.1)) (leaves_taken whole space (after (passes Name) b.1) (leaves_run whole (passes Name) b.1 l))) (λ p d. d)))
   where
     Rests : Cite × List ℕ → Type 0
     Rests p = LeavesRest whole p
@@ -89,12 +90,12 @@ cite_leaves whole cs a =
     run b = prefix_of (passes Name) b.1
 
     located : Beginning × List ℕ → List ℕ → Result (Cite × List ℕ) Unreadable
-    located b name = locator_if_space (taken 32 (after (passes Name) b.1)) >>= λ locator. Ok (record { name = name; hidden = b.0.hidden; purpose = b.0.purpose; locator = locator.0 }, locator.1)
+    located b name = locator_if_space (taken space (after (passes Name) b.1)) >>= λ locator. Ok (record { name = name; hidden = b.0.hidden; purpose = b.0.purpose; locator = locator.0 }, locator.1)
 
 further_leaves : (whole cs : List ℕ) → Leaves whole cs → IfOk (further_cite_at cs) (LeavesRest whole)
 unfolding further_cite_at
 further_leaves whole cs a =
-    bind_if_ok (Leaves whole) (λ (p : Option Cite × List ℕ). LeavesRest whole p) (token_at 32 cs) (λ rest. cite_at rest >>= λ cite. Ok (Some cite.0, cite.1)) (leaves_token whole 32 cs a)
+    bind_if_ok (Leaves whole) (λ (p : Option Cite × List ℕ). LeavesRest whole p) (token_at space cs) (λ rest. cite_at rest >>= λ cite. Ok (Some cite.0, cite.1)) (leaves_token whole space cs a)
     (λ rest b. bind_if_ok (λ (p : Cite × List ℕ). LeavesRest whole p) (λ (p : Option Cite × List ℕ). LeavesRest whole p) (cite_at rest) (λ cite. Ok (Some cite.0, cite.1)) (cite_leaves whole rest b) (λ p d. d))
 
 cite_if_leaves : (whole : List ℕ) (t : Bool × List ℕ) → LeavesRest whole t → IfOk (cite_if_semicolon t) (LeavesRest whole)
@@ -103,7 +104,7 @@ cite_if_leaves whole (false, rest) a = a
 
 next_leaves : (cs : List ℕ) → IfOk (next_cite_at cs) (LeavesRest cs)
 unfolding next_cite_at
-next_leaves cs = cite_if_leaves cs (taken 59 cs) (leaves_taken cs 59 cs (leaves_all cs))
+next_leaves cs = cite_if_leaves cs (taken semicolon cs) (leaves_taken cs semicolon cs (leaves_all cs))
 
 abbrev nothing : Option Cite
 nothing = None
@@ -120,7 +121,7 @@ nothing_given x a b e =
 pub cites_shorten : Shortens next_cite_at
 unfolding next_cite_at
 cites_shorten [] rest x is = absurd (nothing_given x [] rest is)
-cites_shorten (d ∷ cs) rest x is = by_test (eqb d 59) is
+cites_shorten (d ∷ cs) rest x is = by_test (eqb d semicolon) is
   where
     by_test : (b : Bool) → cite_if_semicolon (cond b (true, cs) (false, d ∷ cs)) ≡ Ok (Some x, rest) → length rest < length (d ∷ cs)
     by_test true e = omega (arith, end_length cs rest (if_ok_at (λ (p : Option Cite × List ℕ). LeavesRest cs p) (further_cite_at cs) (Some x, rest) e (further_leaves cs cs (leaves_all cs))))
@@ -134,16 +135,16 @@ cites_leave whole cs a =
     (leaves_each next_cite_at next_leaves whole first.1 b) (λ p d. d))
 
 -- what follows the bracket of a marker
-after_bracket : (whole cs : List ℕ) → Leaves whole cs → IfOk (cites_at cs >>= λ cites. token_at 93 cites.1 >>= λ rest. Ok (cites.0, rest)) (LeavesRest whole)
+after_bracket : (whole cs : List ℕ) → Leaves whole cs → IfOk (cites_at cs >>= λ cites. token_at close_bracket cites.1 >>= λ rest. Ok (cites.0, rest)) (LeavesRest whole)
 after_bracket whole cs a =
-    bind_if_ok (λ (p : List Cite × List ℕ). LeavesRest whole p) (λ (p : List Cite × List ℕ). LeavesRest whole p) (cites_at cs) (λ cites. token_at 93 cites.1 >>= λ rest. Ok (cites.0, rest)) (cites_leave whole cs a)
-    (λ cites b. bind_if_ok (Leaves whole) (λ (p : List Cite × List ℕ). LeavesRest whole p) (token_at 93 cites.1) (λ rest. Ok (cites.0, rest)) (leaves_token whole 93 cites.1 b) (λ rest d. d))
+    bind_if_ok (λ (p : List Cite × List ℕ). LeavesRest whole p) (λ (p : List Cite × List ℕ). LeavesRest whole p) (cites_at cs) (λ cites. token_at close_bracket cites.1 >>= λ rest. Ok (cites.0, rest)) (cites_leave whole cs a)
+    (λ cites b. bind_if_ok (Leaves whole) (λ (p : List Cite × List ℕ). LeavesRest whole p) (token_at close_bracket cites.1) (λ rest. Ok (cites.0, rest)) (leaves_token whole close_bracket cites.1 b) (λ rest d. d))
 
 -- a marker takes its bracket at least
 pub marker_leaves : (c : ℕ) (cs : List ℕ) → IfOk (marker_at (c ∷ cs)) (LeavesRest cs)
 unfolding marker_at
-marker_leaves c cs = by_test (eqb c 91)
+marker_leaves c cs = by_test (eqb c open_bracket)
   where
-    by_test : (b : Bool) → IfOk (cond b (Ok cs) (Err NotThere) >>= λ opened. cites_at opened >>= λ cites. token_at 93 cites.1 >>= λ rest. Ok (cites.0, rest)) (LeavesRest cs)
+    by_test : (b : Bool) → IfOk (cond b (Ok cs) (Err NotThere) >>= λ opened. cites_at opened >>= λ cites. token_at close_bracket cites.1 >>= λ rest. Ok (cites.0, rest)) (LeavesRest cs)
     by_test true = after_bracket cs cs (leaves_all cs)
     by_test false = tt

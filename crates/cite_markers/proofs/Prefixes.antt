@@ -5,8 +5,9 @@ use Rattle.std.specs.Str.{chars, IsUtf8}
 use Rattle.std.proofs.lemmas.Bool.{lt-ltb, ltb-true, and_parts}
 use Rattle.std.proofs.lemmas.Str.{chars_past_char, chars-append, chars-nil, IsUtf8-past_char, IsUtf8-append, IsUtf8-nil, length-encode, len_utf8_bounds}
 use Rattle.std.proofs.lemmas.List.{length-append, append-nil, nil_from_length, take_at, drop_at}
+use Rattle.laws.specs.Characters.{open_bracket, backslash}
 use Rattle.laws.proofs.Cut.{IsUtf8-first}
-use Rattle.cite_markers.specs.Document.{is_mark, is_opening, may_begin_mark, plain, from_mark, prefix_text, after_text}
+use Rattle.cite_markers.specs.Document.{is_opening_or_escape, is_opening, may_begin_opening_or_escape, plain, from_opening_or_escape, prefix_text, after_text}
 use Rattle.cite_markers.specs.Marker.{opening_at}
 
 -- what a prefix of so many bytes goes on with, and what is left after that: the first character needs no test
@@ -16,7 +17,7 @@ onward (suc n) cs = plain cs
 
 abbrev pub beyond : ℕ → List ℕ → List ℕ
 beyond zero cs = after_text cs
-beyond (suc n) cs = from_mark cs
+beyond (suc n) cs = from_opening_or_escape cs
 
 -- the front that was passed, and the rest of the text
 pub record Prefixes (whole rest : List ℕ) (end : ℕ) : Type 0 where
@@ -32,7 +33,7 @@ onward_on : (n : ℕ) (cs : List ℕ) → 0 < n → onward n cs ≡ plain cs
 onward_on zero cs more = absurd (omega arith)
 onward_on (suc n) cs more = refl
 
-beyond_on : (n : ℕ) (cs : List ℕ) → 0 < n → beyond n cs ≡ from_mark cs
+beyond_on : (n : ℕ) (cs : List ℕ) → 0 < n → beyond n cs ≡ from_opening_or_escape cs
 beyond_on zero cs more = absurd (omega arith)
 beyond_on (suc n) cs more = refl
 
@@ -44,30 +45,30 @@ or_false : (a b : Bool) → a || b ≡ false → (a ≡ false) × (b ≡ false)
 or_false true b h = absurd (true≢false h)
 or_false false b h = (refl, h)
 
-unmarked : (n : ℕ) (cs : List ℕ) → ltb 0 (suc n) && is_mark cs ≡ false → is_mark cs ≡ false
+unmarked : (n : ℕ) (cs : List ℕ) → ltb 0 (suc n) && is_opening_or_escape cs ≡ false → is_opening_or_escape cs ≡ false
 unmarked n cs h =
     let t : ltb 0 (suc n) ≡ true = lt-ltb 0 (suc n) (omega arith) in
     rw t at h
 
-onward_more : (end n c : ℕ) (cs : List ℕ) → 0 < n → ltb 0 end && is_mark (c ∷ cs) ≡ false → onward end (c ∷ cs) ≡ c ∷ onward (end + n) cs
+onward_more : (end n c : ℕ) (cs : List ℕ) → 0 < n → ltb 0 end && is_opening_or_escape (c ∷ cs) ≡ false → onward end (c ∷ cs) ≡ c ∷ onward (end + n) cs
 onward_more zero n c cs more h = ap (λ x. c ∷ x) (sym (onward_on (0 + n) cs (omega arith)))
 onward_more (suc end) n c cs more h =
     let f = unmarked end (c ∷ cs) h in
     let here : plain (c ∷ cs) ≡ c ∷ plain cs = rw f refl in
     here ∙ ap (λ x. c ∷ x) (sym (onward_on (suc end + n) cs (omega arith)))
 
-beyond_more : (end n c : ℕ) (cs : List ℕ) → 0 < n → ltb 0 end && is_mark (c ∷ cs) ≡ false → beyond end (c ∷ cs) ≡ beyond (end + n) cs
+beyond_more : (end n c : ℕ) (cs : List ℕ) → 0 < n → ltb 0 end && is_opening_or_escape (c ∷ cs) ≡ false → beyond end (c ∷ cs) ≡ beyond (end + n) cs
 beyond_more zero n c cs more h = sym (beyond_on (0 + n) cs (omega arith))
 beyond_more (suc end) n c cs more h =
     let f = unmarked end (c ∷ cs) h in
-    let here : from_mark (c ∷ cs) ≡ from_mark cs = rw f refl in
+    let here : from_opening_or_escape (c ∷ cs) ≡ from_opening_or_escape cs = rw f refl in
     here ∙ sym (beyond_on (suc end + n) cs (omega arith))
 
 pub prefixes_none : (whole : List ℕ) → IsUtf8 whole → Prefixes whole whole 0
 prefixes_none whole u = record { passed = []; parts = refl; long = refl; rest_utf8 = u; passed_utf8 = IsUtf8-nil; prefix = rw chars-nil refl; rest_is = refl }
 
 -- one more character is passed
-pub prefixes_more : (whole rest more : List ℕ) (end c : ℕ) → Prefixes whole rest end → rest ≡ encode_utf8 c ++ more → ltb 0 end && is_mark (chars (drop end whole)) ≡ false
+pub prefixes_more : (whole rest more : List ℕ) (end c : ℕ) → Prefixes whole rest end → rest ≡ encode_utf8 c ++ more → ltb 0 end && is_opening_or_escape (chars (drop end whole)) ≡ false
     → Prefixes whole more (end + length (encode_utf8 c))
 prefixes_more whole rest more end c r e h =
     let long = r.long in
@@ -77,7 +78,7 @@ prefixes_more whole rest more end c r e h =
     let longer : chars (r.passed ++ encode_utf8 c) ≡ chars r.passed ++ c ∷ [] = chars-append r.passed (encode_utf8 c) r.passed_utf8 ∙ rw single refl in
     let some : 0 < length (encode_utf8 c) = omega (arith, length-encode c, len_utf8_bounds c) in
     let back : drop end whole ≡ rest = rw r.parts (drop_at r.passed rest end r.long) in
-    let test : ltb 0 end && is_mark (c ∷ chars more) ≡ false = subst (λ x. ltb 0 end && is_mark x ≡ false) (ap chars back ∙ next) h in
+    let test : ltb 0 end && is_opening_or_escape (c ∷ chars more) ≡ false = subst (λ x. ltb 0 end && is_opening_or_escape x ≡ false) (ap chars back ∙ next) h in
     let goes : onward end (chars rest) ≡ c ∷ onward (end + length (encode_utf8 c)) (chars more) = ap (onward end) next ∙ onward_more end (length (encode_utf8 c)) c (chars more) some test in
     let leaves : beyond end (chars rest) ≡ beyond (end + length (encode_utf8 c)) (chars more) = ap (beyond end) next ∙ beyond_more end (length (encode_utf8 c)) c (chars more) some test in
     record {
@@ -91,19 +92,19 @@ prefixes_more whole rest more end c r e h =
     }
 
 -- no mark begins with another character than a bracket or a backslash
-unmarked_by : (c : ℕ) (cs : List ℕ) → may_begin_mark c ≡ false → is_mark (c ∷ cs) ≡ false
+none_begins : (c : ℕ) (cs : List ℕ) → may_begin_opening_or_escape c ≡ false → is_opening_or_escape (c ∷ cs) ≡ false
 unfolding is_opening opening_at
-unmarked_by c cs h =
-    let t = or_false (c == 91) (c == 92) h in
+none_begins c cs h =
+    let t = or_false (c == open_bracket) (c == backslash) h in
     rw t.0 (rw t.1 refl)
 
 -- one more character is passed, with which no mark begins
-pub prefixes_plain : (whole rest more : List ℕ) (end c : ℕ) → Prefixes whole rest end → rest ≡ encode_utf8 c ++ more → may_begin_mark c ≡ false
+pub prefixes_plain : (whole rest more : List ℕ) (end c : ℕ) → Prefixes whole rest end → rest ≡ encode_utf8 c ++ more → may_begin_opening_or_escape c ≡ false
     → Prefixes whole more (end + length (encode_utf8 c))
 prefixes_plain whole rest more end c r e h =
     let back : drop end whole ≡ rest = rw r.parts (drop_at r.passed rest end r.long) in
     let next : chars rest ≡ c ∷ chars more = chars_past_char rest more c r.rest_utf8 e in
-    prefixes_more whole rest more end c r e (and_false (ltb 0 end) (is_mark (chars (drop end whole))) (ap is_mark (ap chars back ∙ next) ∙ unmarked_by c (chars more) h))
+    prefixes_more whole rest more end c r e (and_false (ltb 0 end) (is_opening_or_escape (chars (drop end whole))) (ap is_opening_or_escape (ap chars back ∙ next) ∙ none_begins c (chars more) h))
 
 -- where a text is cut
 pub record CutsPrefix (whole prefix back : List ℕ) : Type 0 where
@@ -119,21 +120,21 @@ cut_at whole rest end r none all =
       back_is = rw back (sym (r.rest_is ∙ all));
     }
 
-marked_plain : (cs : List ℕ) → is_mark cs ≡ true → plain cs ≡ []
+marked_plain : (cs : List ℕ) → is_opening_or_escape cs ≡ true → plain cs ≡ []
 marked_plain [] h = refl
 marked_plain (c ∷ cs) h = rw h refl
 
-marked_from : (cs : List ℕ) → is_mark cs ≡ true → from_mark cs ≡ cs
+marked_from : (cs : List ℕ) → is_opening_or_escape cs ≡ true → from_opening_or_escape cs ≡ cs
 marked_from [] h = refl
 marked_from (c ∷ cs) h = rw h refl
 
 -- a mark stands there
-pub stops_before : (whole rest : List ℕ) (end : ℕ) → Prefixes whole rest end → ltb 0 end && is_mark (chars (drop end whole)) ≡ true → CutsPrefix whole (take end whole) (drop end whole)
+pub stops_before : (whole rest : List ℕ) (end : ℕ) → Prefixes whole rest end → ltb 0 end && is_opening_or_escape (chars (drop end whole)) ≡ true → CutsPrefix whole (take end whole) (drop end whole)
 stops_before whole rest end r h =
-    let t = and_parts (ltb 0 end) (is_mark (chars (drop end whole))) h in
+    let t = and_parts (ltb 0 end) (is_opening_or_escape (chars (drop end whole))) h in
     let some : 0 < end = ltb-true 0 end t.0 in
     let back : drop end whole ≡ rest = rw r.parts (drop_at r.passed rest end r.long) in
-    let mark : is_mark (chars rest) ≡ true = subst (λ x. is_mark (chars x) ≡ true) back t.1 in
+    let mark : is_opening_or_escape (chars rest) ≡ true = subst (λ x. is_opening_or_escape (chars x) ≡ true) back t.1 in
     cut_at whole rest end r (onward_on end (chars rest) some ∙ marked_plain (chars rest) mark) (beyond_on end (chars rest) some ∙ marked_from (chars rest) mark)
 
 nothing_onward : (end : ℕ) → onward end [] ≡ []

@@ -1,6 +1,7 @@
 -- Documents: texts with markers in them. A marker begins with an opening; an opening without a marker is a fault. A backslash directly
 -- before an opening is left out, and the opening is text. Characters are numbers.
 use Rattle.std.specs.Prelude.{◌≡◌, ◌⊎◌, ℕ, ◌-◌, Bool, true, ◌==◌, ◌||◌, ◌&&◌, List, [], ◌∷◌, ◌++◌, length, is_ok, is_some, if◌then◌else◌, Option, Some, None, Result, Ok, Err}
+use Rattle.laws.specs.Characters.{open_bracket, backslash}
 use Rattle.laws.specs.Steps.{each}
 use Rattle.laws.specs.Text.{text}
 use Rattle.texts.specs.declared.reader.Unreadable.{Unreadable}
@@ -19,24 +20,24 @@ is_opening cs = is_ok (opening_at cs)
 -- the text from an opening on, where it stands directly after a backslash
 abbrev pub escaped : List ℕ → Option (List ℕ)
 escaped [] = None
-escaped (c ∷ cs) = if c == 92 && is_opening cs then Some cs else None
+escaped (c ∷ cs) = if c == backslash && is_opening cs then Some cs else None
 
 -- a mark stands here: an opening, or a backslash directly before one
-abbrev pub is_mark : List ℕ → Bool
-is_mark cs = is_some (escaped cs) || is_opening cs
+abbrev pub is_opening_or_escape : List ℕ → Bool
+is_opening_or_escape cs = is_some (escaped cs) || is_opening cs
 
 -- whether a mark may begin with a character: a bracket or a backslash
-abbrev pub may_begin_mark : ℕ → Bool
-may_begin_mark c = c == 91 || c == 92
+abbrev pub may_begin_opening_or_escape : ℕ → Bool
+may_begin_opening_or_escape c = c == open_bracket || c == backslash
 
 -- the characters before the first mark, and those from it on
 abbrev pub plain : List ℕ → List ℕ
 plain [] = []
-plain (c ∷ cs) = if is_mark (c ∷ cs) then [] else c ∷ plain cs
+plain (c ∷ cs) = if is_opening_or_escape (c ∷ cs) then [] else c ∷ plain cs
 
-abbrev pub from_mark : List ℕ → List ℕ
-from_mark [] = []
-from_mark (c ∷ cs) = if is_mark (c ∷ cs) then c ∷ cs else from_mark cs
+abbrev pub from_opening_or_escape : List ℕ → List ℕ
+from_opening_or_escape [] = []
+from_opening_or_escape (c ∷ cs) = if is_opening_or_escape (c ∷ cs) then c ∷ cs else from_opening_or_escape cs
 
 -- the first character, whatever it is, and the plain ones after it; and what follows them
 abbrev pub prefix_text : List ℕ → List ℕ
@@ -45,7 +46,7 @@ prefix_text (c ∷ cs) = c ∷ plain cs
 
 abbrev pub after_text : List ℕ → List ℕ
 after_text [] = []
-after_text (c ∷ cs) = from_mark cs
+after_text (c ∷ cs) = from_opening_or_escape cs
 
 -- A step over a document gives the next piece and what follows it, or none at the end. Its fault is the text from the opening on.
 abbrev pub Step : Type 0
@@ -80,7 +81,7 @@ document_of cs = or_offset cs (each piece_at cs)
 -- How a piece stands in a document, before what follows it: a text as it is, or after a backslash that stands directly before an
 -- opening; a marker as its cites are read.
 abbrev pub Stands : List ℕ → Piece → List ℕ → Type 0
-Stands cs (Text t) rest = (cs ≡ t ++ rest) ⊎ ((cs ≡ 92 ∷ (t ++ rest)) × (is_opening (t ++ rest) ≡ true))
+Stands cs (Text t) rest = (cs ≡ t ++ rest) ⊎ ((cs ≡ backslash ∷ (t ++ rest)) × (is_opening (t ++ rest) ≡ true))
 Stands cs (Marker cites) rest = marker_at cs ≡ Ok (cites, rest)
 
 -- pieces that stand one after the other, up to what follows the last

@@ -1,8 +1,9 @@
 -- Markers: a bracket, cites parted by a semicolon and a space, and the closing bracket. Each definition gives what stands at the
--- prefix of a text and what follows it, or that it does not stand there. Characters are numbers.
+-- start of a text and what follows it, or that it does not stand there. Characters are numbers.
 use Rattle.std.specs.Prelude.{ℕ, Bool, true, false, ◌&&◌, List, ◌∷◌, if◌then◌else◌, Option, Some, None, Result, Ok, Err}
 use Rattle.std.specs.Option.{ok_or}
 use Rattle.std.specs.Str.{bytes_eq, trim}
+use Rattle.laws.specs.Characters.{space, hyphen, semicolon, at_sign, open_bracket, close_bracket}
 use Rattle.laws.specs.Results.{◌>>=◌}
 use Rattle.laws.specs.Runs.{prefix_of, after}
 use Rattle.laws.specs.Steps.{each}
@@ -40,7 +41,7 @@ passing test a = if test then Ok a else Err NotThere
 -- a word, as bytes, and the space after it
 unfoldable pub word_at : List ℕ → Result (List ℕ × List ℕ) Unreadable
 word_at cs = do
-  rest ← token_at 32 (after (passes Word) cs)
+  rest ← token_at space (after (passes Word) cs)
   Ok (text (prefix_of (passes Word) cs), rest)
 
 -- the word of a purpose, a space and an at sign
@@ -48,7 +49,7 @@ unfoldable pub purpose_at : List ℕ → Result (Option CitePurpose × List ℕ)
 purpose_at cs = do
   word ← word_at cs
   purpose ← ok_or (purpose_of word.0) NotThere
-  rest ← token_at 64 word.1
+  rest ← token_at at_sign word.1
   Ok (Some purpose, rest)
 
 -- an at sign, or a purpose before it
@@ -59,8 +60,8 @@ purpose_if_no_sign (false, rest) = purpose_at rest
 -- the beginning of a cite, through its at sign: a hyphen where it is hidden, and its purpose where it has one
 unfoldable pub beginning_at : List ℕ → Result (Beginning × List ℕ) Unreadable
 beginning_at cs = do
-  purpose ← purpose_if_no_sign (taken 64 (taken 45 cs).1)
-  Ok (record { hidden = (taken 45 cs).0; purpose = purpose.0 }, purpose.1)
+  purpose ← purpose_if_no_sign (taken at_sign (taken hyphen cs).1)
+  Ok (record { hidden = (taken hyphen cs).0; purpose = purpose.0 }, purpose.1)
 
 -- a value, as bytes, is not empty, and has no white space at its ends
 abbrev pub is_value : List ℕ → Bool
@@ -84,13 +85,13 @@ unfoldable pub cite_at : List ℕ → Result (Cite × List ℕ) Unreadable
 cite_at cs = do
   beginning ← beginning_at cs
   name ← passing (is_filled (prefix_of (passes Name) beginning.1)) (prefix_of (passes Name) beginning.1)
-  locator ← locator_if_space (taken 32 (after (passes Name) beginning.1))
+  locator ← locator_if_space (taken space (after (passes Name) beginning.1))
   Ok (record { name = name; hidden = beginning.0.hidden; purpose = beginning.0.purpose; locator = locator.0 }, locator.1)
 
 -- a space and a cite
 unfoldable pub further_cite_at : List ℕ → Result (Option Cite × List ℕ) Unreadable
 further_cite_at cs = do
-  rest ← token_at 32 cs
+  rest ← token_at space cs
   cite ← cite_at rest
   Ok (Some cite.0, cite.1)
 
@@ -100,7 +101,7 @@ cite_if_semicolon (true, rest) = further_cite_at rest
 cite_if_semicolon (false, rest) = Ok (None, rest)
 
 unfoldable pub next_cite_at : List ℕ → Result (Option Cite × List ℕ) Unreadable
-next_cite_at cs = cite_if_semicolon (taken 59 cs)
+next_cite_at cs = cite_if_semicolon (taken semicolon cs)
 
 -- one cite or more
 unfoldable pub cites_at : List ℕ → Result (List Cite × List ℕ) Unreadable
@@ -112,13 +113,13 @@ cites_at cs = do
 -- a bracket, cites, and the closing bracket
 unfoldable pub marker_at : List ℕ → Result (List Cite × List ℕ) Unreadable
 marker_at cs = do
-  opened ← token_at 91 cs
+  opened ← token_at open_bracket cs
   cites ← cites_at opened
-  rest ← token_at 93 cites.1
+  rest ← token_at close_bracket cites.1
   Ok (cites.0, rest)
 
 -- an opening: a bracket and the beginning of a cite
 unfoldable pub opening_at : List ℕ → Result (Beginning × List ℕ) Unreadable
 opening_at cs = do
-  opened ← token_at 91 cs
+  opened ← token_at open_bracket cs
   beginning_at opened

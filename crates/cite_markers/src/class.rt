@@ -32,7 +32,7 @@ impl CharacterClass for Class {
     }
 }
 
-/// The longest run of the class that stands here.
+/// Reads the longest run of characters of the class; it may be empty.
 pub(crate) fn run<'s>(reader: &mut Reader<'s>, class: Class) -> &'s str
     ensures prefix { spelled result ≡ prefix_of (passes class) (left reader.old) }
     ensures rest { left reader.new ≡ after (passes class) (left reader.old) }

@@ -6,7 +6,7 @@ ghost use Rattle.std.specs.Str.{chars};
 ghost use Rattle.laws.specs.Results.{Gives};
 ghost use Rattle.laws.specs.Text.{spelled, text as text_of};
 ghost use Rattle.texts.specs.Views.{left};
-ghost use Rattle.cite_markers.specs.Document.{escaped, is_mark, may_begin_mark, prefix_text, after_text, text_at, piece_at, document_of};
+ghost use Rattle.cite_markers.specs.Document.{escaped, is_opening_or_escape, may_begin_opening_or_escape, prefix_text, after_text, text_at, piece_at, document_of};
 ghost use Rattle.cite_markers.specs.Views.{piece_view, document_view, Finds, fault_offset};
 
 use crate::error::{DocumentError, Stop};
@@ -98,7 +98,7 @@ fn split_prefix(text: &str) -> (&str, &str)
     ensures rest { spelled result.1 ≡ after_text (chars text.now) }
 {
     for (i, c) in text.char_indices() {
-        if may_begin_mark(c) {
+        if may_begin_opening_or_escape(c) {
             let (prefix, rest) = text.split_at(i);
             if ends_prefix(i, rest) {
                 return (prefix, rest);
@@ -108,24 +108,24 @@ fn split_prefix(text: &str) -> (&str, &str)
     text.split_at(text.len())
 }
 
-/// Whether a mark may begin with a character.
+/// Whether an opening, or a backslash directly before one, may begin with a character.
 #[inline(always)]
-fn may_begin_mark(c: char) -> bool
-    ensures { result ≡ may_begin_mark c }
+fn may_begin_opening_or_escape(c: char) -> bool
+    ensures { result ≡ may_begin_opening_or_escape c }
 {
     matches!(c, '[' | '\\')
 }
 
-/// Whether a text that has so many bytes ends before what follows it.
+/// Whether a text of this length ends before what follows it.
 fn ends_prefix(len: usize, rest: &str) -> bool
-    ensures { result ≡ nat_lt 0 len && is_mark (chars rest.now) }
+    ensures { result ≡ nat_lt 0 len && is_opening_or_escape (chars rest.now) }
 {
-    len > 0 && is_mark(rest)
+    len > 0 && is_opening_or_escape(rest)
 }
 
 /// Whether an opening stands here, or a backslash directly before one.
-fn is_mark(text: &str) -> bool
-    ensures { result ≡ is_mark (chars text.now) }
+fn is_opening_or_escape(text: &str) -> bool
+    ensures { result ≡ is_opening_or_escape (chars text.now) }
 {
     strip_escape(text).is_some() || is_opening(text)
 }

@@ -3,6 +3,7 @@
 ghost use Rattle.std.specs.Prelude.{◌≡◌, Some};
 ghost use Rattle.std.specs.Option.{option_map};
 ghost use Rattle.std.specs.Str.{chars};
+ghost use Rattle.laws.specs.Characters.{space, at_sign};
 ghost use Rattle.laws.specs.Results.{Reads, GivesRest};
 ghost use Rattle.laws.specs.Text.{text as text_of};
 ghost use Rattle.texts.specs.Reading.{taken};
@@ -61,7 +62,7 @@ fn read_word<'s>(reader: &mut Reader<'s>) -> Result<&'s str, Unreadable>
 #[tactic(auto, unfolding(crate::specs::Marker::purpose_at))]
 fn read_purpose(reader: &mut Reader<'_>) -> Result<Option<CitePurpose>, Unreadable>
     ensures { Reads (λ p. p) result (left reader.new)
-        (purpose_if_no_sign (taken 64 (left reader.old))) }
+        (purpose_if_no_sign (taken at_sign (left reader.old))) }
 {
     if reader.take('@') {
         return Ok(None);
@@ -106,7 +107,7 @@ fn read_locator<'s>(reader: &mut Reader<'s>) -> Result<CiteLocator<'s>, Unreadab
 /// A locator after a space, or none.
 fn read_optional_locator<'s>(reader: &mut Reader<'s>) -> Result<Option<CiteLocator<'s>>, Unreadable>
     ensures { Reads (option_map locator_view) result (left reader.new)
-        (locator_if_space (taken 32 (left reader.old))) }
+        (locator_if_space (taken space (left reader.old))) }
 {
     if !reader.take(' ') {
         return Ok(None);
@@ -114,7 +115,6 @@ fn read_optional_locator<'s>(reader: &mut Reader<'s>) -> Result<Option<CiteLocat
     Ok(Some(read_locator(reader)?))
 }
 
-/// A cite.
 #[tactic(auto, unfolding(crate::specs::Marker::cite_at))]
 fn read_cite<'s>(reader: &mut Reader<'s>) -> Result<Cite<'s>, Unreadable>
     ensures { Reads cite_view result (left reader.new) (cite_at (left reader.old)) }

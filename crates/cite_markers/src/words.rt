@@ -51,7 +51,6 @@ pub(crate) fn label_of(word: &str) -> Option<Locator>
     first_called(word, &LABELS)
 }
 
-/// The first of the labels that has the word.
 fn first_called(word: &str, labels: &[Locator]) -> Option<Locator>
     ensures { result ≡ find (λ l. bytes_eq word.now (label_word l)) labels.now }
 {
@@ -63,7 +62,6 @@ fn first_called(word: &str, labels: &[Locator]) -> Option<Locator>
     None
 }
 
-/// The word of a label.
 fn label_word(label: Locator) -> &'static str
     ensures { result.now ≡ label_word label }
 {

@@ -4,7 +4,6 @@ use Rattle.rendering_style.specs.Nodes.{Node}
 use Rattle.rendering_style.specs.Options.{open_options}
 use Rattle.rendering_style.specs.Styles.{Layout, Citation, Bibliography, Style}
 use Rattle.rendering_taxonomy.specs.Formats.{unchanged}
-use Rattle.rendering_taxonomy.specs.declared.style.DisambiguationRule.TheVariants as given_names
 use Rattle.rendering_taxonomy.specs.declared.style.StyleCategory.{StyleCategory}
 use Rattle.rendering_taxonomy.specs.declared.style.StyleClass.{StyleClass}
 use Rattle.rendering_taxonomy.specs.declared.style.SubsequentAuthorSubstituteRule.TheVariants as substitutes
@@ -20,22 +19,6 @@ sentence xs = record (plain_layout xs) { suffix = Some (codes ".") }
 -- a node between brackets, and a text between cites
 abbrev pub bracketed : List ℕ → List ℕ → List ℕ → Node → Layout
 bracketed opening closing delimiter x = record (plain_layout (x ∷ [])) { prefix = Some opening; suffix = Some closing; delimiter = Some delimiter }
-
--- cites that are not disambiguated and not collapsed
-abbrev pub plain_citation : Layout → Citation
-plain_citation l = record {
-  layout = l;
-  name_options = open_options;
-  add_names = false;
-  add_givenname = false;
-  givenname_rule = given_names.ByCite;
-  add_year_suffix = false;
-  collapse = None;
-  cite_group_delimiter = None;
-  after_collapse_delimiter = None;
-  year_suffix_delimiter = None;
-  near_note_distance = 5;
-}
 
 -- items without an indent, a line apart
 abbrev pub plain_bibliography : Layout → Bibliography

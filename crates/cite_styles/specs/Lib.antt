@@ -1,3 +1,6 @@
+pub mod English
+pub mod Dates
+pub mod Rows
 pub mod Nodes
 pub mod Layouts
 pub mod Styles

@@ -1,7 +1,7 @@
 -- The nodes that the styles have in common.
 use Rattle.std.specs.Prelude.{ℕ, false, List, [], ◌∷◌, Option, Some, None, codes}
 use Rattle.rendering_locale.specs.Locales.{DatePart}
-use Rattle.rendering_style.specs.Nodes.{Look, TextLook, NameLook, NamesNode, Node, leaf, names, group, text, number, label, date, of_variable, of_term, no_nodes, nodes_of}
+use Rattle.rendering_style.specs.Nodes.{Look, TextLook, NameLook, NamesNode, Node, leaf, names, group, text, number, label, date, of_variable, of_term, no_nodes, nodes_of, plain_look}
 use Rattle.rendering_style.specs.Options.{NameOptions, open_options}
 use Rattle.rendering_taxonomy.specs.Formats.{unchanged}
 use Rattle.rendering_taxonomy.specs.declared.date.DatePartForm.TheVariants as parts
@@ -22,10 +22,6 @@ use Rattle.rendering_taxonomy.specs.declared.variable.NumberVariable.TheVariants
 use Rattle.rendering_taxonomy.specs.declared.variable.StandardVariable.TheVariants as texts
 use Rattle.rendering_taxonomy.specs.declared.variable.Variable.{Variable}
 use Rattle.rendering_taxonomy.specs.declared.variable.Variable.TheVariants as variables
-
--- a look for which nothing is specified
-abbrev pub plain_look : Look
-plain_look = record { formatting = unchanged; prefix = []; suffix = []; display = None }
 
 -- a text for whose look nothing is specified
 abbrev pub plain_text : TextLook

@@ -1,10 +1,10 @@
 -- The three styles: plain numbers, authors and years, and notes.
 use Rattle.std.specs.Prelude.{true, List, [], ◌∷◌, Some, None, codes}
-use Rattle.cite_styles.specs.Layouts.{sentence, bracketed, plain_citation, plain_bibliography, style_of}
-use Rattle.cite_styles.specs.Nodes.{plain_look, grouped, citation_number, item_number, title, ibid, locator, year, authors, short_authors, source}
-use Rattle.rendering_style.specs.Nodes.{Node, choose, stands_at, nodes_of}
+use Rattle.cite_styles.specs.Layouts.{sentence, bracketed, plain_bibliography, style_of}
+use Rattle.cite_styles.specs.Nodes.{grouped, citation_number, item_number, title, ibid, locator, year, authors, short_authors, source}
+use Rattle.rendering_style.specs.Nodes.{Node, choose, stands_at, nodes_of, plain_look}
 use Rattle.rendering_style.specs.Views.{Branch, branches_of}
-use Rattle.rendering_style.specs.Styles.{Citation, Bibliography, Style}
+use Rattle.rendering_style.specs.Styles.{Citation, Bibliography, Style, plain_citation}
 use Rattle.rendering_taxonomy.specs.declared.choose.ChooseMatch.TheVariants as matches
 use Rattle.rendering_taxonomy.specs.declared.choose.TestPosition.{TestPosition}
 use Rattle.rendering_taxonomy.specs.declared.choose.TestPosition.TheVariants as positions

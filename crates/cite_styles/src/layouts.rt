@@ -6,14 +6,13 @@ ghost use Rattle.std.specs.Str.{chars};
 ghost use Rattle.rendering_style.specs.Opening.{IsAnswer};
 ghost use Rattle.rendering_style.specs.StyleViews.{style_view};
 ghost use Rattle.rendering_style.specs.Views.{node_view, layout_view, citation_layout_view, bibliography_layout_view, style_parts_view};
-ghost use Rattle.cite_styles.specs.Layouts.{plain_layout, sentence, bracketed, plain_citation, plain_bibliography, style_of};
+ghost use Rattle.cite_styles.specs.Layouts.{plain_layout, sentence, bracketed, plain_bibliography, style_of};
 
 use rendering_style::{
     Bibliography, Citation, Layout, NameOptions, Node, Style, StyleError, StyleParts,
 };
 use rendering_taxonomy::{
-    DisambiguationRule, FormattingChanges, StyleCategory, StyleClass,
-    SubsequentAuthorSubstituteRule,
+    FormattingChanges, StyleCategory, StyleClass, SubsequentAuthorSubstituteRule,
 };
 use std::alloc::{AllocError, Global};
 use std::num::NonZeroI16;
@@ -65,25 +64,6 @@ pub(crate) fn bracketed(
         delimiter: Some(delimiter),
         ..plain_layout(nodes)
     })
-}
-
-/// Cites that are not disambiguated and not collapsed.
-pub(crate) fn plain_citation(layout: Layout) -> Citation
-    ensures { citation_layout_view result ≡ plain_citation (layout_view layout) }
-{
-    Citation {
-        layout,
-        name_options: NameOptions::default(),
-        add_names: false,
-        add_givenname: false,
-        givenname_rule: DisambiguationRule::ByCite,
-        add_year_suffix: false,
-        collapse: None,
-        cite_group_delimiter: None,
-        after_collapse_delimiter: None,
-        year_suffix_delimiter: None,
-        near_note_distance: 5,
-    }
 }
 
 /// Items without an indent, a line apart.

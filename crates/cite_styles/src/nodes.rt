@@ -4,7 +4,7 @@ ghost use Rattle.std.specs.Prelude.{◌≡◌, IfOk, map};
 ghost use Rattle.std.specs.Str.{chars};
 ghost use Rattle.rendering_locale.specs.Views.{part_view};
 ghost use Rattle.rendering_style.specs.Views.{look_view, text_look_view, node_view};
-ghost use Rattle.cite_styles.specs.Nodes.{plain_look, plain_text, italic_text, answer, grouped, citation_number, item_number, title, ibid, locator_label, locator, year_part, year, source};
+ghost use Rattle.cite_styles.specs.Nodes.{plain_text, italic_text, answer, grouped, citation_number, item_number, title, ibid, locator_label, locator, year_part, year, source};
 
 use rendering_locale::DatePart;
 use rendering_style::{
@@ -21,30 +21,17 @@ use texts::{empty_text, owned};
 /// The locator of a cite.
 const LOCATOR: Variable = Variable::Number(NumberVariable::Locator);
 
-/// A look for which nothing is specified.
-pub(crate) fn plain_look(alloc: Global) -> Look
-    ensures { look_view result ≡ plain_look }
-{
-    Look {
-        formatting: FormattingChanges::default(),
-        prefix: empty_text(alloc),
-        suffix: empty_text(alloc),
-        display: None,
-    }
-}
-
 /// A text for whose look nothing is specified.
 fn plain_text(alloc: Global) -> TextLook
     ensures { text_look_view result ≡ plain_text }
 {
     TextLook {
-        look: plain_look(alloc),
+        look: Look::plain(alloc),
         quotes: false,
         strip_periods: false,
     }
 }
 
-/// A text in italics.
 fn italic_text(alloc: Global) -> TextLook
     ensures { text_look_view result ≡ italic_text }
 {
@@ -53,7 +40,6 @@ fn italic_text(alloc: Global) -> TextLook
     look
 }
 
-/// The answer to a variable.
 fn answer(variable: Variable, look: TextLook) -> Node
     ensures { node_view result ≡ answer variable (text_look_view look) }
 {
@@ -84,11 +70,10 @@ pub(crate) fn item_number(alloc: Global) -> Result<Node, AllocError>
     Ok(citation_number(Look {
         prefix,
         suffix,
-        ..plain_look(alloc)
+        ..Look::plain(alloc)
     }))
 }
 
-/// The title.
 pub(crate) fn title(alloc: Global) -> Node
     ensures { node_view result ≡ title }
 {
@@ -116,7 +101,7 @@ pub(crate) fn grouped(alloc: Global, delimiter: &str, nodes: Vec<Node>) -> Resul
     let delimiter = owned(alloc, delimiter)?;
     let group = Group {
         delimiter: Some(delimiter),
-        look: plain_look(alloc),
+        look: Look::plain(alloc),
     };
     Ok(Node::Group(group, nodes))
 }
@@ -131,7 +116,7 @@ fn locator_label(alloc: Global) -> Node
             form: TermForm::Short,
             plural: LabelPluralize::Contextual,
             strip_periods: false,
-            look: plain_look(alloc),
+            look: Look::plain(alloc),
         },
     })
 }
@@ -145,7 +130,6 @@ pub(crate) fn locator(alloc: Global) -> Result<Node, AllocError>
     grouped(alloc, " ", nodes)
 }
 
-/// The year of a date.
 fn year_part(alloc: Global) -> DatePart
     ensures { part_view result ≡ year_part }
 {
@@ -170,7 +154,7 @@ pub(crate) fn year(alloc: Global) -> Result<Node, AllocError>
         parts: DateParts::YearMonthDay,
         own_parts,
         delimiter: None,
-        look: plain_look(alloc),
+        look: Look::plain(alloc),
     }))
 }
 

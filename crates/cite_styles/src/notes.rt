@@ -5,7 +5,7 @@ ghost use Rattle.rendering_style.specs.StyleViews.{style_view};
 ghost use Rattle.rendering_style.specs.Views.{node_view, branch_view, citation_layout_view, style_parts_view};
 ghost use Rattle.cite_styles.specs.Styles.{first_note, later_note, ibid_note, at, repeated, note_cite, note_citation, note};
 
-use crate::layouts::{accepted, plain_citation, sentence, style_of};
+use crate::layouts::{accepted, sentence, style_of};
 use crate::nodes::{grouped, ibid, locator};
 use crate::parts::{Part, described};
 use rendering_style::{
@@ -92,7 +92,7 @@ fn citation(alloc: Global) -> Result<Citation, AllocError>
 {
     let nodes = vec![in alloc; cite(alloc)?]?;
     let delimiter = owned(alloc, "; ")?;
-    Ok(plain_citation(Layout {
+    Ok(Citation::new(Layout {
         delimiter: Some(delimiter),
         ..sentence(alloc, nodes)?
     }))

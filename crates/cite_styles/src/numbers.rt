@@ -6,10 +6,10 @@ ghost use Rattle.rendering_style.specs.Views.{node_view, citation_layout_view, b
 ghost use Rattle.cite_styles.specs.Nodes.{item_number};
 ghost use Rattle.cite_styles.specs.Styles.{numeric_cite, numeric_entry, numeric_item, numeric_citation, numeric_bibliography, numeric};
 
-use crate::layouts::{accepted, bracketed, plain_bibliography, plain_citation, sentence, style_of};
-use crate::nodes::{citation_number, grouped, item_number, locator, plain_look};
+use crate::layouts::{accepted, bracketed, plain_bibliography, sentence, style_of};
+use crate::nodes::{citation_number, grouped, item_number, locator};
 use crate::parts::{Part, described};
-use rendering_style::{Bibliography, Citation, Node, Style, StyleParts};
+use rendering_style::{Bibliography, Citation, Look, Node, Style, StyleParts};
 use rendering_taxonomy::{Collapse, SecondFieldAlign, StyleCategory, StyleClass};
 use std::alloc::{AllocError, Global};
 
@@ -18,7 +18,7 @@ use std::alloc::{AllocError, Global};
 fn cite(alloc: Global) -> Result<Node, AllocError>
     ensures { IfOk result (λ n. node_view n ≡ numeric_cite) }
 {
-    let nodes = vec![in alloc; citation_number(plain_look(alloc)), locator(alloc)?]?;
+    let nodes = vec![in alloc; citation_number(Look::plain(alloc)), locator(alloc)?]?;
     grouped(alloc, ", ", nodes)
 }
 
@@ -47,7 +47,7 @@ fn citation(alloc: Global) -> Result<Citation, AllocError>
     let layout = bracketed(alloc, "[", "]", ", ", cite(alloc)?)?;
     Ok(Citation {
         collapse: Some(Collapse::CitationNumber),
-        ..plain_citation(layout)
+        ..Citation::new(layout)
     })
 }
 

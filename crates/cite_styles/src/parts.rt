@@ -22,7 +22,6 @@ pub(crate) enum Part {
     Locator,
 }
 
-/// The node of a part.
 fn part_node(alloc: Global, part: Part) -> Result<Node, AllocError>
     ensures { IfOk result (λ n. node_view n ≡ part_node part) }
 {
@@ -36,7 +35,6 @@ fn part_node(alloc: Global, part: Part) -> Result<Node, AllocError>
     }
 }
 
-/// The nodes of the parts.
 fn part_nodes(alloc: Global, parts: &[Part]) -> Result<Vec<Node>, AllocError>
     ensures { IfOk result (λ v. map node_view v.items ≡ map part_node parts.now) }
 {

@@ -5,8 +5,7 @@ ghost use Rattle.std.specs.Option.{option_map};
 ghost use Rattle.rendering_style.specs.Views.{options_view, name_look_view, names_node_view, node_view};
 ghost use Rattle.cite_styles.specs.Nodes.{name_with, people_of, editors, authors_by, authors, short_authors};
 
-use crate::nodes::plain_look;
-use rendering_style::{Name, NameOptions, Names, Node};
+use rendering_style::{Look, Name, NameOptions, Names, Node};
 use rendering_taxonomy::{FormattingChanges, NameAnd, NameForm, NameVariable};
 use std::alloc::{AllocError, Global};
 use texts::empty_text;
@@ -23,7 +22,6 @@ fn name_with(alloc: Global, options: NameOptions) -> Name
     }
 }
 
-/// The people of a variable.
 fn people_of(alloc: Global, variable: NameVariable, name: Option<Name>) -> Result<Names, AllocError>
     ensures { IfOk result (λ n. names_node_view n
         ≡ people_of variable (option_map name_look_view name)) }
@@ -36,11 +34,10 @@ fn people_of(alloc: Global, variable: NameVariable, name: Option<Name>) -> Resul
         label: None,
         label_is_first: false,
         delimiter: None,
-        look: plain_look(alloc),
+        look: Look::plain(alloc),
     })
 }
 
-/// The editors.
 fn editors(alloc: Global) -> Result<Node, AllocError>
     ensures { IfOk result (λ n. node_view n ≡ editors) }
 {

@@ -5,14 +5,13 @@ ghost use Rattle.rendering_style.specs.StyleViews.{style_view};
 ghost use Rattle.rendering_style.specs.Views.{node_view, citation_layout_view, bibliography_layout_view, style_parts_view};
 ghost use Rattle.cite_styles.specs.Styles.{author_year, author_date_cite, author_date_item, author_date_citation, author_date_bibliography, author_date};
 
-use crate::layouts::{accepted, bracketed, plain_bibliography, plain_citation, sentence, style_of};
+use crate::layouts::{accepted, bracketed, plain_bibliography, sentence, style_of};
 use crate::nodes::{grouped, locator};
 use crate::parts::{Part, described};
 use rendering_style::{Bibliography, Citation, Node, Style, StyleParts};
 use rendering_taxonomy::{StyleCategory, StyleClass};
 use std::alloc::{AllocError, Global};
 
-/// The authors and the year.
 #[tactic(auto, unfolding(crate::specs::Styles::author_year), using(crate::proofs::Literals::space))]
 fn author_year(alloc: Global) -> Result<Node, AllocError>
     ensures { IfOk result (λ n. node_view n ≡ author_year) }
@@ -48,7 +47,7 @@ fn citation(alloc: Global) -> Result<Citation, AllocError>
         add_names: true,
         add_givenname: true,
         add_year_suffix: true,
-        ..plain_citation(layout)
+        ..Citation::new(layout)
     })
 }
 

@@ -1,6 +1,6 @@
 -- A document in which entries are cited and nothing is printed of them but the bibliography.
 use Rattle.std.specs.Prelude.{Bool, true, List, [], ◌∷◌, map, None}
-use Rattle.literature_entries.specs.Wholes.{entry_view}
+use Rattle.literature_entries.specs.EntriesData.{entry_view}
 use Rattle.literature_entries.specs.declared.entry.Entry.{Entry}
 use Rattle.rendering_context.specs.Contexts.{StyleContext}
 use Rattle.rendering_entries.specs.Library.{answers_of}
@@ -9,7 +9,7 @@ use Rattle.rendering_style.specs.Styles.{Style}
 use Rattle.driver_requests.specs.CitedEntries.{index_among}
 use Rattle.driver_requests.specs.Requests.{Request}
 use Rattle.driver_requests.specs.Views.{Parts, item_from}
-use Rattle.driver.specs.Documents.{Document}
+use Rattle.driver_rounds.specs.Documents.{Document}
 use Rattle.cite.specs.Requests.{OwnLocator}
 
 -- an entry as a hidden item

@@ -1,6 +1,6 @@
 -- What the callers ask of `cite` for a document.
 use Rattle.std.specs.Prelude.{ℕ, List, []}
-use Rattle.rendering_english.specs.English.{english}
+use Rattle.cite_styles.specs.English.{english}
 use Rattle.rendering_output.specs.declared.writing.BufWriteFormat.TheVariants.{Plain}
 use Rattle.cite_styles.specs.Styles.{numeric}
 use Rattle.cite.specs.Requests.{context_of}

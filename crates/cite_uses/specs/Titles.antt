@@ -1,10 +1,10 @@
 -- A style that prints titles in italics, by a macro.
 use Rattle.std.specs.Prelude.{[], ◌∷◌, Option, Some, None, codes}
-use Rattle.cite_styles.specs.Layouts.{plain_citation, plain_layout}
-use Rattle.cite_styles.specs.Nodes.{answer, italic_text, plain_look, plain_text}
-use Rattle.rendering_style.specs.Nodes.{TextLook, call}
+use Rattle.cite_styles.specs.Layouts.{plain_layout}
+use Rattle.cite_styles.specs.Nodes.{answer, italic_text, plain_text}
+use Rattle.rendering_style.specs.Nodes.{TextLook, call, plain_look}
 use Rattle.rendering_style.specs.Options.{open_options}
-use Rattle.rendering_style.specs.Styles.{Layout, Macro, Style}
+use Rattle.rendering_style.specs.Styles.{Layout, Macro, Style, plain_citation}
 use Rattle.rendering_taxonomy.specs.Formats.{unchanged}
 use Rattle.rendering_taxonomy.specs.declared.formatting.FontStyle.{FontStyle}
 use Rattle.rendering_taxonomy.specs.declared.style.StyleClass.TheVariants.{InText}

@@ -2,10 +2,11 @@
 
 ghost use Rattle.std.specs.Prelude.{◌≡◌, map, IfOk};
 ghost use Rattle.laws.specs.Results.{Gives};
+ghost use Rattle.laws.specs.Borrowed.{borrowed};
 ghost use Rattle.rendering_locale.specs.Views.{locale_view};
 ghost use Rattle.rendering_style.specs.StyleViews.{style_view};
 ghost use Rattle.driver_requests.specs.Errors.{overflow_of};
-ghost use Rattle.driver_requests.specs.Views.{lent, parts_of};
+ghost use Rattle.driver_requests.specs.Views.{parts_of};
 ghost use Rattle.driver.specs.Finish.{finish};
 ghost use Rattle.driver.specs.RenderedViews.{rendered_view};
 ghost use Rattle.cite.specs.Requests.{is_same_own};
@@ -23,7 +24,8 @@ use std::slice;
 /// the citation of the request is empty.
 ///
 /// # Errors
-/// `Overflow` where a number or letters are beyond the last; `Memory` where a request for memory was refused.
+/// `Overflow` where there are more than 2147483647 entries, or where more than 256 entries that print alike need year suffixes;
+/// `Memory` where a request for memory was refused.
 pub fn bibliography_of<'x>(
     alloc: Global,
     entries: &[&'x Entry],
@@ -33,7 +35,7 @@ pub fn bibliography_of<'x>(
     // It is what the driver's definition gives of the document in which these entries are hidden items.
     ensures { Gives overflow_of rendered_view result
         (finish is_same_own (hidden_document ⟦<Entry as PartialEq>⟧.eq
-        (style_view style.now) (locale_view locale.now) (lent entries.now))) }
+        (style_view style.now) (locale_view locale.now) (borrowed entries.now))) }
 {
     let files = slice::from_ref(locale);
     let items = hidden_items(alloc, entries)?;
@@ -42,7 +44,6 @@ pub fn bibliography_of<'x>(
     driver.finish(BibliographyRequest::new(style, None, files))
 }
 
-/// Entries as hidden items.
 fn hidden_items<'a>(
     alloc: Global,
     entries: &[&'a Entry],

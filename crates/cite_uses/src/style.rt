@@ -1,9 +1,8 @@
 //! A style of one's own, with a macro.
 
 ghost use Rattle.std.specs.Prelude.{◌≡◌, IfOk};
-ghost use Rattle.cite_styles.specs.Layouts.{plain_citation};
 ghost use Rattle.rendering_style.specs.StyleViews.{style_view};
-ghost use Rattle.rendering_style.specs.Views.{citation_layout_view, layout_view, macro_view, node_view, style_parts_view, text_node_view};
+ghost use Rattle.rendering_style.specs.Views.{layout_view, macro_view, node_view, style_parts_view, text_node_view};
 ghost use Rattle.cite_uses.specs.Titles.{in_font, title_layout, title_macro, titles};
 
 use rendering_style::{
@@ -11,11 +10,10 @@ use rendering_style::{
     TextLook, TextTarget,
 };
 use rendering_taxonomy::{
-    DisambiguationRule, FontStyle, FormattingChanges, LongShortForm, StandardVariable, StyleClass,
-    Variable,
+    FontStyle, FormattingChanges, LongShortForm, StandardVariable, StyleClass, Variable,
 };
 use std::alloc::{AllocError, Global};
-use texts::{empty_text, owned};
+use texts::owned;
 
 /// A style in which a cite is the title of its entry in italics, by a macro; there is no bibliography.
 ///
@@ -46,7 +44,7 @@ fn parts(alloc: Global) -> Result<StyleParts, AllocError>
         name_options: NameOptions::default(),
         locales: Vec::new(alloc),
         macros,
-        citation: citation(layout),
+        citation: Citation::new(layout),
         bibliography: None,
     })
 }
@@ -80,25 +78,6 @@ fn title_layout(alloc: Global) -> Result<Layout, AllocError>
     })
 }
 
-/// Cites that are not disambiguated and not collapsed.
-fn citation(layout: Layout) -> Citation
-    ensures { citation_layout_view result ≡ plain_citation (layout_view layout) }
-{
-    Citation {
-        layout,
-        name_options: NameOptions::default(),
-        add_names: false,
-        add_givenname: false,
-        givenname_rule: DisambiguationRule::ByCite,
-        add_year_suffix: false,
-        collapse: None,
-        cite_group_delimiter: None,
-        after_collapse_delimiter: None,
-        year_suffix_delimiter: None,
-        near_note_distance: 5,
-    }
-}
-
 /// A text for which nothing is specified but the style of its font.
 fn text(alloc: Global, target: TextTarget, font_style: Option<FontStyle>) -> Node
     ensures { node_view result ≡ text_node_view target (in_font font_style) }
@@ -109,9 +88,7 @@ fn text(alloc: Global, target: TextTarget, font_style: Option<FontStyle>) -> Nod
     };
     let look = Look {
         formatting,
-        prefix: empty_text(alloc),
-        suffix: empty_text(alloc),
-        display: None,
+        ..Look::plain(alloc)
     };
     Node::Text(Text {
         target,

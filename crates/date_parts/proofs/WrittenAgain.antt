@@ -8,6 +8,7 @@ use Rattle.std.proofs.lemmas.Bool.{le-leb, and_from}
 use Rattle.std.proofs.lemmas.Bool.Decides.{nat_tests}
 use Rattle.std.proofs.lemmas.Fmt.{digits_value-decimal, length-decimal-le}
 use Rattle.std.proofs.lemmas.List.{length-replicate}
+use Rattle.laws.specs.Characters.{hyphen, digit_zero}
 use Rattle.laws.specs.Runs.{AllPassTest, Bars}
 use Rattle.laws.proofs.Runs.{cuts}
 use Rattle.texts.specs.Character.{passes}
@@ -19,11 +20,11 @@ use Rattle.texts.proofs.ReadingDigits.{own, digits_at-ok}
 use Rattle.texts.proofs.ReadingStarts.{Starts, starts, decimal_digits}
 
 -- zeros before it change no number
-pub zeros_value : (k : ℕ) (ds : List ℕ) → digits_value 10 (replicate k 48 ++ ds) ≡ digits_value 10 ds
+pub zeros_value : (k : ℕ) (ds : List ℕ) → digits_value 10 (replicate k digit_zero ++ ds) ≡ digits_value 10 ds
 zeros_value zero ds = refl
 zeros_value (suc k) ds = zeros_value k ds
 
-zeros_pass : (k : ℕ) (ds : List ℕ) → AllPassTest (passes Digit) ds → AllPassTest (passes Digit) (replicate k 48 ++ ds)
+zeros_pass : (k : ℕ) (ds : List ℕ) → AllPassTest (passes Digit) ds → AllPassTest (passes Digit) (replicate k digit_zero ++ ds)
 unfolding passes
 zeros_pass zero ds all = all
 zeros_pass (suc k) ds all = (refl, zeros_pass k ds all)
@@ -32,7 +33,7 @@ zeros_pass (suc k) ds all = (refl, zeros_pass k ds all)
 pub padded_length : (width n : ℕ) → 0 < width → n < 10 ^ width → n < 2 ^ 31 → length (padded width n) ≡ width
 padded_length width n long small fits =
     let few : length (decimal n) ≤ width = length-decimal-le width n long small (omega arith) in
-    omega (arith, length-append (replicate (width - length (decimal n)) 48) (decimal n), length-replicate {A = ℕ} (width - length (decimal n)) 48)
+    omega (arith, length-append (replicate (width - length (decimal n)) digit_zero) (decimal n), length-replicate {A = ℕ} (width - length (decimal n)) digit_zero)
 
 pub padded_digits : (width n : ℕ) → n < 2 ^ 31 → AllPassTest (passes Digit) (padded width n)
 padded_digits width n fits = zeros_pass (width - length (decimal n)) (decimal n) (decimal_digits n fits)
@@ -55,25 +56,25 @@ part_again n rest small bars =
     let d = digits_again 1 2 (n + 1) rest (lit≤ tt) (lit< tt) (omega arith) (omega arith) bars in
     rw d refl
 
-not_hyphen : (c : ℕ) → passes Digit c ≡ true → eqb c 45 ≡ false
+not_hyphen : (c : ℕ) → passes Digit c ≡ true → eqb c hyphen ≡ false
 unfolding passes
 not_hyphen c d = grind (arith, nat_tests)
 
 -- no sign stands before a digit
-no_sign : (cs : List ℕ) → Starts (passes Digit) cs → taken 45 cs ≡ (false, cs)
-no_sign cs s = subst (λ (t : List ℕ). taken 45 t ≡ (false, t)) (sym s.is) (let other = not_hyphen s.first s.passes in rw other refl)
+no_sign : (cs : List ℕ) → Starts (passes Digit) cs → taken hyphen cs ≡ (false, cs)
+no_sign cs s = subst (λ (t : List ℕ). taken hyphen t ≡ (false, t)) (sym s.is) (let other = not_hyphen s.first s.passes in rw other refl)
 
 pub not_negative : (n : ℕ) → is_negative (pos n) ≡ false
 not_negative n = grind (arith, nat_tests)
 
 -- the sign of a year that was written, and what follows it
-pub year_sign : (y : ℤ) (rest : List ℕ) → unsigned_abs y ≤ 9999 → taken 45 (year_text y ++ rest) ≡ (is_negative y, padded 4 (unsigned_abs y) ++ rest)
+pub year_sign : (y : ℤ) (rest : List ℕ) → unsigned_abs y ≤ 9999 → taken hyphen (year_text y ++ rest) ≡ (is_negative y, padded 4 (unsigned_abs y) ++ rest)
 year_sign (pos n) rest small =
     let text : List ℕ = padded 4 n ++ rest in
     let long : 0 < length (padded 4 n) = omega (arith, padded_length 4 n (lit< tt) (omega arith) (omega arith)) in
-    let sign : taken 45 text ≡ (false, text) = no_sign text (starts (passes Digit) (padded 4 n) rest (padded_digits 4 n (omega arith)) long) in
+    let sign : taken hyphen text ≡ (false, text) = no_sign text (starts (passes Digit) (padded 4 n) rest (padded_digits 4 n (omega arith)) long) in
     let plain : year_text (pos n) ++ rest ≡ text = (λ i. (sign_text (not_negative n i) ++ padded 4 n) ++ rest) in
-    ap (taken 45) plain ∙ sign ∙ ap (λ (b : Bool). (b, text)) (sym (not_negative n))
+    ap (taken hyphen) plain ∙ sign ∙ ap (λ (b : Bool). (b, text)) (sym (not_negative n))
 year_sign (negsuc n) rest small = refl
 
 -- a year is its number, negative after a hyphen

@@ -21,7 +21,7 @@ pub fn read_part(reader: &mut Reader) -> Result<Option<u16>, Unreadable>
     Ok(None)
 }
 
-/// The year before or after the year 0.
+/// The year that the number is: one before the year 0 where it is negative.
 pub fn signed_year(is_negative: bool, year: u16) -> i32
     ensures is { result ≡ signed is_negative year }
     ensures years { unsigned_abs result ≡ year }

@@ -27,7 +27,7 @@ fn write_sign<W: fmt::Write>(year: i32, f: &mut fmt::Formatter<W>) -> fmt::Resul
     Ok(())
 }
 
-/// Writes a hyphen and a number that counts from zero, in two digits or more that count from one.
+/// Writes a hyphen and a month or a day, which is given counted from zero, as two digits or more counted from one.
 pub fn write_counted<W: fmt::Write>(number: u8, f: &mut fmt::Formatter<W>) -> fmt::Result
     ensures { DisplaysOnOk W.write_str_gives f.old result
         (Some (text_of (counted_text number))) f.new }
@@ -36,7 +36,7 @@ pub fn write_counted<W: fmt::Write>(number: u8, f: &mut fmt::Formatter<W>) -> fm
     write_padded(u32::from(number) + 1, 2, f)
 }
 
-/// Writes a number in so many digits or more.
+/// Writes a number in at least `width` digits, with zeros before it.
 pub fn write_padded<W: fmt::Write>(
     number: u32,
     width: usize,

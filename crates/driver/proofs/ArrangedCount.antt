@@ -11,7 +11,7 @@ use Rattle.driver_blocks.specs.Collapsing.{after_run, arranged, block_by, collap
 use Rattle.driver_blocks.specs.Runs.{Arranged, added_to_runs, collapsed_run, is_long, last_after_dash, runs_of}
 use Rattle.driver_blocks.specs.Views.{put_in, takes}
 use Rattle.driver_blocks.proofs.GatheredSteps.{block-last}
-use Rattle.driver.specs.Stages.{flattened}
+use Rattle.driver_rounds.specs.FirstPrints.{flattened}
 
 -- what lists come to that are made of others
 count_each : {A B C : Type 0} (v : B → ℕ) (w : C → ℕ) (g : A → List B) (h : A → List C) → ((a : A) → sum_by v (g a) ≡ sum_by w (h a)) → (xs : List A) → sum_by v (flat_map g xs) ≡ sum_by w (flat_map h xs)

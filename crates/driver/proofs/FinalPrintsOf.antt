@@ -7,8 +7,9 @@ use Rattle.driver_requests.specs.Requests.{Request}
 use Rattle.driver_disambiguation.specs.Rounds.{Disambiguation}
 use Rattle.driver_blocks.specs.Blocks.{Gathered}
 use Rattle.driver_blocks.specs.Runs.{Arranged}
-use Rattle.driver.specs.Documents.{Document}
-use Rattle.driver.specs.Stages.{Final, FirstPrint, arranged_for, final, first_print, first_print_of, first_prints_in, gathered_by, has_purpose, numbered_after}
+use Rattle.driver_rounds.specs.Documents.{Document}
+use Rattle.driver.specs.Stages.{Final, arranged_for, final, first_print_of, gathered_by, has_purpose}
+use Rattle.driver_rounds.specs.FirstPrints.{FirstPrint, first_print, first_prints_in, numbered_after}
 use Rattle.driver.proofs.ArrangedCites.{IsOne, arranged_all}
 use Rattle.driver.proofs.Members.{map_all, previous_all, weaker_all, zip_all}
 

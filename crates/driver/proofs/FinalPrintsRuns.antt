@@ -14,10 +14,11 @@ use Rattle.driver_disambiguation.specs.States.{States}
 use Rattle.driver_disambiguation.specs.Rounds.{Disambiguation}
 use Rattle.driver_blocks.specs.Collapsing.{arranged}
 use Rattle.driver_blocks.specs.Runs.{Arranged}
-use Rattle.driver.specs.Citations.{citation_of}
-use Rattle.driver.specs.FinalPrints.{Cited, Listed, Placed, all_finals, cited_with, final_after, finals_from, last_arranged, listed_as, listed_with, placed_with, run_finals}
+use Rattle.driver_citations.specs.Citations.{citation_of}
+use Rattle.driver.specs.FinalPrints.{Cited, Listed, Placed, all_finals, cited_with, final_after, finals_from, last_arranged, listed_as, listed_with, placed_with, finals_after}
 use Rattle.driver.specs.Finish.{citation_in, shown}
-use Rattle.driver.specs.Stages.{Final, FirstPrint, arranged_for, final, flattened, gathered_by, item_arranged}
+use Rattle.driver.specs.Stages.{Final, arranged_for, final, gathered_by, item_arranged}
+use Rattle.driver_rounds.specs.FirstPrints.{FirstPrint, flattened}
 
 -- whether an item has a purpose
 pub purpose_view : {T P : Type 0} (index : T → ℕ) (answers : T → Answers) (is : List (CitationItem T P)) → list_any (λ (i : CitationItem T P). is_some i.purpose) is ≡ list_any (λ (i : Item P). is_some i.purpose) (map (item_view index answers) is)
@@ -28,16 +29,16 @@ module _ {P : Type 0} (same : P → P → Bool) where
   -- what the cites of a request come to
   pub placed_all : (states : States) (p : Placed P) (xs : List (Arranged (FirstPrint P)))
       → fold (placed_with same states) p xs
-      ≡ record { shown = p.shown ++ flat_map shown (run_finals same states p.last xs); listed = fold listed_with p.listed (map listed_as (run_finals same states p.last xs)); last = last_arranged p.last xs }
+      ≡ record { shown = p.shown ++ flat_map shown (finals_after same states p.last xs); listed = fold listed_with p.listed (map listed_as (finals_after same states p.last xs)); last = last_arranged p.last xs }
   placed_all states p [] = λ k. record { shown = sym (append-nil p.shown) k; listed = p.listed; last = p.last }
   placed_all states p (a ∷ xs) =
       let f = final_after same states p.last a in
-      let fs = run_finals same states (Some (item_arranged a)) xs in
+      let fs = finals_after same states (Some (item_arranged a)) xs in
       placed_all states (placed_with same states p a) xs
       ∙ (λ k. record { shown = append_assoc p.shown (shown f) (flat_map shown fs) k; listed = fold listed_with (listed_with p.listed (listed_as f)) (map listed_as fs); last = last_arranged (Some (item_arranged a)) xs })
 
   run_previous : (t : Disambiguation) (last : Option (Arranged (FirstPrint P))) (xs : List (Arranged (FirstPrint P)))
-      → run_finals same t.states (option_map item_arranged last) xs ≡ map (final same t) (zip (last ∷ map (λ a. Some a) xs) xs)
+      → finals_after same t.states (option_map item_arranged last) xs ≡ map (final same t) (zip (last ∷ map (λ a. Some a) xs) xs)
   run_previous t last [] = refl
   run_previous t last (a ∷ xs) = ap (λ fs. final same t (last, a) ∷ fs) (run_previous t (Some a) xs)
 
@@ -58,7 +59,7 @@ module _ {P : Type 0} (same : P → P → Bool) where
   citations_all t c (r ∷ rs) (bs ∷ bss) =
       let xs = arranged_for t (r, bs) in
       citations_all t (cited_with same t c (r, bs)) rs bss
-      ∙ append_assoc c.citations (citation_in (r, run_finals same t.states c.last xs) ∷ []) (map citation_in (zip rs (all_finals same t.states (last_arranged c.last xs) (map (arranged_for t) (zip rs bss)))))
+      ∙ append_assoc c.citations (citation_in (r, finals_after same t.states c.last xs) ∷ []) (map citation_in (zip rs (all_finals same t.states (last_arranged c.last xs) (map (arranged_for t) (zip rs bss)))))
 
   listed_one : (ls : List (Option Listed)) (fs gs : List (Final P)) → fold listed_with (fold listed_with ls (map listed_as fs)) (map listed_as gs) ≡ fold listed_with ls (map listed_as (fs ++ gs))
   listed_one ls fs gs = sym (fold-append listed_with ls (map listed_as fs) (map listed_as gs)) ∙ ap (fold listed_with ls) (sym (map-append listed_as fs gs))
@@ -70,7 +71,7 @@ module _ {P : Type 0} (same : P → P → Bool) where
   listed_each t c (r ∷ rs) (bs ∷ bss) =
       let xs = arranged_for t (r, bs) in
       listed_each t (cited_with same t c (r, bs)) rs bss
-      ∙ listed_one c.listed (run_finals same t.states c.last xs) (flattened (all_finals same t.states (last_arranged c.last xs) (map (arranged_for t) (zip rs bss))))
+      ∙ listed_one c.listed (finals_after same t.states c.last xs) (flattened (all_finals same t.states (last_arranged c.last xs) (map (arranged_for t) (zip rs bss))))
 
   -- what requests come to, from none on
   abbrev pub cited_from_none : Disambiguation → List (Option Listed) → List (Request P) → List (List (FirstPrint P)) → Cited P

@@ -1,10 +1,9 @@
 -- Requests and their cites, one after the other in the final order.
-use Rattle.std.proofs.Common.{arith, ◌≡◌, ℕ, zero, suc, ◌+◌, ◌<◌, ◌≤◌, not-suc-le-zero, Bool, true, false, List, [], ◌∷◌, ◌++◌, All, append_assoc, length, map, drop, take, take_at, drop_at, get_or, set, fold, zip, slice_get, is_some, true≢false, not, unwrap_or, option_map, refl, sym, ap, ◌∙◌, Option, Some, None, Vec}
+use Rattle.std.proofs.Common.{arith, ◌≡◌, ℕ, suc, ◌+◌, ◌<◌, ◌≤◌, Bool, true, false, List, [], ◌∷◌, ◌++◌, All, append_assoc, length, map, drop, get_or, set, fold, zip, slice_get, is_some, true≢false, not, option_map, refl, sym, ap, ◌∙◌, Option, Some, None, Vec}
 use Rattle.std.specs.List.{cons_option}
 use Rattle.std.specs.Option.{option_or}
-use Rattle.std.proofs.lemmas.List.{drop_all, drop-map, drop_more, get_or_default, get_or-map, length-map, map-append, map-set, take-map}
-use Rattle.std.proofs.lemmas.List.Elements.{All-same}
-use Rattle.std.proofs.lemmas.Option.{slice_get-map, slice_get_read}
+use Rattle.std.proofs.lemmas.List.{drop_all, drop_more, get_or_default, get_or-map, length-map, map-append, map-set}
+use Rattle.std.proofs.lemmas.Option.{slice_get-map}
 use Rattle.rendering_context.specs.Cites as cites
 use Rattle.rendering_entries.specs.Answers.{Answers}
 use Rattle.rendering_style.specs.Styles.{Citation}
@@ -21,39 +20,27 @@ use Rattle.driver_requests.specs.Suffixes.{Suffix}
 use Rattle.driver_requests.specs.Views.{context_of, item_view, request_locator_view, request_view}
 use Rattle.driver_requests.specs.declared.item.CitationItem.{CitationItem}
 use Rattle.driver_requests.specs.declared.request.CitationRequest.{CitationRequest}
-use Rattle.driver_disambiguation.specs.Classes as states
+use Rattle.driver_names.specs.Prints as prints
 use Rattle.driver_disambiguation.specs.States.{States, state_of}
 use Rattle.driver_disambiguation.specs.Rounds.{Disambiguation}
 use Rattle.driver_blocks.specs.Blocks.{Gathered}
 use Rattle.driver_blocks.specs.Runs as runs
 use Rattle.driver_blocks.specs.Views.{arranged_view}
 use Rattle.driver_blocks.specs.declared.cite.Arranged as arranged
-use Rattle.driver.specs.Citations.{Shown}
-use Rattle.driver.specs.FinalPrints.{Listed, Placed, all_gathered, arranged_at, arranged_in, cited_with, final_after, final_view, firsts, gathered_from, last_arranged, last_cite_view, listed_as, listed_view, final_listed_view, listed_with, placed_view, placed_with, run_finals}
-use Rattle.driver.specs.Joining.{shown_view}
-use Rattle.driver.specs.Rounding.{AreWithin}
+use Rattle.driver_citations.specs.Citations.{Shown}
+use Rattle.driver.specs.FinalPrints.{Listed, Placed, all_gathered, arranged_at, arranged_in, cited_with, final_after, final_view, firsts, gathered_from, last_arranged, last_cite_view, listed_as, listed_view, final_listed_view, listed_with, placed_view, placed_with, finals_after}
+use Rattle.driver_citations.specs.Joining.{shown_view}
 use Rattle.driver.specs.Finish.{Citation as Printed, citation_in, shown}
 use Rattle.driver.specs.Renaming.{arranged_as}
-use Rattle.driver.specs.Stages.{FirstPrint, arranged_for, counts_at_last, first_print, printed_at_last, printed_by, purpose_at_first}
-use Rattle.driver.specs.Views.{printed_by_states, numbered_view, properties_with, numbered_cites_view, all_numbered_cites_view, usage_of}
-use Rattle.driver.specs.declared.cite.NumberedCite.{NumberedCite}
-use Rattle.driver.specs.declared.citation.ShownCite.{ShownCite}
+use Rattle.driver_rounds.proofs.RequestsFound.{run_at, run_long}
+use Rattle.driver_rounds.specs.FirstPrints.{FirstPrint, first_print, printed_by, purpose_at_first}
+use Rattle.driver.specs.Stages.{arranged_for, counts_at_last, printed_at_last}
+use Rattle.driver_rounds.specs.Views.{printed_by_states, numbered_view, properties_with, numbered_cites_view, all_numbered_cites_view, usage_of}
+use Rattle.driver_rounds.specs.declared.cite.NumberedCite.{NumberedCite}
+use Rattle.driver_citations.specs.declared.citation.ShownCite.{ShownCite}
 use Rattle.driver.specs.declared.final_prints.FinalCite.{FinalCite}
 use Rattle.driver.specs.declared.final_prints.LastCite.{LastCite}
 use Rattle.driver.specs.declared.final_prints.ListedCite.{ListedCite}
-
--- a list whose first part is viewed, cut after that
-pub cut_view : {A B C : Type 0} (f : A → B) (g : C → B) (n : ℕ) (xs : List A) (ys zs : List C) → length ys ≡ n → map f xs ≡ map g (ys ++ zs) → (map f (take n xs) ≡ map g ys) × (map f (drop n xs) ≡ map g zs)
-cut_view f g n xs ys zs long e =
-    let split : map f xs ≡ map g ys ++ map g zs = e ∙ map-append g ys zs in
-    let size : length (map g ys) ≡ n = length-map ys g ∙ long in
-    (sym (take-map f n xs) ∙ ap (take n) split ∙ take_at (map g ys) (map g zs) n size, sym (drop-map f n xs) ∙ ap (drop n) split ∙ drop_at (map g ys) (map g zs) n size)
-
-pub cut_plain : {B C : Type 0} (g : C → B) (n : ℕ) (xs : List B) (ys zs : List C) → length ys ≡ n → xs ≡ map g (ys ++ zs) → (take n xs ≡ map g ys) × (drop n xs ≡ map g zs)
-cut_plain g n xs ys zs long e =
-    let split : xs ≡ map g ys ++ map g zs = e ∙ map-append g ys zs in
-    let size : length (map g ys) ≡ n = length-map ys g ∙ long in
-    (ap (take n) split ∙ take_at (map g ys) (map g zs) n size, ap (drop n) split ∙ drop_at (map g ys) (map g zs) n size)
 
 -- a fold goes on
 pub fold_more : {A B : Type 0} (f : B → A → B) (now new all : B) (a : A) (left rest : List A) → left ≡ a ∷ rest → fold f now left ≡ all → new ≡ f now a → fold f new rest ≡ all
@@ -72,21 +59,6 @@ view_more view now new a b left rest all steps h e is =
     ∙ ap (λ ys. map view now ++ ys) (sym steps)
     ∙ h
 
--- one value is the other where there is one
-pub some_one : {A : Type 0} (a b : A) → Some a ≡ Some b → a ≡ b
-some_one a b e = ap (λ o. unwrap_or o a) e
-
--- an element of a list that is viewed
-pub element_view : {A B C : Type 0} (f : A → B) (g : C → B) (xs : List A) (ys : List C) (n : ℕ) (x : A) (y : C) → map f xs ≡ map g ys → slice_get xs n ≡ Some x → slice_get ys n ≡ Some y → f x ≡ g y
-element_view f g xs ys n x y e h i =
-    some_one (f x) (g y) (ap (option_map f) (sym h) ∙ sym (slice_get-map f xs n) ∙ ap (λ zs. slice_get zs n) e ∙ slice_get-map g ys n ∙ ap (option_map g) i)
-
-pub element_plain : {B C : Type 0} (g : C → B) (xs : List B) (ys : List C) (n : ℕ) (x : B) (y : C) → xs ≡ map g ys → slice_get xs n ≡ Some x → slice_get ys n ≡ Some y → x ≡ g y
-element_plain g xs ys n x y e h i = some_one x (g y) (sym h ∙ ap (λ zs. slice_get zs n) e ∙ slice_get-map g ys n ∙ ap (option_map g) i)
-
-pub element_at : {A : Type 0} (xs : List A) (n : ℕ) (x : A) → n < length xs → x ≡ get_or xs n x → slice_get xs n ≡ Some x
-element_at xs n x less is = slice_get_read xs (length xs) n x refl less is
-
 -- one more cite that is arranged
 pub arranged_step : {A Y : Type 0} (ys : List Y) (view_of : A → runs.Arranged ℕ) (xs : List A) (n : ℕ) (a : A) (y : Y) → n < length xs → a ≡ get_or xs n a → slice_get ys (view_of a).cite.cite ≡ Some y
     → arranged_in ys (map view_of (drop n xs)) ≡ arranged_as (λ m. y) (view_of a) ∷ arranged_in ys (map view_of (drop (n + 1) xs))
@@ -97,7 +69,7 @@ arranged_step ys view_of xs n a y less is at =
     ∙ ap (λ o. cons_option (option_map (λ z. arranged_as (λ m. z) (view_of a)) o) rest) at
 
 -- one more cite that is gathered
-pub gathered_step : {T P A : Type 0} (year_suffixes : List (Option Suffix)) (view_of : A → states.Printed) (is : List (CitationItem T P)) (ks : List NumberedCite) (ss : List A) (n : ℕ) (i : CitationItem T P) (k : NumberedCite) (s : A)
+pub gathered_step : {T P A : Type 0} (year_suffixes : List (Option Suffix)) (view_of : A → prints.Printed) (is : List (CitationItem T P)) (ks : List NumberedCite) (ss : List A) (n : ℕ) (i : CitationItem T P) (k : NumberedCite) (s : A)
     → n < length is → n < length ks → n < length ss → i ≡ get_or is n i → k ≡ get_or ks n k → s ≡ get_or ss n s
     → all_gathered year_suffixes n (drop n is) (drop n ks) (map view_of (drop n ss))
     ≡ gathered_from n k.number i.hidden (is_some i.locator) (view_of s).tree (get_or year_suffixes k.entry None) ∷ all_gathered year_suffixes (n + 1) (drop (n + 1) is) (drop (n + 1) ks) (map view_of (drop (n + 1) ss))
@@ -107,37 +79,13 @@ gathered_step year_suffixes view_of is ks ss n i k s a b c x y z =
     ∙ (λ j. gathered_from n (sym y j).number (sym x j).hidden (is_some (sym x j).locator) (view_of (sym z j)).tree (get_or year_suffixes (sym y j).entry None) ∷ rest)
 
 module _ {T P : Type 0} (answers : T → Answers) where
-  pub run_long : (x : StyleContext) (is : List (CitationItem T P)) (ks : List NumberedCite) → length ks ≡ length is → length (numbered_cites_view answers x is ks) ≡ length is
-  run_long x [] ks e = refl
-  run_long x (i ∷ is) [] e = e
-  run_long x (i ∷ is) (k ∷ ks) e = let f : length ks ≡ length is = omega (arith, e) in ap suc (run_long x is ks f)
-
   -- there is a print for each item
-  pub prints_long : {A : Type 0} (view_of : A → states.Printed) → (x : StyleContext) (ms : States) (is : List (CitationItem T P)) (ks : List NumberedCite) (ss : List A) → length ks ≡ length is → map view_of ss ≡ map (printed_by_states ms) (numbered_cites_view answers x is ks) → length ss ≡ length is
-  prints_long view_of x ms is ks ss long e = sym (length-map ss view_of) ∙ ap length e ∙ length-map (numbered_cites_view answers x is ks) (printed_by_states ms) ∙ run_long x is ks long
-
-  -- the cite of an item
-  pub run_at : (x : StyleContext) (is : List (CitationItem T P)) (ks : List NumberedCite) (n : ℕ) (i : CitationItem T P) (k : NumberedCite) → n < length is → n < length ks → i ≡ get_or is n i → k ≡ get_or ks n k
-      → slice_get (numbered_cites_view answers x is ks) n ≡ Some (numbered_view answers x i k)
-  run_at x [] ks n i k a b e f = absurd (not-suc-le-zero a)
-  run_at x (j ∷ js) [] n i k a b e f = absurd (not-suc-le-zero b)
-  run_at x (j ∷ js) (l ∷ ls) zero i k a b e f = λ z. Some (numbered_view answers x (sym e z) (sym f z))
-  run_at x (j ∷ js) (l ∷ ls) (suc n) i k a b e f =
-      let c : n < length js = omega (arith, a) in
-      let d : n < length ls = omega (arith, b) in
-      run_at x js ls n i k c d e f
+  pub prints_long : {A : Type 0} (view_of : A → prints.Printed) → (x : StyleContext) (ms : States) (is : List (CitationItem T P)) (ks : List NumberedCite) (ss : List A) → length ks ≡ length is → map view_of ss ≡ map (printed_by_states ms) (numbered_cites_view answers x is ks) → length ss ≡ length is
+  prints_long view_of x ms is ks ss long e = sym (length-map ss view_of) ∙ ap length e ∙ length-map (numbered_cites_view answers x is ks) (printed_by_states ms) ∙ run_long answers x is ks long
 
   pub print_at : (x : StyleContext) (is : List (CitationItem T P)) (ks : List NumberedCite) (n : ℕ) (i : CitationItem T P) (k : NumberedCite) → n < length is → n < length ks → i ≡ get_or is n i → k ≡ get_or ks n k
       → slice_get (map first_print (numbered_cites_view answers x is ks)) n ≡ Some (first_print (numbered_view answers x i k))
-  print_at x is ks n i k a b e f = slice_get-map first_print (numbered_cites_view answers x is ks) n ∙ ap (option_map first_print) (run_at x is ks n i k a b e f)
-
-  pub runs_step : {A : Type 0} (requests : List (CitationRequest T P)) (vs : List (Vec NumberedCite A)) (n : ℕ) (r : CitationRequest T P) (v : Vec NumberedCite A) (ks : List NumberedCite) → n < length requests → n < length vs → r ≡ get_or requests n r → v ≡ get_or vs n v → ks ≡ v.items
-      → all_numbered_cites_view answers (drop n requests) (drop n vs) ≡ numbered_cites_view answers (context_of r) r.items.items ks ∷ all_numbered_cites_view answers (drop (n + 1) requests) (drop (n + 1) vs)
-  runs_step requests vs n r v ks less below is also e =
-      let rest = all_numbered_cites_view answers (drop (n + 1) requests) (drop (n + 1) vs) in
-      (λ j. all_numbered_cites_view answers (drop_more requests n r less j) (drop_more vs n v below j))
-      ∙ (λ j. numbered_cites_view answers (context_of (sym is j)) (sym is j).items.items (sym also j).items ∷ rest)
-      ∙ ap (λ ls. numbered_cites_view answers (context_of r) r.items.items ls ∷ rest) (sym e)
+  print_at x is ks n i k a b e f = slice_get-map first_print (numbered_cites_view answers x is ks) n ∙ ap (option_map first_print) (run_at answers x is ks n i k a b e f)
 
   -- requests with their first prints
   abbrev pub with_prints : {A : Type 0} → List (CitationRequest T P) → List (Vec NumberedCite A) → List (Request P × List (FirstPrint P))
@@ -186,7 +134,7 @@ module _ {T P : Type 0} (answers : T → Answers) where
 
 -- one more request
 pub cited_one : {P : Type 0} (same : P → P → Bool) (t : Disambiguation) (r : Request P) (bs : List (FirstPrint P)) (cs new : List Printed) (c : Printed) (ls now : List (Option Listed)) (last after : Option (Item P)) → new ≡ cs ++ c ∷ []
-    → c ≡ citation_in (r, run_finals same t.states last (arranged_for t (r, bs))) → now ≡ fold listed_with ls (map listed_as (run_finals same t.states last (arranged_for t (r, bs)))) → after ≡ last_arranged last (arranged_for t (r, bs))
+    → c ≡ citation_in (r, finals_after same t.states last (arranged_for t (r, bs))) → now ≡ fold listed_with ls (map listed_as (finals_after same t.states last (arranged_for t (r, bs)))) → after ≡ last_arranged last (arranged_for t (r, bs))
     → record { citations = new; listed = now; last = after } ≡ cited_with same t (record { citations = cs; listed = ls; last = last }) (r, bs)
 cited_one same t r bs cs new c ls now last after e is is_listed is_last = λ j. record { citations = (e ∙ ap (λ d. cs ++ d ∷ []) is) j; listed = is_listed j; last = is_last j }
 
@@ -224,7 +172,7 @@ abbrev pub no_cite : NumberedCite
 no_cite = record { entry = 0; index = 0; note_number = None; facts = record { first_note_number = None; is_near_note = false; is_first = false }; number = 0; ibid = ibids.Different }
 
 -- one more cite is gathered
-pub gathered_goes_on : {T P A G : Type 0} (view : G → Gathered ℕ) (year_suffixes : List (Option Suffix)) (view_of : A → states.Printed) (is : List (CitationItem T P)) (ks : List NumberedCite) (ss : List A) (n : ℕ) (i : CitationItem T P) (d : NumberedCite) (s : A) (now new : List G) (g : G)
+pub gathered_goes_on : {T P A G : Type 0} (view : G → Gathered ℕ) (year_suffixes : List (Option Suffix)) (view_of : A → prints.Printed) (is : List (CitationItem T P)) (ks : List NumberedCite) (ss : List A) (n : ℕ) (i : CitationItem T P) (d : NumberedCite) (s : A) (now new : List G) (g : G)
     (all : List (Gathered ℕ)) (tree : Children) (suffix : Option Suffix) → n < length is → n < length ks → n < length ss → i ≡ get_or is n i → s ≡ get_or ss n s
     → map view now ++ all_gathered year_suffixes n (drop n is) (drop n ks) (map view_of (drop n ss)) ≡ all → new ≡ now ++ g ∷ []
     → view g ≡ gathered_from n (get_or ks n d).number i.hidden (is_some i.locator) tree suffix → tree ≡ (view_of s).tree → suffix ≡ get_or year_suffixes (get_or ks n d).entry None
@@ -235,7 +183,7 @@ gathered_goes_on view year_suffixes view_of is ks ss n i d s now new g all tree 
     (all_gathered year_suffixes (n + 1) (drop (n + 1) is) (drop (n + 1) ks) (map view_of (drop (n + 1) ss))) all (gathered_step year_suffixes view_of is ks ss n i k s a b c x (get_or_default ks n d k b) z) h e
     (is_view ∙ (λ j. gathered_from n k.number i.hidden (is_some i.locator) (is_tree j) (is_suffix j)))
 
-pub all_gathered_long : {T P : Type 0} (year_suffixes : List (Option Suffix)) (n : ℕ) (is : List (CitationItem T P)) (ks : List NumberedCite) (ss : List states.Printed) → length ks ≡ length is → length ss ≡ length is → length (all_gathered year_suffixes n is ks ss) ≡ length is
+pub all_gathered_long : {T P : Type 0} (year_suffixes : List (Option Suffix)) (n : ℕ) (is : List (CitationItem T P)) (ks : List NumberedCite) (ss : List prints.Printed) → length ks ≡ length is → length ss ≡ length is → length (all_gathered year_suffixes n is ks ss) ≡ length is
 all_gathered_long year_suffixes n [] ks ss e f = refl
 all_gathered_long year_suffixes n (i ∷ is) [] ss e f = e
 all_gathered_long year_suffixes n (i ∷ is) (k ∷ ks) [] e f = f
@@ -252,7 +200,3 @@ arranged_low c xs zs n m e h same k d less =
     let at : (get_or zs k (f d)).cite.cite ≡ (get_or xs k d).cite.cite = ap (λ ys. (get_or ys k (f d)).cite.cite) (sym e) ∙ ap (λ (a : runs.Arranged ℕ). a.cite.cite) (get_or-map f xs k d (f d) less) in
     let low : (get_or zs k (f d)).cite.cite < n = h k (f d) (omega (arith, less, long)) in
     omega (arith, at, low, same)
-
--- the cites of a request are of low entries
-pub run_low : {A : Type 0} (count : ℕ) (vs : List (Vec NumberedCite A)) (n : ℕ) (v : Vec NumberedCite A) (ks : List NumberedCite) → AreWithin count vs → n < length vs → v ≡ get_or vs n v → ks ≡ v.items → All (λ (k : NumberedCite). k.entry < count) ks
-run_low count vs n v ks h less is e = All-same (λ (k : NumberedCite). k.entry < count) ks (get_or vs n v).items (e ∙ ap (λ w. w.items) is) (h n v less)

@@ -15,23 +15,24 @@ use Rattle.driver_requests.specs.Order.{cited, numbers_overflow}
 use Rattle.driver_requests.specs.Views.{entries_in, request_view}
 use Rattle.driver_requests.specs.declared.bibliography_request.BibliographyRequest.{BibliographyRequest}
 use Rattle.driver_requests.specs.declared.request.CitationRequest.{CitationRequest}
-use Rattle.driver_disambiguation.specs.Classes.{Printed}
+use Rattle.driver_names.specs.Prints.{Printed}
 use Rattle.driver_disambiguation.specs.States.{suffixes_overflow}
 use Rattle.driver_disambiguation.specs.Rounds.{Disambiguation, disambiguated}
-use Rattle.driver.specs.Documents.{Document, order_in}
+use Rattle.driver_rounds.specs.Documents.{Document, order_in}
 use Rattle.driver.specs.FinalPrints.{finals_from, firsts}
 use Rattle.driver.specs.Finish.{finish, keys_in, rendered_from}
-use Rattle.driver.specs.OrderAndNumbers.{KnownCites, known_in, known_of, known_view, numbered_in}
+use Rattle.driver_rounds.specs.OrderAndNumbers.{KnownCites, known_in, known_of, known_view, numbered_in}
 use Rattle.driver.specs.Listing.{keys_first, rendered_of}
-use Rattle.driver.specs.Rounding.{AreWithin, round_states_view, unless_overflow}
-use Rattle.driver.specs.Stages.{adds_names, candidate, disambiguated_in, finals_in, first_print, first_prints_in, flattened}
-use Rattle.driver.specs.Views.{document_view, printed_by_states, all_numbered_cites_view}
-use Rattle.driver.specs.declared.cite.NumberedCite.{NumberedCite}
-use Rattle.driver.specs.declared.order_and_numbers.OrderAndNumbers.{OrderAndNumbers}
-use Rattle.driver.specs.declared.rounds.RoundStates.{RoundStates}
+use Rattle.driver_rounds.specs.Rounding.{AreWithin, round_states_view, unless_overflow}
+use Rattle.driver_rounds.specs.FirstPrints.{adds_names, candidate, disambiguated_in, first_print, first_prints_in, flattened}
+use Rattle.driver.specs.Stages.{finals_in}
+use Rattle.driver_rounds.specs.Views.{document_view, printed_by_states, all_numbered_cites_view}
+use Rattle.driver_rounds.specs.declared.cite.NumberedCite.{NumberedCite}
+use Rattle.driver_rounds.specs.declared.order_and_numbers.OrderAndNumbers.{OrderAndNumbers}
+use Rattle.driver_rounds.specs.declared.rounds.RoundStates.{RoundStates}
 use Rattle.driver.proofs.FinishStages.{finish_is, firsts_are, known_parts, suffixes_end, states_are, states_long}
 use Rattle.driver.proofs.KeysListed.{keys_are}
-use Rattle.driver.proofs.KnownIndices.{passed}
+use Rattle.driver_rounds.proofs.KnownIndices.{passed}
 
 module _ {T P : Type 0} (eq : T → T → Bool) (answers : T → Answers) (same : P → P → Bool) (rs : List (CitationRequest T P)) (offset : ℕ) (request : BibliographyRequest T) (k : OrderAndNumbers)
     (is_known : known_in same (document_view eq answers rs offset request) ≡ Ok (known_view answers rs k)) where

@@ -7,7 +7,7 @@ use Rattle.std.proofs.Math.Path.{fun_ext}
 use Rattle.std.proofs.lemmas.List.{length-append, length-map, length-replicate}
 use Rattle.std.proofs.lemmas.List.FromFn.{length-enumerate_from}
 use Rattle.laws.specs.Results.{EndsWith, Gives, GivesBack}
-use Rattle.rendering_context.specs.Cites.{undisturbed}
+use Rattle.rendering_context.specs.Cites.{undisambiguated}
 use Rattle.rendering_entries.specs.Answers.{Answers}
 use Rattle.driver_requests.specs.Cites.{Numbered, cite_at, cites_after, cites_of}
 use Rattle.driver_requests.specs.Errors.{Overflow, overflow}
@@ -16,17 +16,19 @@ use Rattle.driver_requests.specs.Positions.{with_previous}
 use Rattle.driver_requests.specs.Requests.{Request}
 use Rattle.driver_requests.specs.Views.{request_view}
 use Rattle.driver_requests.specs.declared.request.CitationRequest.{CitationRequest}
-use Rattle.driver_disambiguation.specs.Classes.{Candidate, printed_under}
-use Rattle.driver_disambiguation.specs.States.{GivenState, States, joined_for, states_after, suffixes_overflow}
+use Rattle.driver_names.specs.Prints.{Candidate, GivenState}
+use Rattle.driver_disambiguation.specs.Classes.{printed_under}
+use Rattle.driver_disambiguation.specs.States.{States, joined_for, states_after, suffixes_overflow}
 use Rattle.driver_disambiguation.specs.Rounds as rounds
 use Rattle.driver_disambiguation.specs.Rounds.{Disambiguation, after_round, disambiguated}
-use Rattle.driver.specs.Documents.{Document, items_count, order_in}
+use Rattle.driver_rounds.specs.Documents.{Document, items_count, order_in}
 use Rattle.driver.specs.FinalPrints.{finals_from, firsts, listed_as}
 use Rattle.driver.specs.Finish.{effort_bound, finish, is_final_of, item_of_entry, rendered_from}
-use Rattle.driver.specs.OrderAndNumbers.{KnownCites, known_in, known_of, numbered_in}
+use Rattle.driver_rounds.specs.OrderAndNumbers.{KnownCites, known_in, known_of, numbered_in}
 use Rattle.driver.specs.Listing.{bibliography_from, item_first, item_listed, rendered_of}
-use Rattle.driver.specs.Stages.{Final, adds_names, candidate, disambiguated_in, finals_in, first_print, first_prints_in, flattened, numbered_after}
-use Rattle.driver.proofs.KnownIndices.{passed}
+use Rattle.driver.specs.Stages.{Final, finals_in}
+use Rattle.driver_rounds.specs.FirstPrints.{adds_names, candidate, disambiguated_in, first_print, first_prints_in, flattened, numbered_after}
+use Rattle.driver_rounds.proofs.KnownIndices.{passed}
 use Rattle.driver.proofs.Maps.{flat_maps, map_map, maps_of_maps}
 
 -- what is known of cites, where no number overflows
@@ -63,7 +65,7 @@ rounds_long adds cites t (n ∷ ns) = rounds_long adds cites (after_round adds c
 
 -- there is a state for each cited entry
 pub states_long : (adds : Bool) (n : ℕ) (cites : List Candidate) → length (disambiguated adds n cites).states ≡ n
-states_long adds n cites = rounds_long adds cites (rounds.before_rounds n) (range_with_len 0 3) ∙ length-replicate n undisturbed
+states_long adds n cites = rounds_long adds cites (rounds.before_rounds n) (range_with_len 0 3) ∙ length-replicate n undisambiguated
 
 -- numbers that overflow
 pub numbers_end : {X Y : Type 0} (r : Option Overflow) (b s : Bool) (x : X) (y : Y) → EndsWith r (if b then Err overflow else Ok x) → EndsWith r (if b || s then Err overflow else Ok y)

@@ -6,7 +6,7 @@ use Rattle.std.proofs.lemmas.List.{get_or-map}
 use Rattle.std.proofs.lemmas.List.Elements.{All-cons, All-head, All-nil, All-same, All-tail}
 use Rattle.std.proofs.lemmas.Option.{slice_get_within}
 use Rattle.std.proofs.lemmas.List.FromFn.{get_or-enumerate_from, length-enumerate_from}
-use Rattle.rendering_context.specs.Cites.{DisambiguateState, undisturbed}
+use Rattle.rendering_context.specs.Cites.{DisambiguateState, undisambiguated}
 use Rattle.rendering_entries.specs.Answers.{Answers}
 use Rattle.rendering_style.specs.Styles.{Citation}
 use Rattle.rendering_tree.specs.Metas as metas
@@ -15,7 +15,8 @@ use Rattle.rendering_context.specs.Contexts.{StyleContext}
 use Rattle.driver_requests.specs.Views.{request_locator_view}
 use Rattle.driver_requests.specs.declared.item.CitationItem.{CitationItem}
 use Rattle.driver_disambiguation.specs.SuffixesFound.{suffixes_by}
-use Rattle.driver_disambiguation.specs.States.{GivenState, States, state_of, suffix_by}
+use Rattle.driver_names.specs.Prints.{GivenState}
+use Rattle.driver_disambiguation.specs.States.{States, state_of, suffix_by}
 use Rattle.driver_disambiguation.specs.Rounds.{Disambiguation}
 use Rattle.driver_blocks.specs.Blocks.{Gathered}
 use Rattle.driver_blocks.specs.Collapsing.{arranged}
@@ -23,9 +24,10 @@ use Rattle.driver_blocks.specs.Runs.{Arranged}
 use Rattle.driver.proofs.ArrangedRenamed.{arranged_renamed}
 use Rattle.driver.specs.FinalPrints.{all_gathered, arranged_at, arranged_in}
 use Rattle.driver.specs.Renaming.{arranged_as, gathered_as}
-use Rattle.driver.specs.Stages.{FirstPrint, first_print, gathered_by, printed_by}
-use Rattle.driver.specs.Views.{printed_by_states, numbered_view, numbered_cites_view}
-use Rattle.driver.specs.declared.cite.NumberedCite.{NumberedCite}
+use Rattle.driver_rounds.specs.FirstPrints.{FirstPrint, first_print, printed_by}
+use Rattle.driver.specs.Stages.{gathered_by}
+use Rattle.driver_rounds.specs.Views.{printed_by_states, numbered_view, numbered_cites_view}
+use Rattle.driver_rounds.specs.declared.cite.NumberedCite.{NumberedCite}
 
 is_some_map : {A B : Type 0} (f : A → B) (o : Option A) → is_some o ≡ is_some (option_map f o)
 is_some_map f None = refl
@@ -36,9 +38,9 @@ suffix_at : (ms : States) (gs : List GivenState) (e : ℕ) → e < length ms →
 suffix_at ms gs e low =
     let long : length (enumerate_from 0 ms) ≡ length ms = length-enumerate_from 0 ms in
     let index : 0 + e ≡ e = omega arith in
-    let read : get_or (enumerate_from 0 ms) e (0, undisturbed) ≡ (e, get_or ms e undisturbed) =
-    get_or-enumerate_from 0 ms e (0, undisturbed) low ∙ (λ k. (index k, get_or ms e undisturbed)) in
-    get_or-map (λ (p : ℕ × DisambiguateState). suffix_by p.1 p.0 gs) (enumerate_from 0 ms) e (0, undisturbed) None (omega (arith, low, long))
+    let read : get_or (enumerate_from 0 ms) e (0, undisambiguated) ≡ (e, get_or ms e undisambiguated) =
+    get_or-enumerate_from 0 ms e (0, undisambiguated) low ∙ (λ k. (index k, get_or ms e undisambiguated)) in
+    get_or-map (λ (p : ℕ × DisambiguateState). suffix_by p.1 p.0 gs) (enumerate_from 0 ms) e (0, undisambiguated) None (omega (arith, low, long))
     ∙ ap (λ (p : ℕ × DisambiguateState). suffix_by p.1 p.0 gs) read
 
 -- the entry of a cite is among so many

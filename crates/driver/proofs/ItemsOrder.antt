@@ -1,10 +1,9 @@
--- Each cited entry has a cite in the final order, so that the bibliography has an item for it, and a key.
-use Rattle.std.proofs.Common.{◌≡◌, ℕ, ◌+◌, Bool, true, false, true≢false, cond, ◌||◌, nat_eq, eq-eqb, is_some, List, [], ◌∷◌, ◌++◌, append_assoc, length, map, refl, sym, ap, ◌∙◌, Option, Some, None}
-use Rattle.std.specs.Prelude.{◌==◌, filter_map, find}
+-- Each cited entry is cited by an item and has a cite in the final order, by which the bibliography prints it.
+use Rattle.std.proofs.Common.{◌≡◌, ℕ, ◌+◌, Bool, true, false, cond, ◌||◌, nat_eq, eq-eqb, is_some, List, [], ◌∷◌, ◌++◌, append_assoc, map, refl, sym, ap, ◌∙◌, Option, Some, None}
+use Rattle.std.specs.Prelude.{◌==◌, find}
 use Rattle.std.specs.Cmp.{nat_eq_equiv}
-use Rattle.std.specs.List.{AllByRecursion, cons_option, enumerate_from, flat_map, last_or, list_any, zip}
-use Rattle.std.specs.Option.{option_and_then, option_map}
-use Rattle.std.proofs.lemmas.List.{length-map}
+use Rattle.std.specs.List.{AllByRecursion, enumerate_from, flat_map, last_or, list_any, zip}
+use Rattle.std.specs.Option.{option_map}
 use Rattle.std.proofs.lemmas.List.Folds.{list_any-append}
 use Rattle.rendering_style.specs.Styles.{Bibliography}
 use Rattle.rendering.specs.Purposes.{Rendered, bibliography}
@@ -16,13 +15,12 @@ use Rattle.driver_requests.proofs.Once.{once-any}
 use Rattle.driver_disambiguation.specs.Rounds.{Disambiguation}
 use Rattle.driver_blocks.specs.Blocks.{Gathered}
 use Rattle.driver_blocks.specs.Runs.{Arranged}
-use Rattle.driver.specs.Documents.{Document, order_in}
-use Rattle.driver.specs.Finish.{is_final_of, item_of_cite, item_of_entry, item_properties, item_trees, key_at, keys_in}
-use Rattle.driver.specs.Laws.{ItemsAreTheOrder, KeysAreTheOrder, finals_of}
-use Rattle.driver.specs.Stages.{Final, FirstPrint, arranged_for, disambiguated_in, entry_of_first, final, first_print, first_prints_in, flattened, gathered_by, has_purpose, numbered_after}
+use Rattle.driver_rounds.specs.Documents.{Document, order_in}
+use Rattle.driver.specs.Finish.{is_final_of, item_of_cite, item_properties}
+use Rattle.driver.specs.Stages.{finals_of, Final, arranged_for, final, gathered_by, has_purpose}
+use Rattle.driver_rounds.specs.FirstPrints.{FirstPrint, disambiguated_in, entry_of_first, first_print, first_prints_in, flattened, numbered_after}
 use Rattle.driver.proofs.ArrangedCount.{arranged_any}
-use Rattle.driver.proofs.DocumentsOrder.{order_has_the_cited}
-use Rattle.driver.proofs.ItemsListed.{items_long}
+use Rattle.driver.proofs.DocumentsOrder.{ordered_has}
 use Rattle.driver.proofs.Maps.{any_map, any_same}
 use Rattle.driver.proofs.Members.{weaker_all}
 
@@ -114,22 +112,9 @@ found_some p (x ∷ xs) = by_value (p x) refl (found_some p xs)
     by_value true e others = ap (λ b. is_some (cond b (Some x) (find p xs))) e ∙ sym (ap (λ b. b || list_any p xs) e)
     by_value false e others = ap (λ b. is_some (cond b (Some x) (find p xs))) e ∙ others ∙ sym (ap (λ b. b || list_any p xs) e)
 
-map_some : {A B : Type 0} (f : A → B) (o : Option A) → is_some (option_map f o) ≡ is_some o
+pub map_some : {A B : Type 0} (f : A → B) (o : Option A) → is_some (option_map f o) ≡ is_some o
 map_some f None = refl
 map_some f (Some x) = refl
-
-and_then_some : {A B : Type 0} (f : A → Option B) (o : Option A) → ((a : A) → is_some (f a) ≡ true) → is_some o ≡ true → is_some (option_and_then f o) ≡ true
-and_then_some f None e h = absurd (true≢false (sym h))
-and_then_some f (Some a) e h = e a
-
--- what is made of each member is there, if it is of each of them
-all_some : {A B : Type 0} (f : A → Option B) (xs : List A) → AllByRecursion (λ x. is_some (f x) ≡ true) xs → map f xs ≡ map (λ y. Some y) (filter_map f xs)
-all_some f [] h = refl
-all_some {A} {B} f (x ∷ xs) h = by_value (f x) refl (all_some f xs h.1)
-  where
-    by_value : (o : Option B) → f x ≡ o → map f xs ≡ map (λ y. Some y) (filter_map f xs) → map f (x ∷ xs) ≡ map (λ y. Some y) (filter_map f (x ∷ xs))
-    by_value None e others = absurd (true≢false (sym h.0 ∙ ap is_some e))
-    by_value (Some y) e others = (λ k. e k ∷ others k) ∙ sym (ap (λ o. map (λ z. Some z) (cons_option o (filter_map f xs))) e)
 
 -- each member is among the members
 themselves : (xs ys : List ℕ) → AllByRecursion (λ x. is_index_in (xs ++ ys) x ≡ true) ys
@@ -151,14 +136,7 @@ module _ {P : Type 0} (d : Document P) where
   pub order_cited : AllByRecursion (λ entry_index. list_any (cites_entry entry_index) (flat_map (λ (r : Request P). r.items) d.requests) ≡ true) (order_in d)
   order_cited =
       weaker_all (λ entry_index. is_index_in (order_in d) entry_index ≡ true) (λ entry_index. list_any (cites_entry entry_index) (flat_map (λ (r : Request P). r.items) d.requests) ≡ true)
-      (λ entry_index h. sym (is_cited entry_index d) ∙ sym ((order_has_the_cited P d).1 entry_index) ∙ h) (order_in d) (themselves [] (order_in d))
-
-  -- there is a key for each of them
-  pub keys_there : map (key_at d) (order_in d) ≡ map (λ key. Some key) (keys_in d)
-  keys_there =
-      all_some (key_at d) (order_in d)
-      (weaker_all (λ entry_index. list_any (cites_entry entry_index) (flat_map (λ (r : Request P). r.items) d.requests) ≡ true) (λ entry_index. is_some (key_at d entry_index) ≡ true)
-      (λ entry_index h. map_some (λ (i : Item P). i.entry.answers.key) (find (cites_entry entry_index) (flat_map (λ (r : Request P). r.items) d.requests)) ∙ found_some (cites_entry entry_index) (flat_map (λ (r : Request P). r.items) d.requests) ∙ h) (order_in d) order_cited)
+      (λ entry_index h. sym (is_cited entry_index d) ∙ sym (ordered_has d.bibliography_context.style.bibliography d.wanted (cited d.requests) entry_index) ∙ h) (order_in d) (themselves [] (order_in d))
 
   module _ (same : P → P → Bool) where
     -- each of them has a cite in the final order
@@ -173,22 +151,3 @@ module _ {P : Type 0} (d : Document P) where
         map_some (λ (r : Rendered). r.tree) (bibliography d.bibliography_context f.arranged.cite.cite.numbered.cite.item.entry.answers (item_properties f) None)
         ∙ map_some _ d.bibliography_context.style.bibliography
         ∙ ap is_some e
-
-    -- and where the style has a bibliography an item
-    pub items_there : (b : Bibliography) → d.bibliography_context.style.bibliography ≡ Some b → map (item_of_entry d (finals_of same d)) (order_in d) ≡ map (λ tree. Some tree) (item_trees d (finals_of same d))
-    items_there b e =
-        all_some (item_of_entry d (finals_of same d)) (order_in d)
-        (weaker_all (λ entry_index. list_any (cites_entry entry_index) (flat_map (λ (r : Request P). r.items) d.requests) ≡ true) (λ entry_index. is_some (item_of_entry d (finals_of same d) entry_index) ≡ true)
-        (λ entry_index h. and_then_some (item_of_cite d) (find (is_final_of entry_index) (finals_of same d)) (λ f. item_there b f e) (final_there entry_index h)) (order_in d) order_cited)
-
--- where the style has a bibliography, this has one item for each cited entry, in their order
-pub items_order : (P : Type 0) → ItemsAreTheOrder P
-items_order P = λ same d b e.
-    let there = items_there d same b e in
-    let trees = item_trees d (finals_of same d) in
-    let long : length (order_in d) ≡ length trees = sym (length-map (order_in d) (item_of_entry d (finals_of same d))) ∙ ap length there ∙ length-map trees (λ tree. Some tree) in
-    (items_long b trees ∙ sym long, there)
-
--- there is one key for each cited entry, in their order
-pub keys_order : (P : Type 0) → KeysAreTheOrder P
-keys_order P = λ d. keys_there d

@@ -9,10 +9,10 @@ use Rattle.rendering_tree.specs.Trees.{Children}
 use Rattle.driver_requests.specs.Cites.{Cite, cite_at, cites_after}
 use Rattle.driver_requests.specs.Requests.{Item, Request, cites_entry}
 use Rattle.driver_blocks.specs.Runs.{Arranged}
-use Rattle.driver.specs.Documents.{Document, order_in}
+use Rattle.driver_rounds.specs.Documents.{Document, order_in}
 use Rattle.driver.specs.Finish.{is_final_of, item_of_cite, key_at, keys_in}
-use Rattle.driver.specs.Laws.{finals_of}
-use Rattle.driver.specs.Stages.{Final, FirstPrint, cite_of, disambiguated_in, final, finals_in, first_print, first_print_of, first_prints_in, numbered_after}
+use Rattle.driver.specs.Stages.{finals_of, Final, cite_of, final, finals_in, first_print_of}
+use Rattle.driver_rounds.specs.FirstPrints.{FirstPrint, disambiguated_in, first_print, first_prints_in, numbered_after}
 use Rattle.driver.proofs.FinalPrintsOf.{finals_all, prints_all}
 use Rattle.driver.proofs.ItemsOrder.{final_there, found_some, item_there, order_cited}
 use Rattle.driver.proofs.Members.{both_all, enumerate_all, flat_all, map_all, weaker_all}

@@ -13,13 +13,12 @@ use Rattle.driver_requests.specs.declared.bibliography_request.BibliographyReque
 use Rattle.driver_requests.specs.declared.item.CitationItem.{CitationItem}
 use Rattle.driver_requests.specs.declared.request.CitationRequest.{CitationRequest}
 use Rattle.driver_requests.proofs.Once.{once-any}
-use Rattle.driver.specs.Documents.{Document, order_in}
+use Rattle.driver_rounds.specs.Documents.{Document, order_in}
 use Rattle.driver.specs.FinalPrints.{listed_as}
 use Rattle.driver.specs.Finish.{is_final_of, keys_in}
-use Rattle.driver.specs.Laws.{finals_of}
+use Rattle.driver.specs.Stages.{finals_of, Final}
 use Rattle.driver.specs.Listing.{key_first, key_printed, keys_first}
-use Rattle.driver.specs.Stages.{Final}
-use Rattle.driver.specs.Views.{document_view}
+use Rattle.driver_rounds.specs.Views.{document_view}
 use Rattle.driver.proofs.FinishStages.{and_then_map}
 use Rattle.driver.proofs.ItemsOrder.{found_some}
 use Rattle.driver.proofs.KeysFinals.{IsInTable, filter_map_same, found_all, key_final, keys_final}

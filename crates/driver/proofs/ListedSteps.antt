@@ -7,7 +7,7 @@ use Rattle.std.proofs.lemmas.List.{drop_all, drop_more, get_or-map}
 use Rattle.std.proofs.Math.ListN.{get_or-eq_default}
 use Rattle.std.proofs.lemmas.List.Elements.{All-head, All-tail}
 use Rattle.std.proofs.lemmas.List.FromFn.{get_or-map-range_with_len, length-map-range_with_len}
-use Rattle.rendering_context.specs.Cites.{undisturbed}
+use Rattle.rendering_context.specs.Cites.{undisambiguated}
 use Rattle.rendering_context.specs.Views.{state_view}
 use Rattle.rendering_context.specs.declared.cite.DisambiguateState.{DisambiguateState as CodeState}
 use Rattle.rendering_context.specs.Contexts.{StyleContext}
@@ -57,7 +57,7 @@ in_state_alike : {T : Type 0} (answers : T → Answers) (states : List CodeState
 in_state_alike answers states state index None less at h = refl
 in_state_alike answers states state index (Some l) less at h =
     let same : state_view state ≡ state_of (map state_view states) l.cite.entry =
-    ap state_view at ∙ sym (get_or-map state_view states index state undisturbed less) ∙ ap (λ p. get_or (map state_view states) p undisturbed) (sym h) in
+    ap state_view at ∙ sym (get_or-map state_view states index state undisambiguated less) ∙ ap (λ p. get_or (map state_view states) p undisambiguated) (sym h) in
     ap (λ m. Some (listed_in_state answers m l)) same
 
 -- what is made of the entry at an index, by its state

@@ -1,10 +1,10 @@
 -- What holds of each member of a list that is made of others.
-use Rattle.std.proofs.Common.{◌≡◌, ℕ, ◌+◌, Bool, true, false, cond, List, [], ◌∷◌, ◌++◌, drop, filter, map, refl}
+use Rattle.std.proofs.Common.{ℕ, ◌+◌, Bool, true, false, cond, List, [], ◌∷◌, ◌++◌, drop, filter, map}
 use Rattle.std.specs.List.{AllByRecursion, enumerate_from, flat_map, last_or, zip}
 use Rattle.std.specs.Prelude.{Option, Some}
 use Rattle.std.proofs.lemmas.List.Elements.{All-drop, All-from_recursion, recursion_from_All}
 use Rattle.driver_requests.specs.Positions.{with_previous}
-use Rattle.driver.specs.Stages.{flattened}
+use Rattle.driver_rounds.specs.FirstPrints.{flattened}
 
 pub append_all : {A : Type 0} (P : A → Type 0) (xs ys : List A) → AllByRecursion P xs → AllByRecursion P ys → AllByRecursion P (xs ++ ys)
 append_all P [] ys h k = k
@@ -33,15 +33,6 @@ either_all P false xs ys h k = k
 pub filter_all : {A : Type 0} (P : A → Type 0) (p : A → Bool) (xs : List A) → AllByRecursion P xs → AllByRecursion P (filter p xs)
 filter_all P p [] h = tt
 filter_all P p (x ∷ xs) h = either_all P (p x) (x ∷ filter p xs) (filter p xs) (h.0, filter_all P p xs h.1) (filter_all P p xs h.1)
-
--- of those that pass a test it holds, where it follows from that
-pub passed_all : {A : Type 0} (P : A → Type 0) (p : A → Bool) (xs : List A) → AllByRecursion (λ a. p a ≡ true → P a) xs → AllByRecursion P (filter p xs)
-passed_all P p [] h = tt
-passed_all {A} P p (x ∷ xs) h = by_value (p x) refl (passed_all P p xs h.1)
-  where
-    by_value : (b : Bool) → p x ≡ b → AllByRecursion P (filter p xs) → AllByRecursion P (cond b (x ∷ filter p xs) (filter p xs))
-    by_value true e others = (h.0 e, others)
-    by_value false e others = others
 
 pub drop_all : {A : Type 0} (P : A → Type 0) (n : ℕ) (xs : List A) → AllByRecursion P xs → AllByRecursion P (drop n xs)
 drop_all P n xs h = recursion_from_All P (drop n xs) (All-drop P n xs (All-from_recursion P xs h))

@@ -13,28 +13,31 @@ use Rattle.rendering_context.specs.Contexts.{StyleContext}
 use Rattle.driver_requests.specs.Suffixes.{Suffix}
 use Rattle.driver_requests.specs.Views.{context_of, request_view}
 use Rattle.driver_requests.specs.declared.request.CitationRequest.{CitationRequest}
-use Rattle.driver_disambiguation.specs.Classes as states
+use Rattle.driver_names.specs.Prints as prints
 use Rattle.driver_disambiguation.specs.SuffixesFound.{suffixes_by}
-use Rattle.driver_disambiguation.specs.States.{GivenState, States, suffix_by}
+use Rattle.driver_names.specs.Prints.{GivenState}
+use Rattle.driver_disambiguation.specs.States.{States, suffix_by}
 use Rattle.driver_disambiguation.specs.Rounds.{Disambiguation}
 use Rattle.driver_blocks.specs.Blocks.{Gathered}
 use Rattle.driver_blocks.specs.Collapsing.{arranged}
 use Rattle.driver_blocks.specs.Runs.{Arranged}
 use Rattle.driver.proofs.ArrangedCount.{arranged_count}
-use Rattle.driver.proofs.FinalPrintsSteps.{all_gathered_long, run_long}
+use Rattle.driver.proofs.FinalPrintsSteps.{all_gathered_long}
+use Rattle.driver_rounds.proofs.RequestsFound.{run_long}
 use Rattle.driver.proofs.GatheredFinals.{IsLow, IsWithin, arranged_indices, arranged_within}
 use Rattle.driver.proofs.FinalPrintsRuns.{placed_all}
-use Rattle.driver.specs.FinalPrints.{Placed, all_gathered, arranged_in, last_arranged, listed_as, listed_with, placed_with, run_finals}
+use Rattle.driver.specs.FinalPrints.{Placed, all_gathered, arranged_in, last_arranged, listed_as, listed_with, placed_with, finals_after}
 use Rattle.driver.specs.Finish.{shown}
-use Rattle.driver.specs.Stages.{FirstPrint, arranged_for, first_print, gathered_by, has_purpose}
-use Rattle.driver.specs.Views.{printed_by_states, numbered_cites_view}
-use Rattle.driver.specs.declared.cite.NumberedCite.{NumberedCite}
+use Rattle.driver_rounds.specs.FirstPrints.{FirstPrint, first_print}
+use Rattle.driver.specs.Stages.{arranged_for, gathered_by, has_purpose}
+use Rattle.driver_rounds.specs.Views.{printed_by_states, numbered_cites_view}
+use Rattle.driver_rounds.specs.declared.cite.NumberedCite.{NumberedCite}
 
 -- the cites of a request after what there was before them
 abbrev pub placed_in : {P : Type 0} → (P → P → Bool) → States → Placed P → List (Arranged (FirstPrint P)) → Placed P
 placed_in same ms p cites = record {
-  shown = p.shown ++ flat_map shown (run_finals same ms p.last cites);
-  listed = fold listed_with p.listed (map listed_as (run_finals same ms p.last cites));
+  shown = p.shown ++ flat_map shown (finals_after same ms p.last cites);
+  listed = fold listed_with p.listed (map listed_as (finals_after same ms p.last cites));
   last = last_arranged p.last cites;
 }
 
@@ -45,7 +48,7 @@ suffixes_long ms gs = length-map (enumerate_from 0 ms) (λ (p : ℕ × Disambigu
 pub low_states : (ms : List CodeState) (ks : List NumberedCite) → All (λ (k : NumberedCite). k.entry < length ms) ks → All (IsLow (length (map state_view ms))) ks
 low_states ms ks h = λ k d less. omega (arith, h k d less, length-map ms state_view)
 
-module _ {T P : Type 0} (answers : T → Answers) (t : Disambiguation) (r : CitationRequest T P) (c : Citation) (some_purpose : Bool) (ks : List NumberedCite) (year_suffixes : List (Option Suffix)) (ss : List states.Printed) (gs : List (Gathered ℕ)) (viewed : List (Arranged ℕ))
+module _ {T P : Type 0} (answers : T → Answers) (t : Disambiguation) (r : CitationRequest T P) (c : Citation) (some_purpose : Bool) (ks : List NumberedCite) (year_suffixes : List (Option Suffix)) (ss : List prints.Printed) (gs : List (Gathered ℕ)) (viewed : List (Arranged ℕ))
     (low : All (IsLow (length t.states)) ks) (is_suffix_own : year_suffixes ≡ suffixes_by t.states t.given) (is_printed : ss ≡ map (printed_by_states t.states) (numbered_cites_view answers (context_of r) r.items.items ks)) (is_gathered : gs ≡ all_gathered year_suffixes 0 r.items.items ks ss)
     (is_viewed : viewed ≡ arranged c some_purpose gs) where
   by_index : viewed ≡ arranged c some_purpose (all_gathered (suffixes_by t.states t.given) 0 r.items.items ks (map (printed_by_states t.states) (numbered_cites_view answers (context_of r) r.items.items ks)))

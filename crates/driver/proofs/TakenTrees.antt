@@ -12,12 +12,13 @@ use Rattle.driver_blocks.specs.Runs.{Arranged}
 use Rattle.driver_blocks.specs.Views.{arranged_view}
 use Rattle.driver_blocks.specs.declared.cite.Arranged as arranged
 use Rattle.driver_disambiguation.specs.States.{States}
-use Rattle.driver_disambiguation.specs.Views.{printed_view}
-use Rattle.driver_disambiguation.specs.declared.printed.Printed.{Printed}
+use Rattle.driver_names.specs.Views.{printed_view}
+use Rattle.driver_names.specs.declared.printed.Printed.{Printed}
 use Rattle.driver.proofs.FinalPrintsSteps.{view_at, view_more}
 use Rattle.driver.specs.FinalPrints.{IsLeft, Placed, arranged_in, final_after, listed_as, listed_with, nameless, placed_final, placed_with}
 use Rattle.driver.specs.Renaming.{arranged_as}
-use Rattle.driver.specs.Stages.{Final, FirstPrint, cite_of, located, printed_at_last}
+use Rattle.driver.specs.Stages.{Final, cite_of, located, printed_at_last}
+use Rattle.driver_rounds.specs.FirstPrints.{FirstPrint}
 
 -- two cites in the final order that are printed alike
 module _ {P : Type 0} (f g : Final P) (context : (cite_of f).context ≡ (cite_of g).context) (answers : (cite_of f).item.entry.answers ≡ (cite_of g).item.entry.answers) (properties : located f ≡ located g) (purpose : (cite_of f).item.purpose ≡ (cite_of g).item.purpose)

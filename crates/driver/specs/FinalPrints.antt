@@ -14,22 +14,23 @@ use Rattle.driver_requests.specs.Positions.{ibid_after, with_previous}
 use Rattle.driver_requests.specs.Suffixes.{Suffix}
 use Rattle.driver_requests.specs.Views.{item_view}
 use Rattle.driver_requests.specs.declared.item.CitationItem.{CitationItem}
-use Rattle.driver_disambiguation.specs.Classes as states
+use Rattle.driver_names.specs.Prints as prints
 use Rattle.driver_disambiguation.specs.States.{States, state_of}
 use Rattle.driver_disambiguation.specs.Rounds.{Disambiguation}
 use Rattle.driver_blocks.specs.Blocks.{Gathered}
 use Rattle.driver_blocks.specs.Runs.{Arranged}
 use Rattle.driver_blocks.specs.Views.{arranged_view}
 use Rattle.driver_blocks.specs.declared.cite.Arranged as arranged
-use Rattle.driver.specs.Citations.{Shown}
+use Rattle.driver_citations.specs.Citations.{Shown}
 use Rattle.driver.specs.Finish.{Citation, citation_in, is_final_of, item_properties, shown}
-use Rattle.driver.specs.Joining.{shown_view}
+use Rattle.driver_citations.specs.Joining.{shown_view}
 use Rattle.driver.specs.Renaming.{arranged_as}
 use Rattle.driver.specs.RenderedViews.{rendered_citation_view}
-use Rattle.driver.specs.Stages.{FirstPrint, Final, arranged_for, cite_of, counts_at_last, entry_of_first, final, first_print, first_print_of, item_arranged}
-use Rattle.driver.specs.Views.{numbered_view, properties_with}
-use Rattle.driver.specs.declared.cite.NumberedCite.{NumberedCite}
-use Rattle.driver.specs.declared.citation.ShownCite.{ShownCite}
+use Rattle.driver_rounds.specs.FirstPrints.{FirstPrint, entry_of_first, first_print}
+use Rattle.driver.specs.Stages.{Final, arranged_for, cite_of, counts_at_last, final, first_print_of, item_arranged}
+use Rattle.driver_rounds.specs.Views.{numbered_view, properties_with}
+use Rattle.driver_rounds.specs.declared.cite.NumberedCite.{NumberedCite}
+use Rattle.driver_citations.specs.declared.citation.ShownCite.{ShownCite}
 use Rattle.driver.specs.declared.final_prints.FinalCite.{FinalCite}
 use Rattle.driver.specs.declared.final_prints.LastCite.{LastCite}
 use Rattle.driver.specs.declared.final_prints.ListedCite.{ListedCite}
@@ -82,7 +83,7 @@ gathered_from index number is_hidden has_locator tree suffix = record {
 }
 
 -- the cites of items as they are gathered, from an index on, with the year suffixes of all entries
-abbrev pub all_gathered : {T P : Type 0} → List (Option Suffix) → ℕ → List (CitationItem T P) → List NumberedCite → List states.Printed → List (Gathered ℕ)
+abbrev pub all_gathered : {T P : Type 0} → List (Option Suffix) → ℕ → List (CitationItem T P) → List NumberedCite → List prints.Printed → List (Gathered ℕ)
 all_gathered year_suffixes index [] ns ss = []
 all_gathered year_suffixes index (i ∷ is) [] ss = []
 all_gathered year_suffixes index (i ∷ is) (n ∷ ns) [] = []
@@ -93,7 +94,7 @@ all_gathered year_suffixes index (i ∷ is) (n ∷ ns) (s ∷ ss) =
 abbrev pub arranged_at : {Y : Type 0} → List Y → Arranged ℕ → Option (Arranged Y)
 arranged_at ys a = option_map (λ y. arranged_as (λ n. y) a) (slice_get ys a.cite.cite)
 
--- the same of cites one after the other
+-- cites in their citation one after the other, each known by itself instead of its index
 abbrev pub arranged_in : {Y : Type 0} → List Y → List (Arranged ℕ) → List (Arranged Y)
 arranged_in ys xs = filter_map (arranged_at ys) xs
 
@@ -113,19 +114,19 @@ final_after same states last a = record {
 }
 
 -- cites of a request, the first of them after an item, each other one after the one before it
-abbrev pub run_finals : {P : Type 0} → (P → P → Bool) → States → Option (Item P) → List (Arranged (FirstPrint P)) → List (Final P)
-run_finals same states last [] = []
-run_finals same states last (a ∷ xs) = final_after same states last a ∷ run_finals same states (Some (item_arranged a)) xs
+abbrev pub finals_after : {P : Type 0} → (P → P → Bool) → States → Option (Item P) → List (Arranged (FirstPrint P)) → List (Final P)
+finals_after same states last [] = []
+finals_after same states last (a ∷ xs) = final_after same states last a ∷ finals_after same states (Some (item_arranged a)) xs
 
 -- the last item of cites, or the one before them
 abbrev pub last_arranged : {P : Type 0} → Option (Item P) → List (Arranged (FirstPrint P)) → Option (Item P)
 last_arranged last [] = last
 last_arranged last (a ∷ xs) = last_arranged (Some (item_arranged a)) xs
 
--- the same cites request by request
+-- the cites of requests as they are printed at last, each after the one before it
 abbrev pub all_finals : {P : Type 0} → (P → P → Bool) → States → Option (Item P) → List (List (Arranged (FirstPrint P))) → List (List (Final P))
 all_finals same states last [] = []
-all_finals same states last (xs ∷ xss) = run_finals same states last xs ∷ all_finals same states (last_arranged last xs) xss
+all_finals same states last (xs ∷ xss) = finals_after same states last xs ∷ all_finals same states (last_arranged last xs) xss
 
 -- What the cites of a request have come to: those that are shown, the entries that are listed, and the last item.
 pub record Placed (P : Type 0) : Type 0 where
@@ -151,7 +152,7 @@ pub record Cited (P : Type 0) : Type 0 where
 abbrev pub cited_with : {P : Type 0} → (P → P → Bool) → Disambiguation → Cited P → Request P × List (FirstPrint P) → Cited P
 cited_with same t c (r, bs) =
     let xs = arranged_for t (r, bs) in
-    let fs = run_finals same t.states c.last xs in
+    let fs = finals_after same t.states c.last xs in
     record { citations = c.citations ++ citation_in (r, fs) ∷ []; listed = fold listed_with c.listed (map listed_as fs); last = last_arranged c.last xs }
 
 -- a cite in the final order, in a style, with these states of all entries

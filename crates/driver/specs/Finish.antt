@@ -12,9 +12,10 @@ use Rattle.driver_requests.specs.Order.{cited, numbers_overflow}
 use Rattle.driver_disambiguation.specs.States.{suffixes_overflow}
 use Rattle.driver_disambiguation.specs.Rounds.{Disambiguation}
 use Rattle.driver_bibliography.specs.Items.{Fields, items_of}
-use Rattle.driver.specs.Citations.{Shown, citation_of}
-use Rattle.driver.specs.Documents.{Document, order_in, items_count}
-use Rattle.driver.specs.Stages.{FirstPrint, Final, flattened, first_print_of, first_prints_in, disambiguated_in, finals_in, has_purpose, cite_of, printed_at_last}
+use Rattle.driver_citations.specs.Citations.{Shown, citation_of}
+use Rattle.driver_rounds.specs.Documents.{Document, order_in, items_count}
+use Rattle.driver_rounds.specs.FirstPrints.{FirstPrint, flattened, first_prints_in, disambiguated_in}
+use Rattle.driver.specs.Stages.{Final, first_print_of, finals_in, has_purpose, cite_of, printed_at_last}
 use Rattle.rendering_taxonomy.specs.declared.style.SecondFieldAlign.{SecondFieldAlign}
 
 -- A citation, and the number of its note.
@@ -92,7 +93,7 @@ rendered_from d fss = record {
   citations = map citation_in (zip d.requests fss);
 }
 
--- whether a number is above the greatest that is printed, or a year suffix is after the last
+-- whether a number is above the greatest that is printed, or a year suffix is after the 256th
 abbrev pub overflows : {P : Type 0} → Document P → Disambiguation → Bool
 overflows d t = numbers_overflow d.offset (cited d.requests) || suffixes_overflow t.given
 

@@ -12,8 +12,9 @@ use Rattle.driver_requests.specs.Requests.{Request}
 use Rattle.driver_bibliography.specs.Items.{items_of}
 use Rattle.driver.specs.FinalPrints.{Listed, first_listed}
 use Rattle.driver.specs.Finish.{Rendered, RenderedBibliography, citation_in}
-use Rattle.driver.specs.Stages.{Final, flattened}
-use Rattle.driver.specs.Views.{properties_with}
+use Rattle.driver.specs.Stages.{Final}
+use Rattle.driver_rounds.specs.FirstPrints.{flattened}
+use Rattle.driver_rounds.specs.Views.{properties_with}
 use Rattle.driver.specs.declared.final_prints.ListedCite.{ListedCite}
 
 -- the bibliography from the trees of its items
@@ -42,7 +43,7 @@ listed_in_state answers state l = record {
 abbrev pub item_listed : StyleContext → Listed → Option Children
 item_listed x l = option_map (λ r. r.tree) (bibliography x l.answers l.properties None)
 
--- the same of the entry at an index, where it is listed
+-- what the bibliography prints of the entry at an index, where it is listed
 abbrev pub item_at : StyleContext → List (Option Listed) → ℕ → Option Children
 item_at x ls index = option_and_then (item_listed x) (slice_index_or ls index None)
 
@@ -54,7 +55,7 @@ trees_listed x ls order = filter_map (item_at x ls) order
 abbrev pub key_printed : StyleContext → Listed → Option (List ℕ)
 key_printed x l = option_map (λ (t : Children). l.answers.key) (item_listed x l)
 
--- the same of the entry at an index, where it is listed
+-- the key of the entry at an index, where it is listed and the bibliography prints it
 abbrev pub key_listed_at : StyleContext → List (Option Listed) → ℕ → Option (List ℕ)
 key_listed_at x ls index = option_and_then (key_printed x) (slice_index_or ls index None)
 
@@ -78,7 +79,7 @@ key_first x fs index = option_and_then (key_printed x) (first_listed fs index)
 abbrev pub keys_first : {P : Type 0} → StyleContext → List (Final P) → List ℕ → List (List ℕ)
 keys_first x fs order = filter_map (key_first x fs) order
 
--- the same where the style has a bibliography, from the cites of requests as they are printed at last
+-- these keys where the style has a bibliography, from the cites of requests as they are printed at last
 abbrev pub keys_made : {P : Type 0} → StyleContext → List ℕ → List (List (Final P)) → Option (List (List ℕ))
 keys_made x order fss = option_map (λ b. keys_first x (flattened fss) order) x.style.bibliography
 

@@ -13,26 +13,32 @@ use Rattle.driver_requests.specs.Cites.{Numbered}
 use Rattle.driver_requests.specs.Requests.{Item}
 use Rattle.driver_requests.specs.SuffixViews.{suffix_view}
 use Rattle.driver_requests.specs.Views.{context_of, request_view}
-use Rattle.driver_disambiguation.specs.Classes.{Printed}
+use Rattle.driver_names.specs.Prints.{Printed}
 use Rattle.driver_disambiguation.specs.States.{States, state_of}
 use Rattle.driver_disambiguation.specs.Rounds.{Disambiguation}
 use Rattle.driver_blocks.specs.Blocks.{Gathered}
 use Rattle.driver_blocks.specs.Runs.{Arranged}
 use Rattle.driver_blocks.specs.Views.{arranged_view}
 use Rattle.driver_blocks.specs.declared.cite.Arranged as arranged
-use Rattle.driver.specs.CitesInStep.{AreInStep, IsInStep, all_cites, document_cites, request_cites, requests_by}
-use Rattle.driver.specs.FinalPrints.{IsLeft, Listed, Placed, all_gathered, arranged_in, final_view, finals_from, first_listed, firsts, listed_view, placed_view, run_finals}
+use Rattle.driver_rounds.specs.CitesInStep.{AreInStep, IsInStep, all_cites, document_cites, request_cites, requests_by}
+use Rattle.driver.specs.FinalPrints.{IsLeft, Listed, Placed, all_gathered, arranged_in, final_view, finals_from, first_listed, firsts, listed_view, placed_view, finals_after}
 use Rattle.driver.specs.Finish.{Citation, citation_in}
-use Rattle.driver.specs.Rounding.{AreWithin, final_marks_view}
-use Rattle.driver.specs.Stages.{FirstPrint, Final, arranged_for, first_print, flattened, printed_by}
-use Rattle.driver.specs.Views.{printed_by_states, numbered_view, numbered_cites_view, usage_of}
-use Rattle.driver.specs.declared.citation.ShownCite.{ShownCite}
-use Rattle.driver.specs.declared.document_cites.DocumentCites.{DocumentCites}
-use Rattle.driver.specs.declared.final_marks.FinalStates.{FinalStates}
+use Rattle.driver_rounds.specs.Rounding.{AreWithin}
+use Rattle.driver_rounds.specs.FirstPrints.{FirstPrint, first_print, flattened, printed_by}
+use Rattle.driver.specs.Stages.{Final, arranged_for}
+use Rattle.driver_rounds.specs.Views.{printed_by_states, numbered_view, numbered_cites_view, usage_of}
+use Rattle.driver_citations.specs.declared.citation.ShownCite.{ShownCite}
+use Rattle.driver_rounds.specs.declared.document_cites.DocumentCites.{DocumentCites}
+use Rattle.driver.specs.declared.final_states.FinalStates.{FinalStates}
 use Rattle.driver.specs.declared.final_prints.FinalCite.{FinalCite}
 use Rattle.driver.specs.declared.final_prints.LastCite.{LastCite}
 use Rattle.driver.specs.declared.final_prints.ListedCite.{ListedCite}
 use Rattle.driver.specs.declared.final_prints.Printing.{Printing}
+use Rattle.driver_names.specs.Views.{given_states_view}
+
+-- final states, and all that was given
+abbrev pub final_states_view : FinalStates → Disambiguation
+final_states_view m = record { states = map state_view m.states.now; given = given_states_view m.given.now }
 
 -- The cites of a document are in step with its requests, their entries have these states, and this is what they printed at first and by
 -- their states.
@@ -77,7 +83,7 @@ pub record BelongTogether {T P : Type 0} (answers : T → Answers) (p : Printing
 abbrev pub printing_prints : {T P : Type 0} → (T → Answers) → Printing T P → List Printed
 printing_prints answers p = map (printed_by_states (states_view p.entry_states)) (printing_cites answers p)
 
--- the same in the style that the request names
+-- what they printed by their final states in the style that the request names
 abbrev pub request_prints : {T P : Type 0} → (T → Answers) → Printing T P → List Printed
 request_prints answers p = map (printed_by_states (states_view p.entry_states)) (request_cites answers p.cites)
 
@@ -87,15 +93,15 @@ printing_gathered p prints = all_gathered (map (option_map suffix_view) p.entry_
 
 -- the cites of a request in their final order
 abbrev pub request_arranged : {T P : Type 0} → (T → Answers) → Printing T P → List (Arranged (FirstPrint P))
-request_arranged answers p = arranged_for (final_marks_view p.entry_states) (request_view (λ e. 0) answers p.cites.request.now, map first_print (request_cites answers p.cites))
+request_arranged answers p = arranged_for (final_states_view p.entry_states) (request_view (λ e. 0) answers p.cites.request.now, map first_print (request_cites answers p.cites))
 
--- the same as they are printed at last, after an item
+-- the cites of a request as they are printed at last, after an item
 abbrev pub request_finals : {T P : Type 0} → (P → P → Bool) → (T → Answers) → Option (Item P) → Printing T P → List (Final P)
-request_finals same answers last p = run_finals same (states_view p.entry_states) last (request_arranged answers p)
+request_finals same answers last p = finals_after same (states_view p.entry_states) last (request_arranged answers p)
 
 -- cites that are arranged have their indices in the request
-abbrev pub ArePlaces : {T P : Type 0} → Printing T P → List arranged.Arranged → Type 0
-ArePlaces p xs = All (λ (a : arranged.Arranged). a.cite.cite < length p.cites.request.now.items.items) xs
+abbrev pub AreIndices : {T P : Type 0} → Printing T P → List arranged.Arranged → Type 0
+AreIndices p xs = All (λ (a : arranged.Arranged). a.cite.cite < length p.cites.request.now.items.items) xs
 
 -- cites that are arranged, known by themselves instead of their indices
 abbrev pub arranged_among : {T P : Type 0} → (T → Answers) → Printing T P → List arranged.Arranged → List (Arranged (FirstPrint P))

@@ -57,7 +57,6 @@ fn with_keys<T: EntryLike>(
     Ok(items)
 }
 
-/// An item with the key of its entry.
 fn with_key<T: EntryLike>(
     alloc: Global,
     fields: ItemFields,
@@ -78,7 +77,6 @@ fn with_key<T: EntryLike>(
     })
 }
 
-/// The key of an entry.
 fn key_of<T: EntryLike>(alloc: Global, entry: &T) -> Result<String, AllocError>
     ensures { IfOk result (λ k. string_bytes k ≡ (T.answers entry.now).key) }
 {

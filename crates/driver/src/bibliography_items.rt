@@ -2,16 +2,14 @@
 
 ghost use Rattle.std.specs.Prelude.{◌≡◌, ◌+◌, ◌<◌, ◌≤◌, ◌++◌, All, length, map, option_to_list, IfOk, OnOk};
 ghost use Rattle.std.specs.Option.{option_and_then, option_map, option_map_or};
-ghost use Rattle.rendering.specs.Purposes.{counted};
 ghost use Rattle.rendering.specs.Views.{style_context_view};
 ghost use Rattle.rendering_context.specs.Views.{state_view};
-ghost use Rattle.rendering_style.specs.StyleViews.{style_view};
 ghost use Rattle.rendering_style.specs.Views.{bibliography_layout_view};
 ghost use Rattle.rendering_tree.specs.Views.{tree_view};
 ghost use Rattle.driver.specs.FinalPrints.{listed_view};
 ghost use Rattle.driver.specs.Listing.{bibliography_from, item_listed, key_printed, keys_listed, keys_of, listed_in_state, AreAtIndices, trees_listed};
 ghost use Rattle.driver.specs.RenderedViews.{rendered_bibliography_view, keys_view};
-ghost use Rattle.driver.specs.Views.{bibliography_context_of};
+ghost use Rattle.driver_rounds.specs.Views.{bibliography_context_of};
 
 use crate::bibliography::bibliography_of;
 use crate::final_prints::ListedCite;

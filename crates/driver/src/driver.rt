@@ -5,25 +5,24 @@ ghost use Rattle.std.specs.Option.{option_map};
 ghost use Rattle.laws.specs.Results.{Gives, GivesBack};
 ghost use Rattle.driver_disambiguation.specs.CitesViews.{printed_cites_view};
 ghost use Rattle.driver_requests.specs.Errors.{overflow_of};
-ghost use Rattle.driver.specs.CitesInStep.{cites_count, requests_by};
+ghost use Rattle.driver_rounds.specs.CitesInStep.{cites_count, requests_by};
 ghost use Rattle.driver.specs.Finish.{effort_bound, finish, keys_in};
 ghost use Rattle.driver.specs.Listing.{items_at_most, keys_made, rendered_of};
 ghost use Rattle.driver.specs.Printing.{ArePrinted, document_citations, document_finals, document_listed, entries_listed};
 ghost use Rattle.driver.specs.RenderedViews.{rendered_citation_view, keys_view, rendered_view};
-ghost use Rattle.driver.specs.Rounding.{round_states_view};
-ghost use Rattle.driver.specs.Views.{bibliography_context_of, document_view};
+ghost use Rattle.driver_rounds.specs.Rounding.{round_states_view};
+ghost use Rattle.driver_rounds.specs.Views.{bibliography_context_of, document_view};
 
 use crate::bibliography_items::bibliography;
 use crate::contexts::contexts;
-use crate::document_cites::DocumentCites;
-use crate::final_marks::FinalStates;
 use crate::final_prints::{ListedCite, citations};
-use crate::first_prints::{FirstPrints, first_prints};
-use crate::order_and_numbers::known_of;
+use crate::final_states::FinalStates;
 use crate::rendered::{Rendered, RenderedCitation};
-use crate::rounds::{RoundStates, disambiguated};
 use driver_disambiguation::suffixes;
 use driver_requests::{BibliographyRequest, CitationRequest, DriverError};
+use driver_rounds::{
+    DocumentCites, FirstPrints, RoundStates, disambiguated, first_prints, known_of,
+};
 use rendering::Effort;
 use rendering_context::DisambiguateState;
 use rendering_entries::EntryLike;
@@ -73,7 +72,7 @@ impl<'a, T, P: Drop> BibliographyDriver<'a, T, P> {
         }
     }
 
-    /// The same with so much added to the number of each entry, instead of what was asked before.
+    /// The same driver with this offset added to the number of each entry. It replaces an offset that was set before.
     pub fn with_citation_number_offset(self, offset: usize) -> BibliographyDriver<'a, T, P>
         ensures requests { result.citations.items ≡ self.entry.citations.items }
         ensures offset { result.offset ≡ offset }
@@ -130,7 +129,6 @@ impl<'a, T: EntryLike + Hash, P: PartialEq + Drop> BibliographyDriver<'a, T, P> 
     }
 }
 
-/// Citations and bibliography of requests.
 fn finish_requests<'r, T: EntryLike + Hash, P: PartialEq>(
     alloc: Global,
     requests: &'r [CitationRequest<'r, T, P>],
@@ -245,7 +243,7 @@ fn final_citations<'r, T: EntryLike, P: PartialEq>(
     })
 }
 
-/// No cites of so many entries.
+/// For each entry that it is not listed by a cite yet.
 fn unlisted<'r, T>(
     alloc: Global,
     count: usize,

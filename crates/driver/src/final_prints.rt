@@ -10,29 +10,28 @@ ghost use Rattle.rendering_tree.specs.Views.{tree_view};
 ghost use Rattle.driver_blocks.specs.Collapsing.{arranged};
 ghost use Rattle.driver_blocks.specs.Views.{arranged_view, gathered_view};
 ghost use Rattle.driver_disambiguation.specs.States.{States};
-ghost use Rattle.driver_disambiguation.specs.Views.{printed_view};
+ghost use Rattle.driver_names.specs.Views.{printed_view};
 ghost use Rattle.driver_requests.specs.Positions as positions;
 ghost use Rattle.driver_requests.specs.SuffixViews.{suffix_view};
 ghost use Rattle.driver_requests.specs.Views.{item_view, request_view};
-ghost use Rattle.driver.specs.CitesInStep.{cites_count};
+ghost use Rattle.driver_rounds.specs.CitesInStep.{cites_count};
 ghost use Rattle.driver.specs.FinalPrints.{all_gathered, gathered_from, last_arranged, last_cite_view, listed_as, listed_view, final_listed_view, listed_with, nameless, placed_with};
 ghost use Rattle.driver.specs.Finish as finish;
 ghost use Rattle.driver.specs.Finish.{citation_in};
-ghost use Rattle.driver.specs.Joining.{shown_view};
-ghost use Rattle.driver.specs.Printing.{ArePlaces, ArePrinted, BelongTogether, HasPrinted, arranged_among, document_citations, document_listed, entries_listed, states_view, placed_so_far, printing_final, printing_gathered, printing_prints, request_arranged, request_finals, request_prints};
+ghost use Rattle.driver_citations.specs.Joining.{shown_view};
+ghost use Rattle.driver.specs.Printing.{AreIndices, ArePrinted, BelongTogether, HasPrinted, arranged_among, document_citations, document_listed, entries_listed, states_view, placed_so_far, printing_final, printing_gathered, printing_prints, request_arranged, request_finals, request_prints, final_states_view};
 ghost use Rattle.driver.specs.RenderedViews.{rendered_citation_view};
-ghost use Rattle.driver.specs.Rounding.{final_marks_view};
+ghost use Rattle.driver_rounds.specs.FirstPrints as first;
 ghost use Rattle.driver.specs.Stages as stages;
 ghost use Rattle.driver.specs.Stages.{counts_at_last};
 
-use crate::citation::{ShownCite, citation_of};
-use crate::cite::{NumberedCite, plain_locator};
-use crate::document_cites::{DocumentCites, RequestCites};
-use crate::final_marks::FinalStates;
+use crate::final_states::FinalStates;
 use crate::rendered::RenderedCitation;
 use driver_blocks::{Arranged, Gathered, arrange};
+use driver_citations::{ShownCite, citation_of, plain_locator};
 use driver_disambiguation::Printed;
 use driver_requests::{CitationItem, CitationRequest, Suffix, ibid_after};
+use driver_rounds::{DocumentCites, NumberedCite, RequestCites};
 use rendering::Effort;
 use rendering_entries::EntryLike;
 use rendering_style::Citation;
@@ -91,10 +90,10 @@ pub(crate) fn citations<'r, T: EntryLike, P: PartialEq>(
         (map printed_view printed.items) }
     requires unlisted { listed.old ≡ replicate (length entry_states.states.now) None }
     ensures citations { (at : T → ℕ) → IfOk result (λ v. map rendered_citation_view v.items
-        ≡ document_citations P.eq T.answers at (final_marks_view entry_states.entry) cites.entry) }
+        ≡ document_citations P.eq T.answers at (final_states_view entry_states.entry) cites.entry) }
     ensures listed { (at : T → ℕ) → OnOk result (
         entries_listed T.answers entry_states.entry.states.now listed.new
-        ≡ document_listed P.eq T.answers at (final_marks_view entry_states.entry)
+        ≡ document_listed P.eq T.answers at (final_states_view entry_states.entry)
         (length entry_states.entry.states.now) cites.entry) }
     ensures effort { OnOk result (effort.new ≤ effort.old + cites_count T.answers cites.entry) }
 {
@@ -296,7 +295,7 @@ fn print_arranged<'r, T: EntryLike, P: PartialEq>(
     requires printing { BelongTogether T.answers printing }
     requires printed { map printed_view printed.old ≡ printing_prints T.answers printing }
     requires listed { length listed.old ≡ length printing.entry_states.states.now }
-    requires indices { ArePlaces printing arranged.now }
+    requires indices { AreIndices printing arranged.now }
     ensures placed { IfOk result (λ v.
         placed_so_far T.answers printing.entry v.items listed.new last.new
         ≡ fold (placed_with P.eq (states_view printing.entry.entry_states))
@@ -428,7 +427,7 @@ fn prints_as_before<T: EntryLike, P>(next: &FinalCite<'_, T, P>, cite: &Arranged
     ensures locator { result ≡ true → next.now.item.now.locator ≡ None }
     ensures verdict { result ≡ true → cite.now.verdict ≡ None }
     ensures purpose { result ≡ true
-        → stages.purpose_at_first next.now.item.now.purpose ≡ next.now.item.now.purpose }
+        → first.purpose_at_first next.now.item.now.purpose ≡ next.now.item.now.purpose }
     ensures ibid { result ≡ true → next.now.ibid ≡ next.now.cite.ibid }
 {
     next.item.locator.is_none()

@@ -34,28 +34,28 @@ pub data Repeated : Type 0 where
   all_of_them : Repeated
   first_of_them : ℕ → Repeated
 
--- all of it, if so
+-- all of it, where the names are the same
 abbrev pub all_if : Bool → Repeated
 all_if true = all_of_them
 all_if false = none_of_them
 
--- Of a names element without single names: all of it, where it is the same as the one before.
+-- What is repeated of a names element without single names: all of it, where it is the same as the one before.
 abbrev pub repeated_whole : Element → Element → Repeated
 repeated_whole e last = all_if (is_element e last)
 
--- of single names by a rule, against those of the element before
+-- what is repeated of single names by a rule, against those of the element before
 abbrev pub repeated_by : SubsequentAuthorSubstituteRule → List Element → List Element → Repeated
 repeated_by rules.CompleteAll names last = all_if (pointwise is_element names last)
 repeated_by rules.CompleteEach names last = if pointwise is_element names last then first_of_them (length names) else none_of_them
 repeated_by rules.PartialEach names last = first_of_them (common_prefix_len is_element names last)
 repeated_by rules.PartialFirst names last = first_of_them (min 1 (common_prefix_len is_element names last))
 
--- of a names element, against the one before
+-- what is repeated of a names element, against the one before
 abbrev pub repeated_of : SubsequentAuthorSubstituteRule → Element → Element → List Element → Repeated
 repeated_of rule e last [] = repeated_whole e last
 repeated_of rule e last (n ∷ ns) = repeated_by rule (n ∷ ns) (name_list last)
 
--- of a names element by a rule, where there is one before it
+-- what is repeated of a names element by a rule, where there is one before it
 abbrev pub repeated : SubsequentAuthorSubstituteRule → Option Element → Option Element → Repeated
 repeated rule (Some last) (Some e) = repeated_of rule e last (name_list e)
 repeated rule last e = none_of_them
@@ -78,7 +78,7 @@ abbrev mutual
   names_replaced_in text (Link f cs url) n = (Link f cs url, n)
   names_replaced_in text (Transparent f k) n = (Transparent f k, n)
 
-  -- the same of a list
+  -- children in which the text replaces so many single names, and how many are then still wanted
   pub names_replaced : Children → Children → ℕ → Children × ℕ
   names_replaced text nothing n = (nothing, n)
   names_replaced text (before x xs) n = then_others (names_replaced_in text x n) (λ k. names_replaced text xs k)
@@ -105,7 +105,7 @@ abbrev mutual
   changed_in change (Link f cs url) = None
   changed_in change (Transparent f k) = None
 
-  -- the same of a list
+  -- children whose first names element has its children changed, where they have one
   pub changed : (Children → Children) → Children → Option Children
   changed change nothing = None
   changed change (before x xs) = changed_or_others x xs (changed_in change x) (changed change xs)

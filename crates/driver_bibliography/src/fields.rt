@@ -93,7 +93,6 @@ fn substitute_each(
     Ok(items)
 }
 
-/// Items in fields.
 fn fields_of_all(
     alloc: Global,
     align: Option<SecondFieldAlign>,
@@ -109,7 +108,6 @@ fn fields_of_all(
     Ok(items)
 }
 
-/// An item in fields.
 fn fields_of(align: Option<SecondFieldAlign>, item: ElemChildren) -> Result<ItemFields, AllocError>
     ensures { IfOk result (λ f. fields_view f ≡ fields_by align (tree_view item)) }
 {

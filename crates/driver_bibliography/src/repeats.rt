@@ -85,7 +85,7 @@ fn repeated_of(
     Ok(repeated_by(rule, &singles, &last_singles))
 }
 
-/// All names, if so.
+/// That all names repeat, where they are the same.
 fn all_if(are_same: bool) -> Repetition
     ensures { repeated_view result ≡ all_if are_same }
 {
@@ -117,7 +117,6 @@ fn repeated_by(rule: SubsequentAuthorSubstituteRule, names: &[&Elem], last: &[&E
     }
 }
 
-/// Whether names are the same, one by one.
 fn are_same(names: &[&Elem], last: &[&Elem]) -> bool
     ensures { result ≡ pointwise is_element (borrowed_elements_view names.now)
         (borrowed_elements_view last.now) }

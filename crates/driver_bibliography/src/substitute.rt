@@ -173,7 +173,7 @@ fn change_single(
     change_singles(alloc, &mut elem.children.0, text, wanted)
 }
 
-/// A text that looks as texts do of themselves.
+/// A text in the default formatting, alone.
 fn text_alone(alloc: Global, text: &str) -> Result<ElemChildren, AllocError>
     ensures { IfOk result (λ t. tree_view t ≡ text_alone (chars text.now)) }
 {

@@ -1,6 +1,7 @@
 -- What names print and whom they name, in one text.
 use Rattle.std.specs.Prelude.{ℕ, List, [], ◌∷◌, ◌++◌, unwrap_or, Option, Some}
 use Rattle.std.specs.List.{flat_map}
+use Rattle.laws.specs.Characters.{dollar_sign}
 use Rattle.laws.specs.Text.{text}
 use Rattle.literature_values.specs.PersonViews.{Named}
 use Rattle.rendering_tree.specs.Metas.{Answered, Meta, Names}
@@ -19,28 +20,24 @@ abbrev pub people_text : Option Meta → List ℕ
 people_text (Some (Names answered)) = names_in answered
 people_text m = []
 
--- the sign that stands on both sides of a formula
-abbrev pub dollar : ℕ
-dollar = 36
-
 abbrev mutual
   -- what a child prints, with the people that it names before it
   pub child_key : Child → List ℕ
   child_key (Text f cs) = cs
   child_key (Elem d m xs) = people_text m ++ children_key xs
-  child_key (Markup cs) = dollar ∷ cs ++ dollar ∷ []
+  child_key (Markup cs) = dollar_sign ∷ cs ++ dollar_sign ∷ []
   child_key (Link f cs url) = cs ++ url
   child_key (Transparent f n) = []
 
-  -- the same of a list, one after the other
+  -- what children print one after the other, each with the people that it names before it
   pub children_key : Children → List ℕ
   children_key nothing = []
   children_key (before x xs) = child_key x ++ children_key xs
 
--- the same of a names element
+-- the key of a names element, as characters
 abbrev pub element_key : Element → List ℕ
 element_key e = people_text e.meta ++ children_key e.children
 
--- as a text
+-- the key of names, as a text
 abbrev pub names_key : Element → List ℕ
 names_key e = text (element_key e)

@@ -12,7 +12,8 @@ pub record Arranged (X : Type 0) : Type 0 where
   pub delimiter : Option (List ℕ)
   pub verdict : Option CollapseVerdict
 
--- a member before runs, in the first of them where that follows it; no run is empty, but each clause is needed
+-- Runs with a member before them: in the first run, where the first member of that follows it, else in a run of its own. Runs are not
+-- empty; the definition has a clause for each list.
 abbrev pub added_to_runs : {Y : Type 0} → (Y → Y → Bool) → Y → List (List Y) → List (List Y)
 added_to_runs follows y [] = (y ∷ []) ∷ []
 added_to_runs follows y ([] ∷ runs) = (y ∷ []) ∷ runs

@@ -32,14 +32,14 @@ pub fn arrange<'a>(
     collapse(alloc, mode(has_purpose, style.collapse), &blocks)
 }
 
-/// The mode by which a citation is collapsed, if by one.
+/// The mode by which a citation is collapsed, if it is.
 fn mode(has_purpose: bool, collapse: Option<Collapse>) -> Option<Collapse>
     ensures { result ≡ (if has_purpose then None else collapse) }
 {
     if has_purpose { None } else { collapse }
 }
 
-/// Blocks collapsed by a mode, if by one.
+/// Blocks collapsed by a mode, or as they are where there is none.
 fn collapse<'a>(
     alloc: Global,
     mode: Option<Collapse>,

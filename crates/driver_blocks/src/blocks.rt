@@ -4,7 +4,7 @@ ghost use Rattle.std.specs.Prelude.{◌≡◌, ◌<◌, ◌∷◌, ◌++◌, ℕ
 ghost use Rattle.std.specs.Option.{option_map};
 ghost use Rattle.rendering_style.specs.Views.{citation_layout_view};
 ghost use Rattle.driver_blocks.specs.Blocks.{blocks, gathered, gathers, is_of_block};
-ghost use Rattle.driver_blocks.specs.Indexed.{IsIndex, names_text, under};
+ghost use Rattle.driver_blocks.specs.Indexed.{IsIndex, key_of_names, under};
 ghost use Rattle.driver_blocks.specs.Views.{blocks_view, first_taking, gathered_view, put_in, takes};
 
 use crate::cite::Gathered;
@@ -88,30 +88,30 @@ fn put<'a>(
         ≡ put_in is_of_block (gathered_view cite.entry) (blocks_view blocks.old.items)) }
     ensures table { OnOk result (IsIndex table.new (blocks_view blocks.new.items)) }
 {
-    match names_text(alloc, &cite)? {
-        Some(text) => put_named(alloc, cite, text, table, blocks),
+    match key_of_names(alloc, &cite)? {
+        Some(key) => put_named(alloc, cite, key, table, blocks),
         None => put_alone(alloc, cite, blocks),
     }
 }
 
-/// Puts a cite whose names print and name a text into the block of its names, or else after all blocks.
+/// Puts a cite with this key into the block of its names, or else after all blocks.
 fn put_named<'a>(
     alloc: Global,
     cite: Gathered<'a>,
-    text: String,
+    key: String,
     table: &mut HashMap<String, Vec<usize>>,
     blocks: &mut Vec<Vec<Gathered<'a>>>,
 ) -> Result<(), AllocError>
     requires table { IsIndex table.old (blocks_view blocks.old.items) }
-    requires text { names_text (gathered_view cite) ≡ Some (string_bytes text) }
+    requires key { key_of_names (gathered_view cite) ≡ Some (string_bytes key) }
     ensures blocks { OnOk result (blocks_view blocks.new.items
         ≡ put_in is_of_block (gathered_view cite.entry) (blocks_view blocks.old.items)) }
     ensures table { OnOk result (IsIndex table.new (blocks_view blocks.new.items)) }
 {
-    match block_taking(table, text.as_str(), blocks, &cite) {
+    match block_taking(table, key.as_str(), blocks, &cite) {
         Some(index) => blocks[index].push(cite)?,
         None => {
-            add(table, text, blocks.len())?;
+            add(table, key, blocks.len())?;
             put_alone(alloc, cite, blocks)?;
         }
     }
@@ -131,9 +131,9 @@ fn put_alone<'a>(
     Ok(())
 }
 
-/// What the names of a cite print and name, if it prints names.
-fn names_text(alloc: Global, cite: &Gathered) -> Result<Option<String>, AllocError>
-    ensures { IfOk result (λ t. option_map string_bytes t ≡ names_text (gathered_view cite.now)) }
+/// The key of the names of a cite, if it prints names: what they print and whom they name.
+fn key_of_names(alloc: Global, cite: &Gathered) -> Result<Option<String>, AllocError>
+    ensures { IfOk result (λ t. option_map string_bytes t ≡ key_of_names (gathered_view cite.now)) }
 {
     match cite.names {
         Some(names) => Ok(Some(names_key(alloc, names)?)),
@@ -141,32 +141,28 @@ fn names_text(alloc: Global, cite: &Gathered) -> Result<Option<String>, AllocErr
     }
 }
 
-/// Adds the index of a block whose names print and name a text.
-fn add(
-    table: &mut HashMap<String, Vec<usize>>,
-    text: String,
-    index: usize,
-) -> Result<(), AllocError>
+/// Adds the index of a block to those under the key of its names.
+fn add(table: &mut HashMap<String, Vec<usize>>, key: String, index: usize) -> Result<(), AllocError>
     ensures { OnOk result ((q : List ℕ) → under table.new q
-        ≡ under table.old q ++ (if bytes_eq q (string_bytes text) then index ∷ [] else [])) }
+        ≡ under table.old q ++ (if bytes_eq q (string_bytes key) then index ∷ [] else [])) }
 {
-    table.entry(text)?.or_default().push(index)?;
+    table.entry(key)?.or_default().push(index)?;
     Ok(())
 }
 
-/// The index of the first block that takes a cite whose names print and name a text.
+/// The index of the first block that takes a cite with this key.
 fn block_taking(
     table: &HashMap<String, Vec<usize>>,
-    text: &str,
+    key: &str,
     blocks: &[Vec<Gathered>],
     cite: &Gathered,
 ) -> Option<usize>
     requires table { IsIndex table.now (blocks_view blocks.now) }
-    requires text { names_text (gathered_view cite.now) ≡ Some text.now }
+    requires key { key_of_names (gathered_view cite.now) ≡ Some key.now }
     ensures { result
         ≡ first_taking is_of_block (gathered_view cite.now) 0 (blocks_view blocks.now) }
 {
-    match table.get(text) {
+    match table.get(key) {
         Some(indices) => taking_among(indices, blocks, cite),
         None => None,
     }

@@ -17,7 +17,7 @@ use rendering_tree::Elem;
 pub struct Gathered<'a> {
     /// Its index among the cites of its request, from zero.
     pub cite: usize,
-    /// The names, and, where it prints that, the number, both of what it prints without its locator.
+    /// The names in what it prints without its locator, and its number, where it prints that.
     pub names: Option<&'a Elem>,
     pub number: Option<usize>,
     pub is_shown: bool,

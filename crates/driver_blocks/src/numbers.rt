@@ -66,7 +66,6 @@ fn is_next_number(last: &Arranged, cite: &Arranged) -> bool
     is_next(shown_number(last), shown_number(cite))
 }
 
-/// The number of a cite that is shown.
 fn shown_number(cite: &Arranged) -> Option<usize>
     ensures { result ≡ shown_number (undelimited cite.now) }
 {

@@ -42,7 +42,6 @@ fn push_last<'a>(cites: &[Arranged<'a>], all: &mut Vec<Arranged<'a>>) -> Result<
     }
 }
 
-/// Appends cites that are hidden.
 fn push_hidden<'a>(cites: &[Arranged<'a>], all: &mut Vec<Arranged<'a>>) -> Result<(), AllocError>
     ensures { OnOk result ((c : Citation) → map (arranged_view c) all.new.items
         ≡ map (arranged_view c) all.old.items ++ map hidden (map (arranged_view c) cites.now)) }
@@ -53,7 +52,6 @@ fn push_hidden<'a>(cites: &[Arranged<'a>], all: &mut Vec<Arranged<'a>>) -> Resul
     Ok(())
 }
 
-/// A cite that is hidden.
 fn hidden<'a>(cite: Arranged<'a>) -> Arranged<'a>
     ensures { (c : Citation) → arranged_view c result ≡ hidden (arranged_view c cite.entry) }
 {
@@ -63,7 +61,6 @@ fn hidden<'a>(cite: Arranged<'a>) -> Arranged<'a>
     }
 }
 
-/// A cite after a dash.
 fn after_dash<'a>(cite: Arranged<'a>) -> Arranged<'a>
     ensures { (c : Citation) → arranged_view c result ≡ after_dash (arranged_view c cite.entry) }
 {

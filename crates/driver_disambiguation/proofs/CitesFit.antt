@@ -2,7 +2,7 @@
 use Rattle.std.proofs.Common.{◌<◌, ◌^◌, length, arith}
 use Rattle.std.proofs.lemmas.List.{length-map}
 use Rattle.driver_disambiguation.specs.CitesViews.{printed_cites_view}
-use Rattle.driver_disambiguation.specs.Views.{printed_view}
+use Rattle.driver_names.specs.Views.{printed_view}
 use Rattle.driver_disambiguation.specs.declared.printed_cites.PrintedCites.{PrintedCites}
 
 -- the cites fit into memory

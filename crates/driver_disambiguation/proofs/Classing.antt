@@ -19,12 +19,13 @@ use Rattle.rendering_tree.proofs.ViewsEquality.{agreed}
 use Rattle.rendering_context.specs.Cites.{allows_suffix}
 use Rattle.rendering_context.specs.Views.{state_view}
 use Rattle.driver_requests.specs.CitedEntries.{once}
+use Rattle.driver_names.specs.Prints as prints
 use Rattle.driver_disambiguation.specs.Classes as classes
 use Rattle.driver_disambiguation.specs.Classes.{is_mixed, parts}
 use Rattle.driver_disambiguation.specs.Grouping.{allowing, if_mixed, is_alike, of_number, seconds, under}
-use Rattle.driver_disambiguation.specs.Numbered.{AreApart, AreNumbered, number_of}
-use Rattle.driver_disambiguation.specs.Views.{class_view, printed_view}
-use Rattle.driver_disambiguation.specs.declared.printed.Printed.{Printed}
+use Rattle.driver_disambiguation.specs.Numbered.{AreInjective, AreNumbered, number_of}
+use Rattle.driver_names.specs.Views.{class_view, printed_view}
+use Rattle.driver_names.specs.declared.printed.Printed.{Printed}
 use Rattle.driver_disambiguation.proofs.Groups.{seconds_parts}
 use Rattle.driver_disambiguation.proofs.Lists.{map-filter, parts-among}
 use Rattle.driver_disambiguation.proofs.Numbering.{numbers_beside, numbers_length}
@@ -41,7 +42,7 @@ same_test false true to from = from refl
 same_test false false to from = refl
 
 -- cites have one number where they print one text
-numbered_alike : {S : Type 0} (texts : HashMap (String Global) ℕ S) → AreApart texts → (p q : ℕ × Printed) → number_of texts p.1 ≡ Some p.0 → number_of texts q.1 ≡ Some q.0
+numbered_alike : {S : Type 0} (texts : HashMap (String Global) ℕ S) → AreInjective texts → (p q : ℕ × Printed) → number_of texts p.1 ≡ Some p.0 → number_of texts q.1 ≡ Some q.0
     → is_alike p q ≡ classes.is_alike (printed_view p.1) (printed_view q.1)
 numbered_alike texts apart p q first second =
     let one = string_bytes p.1.text in
@@ -50,7 +51,7 @@ numbered_alike texts apart p q first second =
     (λ e. eq-eqb p.0 q.0 (ap (λ o. unwrap_or o 0) (sym first ∙ ap (get_by_text texts) ((bytes_decides one other).0 e) ∙ second)))
     ∙ alike p.1 q.1
 
-one_mixed : (b : Bool) (ss : List (Bor Printed)) (rest : List (List (Bor Printed))) (all : List (List classes.Printed)) → map class_view rest ≡ all
+one_mixed : (b : Bool) (ss : List (Bor Printed)) (rest : List (List (Bor Printed))) (all : List (List prints.Printed)) → map class_view rest ≡ all
     → map class_view (cond b (ss ∷ []) [] ++ rest) ≡ cond b (class_view ss ∷ all) all
 one_mixed true ss rest all e = ap (λ cs. class_view ss ∷ cs) e
 one_mixed false ss rest all e = e
@@ -75,7 +76,7 @@ pub classes_are : {S : Type 0} (texts : HashMap (String Global) ℕ S) (numbers 
 classes_are texts numbers cites groups shared cs numbered members seconds_are are_mixed =
     let zs : List (ℕ × Printed) = zip numbers cites in
     let xs : List (ℕ × Printed) = allowing zs in
-    let f : ℕ × Printed → classes.Printed = λ p. printed_view p.1 in
+    let f : ℕ × Printed → prints.Printed = λ p. printed_view p.1 in
     let G : ℕ × Printed → Type 0 = λ p. number_of texts p.1 ≡ Some p.0 in
     let h : ℕ → List (ℕ × Printed) = λ n. filter (λ p. nat_eq n p.0) xs in
     let each : (λ n. class_view (under groups n)) ≡ (λ n. map f (h n)) = fun_ext (λ n. group_view xs n (under groups n) (members n)) in

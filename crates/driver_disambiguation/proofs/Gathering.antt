@@ -11,16 +11,18 @@ use Rattle.rendering_context.specs.Cites.{by_names, may_change}
 use Rattle.driver_requests.specs.Errors.{Overflow, overflow}
 use Rattle.driver_requests.specs.Suffixes.{Origin}
 use Rattle.driver_disambiguation.specs.States as states
-use Rattle.driver_disambiguation.specs.States.{GivenState, is_given_to, suffixes_overflow}
-use Rattle.driver_disambiguation.specs.Classes as classes
-use Rattle.driver_disambiguation.specs.Names.{Member, distinguished, own_names, states_by_names_of, states_by_names}
+use Rattle.driver_names.specs.Prints.{GivenState}
+use Rattle.driver_disambiguation.specs.States.{is_given_to, suffixes_overflow}
+use Rattle.driver_names.specs.Prints as prints
+use Rattle.driver_names.specs.Names.{Member, distinguished, own_names, states_by_names_of, states_by_names}
 use Rattle.driver_disambiguation.specs.Rounds as rounds
 use Rattle.driver_disambiguation.specs.Rounds.{states_by_choose, choose_beside, states_by_branches, is_given_to_class, unless_given}
 use Rattle.laws.proofs.Results.{guard_ok, ok_is}
 use Rattle.driver_disambiguation.specs.Gathered.{AllInRange, given_from, given_to_classes}
-use Rattle.driver_disambiguation.specs.Views.{class_view, given_view, given_states_view, unless_beyond}
-use Rattle.driver_disambiguation.specs.declared.given_state.GivenState as code
-use Rattle.driver_disambiguation.specs.declared.printed.Printed.{Printed}
+use Rattle.driver_names.specs.Views.{class_view, given_view, given_states_view}
+use Rattle.driver_disambiguation.specs.Views.{unless_beyond}
+use Rattle.driver_names.specs.declared.given_state.GivenState as code
+use Rattle.driver_names.specs.declared.printed.Printed.{Printed}
 
 -- what is put together of what is in range
 pub in_range_together : (gs hs : List GivenState) → AllInRange gs → AllInRange hs → AllInRange (gs ++ hs)
@@ -41,7 +43,7 @@ in_range_named entry o (Some old) None = refl
 in_range_named entry o (Some old) (Some new) = one_of_names (prints_more new old) entry o new
 
 -- names are in range
-pub in_range_names : (adds_names : Bool) (o : Origin) (ss : List classes.Printed) → AllInRange (states_by_names adds_names o ss)
+pub in_range_names : (adds_names : Bool) (o : Origin) (ss : List prints.Printed) → AllInRange (states_by_names adds_names o ss)
 in_range_names adds_names o ss =
     in_range_each {X = Member} (λ m. states_by_names_of m.cite.entry o (own_names m.cite) m.names) (λ m. in_range_named m.cite.entry o (own_names m.cite) m.names) (distinguished adds_names ss)
 
@@ -49,7 +51,7 @@ one_beside : (b : Bool) (g : GivenState) → AllInRange (g ∷ []) → AllInRang
 one_beside true g has = refl
 one_beside false g has = has
 
-in_range_chosen : (o : Origin) (ss : List classes.Printed) → AllInRange (states_by_choose o ss)
+in_range_chosen : (o : Origin) (ss : List prints.Printed) → AllInRange (states_by_choose o ss)
 in_range_chosen o [] = refl
 in_range_chosen o (s ∷ ss) = in_range_each (choose_beside o s.entry) (λ t. one_beside (nat_eq t.entry s.entry) _ refl) ss
 
@@ -58,7 +60,7 @@ one_of_two true gs has = has
 one_of_two false gs has = refl
 
 -- branches are in range
-pub in_range_branches : (o : Origin) (ss : List classes.Printed) → AllInRange (states_by_branches o ss)
+pub in_range_branches : (o : Origin) (ss : List prints.Printed) → AllInRange (states_by_branches o ss)
 in_range_branches o ss =
     let met = filter (λ s. s.met_disambiguate) ss in
     one_of_two (list_any (λ s. may_change s.state) met) (states_by_choose o met) (in_range_chosen o met)
@@ -67,7 +69,7 @@ more_or_not : (b : Bool) (gs more : List GivenState) → AllInRange gs → AllIn
 more_or_not true gs more first second = first
 more_or_not false gs more first second = in_range_together gs more first second
 
-pub in_range_while : (ss : List classes.Printed) (more gs : List GivenState) → AllInRange gs → AllInRange more → AllInRange (unless_given ss more gs)
+pub in_range_while : (ss : List prints.Printed) (more gs : List GivenState) → AllInRange gs → AllInRange more → AllInRange (unless_given ss more gs)
 in_range_while ss more gs first second = more_or_not (is_given_to_class gs ss) gs more first second
 
 still_more : (gs hs : List GivenState) → suffixes_overflow gs ≡ true → suffixes_overflow (gs ++ hs) ≡ true
@@ -78,14 +80,14 @@ still_or_not true gs more over = over
 still_or_not false gs more over = still_more gs more over
 
 -- year suffixes beyond the last stay so
-still_while : (ss : List classes.Printed) (more gs : List GivenState) → suffixes_overflow gs ≡ true → suffixes_overflow (unless_given ss more gs) ≡ true
+still_while : (ss : List prints.Printed) (more gs : List GivenState) → suffixes_overflow gs ≡ true → suffixes_overflow (unless_given ss more gs) ≡ true
 still_while ss more gs over = still_or_not (is_given_to_class gs ss) gs more over
 
-still_given : (adds_names has_dates : Bool) (gs : List GivenState) (o : Origin) (ss : List classes.Printed) → suffixes_overflow gs ≡ true
+still_given : (adds_names has_dates : Bool) (gs : List GivenState) (o : Origin) (ss : List prints.Printed) → suffixes_overflow gs ≡ true
     → suffixes_overflow (rounds.given_by adds_names has_dates gs o ss) ≡ true
 still_given adds_names has_dates gs o ss over = still_while ss _ _ (still_while ss _ _ (still_more gs _ over))
 
-pub still_from : (adds_names has_dates : Bool) (round n : ℕ) (cs : List (List classes.Printed)) (gs : List GivenState) → suffixes_overflow gs ≡ true
+pub still_from : (adds_names has_dates : Bool) (round n : ℕ) (cs : List (List prints.Printed)) (gs : List GivenState) → suffixes_overflow gs ≡ true
     → suffixes_overflow (given_from adds_names has_dates round n cs gs) ≡ true
 still_from adds_names has_dates round n [] gs over = over
 still_from adds_names has_dates round n (c ∷ cs) gs over =
@@ -136,7 +138,7 @@ appended_more start yielded one old new before after =
     ∙ ap (λ gs. start ++ gs) (sym (map-append given_view yielded (one ∷ [])))
 
 -- what names and branches gave is in range
-pub in_range_before_suffixes : (adds_names : Bool) (o : Origin) (ss : List classes.Printed) (old more mid new : List GivenState)
+pub in_range_before_suffixes : (adds_names : Bool) (o : Origin) (ss : List prints.Printed) (old more mid new : List GivenState)
     → AllInRange old → more ≡ states_by_names adds_names o ss → mid ≡ old ++ more → new ≡ unless_given ss (states_by_branches o ss) mid → AllInRange new
 in_range_before_suffixes adds_names o ss old more mid new has named together branched =
     let named_has : AllInRange more = ap suffixes_overflow named ∙ in_range_names adds_names o ss in
@@ -144,7 +146,7 @@ in_range_before_suffixes adds_names o ss old more mid new has named together bra
     ap suffixes_overflow branched ∙ in_range_while ss (states_by_branches o ss) mid mid_has (in_range_branches o ss)
 
 -- what was given is in range, and what is left of the classes makes of it what all of them make
-abbrev pub Gathers : Bool → Bool → ℕ → List (List classes.Printed) → ℕ → List (List classes.Printed) → List GivenState → Type 0
+abbrev pub Gathers : Bool → Bool → ℕ → List (List prints.Printed) → ℕ → List (List prints.Printed) → List GivenState → Type 0
 Gathers adds_names has_dates round all n left gs =
     AllInRange gs × (given_to_classes adds_names has_dates round all ≡ given_from adds_names has_dates round n left gs)
 
@@ -154,7 +156,7 @@ indexed gs hs e =
     let same : gs ≡ hs = ok_is {F = Overflow} gs hs p.1 in
     (ap suffixes_overflow (sym same) ∙ p.0, same)
 
-one_class : {X : Type 0} (view : X → List classes.Printed) (adds_names has_dates : Bool) (round : ℕ) (cs : List X) (i : ℕ) (x : X) (gs : List GivenState)
+one_class : {X : Type 0} (view : X → List prints.Printed) (adds_names has_dates : Bool) (round : ℕ) (cs : List X) (i : ℕ) (x : X) (gs : List GivenState)
     → i < length cs → x ≡ get_or cs i x → Gathers adds_names has_dates round (map view cs) i (map view (drop i cs)) gs
     → given_to_classes adds_names has_dates round (map view cs)
     ≡ given_from adds_names has_dates round (i + 1) (map view (drop (i + 1) cs)) (rounds.given_by adds_names has_dates gs (record { round = round; class = i }) (view x))
@@ -163,7 +165,7 @@ one_class view adds_names has_dates round cs i x gs low is_x before =
     ∙ at_drop_more (λ ys. given_from adds_names has_dates round i (map view ys) gs) cs i x low
     ∙ ap (λ y. given_from adds_names has_dates round i (view y ∷ map view (drop (i + 1) cs)) gs) (sym is_x)
 
-pub gathers_more : {X : Type 0} (view : X → List classes.Printed) (adds_names has_dates : Bool) (round : ℕ) (cs : List X) (i : ℕ) (x : X) (gs hs : List GivenState)
+pub gathers_more : {X : Type 0} (view : X → List prints.Printed) (adds_names has_dates : Bool) (round : ℕ) (cs : List X) (i : ℕ) (x : X) (gs hs : List GivenState)
     → i < length cs → x ≡ get_or cs i x → Gathers adds_names has_dates round (map view cs) i (map view (drop i cs)) gs
     → unless_beyond (rounds.given_by adds_names has_dates gs (record { round = round; class = i }) (view x)) ≡ Ok hs
     → Gathers adds_names has_dates round (map view cs) (i + 1) (map view (drop (i + 1) cs)) hs
@@ -171,14 +173,14 @@ gathers_more view adds_names has_dates round cs i x gs hs low is_x before gives 
     let p = indexed (rounds.given_by adds_names has_dates gs (record { round = round; class = i }) (view x)) hs gives in
     (p.0, one_class view adds_names has_dates round cs i x gs low is_x before ∙ ap (given_from adds_names has_dates round (i + 1) (map view (drop (i + 1) cs))) p.1)
 
-pub gathers_all : {X : Type 0} (view : X → List classes.Printed) (adds_names has_dates : Bool) (round : ℕ) (cs : List X) (i : ℕ) (gs : List GivenState)
+pub gathers_all : {X : Type 0} (view : X → List prints.Printed) (adds_names has_dates : Bool) (round : ℕ) (cs : List X) (i : ℕ) (gs : List GivenState)
     → length cs ≤ i → Gathers adds_names has_dates round (map view cs) i (map view (drop i cs)) gs
     → unless_beyond (given_to_classes adds_names has_dates round (map view cs)) ≡ Ok gs
 gathers_all view adds_names has_dates round cs i gs past before =
     ap unless_beyond (before.1 ∙ at_drop_all (λ ys. given_from adds_names has_dates round i (map view ys) gs) cs i past)
     ∙ (λ k. cond (before.0 k) (Err overflow) (Ok gs))
 
-pub gathers_refused : {X : Type 0} (view : X → List classes.Printed) (adds_names has_dates : Bool) (round : ℕ) (cs : List X) (i : ℕ) (x : X) (gs : List GivenState)
+pub gathers_refused : {X : Type 0} (view : X → List prints.Printed) (adds_names has_dates : Bool) (round : ℕ) (cs : List X) (i : ℕ) (x : X) (gs : List GivenState)
     (refusal : Option Overflow) → i < length cs → x ≡ get_or cs i x → Gathers adds_names has_dates round (map view cs) i (map view (drop i cs)) gs
     → EndsWith refusal (unless_beyond (rounds.given_by adds_names has_dates gs (record { round = round; class = i }) (view x)))
     → EndsWith refusal (unless_beyond (given_to_classes adds_names has_dates round (map view cs)))

@@ -13,7 +13,7 @@ use Rattle.rendering_context.specs.Cites.{allows_suffix}
 use Rattle.rendering_context.specs.Views.{state_view}
 use Rattle.driver_disambiguation.specs.Classes.{part_at}
 use Rattle.driver_disambiguation.specs.Grouping.{allowing, is_alike, number_if_second, of_number, put_where, second_where, seconds, seconds_after, under}
-use Rattle.driver_disambiguation.specs.declared.printed.Printed.{Printed}
+use Rattle.driver_names.specs.declared.printed.Printed.{Printed}
 use Rattle.driver_disambiguation.proofs.Lists.{map-cond}
 
 -- whether a cite may still be given a year suffix

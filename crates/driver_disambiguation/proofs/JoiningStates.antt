@@ -8,8 +8,9 @@ use Rattle.std.proofs.Math.Bool.{or-false, or-true, or_assoc}
 use Rattle.std.proofs.lemmas.Cmp.{nat_eq_equiv}
 use Rattle.std.proofs.lemmas.List.{at_drop_more, at_drop_all, ext_get_or, get_or-map, get_or-set_same, get_or-set_other, get_or-replicate, length-set, map-set, set-set, length-map, length-replicate}
 use Rattle.std.proofs.lemmas.List.FromFn.{get_or-enumerate_from, get_or-map-range_with_len, length-enumerate_from, length-map-range_with_len}
-use Rattle.rendering_context.specs.Cites.{DisambiguateState, undisturbed, greater_state}
-use Rattle.driver_disambiguation.specs.States.{GivenState, is_given_to, joined_for, states_after}
+use Rattle.rendering_context.specs.Cites.{DisambiguateState, undisambiguated, greater_state}
+use Rattle.driver_names.specs.Prints.{GivenState}
+use Rattle.driver_disambiguation.specs.States.{is_given_to, joined_for, states_after}
 use Rattle.driver_disambiguation.specs.Joining.{Joined, join, joined_at, joined_with, before_giving}
 
 -- what is given to an entry, onto what it has
@@ -31,7 +32,7 @@ states_for e gs = map (λ g. g.state) (filter (is_given_to e) gs)
 
 -- what an entry has after one state more
 abbrev has : Joined → ℕ → List DisambiguateState → DisambiguateState
-has t e ms = onto (get_or t.is_given e false) (get_or t.states e undisturbed) ms
+has t e ms = onto (get_or t.is_given e false) (get_or t.states e undisambiguated) ms
 
 -- two indices that differ
 pub differs : (x e : ℕ) → nat_eq x e ≡ false → (e ≡ x → ⊥)
@@ -43,28 +44,28 @@ step : (t : Joined) (g : GivenState) (e : ℕ) (ms : List DisambiguateState) →
     → has (join t g) e ms ≡ has t e (cond b (g.state ∷ ms) ms)
 step t g e ms low long true h =
     let same : g.entry ≡ e = eqb-true g.entry e h in
-    let x = joined_with (get_or t.is_given g.entry false) (get_or t.states g.entry undisturbed) g.state in
+    let x = joined_with (get_or t.is_given g.entry false) (get_or t.states g.entry undisambiguated) g.state in
     let flag : get_or (set t.is_given g.entry true) e false ≡ true =
     (λ k. get_or (set t.is_given (same k) true) e false) ∙ get_or-set_same t.is_given e true false (omega (arith, low, long)) in
-    let state : get_or (set t.states g.entry x) e undisturbed ≡ joined_with (get_or t.is_given e false) (get_or t.states e undisturbed) g.state =
-    (λ k. get_or (set t.states (same k) (joined_with (get_or t.is_given (same k) false) (get_or t.states (same k) undisturbed) g.state)) e undisturbed)
-    ∙ get_or-set_same t.states e (joined_with (get_or t.is_given e false) (get_or t.states e undisturbed) g.state) undisturbed low in
-    (λ k. onto (flag k) (state k) ms) ∙ onto_more (get_or t.is_given e false) (get_or t.states e undisturbed) g.state ms
+    let state : get_or (set t.states g.entry x) e undisambiguated ≡ joined_with (get_or t.is_given e false) (get_or t.states e undisambiguated) g.state =
+    (λ k. get_or (set t.states (same k) (joined_with (get_or t.is_given (same k) false) (get_or t.states (same k) undisambiguated) g.state)) e undisambiguated)
+    ∙ get_or-set_same t.states e (joined_with (get_or t.is_given e false) (get_or t.states e undisambiguated) g.state) undisambiguated low in
+    (λ k. onto (flag k) (state k) ms) ∙ onto_more (get_or t.is_given e false) (get_or t.states e undisambiguated) g.state ms
 step t g e ms low long false h =
-    let x = joined_with (get_or t.is_given g.entry false) (get_or t.states g.entry undisturbed) g.state in
+    let x = joined_with (get_or t.is_given g.entry false) (get_or t.states g.entry undisambiguated) g.state in
     let flag : get_or (set t.is_given g.entry true) e false ≡ get_or t.is_given e false = get_or-set_other t.is_given g.entry e true false (differs g.entry e h) in
-    let state : get_or (set t.states g.entry x) e undisturbed ≡ get_or t.states e undisturbed = get_or-set_other t.states g.entry e x undisturbed (differs g.entry e h) in
+    let state : get_or (set t.states g.entry x) e undisambiguated ≡ get_or t.states e undisambiguated = get_or-set_other t.states g.entry e x undisambiguated (differs g.entry e h) in
     λ k. onto (flag k) (state k) ms
 
 cond-states : (e : ℕ) (g : GivenState) (gs : List GivenState) (b : Bool) → cond b (g.state ∷ states_for e gs) (states_for e gs) ≡ map (λ h. h.state) (cond b (g ∷ filter (is_given_to e) gs) (filter (is_given_to e) gs))
 cond-states e g gs true = refl
 cond-states e g gs false = refl
 
-after : (gs : List GivenState) (t : Joined) (e : ℕ) → e < length t.states → length t.is_given ≡ length t.states → get_or (fold join t gs).states e undisturbed ≡ has t e (states_for e gs)
-after [] t e low long = onto_none (get_or t.is_given e false) (get_or t.states e undisturbed)
+after : (gs : List GivenState) (t : Joined) (e : ℕ) → e < length t.states → length t.is_given ≡ length t.states → get_or (fold join t gs).states e undisambiguated ≡ has t e (states_for e gs)
+after [] t e low long = onto_none (get_or t.is_given e false) (get_or t.states e undisambiguated)
 after (g ∷ gs) t e low long =
     let states_long : length (join t g).states ≡ length t.states =
-    length-set t.states g.entry (joined_with (get_or t.is_given g.entry false) (get_or t.states g.entry undisturbed) g.state) in
+    length-set t.states g.entry (joined_with (get_or t.is_given g.entry false) (get_or t.states g.entry undisambiguated) g.state) in
     let given_long : length (join t g).is_given ≡ length t.is_given = length-set t.is_given g.entry true in
     after gs (join t g) e (omega (arith, low, states_long)) (given_long ∙ long ∙ sym states_long)
     ∙ step t g e (states_for e gs) low long (nat_eq g.entry e) refl
@@ -73,20 +74,20 @@ after (g ∷ gs) t e low long =
 long_after : (gs : List GivenState) (t : Joined) → length (fold join t gs).states ≡ length t.states
 long_after [] t = refl
 long_after (g ∷ gs) t =
-    long_after gs (join t g) ∙ length-set t.states g.entry (joined_with (get_or t.is_given g.entry false) (get_or t.states g.entry undisturbed) g.state)
+    long_after gs (join t g) ∙ length-set t.states g.entry (joined_with (get_or t.is_given g.entry false) (get_or t.states g.entry undisambiguated) g.state)
 
 -- both lists stay as long as they were
 pub given_long : (t : Joined) (g : GivenState) → length t.is_given ≡ length t.states → length (join t g).is_given ≡ length (join t g).states
 given_long t g long =
-    length-set t.is_given g.entry true ∙ long ∙ sym (length-set t.states g.entry (joined_with (get_or t.is_given g.entry false) (get_or t.states g.entry undisturbed) g.state))
+    length-set t.is_given g.entry true ∙ long ∙ sym (length-set t.states g.entry (joined_with (get_or t.is_given g.entry false) (get_or t.states g.entry undisambiguated) g.state))
 
-at_entry : (gs : List GivenState) (ms : List DisambiguateState) (e : ℕ) → e < length ms → get_or (states_after gs ms) e undisturbed ≡ unwrap_or (joined_for e gs) (get_or ms e undisturbed)
+at_entry : (gs : List GivenState) (ms : List DisambiguateState) (e : ℕ) → e < length ms → get_or (states_after gs ms) e undisambiguated ≡ unwrap_or (joined_for e gs) (get_or ms e undisambiguated)
 at_entry gs ms e low =
     let long : length (enumerate_from 0 ms) ≡ length ms = length-enumerate_from 0 ms in
     let index : 0 + e ≡ e = omega arith in
-    let read : get_or (enumerate_from 0 ms) e (0, undisturbed) ≡ (e, get_or ms e undisturbed) =
-    get_or-enumerate_from 0 ms e (0, undisturbed) low ∙ (λ k. (index k, get_or ms e undisturbed)) in
-    get_or-map (λ (p : ℕ × DisambiguateState). unwrap_or (joined_for p.0 gs) p.1) (enumerate_from 0 ms) e (0, undisturbed) undisturbed (omega (arith, low, long))
+    let read : get_or (enumerate_from 0 ms) e (0, undisambiguated) ≡ (e, get_or ms e undisambiguated) =
+    get_or-enumerate_from 0 ms e (0, undisambiguated) low ∙ (λ k. (index k, get_or ms e undisambiguated)) in
+    get_or-map (λ (p : ℕ × DisambiguateState). unwrap_or (joined_for p.0 gs) p.1) (enumerate_from 0 ms) e (0, undisambiguated) undisambiguated (omega (arith, low, long))
     ∙ ap (λ (p : ℕ × DisambiguateState). unwrap_or (joined_for p.0 gs) p.1) read
 
 -- the states after a round
@@ -95,12 +96,12 @@ joined_all gs ms =
     let first = before_giving ms in
     let long : length (fold join first gs).states ≡ length ms = long_after gs first in
     let all_long : length (states_after gs ms) ≡ length ms = length-map (enumerate_from 0 ms) (λ (p : ℕ × DisambiguateState). unwrap_or (joined_for p.0 gs) p.1) ∙ length-enumerate_from 0 ms in
-    ext_get_or undisturbed (fold join first gs).states (states_after gs ms) (long ∙ sym all_long)
+    ext_get_or undisambiguated (fold join first gs).states (states_after gs ms) (long ∙ sym all_long)
     (λ e low.
     let within : e < length ms = omega (arith, low, long) in
     let flag : get_or (replicate (length ms) false) e false ≡ false = get_or-replicate (length ms) e false false within in
     after gs first e within (length-replicate (length ms) false)
-    ∙ ap (λ b. onto b (get_or ms e undisturbed) (states_for e gs)) flag
+    ∙ ap (λ b. onto b (get_or ms e undisambiguated) (states_for e gs)) flag
     ∙ sym (at_entry gs ms e within))
 
 given_now : (fs : List Bool) (g : GivenState) (e : ℕ) → e < length fs → (b : Bool) → nat_eq g.entry e ≡ b → get_or (set fs g.entry true) e false ≡ (get_or fs e false || b)
@@ -181,8 +182,8 @@ flags_end view_of view before now fs gs i past inv =
 
 -- a state that is replaced by nothing, and then by one that it is joined with
 pub joined_set : {A : Type 0} (view_of : A → DisambiguateState) (ms : List A) (i : ℕ) (empty old made : A) (b : Bool) (x : DisambiguateState) → i < length ms
-    → view_of made ≡ joined_with b (view_of (get_or ms i old)) x → map view_of (set (set ms i empty) i made) ≡ set (map view_of ms) i (joined_with b (get_or (map view_of ms) i undisturbed) x)
+    → view_of made ≡ joined_with b (view_of (get_or ms i old)) x → map view_of (set (set ms i empty) i made) ≡ set (map view_of ms) i (joined_with b (get_or (map view_of ms) i undisambiguated) x)
 joined_set view_of ms i empty old made b x low is_made =
     ap (map view_of) (set-set ms i empty made)
     ∙ map-set view_of ms i made
-    ∙ ap (set (map view_of ms) i) (is_made ∙ ap (λ m. joined_with b m x) (sym (get_or-map view_of ms i old undisturbed low)))
+    ∙ ap (set (map view_of ms) i) (is_made ∙ ap (λ m. joined_with b m x) (sym (get_or-map view_of ms i old undisambiguated low)))

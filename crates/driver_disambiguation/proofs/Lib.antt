@@ -1,4 +1,3 @@
-pub mod NamesCases
 pub mod RoundsCases
 pub mod Lists
 pub mod Groups
@@ -7,13 +6,5 @@ pub mod Classing
 pub mod Gathering
 pub mod JoiningStates
 pub mod SuffixesFound
-pub mod NamesPeople
-pub mod NamesDistinguished
 pub mod Numbering
 pub mod CitesFit
-pub mod Counting
-pub mod KeysAlike
-pub mod NamesShared
-pub mod SharedStill
-pub mod NamesakesCounted
-pub mod FormsOnTime

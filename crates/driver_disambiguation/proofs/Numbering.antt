@@ -11,7 +11,7 @@ use Rattle.std.specs.Cmp.Lexicographic.{bytes_decides}
 use Rattle.std.proofs.lemmas.List.{get_or-map, length-map, map-append, map-set, take_more}
 use Rattle.std.proofs.lemmas.List.Elements.{All-cons, All-nil}
 use Rattle.driver_disambiguation.specs.Numbered.{AreNumbered, AreNumbers, AreStill, number_of}
-use Rattle.driver_disambiguation.specs.declared.printed.Printed.{Printed}
+use Rattle.driver_names.specs.declared.printed.Printed.{Printed}
 
 -- nothing is something
 never : (o : Option ℕ) (n : ℕ) → o ≡ None → o ≡ Some n → ⊥

@@ -7,10 +7,11 @@ use Rattle.rendering_tree.specs.Metas as metas
 use Rattle.rendering_tree.specs.Trees.{Children, Text, Elem, nothing, before}
 use Rattle.rendering_style.specs.Styles.{Citation}
 use Rattle.rendering_people.specs.Properties.{Properties, all_shown}
-use Rattle.rendering_context.specs.Cites.{DisambiguateState, undisturbed, by_names, by_choose, by_suffix, names_of}
+use Rattle.rendering_context.specs.Cites.{DisambiguateState, undisambiguated, by_names, by_choose, by_suffix, names_of}
 use Rattle.driver_requests.specs.Suffixes.{Origin}
-use Rattle.driver_disambiguation.specs.States.{given_to, joined_for, states_after}
-use Rattle.driver_disambiguation.specs.Classes.{Candidate, parts}
+use Rattle.driver_names.specs.Prints.{given_to, Candidate}
+use Rattle.driver_disambiguation.specs.States.{joined_for, states_after}
+use Rattle.driver_disambiguation.specs.Classes.{parts}
 use Rattle.driver_disambiguation.specs.Rounds.{disambiguated}
 use Rattle.rendering_taxonomy.specs.declared.name.DisambiguatedNameForm.TheVariants as forms
 use Rattle.rendering_taxonomy.specs.declared.variable.NameVariable.TheVariants as name
@@ -35,7 +36,7 @@ two_alike : (c : Citation) → (disambiguated false 2 (cite c 0 (codes "A") ∷ 
 unfolding cite dated adding_suffix
 two_alike c = refl
 
-one_entry : (c : Citation) → (disambiguated false 1 (cite c 0 (codes "A") ∷ cite c 0 (codes "A") ∷ [])).states ≡ undisturbed ∷ []
+one_entry : (c : Citation) → (disambiguated false 1 (cite c 0 (codes "A") ∷ cite c 0 (codes "A") ∷ [])).states ≡ undisambiguated ∷ []
 unfolding cite dated adding_suffix
 one_entry c = refl
 
@@ -51,12 +52,12 @@ branching : List ℕ → List ℕ → DisambiguateState → Children
 branching cs ds by_choose = dated ds
 branching cs ds state = dated cs
 
--- a cite that met the test whether it is like others
+-- a cite for which the test `disambiguate` was evaluated
 asked : Citation → ℕ → List ℕ → Candidate
 asked c entry ds = record { entry = entry; has_date = true; style = adding_suffix c; printed = branching (codes "Kwan") ds; met_disambiguate = true; names = None }
 
 -- all cites of the first entry are passed over
-but_the_first : (c : Citation) → (disambiguated false 2 (asked c 0 (codes "T") ∷ asked c 0 (codes "T") ∷ asked c 1 (codes "U") ∷ [])).states ≡ undisturbed ∷ by_choose ∷ []
+but_the_first : (c : Citation) → (disambiguated false 2 (asked c 0 (codes "T") ∷ asked c 0 (codes "T") ∷ asked c 1 (codes "U") ∷ [])).states ≡ undisambiguated ∷ by_choose ∷ []
 unfolding asked branching dated adding_suffix
 but_the_first c = refl
 
@@ -88,7 +89,7 @@ unfolding authored authors shown_of person two_shown adding_suffix
 more_names c = refl
 
 -- where names are not added they change nothing
-no_names : (c : Citation) → (disambiguated false 2 (authored c 0 (codes "Lee") ∷ authored c 1 (codes "Poe") ∷ [])).states ≡ undisturbed ∷ undisturbed ∷ []
+no_names : (c : Citation) → (disambiguated false 2 (authored c 0 (codes "Lee") ∷ authored c 1 (codes "Poe") ∷ [])).states ≡ undisambiguated ∷ undisambiguated ∷ []
 unfolding authored authors shown_of person two_shown adding_suffix
 no_names c = refl
 
@@ -122,7 +123,7 @@ in_place = refl
 
 -- what a cite prints undisambiguated, and what it prints by any
 printed_first : List ℕ → DisambiguateState → List ℕ
-printed_first cs undisturbed = cs
+printed_first cs undisambiguated = cs
 printed_first cs state = codes "B"
 
 -- two authors and a date

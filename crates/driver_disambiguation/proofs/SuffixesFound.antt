@@ -6,9 +6,10 @@ use Rattle.std.specs.Option.{option_and_then, option_map, option_or}
 use Rattle.std.proofs.lemmas.Bool.{eqb-true}
 use Rattle.std.proofs.lemmas.List.{at_drop_more, at_drop_all, ext_get_or, get_or-map, get_or-set_same, get_or-set_other, get_or-replicate, length-set, map-set, length-map, length-replicate}
 use Rattle.std.proofs.lemmas.List.FromFn.{get_or-enumerate_from, length-enumerate_from}
-use Rattle.rendering_context.specs.Cites.{DisambiguateState, undisturbed}
+use Rattle.rendering_context.specs.Cites.{DisambiguateState, undisambiguated}
 use Rattle.driver_requests.specs.Suffixes.{Suffix}
-use Rattle.driver_disambiguation.specs.States.{States, GivenState, is_suffix, giver_of, suffix_given, suffix_by, suffix_index}
+use Rattle.driver_disambiguation.specs.States.{States, is_suffix, giver_of, suffix_given, suffix_by, suffix_index}
+use Rattle.driver_names.specs.Prints.{GivenState}
 use Rattle.driver_disambiguation.specs.SuffixesFound.{suffixes_by, suffix_if_given, suffix_if, found_with}
 use Rattle.driver_disambiguation.proofs.JoiningStates.{differs}
 
@@ -45,18 +46,18 @@ onto None a r t h = h
 onto (Some x) a r t h = refl
 
 step : (ms : States) (ss : List (Option Suffix)) (g : GivenState) (gs : List GivenState) (e : ℕ) → e < length ss → (b : Bool) → nat_eq g.entry e ≡ b
-    → option_or (get_or (found_with ms ss g) e None) (suffix_by (get_or ms e undisturbed) e gs) ≡ option_or (get_or ss e None) (suffix_by (get_or ms e undisturbed) e (g ∷ gs))
+    → option_or (get_or (found_with ms ss g) e None) (suffix_by (get_or ms e undisambiguated) e gs) ≡ option_or (get_or ss e None) (suffix_by (get_or ms e undisambiguated) e (g ∷ gs))
 step ms ss g gs e low true h =
     let same : g.entry ≡ e = eqb-true g.entry e h in
-    let state = get_or ms e undisturbed in
+    let state = get_or ms e undisambiguated in
     let read : get_or (found_with ms ss g) e None ≡ option_or (get_or ss e None) (suffix_if state g) =
-    (λ k. get_or (set ss (same k) (option_or (get_or ss (same k) None) (suffix_if (get_or ms (same k) undisturbed) g))) e None)
+    (λ k. get_or (set ss (same k) (option_or (get_or ss (same k) None) (suffix_if (get_or ms (same k) undisambiguated) g))) e None)
     ∙ get_or-set_same ss e (option_or (get_or ss e None) (suffix_if state g)) None low in
     ap (λ s. option_or s (suffix_by state e gs)) read
     ∙ onto (get_or ss e None) (suffix_if state g) (suffix_by state e gs) (suffix_by state e (g ∷ gs)) (own (suffix_index state) e g gs h)
 step ms ss g gs e low false h =
-    let state = get_or ms e undisturbed in
-    let other = option_or (get_or ss g.entry None) (suffix_if (get_or ms g.entry undisturbed) g) in
+    let state = get_or ms e undisambiguated in
+    let other = option_or (get_or ss g.entry None) (suffix_if (get_or ms g.entry undisambiguated) g) in
     let read : get_or (found_with ms ss g) e None ≡ get_or ss e None = get_or-set_other ss g.entry e other None (differs g.entry e h) in
     λ k. option_or (read k) (of_another (suffix_index state) e g gs h k)
 
@@ -66,25 +67,25 @@ or_none None (Some n) e = refl
 or_none (Some x) p e = refl
 
 found : (ms : States) (gs : List GivenState) (ss : List (Option Suffix)) (e : ℕ) → e < length ss
-    → get_or (fold (found_with ms) ss gs) e None ≡ option_or (get_or ss e None) (suffix_by (get_or ms e undisturbed) e gs)
-found ms [] ss e low = or_none (get_or ss e None) (suffix_index (get_or ms e undisturbed)) e
+    → get_or (fold (found_with ms) ss gs) e None ≡ option_or (get_or ss e None) (suffix_by (get_or ms e undisambiguated) e gs)
+found ms [] ss e low = or_none (get_or ss e None) (suffix_index (get_or ms e undisambiguated)) e
 found ms (g ∷ gs) ss e low =
     let long : length (found_with ms ss g) ≡ length ss =
-    length-set ss g.entry (option_or (get_or ss g.entry None) (suffix_if (get_or ms g.entry undisturbed) g)) in
+    length-set ss g.entry (option_or (get_or ss g.entry None) (suffix_if (get_or ms g.entry undisambiguated) g)) in
     found ms gs (found_with ms ss g) e (omega (arith, low, long)) ∙ step ms ss g gs e low (nat_eq g.entry e) refl
 
 long_found : (ms : States) (gs : List GivenState) (ss : List (Option Suffix)) → length (fold (found_with ms) ss gs) ≡ length ss
 long_found ms [] ss = refl
 long_found ms (g ∷ gs) ss =
-    long_found ms gs (found_with ms ss g) ∙ length-set ss g.entry (option_or (get_or ss g.entry None) (suffix_if (get_or ms g.entry undisturbed) g))
+    long_found ms gs (found_with ms ss g) ∙ length-set ss g.entry (option_or (get_or ss g.entry None) (suffix_if (get_or ms g.entry undisambiguated) g))
 
-at_entry : (ms : States) (gs : List GivenState) (e : ℕ) → e < length ms → get_or (suffixes_by ms gs) e None ≡ suffix_by (get_or ms e undisturbed) e gs
+at_entry : (ms : States) (gs : List GivenState) (e : ℕ) → e < length ms → get_or (suffixes_by ms gs) e None ≡ suffix_by (get_or ms e undisambiguated) e gs
 at_entry ms gs e low =
     let long : length (enumerate_from 0 ms) ≡ length ms = length-enumerate_from 0 ms in
     let index : 0 + e ≡ e = omega arith in
-    let read : get_or (enumerate_from 0 ms) e (0, undisturbed) ≡ (e, get_or ms e undisturbed) =
-    get_or-enumerate_from 0 ms e (0, undisturbed) low ∙ (λ k. (index k, get_or ms e undisturbed)) in
-    get_or-map (λ (p : ℕ × DisambiguateState). suffix_by p.1 p.0 gs) (enumerate_from 0 ms) e (0, undisturbed) None (omega (arith, low, long))
+    let read : get_or (enumerate_from 0 ms) e (0, undisambiguated) ≡ (e, get_or ms e undisambiguated) =
+    get_or-enumerate_from 0 ms e (0, undisambiguated) low ∙ (λ k. (index k, get_or ms e undisambiguated)) in
+    get_or-map (λ (p : ℕ × DisambiguateState). suffix_by p.1 p.0 gs) (enumerate_from 0 ms) e (0, undisambiguated) None (omega (arith, low, long))
     ∙ ap (λ (p : ℕ × DisambiguateState). suffix_by p.1 p.0 gs) read
 
 found_all : (ms : States) (gs : List GivenState) → fold (found_with ms) (replicate (length ms) None) gs ≡ suffixes_by ms gs
@@ -98,7 +99,7 @@ found_all ms gs =
     (λ e low.
     let within : e < length ms = omega (arith, low, long) in
     found ms gs first e (omega (arith, within, first_long))
-    ∙ ap (λ s. option_or s (suffix_by (get_or ms e undisturbed) e gs)) (get_or-replicate (length ms) e None None within)
+    ∙ ap (λ s. option_or s (suffix_by (get_or ms e undisambiguated) e gs)) (get_or-replicate (length ms) e None None within)
     ∙ sym (at_entry ms gs e within))
 
 -- what was found so far, and what is left, make what all that was given makes
@@ -135,7 +136,7 @@ pub found_set : {A C : Type 0} (view_of : A → Option Suffix) (as_state : C →
     → map view_of (set ss e made) ≡ found_with (map as_state ms) (map view_of ss) g
 found_set view_of as_state ms ss e g s made m other same low in_states is_s is_m is_made is_other =
     let own : view_of s ≡ get_or (map view_of ss) e None = ap view_of is_s ∙ sym (get_or-map view_of ss e s None low) in
-    let state : as_state m ≡ get_or (map as_state ms) e undisturbed = ap as_state is_m ∙ sym (get_or-map as_state ms e m undisturbed in_states) in
+    let state : as_state m ≡ get_or (map as_state ms) e undisambiguated = ap as_state is_m ∙ sym (get_or-map as_state ms e m undisambiguated in_states) in
     map-set view_of ss e made
     ∙ ap (set (map view_of ss) e) (is_made ∙ (λ k. option_or (own k) ((is_other ∙ ap (λ x. suffix_if x g) state) k)))
-    ∙ (λ k. set (map view_of ss) (sym same k) (option_or (get_or (map view_of ss) (sym same k) None) (suffix_if (get_or (map as_state ms) (sym same k) undisturbed) g)))
+    ∙ (λ k. set (map view_of ss) (sym same k) (option_or (get_or (map view_of ss) (sym same k) None) (suffix_if (get_or (map as_state ms) (sym same k) undisambiguated) g)))

@@ -11,7 +11,8 @@ use Rattle.driver_requests.specs.CitedEntries.{once}
 use Rattle.driver_requests.specs.Errors.{overflow}
 use Rattle.driver_requests.specs.Suffixes.{Origin}
 use Rattle.driver_requests.proofs.Once.{once_more}
-use Rattle.driver_disambiguation.specs.States.{GivenState, suffixes_overflow}
+use Rattle.driver_names.specs.Prints.{GivenState}
+use Rattle.driver_disambiguation.specs.States.{suffixes_overflow}
 use Rattle.driver_disambiguation.specs.Rounds.{suffixes_for}
 use Rattle.driver_disambiguation.specs.Views.{unless_beyond}
 
@@ -105,7 +106,7 @@ one_beyond : (n : ℕ) (rest : Bool) → (n < 256 → rest ≡ true) → (b : Bo
 one_beyond n rest later true e = ap (λ c. c || rest) e
 one_beyond n rest later false e = (λ k. e k || later (leb-false 256 n e) k)
 
--- those of too many do not
+-- year suffixes of too many entries are not in range
 beyond : (o : Origin) (n : ℕ) (es : List ℕ) → n ≤ 256 → 256 < n + length es → suffixes_overflow (map (suffix_to o) (enumerate_from n es)) ≡ true
 beyond o n [] low many = absurd (omega arith)
 beyond o n (e ∷ es) low many =

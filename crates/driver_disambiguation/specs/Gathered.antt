@@ -4,15 +4,16 @@ use Rattle.std.specs.HashSet.{HashSet, contains}
 use Rattle.std.specs.List.{list_any, enumerate_from}
 use Rattle.rendering_context.specs.Cites.{may_change}
 use Rattle.driver_requests.specs.Suffixes.{Origin}
-use Rattle.driver_disambiguation.specs.Classes.{Printed, entries_of}
-use Rattle.driver_disambiguation.specs.States.{GivenState, is_given_to, suffixes_overflow}
+use Rattle.driver_names.specs.Prints.{Printed, GivenState}
+use Rattle.driver_disambiguation.specs.Classes.{entries_of}
+use Rattle.driver_disambiguation.specs.States.{is_given_to, suffixes_overflow}
 use Rattle.driver_disambiguation.specs.Rounds.{given_by, states_by_choose, suffixes_for}
 
 -- a set has the entries to which something was given, and no others
 abbrev pub AreEntriesOf : {S : Type 0} → HashSet ℕ S → List GivenState → Type 0
 AreEntriesOf s gs = (e : ℕ) → contains nat_eq s e ≡ list_any (is_given_to e) gs
 
--- no year suffixes that were given are beyond the last
+-- no year suffix that was given is after the 256th
 abbrev pub AllInRange : List GivenState → Type 0
 AllInRange gs = suffixes_overflow gs ≡ false
 
@@ -25,7 +26,7 @@ given_from adds_names has_dates round n cs gs =
 abbrev pub given_to_classes : Bool → Bool → ℕ → List (List Printed) → List GivenState
 given_to_classes adds_names has_dates round cs = given_from adds_names has_dates round 0 cs []
 
--- other branches for cites that met the test, where some of these may still be changed
+-- other branches for cites for which the test `disambiguate` was evaluated, where some of these may still be changed
 abbrev pub branches_for : Origin → List Printed → List GivenState
 branches_for o met = if list_any (λ s. may_change s.state) met then states_by_choose o met else []
 

@@ -5,8 +5,8 @@ use Rattle.std.specs.Borrow.{Bor}
 use Rattle.rendering_context.specs.Cites.{allows_suffix}
 use Rattle.rendering_context.specs.Views.{state_view}
 use Rattle.driver_disambiguation.specs.Classes.{is_mixed}
-use Rattle.driver_disambiguation.specs.Views.{class_view}
-use Rattle.driver_disambiguation.specs.declared.printed.Printed.{Printed}
+use Rattle.driver_names.specs.Views.{class_view}
+use Rattle.driver_names.specs.declared.printed.Printed.{Printed}
 
 -- the cites that may still be given a year suffix
 abbrev pub allowing : List (ℕ × Printed) → List (ℕ × Printed)
@@ -24,7 +24,7 @@ of_number n ps = map (λ p. p.1) (filter (λ p. nat_eq n p.0) ps)
 abbrev pub number_if_second : List (ℕ × Printed) → ℕ × Printed → List ℕ
 number_if_second before p = if count_by (is_alike p) before == 1 then p.0 ∷ [] else []
 
--- the same of cites one after the other
+-- the numbers of cites one after the other, each where it is the second of its number
 abbrev pub seconds_after : List (ℕ × Printed) → List (ℕ × Printed) → List ℕ
 seconds_after before [] = []
 seconds_after before (p ∷ ps) = number_if_second before p ++ seconds_after (before ++ p ∷ []) ps

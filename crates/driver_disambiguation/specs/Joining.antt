@@ -1,7 +1,7 @@
 -- What a round gives to entries, joined one state after the other.
 use Rattle.std.specs.Prelude.{ℕ, Bool, true, false, List, length, slice_index_or, slice_set, replicate, if◌then◌else◌}
-use Rattle.rendering_context.specs.Cites.{DisambiguateState, undisturbed, greater_state}
-use Rattle.driver_disambiguation.specs.States.{GivenState}
+use Rattle.rendering_context.specs.Cites.{DisambiguateState, undisambiguated, greater_state}
+use Rattle.driver_names.specs.Prints.{GivenState}
 
 -- the states of entries, and whether the round gave one to each
 pub record Joined : Type 0 where
@@ -15,7 +15,7 @@ joined_with is_given old new = if is_given then greater_state old new else new
 -- a state joined with what the round gave to the entry at an index
 abbrev pub joined_at : Joined → ℕ → DisambiguateState → Joined
 joined_at t entry state = record {
-  states = slice_set t.states entry (joined_with (slice_index_or t.is_given entry false) (slice_index_or t.states entry undisturbed) state);
+  states = slice_set t.states entry (joined_with (slice_index_or t.is_given entry false) (slice_index_or t.states entry undisambiguated) state);
   is_given = slice_set t.is_given entry true;
 }
 

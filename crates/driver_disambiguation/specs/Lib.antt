@@ -1,7 +1,5 @@
 pub mod States
 pub mod Classes
-pub mod Names
-pub mod NamesViews
 pub mod Rounds
 pub mod Views
 pub mod Numbered
@@ -10,6 +8,3 @@ pub mod Grouping
 pub mod Gathered
 pub mod Joining
 pub mod SuffixesFound
-pub mod Keys
-pub mod Shared
-pub mod Namesakes

@@ -3,11 +3,11 @@ use Rattle.std.specs.Prelude.{◌≡◌, ℕ, ◌<◌, true, List, map, Option, 
 use Rattle.std.specs.Global.{Global}
 use Rattle.std.specs.HashMap.{HashMap, get_by_text, hash_map_len}
 use Rattle.std.specs.Str.{bytes_eq}
-use Rattle.driver_disambiguation.specs.declared.printed.Printed.{Printed}
+use Rattle.driver_names.specs.declared.printed.Printed.{Printed}
 
 -- texts of one number are the same
-abbrev pub AreApart : {S : Type 0} → HashMap (String Global) ℕ S → Type 0
-AreApart texts = (q r : List ℕ) (n : ℕ) → get_by_text texts q ≡ Some n → get_by_text texts r ≡ Some n → bytes_eq q r ≡ true
+abbrev pub AreInjective : {S : Type 0} → HashMap (String Global) ℕ S → Type 0
+AreInjective texts = (q r : List ℕ) (n : ℕ) → get_by_text texts q ≡ Some n → get_by_text texts r ≡ Some n → bytes_eq q r ≡ true
 
 -- the numbers of texts are below how many these are
 abbrev pub AreBelow : {S : Type 0} → HashMap (String Global) ℕ S → Type 0
@@ -15,7 +15,7 @@ AreBelow texts = (q : List ℕ) (n : ℕ) → get_by_text texts q ≡ Some n →
 
 -- each text has a number of its own, below how many texts there are
 abbrev pub AreNumbers : {S : Type 0} → HashMap (String Global) ℕ S → Type 0
-AreNumbers texts = AreApart texts × AreBelow texts
+AreNumbers texts = AreInjective texts × AreBelow texts
 
 -- each text has the number that it had
 abbrev pub AreStill : {S : Type 0} → HashMap (String Global) ℕ S → HashMap (String Global) ℕ S → Type 0

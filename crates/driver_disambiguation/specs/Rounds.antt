@@ -1,13 +1,12 @@
 -- Rounds in which states are given, class by class.
-use Rattle.std.specs.Prelude.{ℕ, Bool, ◌==◌, ◌&&◌, ◌||◌, List, [], ◌∷◌, ◌++◌, map, filter, fold, is_some, if◌then◌else◌}
+use Rattle.std.specs.Prelude.{ℕ, Bool, ◌==◌, ◌&&◌, List, [], ◌∷◌, ◌++◌, map, filter, fold, if◌then◌else◌}
 use Rattle.std.specs.List.{list_any, flat_map, enumerate_from, range_with_len}
-use Rattle.rendering_tree.specs.Metas as metas
-use Rattle.rendering_tree.specs.Trees.{element_with}
 use Rattle.rendering_context.specs.Cites.{by_choose, by_suffix, may_change}
 use Rattle.driver_requests.specs.Suffixes.{Origin}
-use Rattle.driver_disambiguation.specs.States.{States, GivenState, undisturbed_states, states_after, given_to, is_given_to}
-use Rattle.driver_disambiguation.specs.Classes.{Candidate, Printed, printed_under, entries_of, classes}
-use Rattle.driver_disambiguation.specs.Names.{states_by_names}
+use Rattle.driver_disambiguation.specs.States.{States, undisambiguated_states, states_after, is_given_to}
+use Rattle.driver_names.specs.Prints.{GivenState, given_to, Candidate, Printed, prints_date}
+use Rattle.driver_disambiguation.specs.Classes.{printed_under, entries_of, classes}
+use Rattle.driver_names.specs.Names.{states_by_names}
 
 -- whether a state was given to an entry of a class
 abbrev pub is_given_to_class : List GivenState → List Printed → Bool
@@ -22,16 +21,12 @@ abbrev pub states_by_choose : Origin → List Printed → List GivenState
 states_by_choose o [] = []
 states_by_choose o (s ∷ ss) = flat_map (choose_beside o s.entry) ss
 
--- Where some cite of a class met the test that is true where cites are alike, and may still change: all that met it take the branch, but
--- the cites of the first such entry.
+-- Where for some cite of a class the test `disambiguate` was evaluated, and the cite may still change: all cites for which it was take the
+-- branch, but those of the first such entry.
 abbrev pub states_by_branches : Origin → List Printed → List GivenState
 states_by_branches o ss =
     let met = filter (λ s. s.met_disambiguate) ss in
     if list_any (λ s. may_change s.state) met then states_by_choose o met else []
-
--- whether a cite prints a date, or a label while its entry has a date
-abbrev pub prints_date : Printed → Bool
-prints_date s = is_some (element_with metas.Date s.tree) || (is_some (element_with metas.CitationLabel s.tree) && s.has_date)
 
 -- year suffixes for entries in their order, from the first one on
 abbrev pub suffixes_for : Origin → List ℕ → List GivenState
@@ -52,7 +47,7 @@ abbrev pub given_by : Bool → Bool → List GivenState → Origin → List Prin
 given_by adds_names has_dates gs o ss =
     unless_given ss (states_by_suffixes has_dates o ss) (unless_given ss (states_by_branches o ss) (gs ++ states_by_names adds_names o ss))
 
--- the same with the number of the class in the round
+-- what was given in the round, with what the class of a number adds
 abbrev pub given_with_class : Bool → Bool → ℕ → List GivenState → ℕ × List Printed → List GivenState
 given_with_class adds_names has_dates round gs p = given_by adds_names has_dates gs (record { round = round; class = p.0 }) p.1
 
@@ -75,7 +70,7 @@ after_round adds_names cites t round = after_giving (round_given adds_names roun
 
 -- the states before the first round
 abbrev pub before_rounds : ℕ → Disambiguation
-before_rounds n = record { states = undisturbed_states n; given = [] }
+before_rounds n = record { states = undisambiguated_states n; given = [] }
 
 -- the states after so many rounds, of cites of n entries
 abbrev pub after_rounds : ℕ → Bool → ℕ → List Candidate → Disambiguation

@@ -2,36 +2,27 @@
 use Rattle.std.specs.Prelude.{ℕ, Bool, false, ◌==◌, ◌&&◌, nat_le, List, map, filter, find, replicate, slice_index_or, Option, Some, None}
 use Rattle.std.specs.List.{list_any, enumerate_from, reduce}
 use Rattle.std.specs.Option.{option_and_then, option_map, option_map_or, unwrap_or}
-use Rattle.rendering_context.specs.Cites.{DisambiguateState, undisturbed, by_names, by_choose, by_suffix, greater_state}
-use Rattle.driver_requests.specs.Suffixes.{Origin, Suffix}
+use Rattle.rendering_context.specs.Cites.{DisambiguateState, undisambiguated, by_names, by_choose, by_suffix, greater_state}
+use Rattle.driver_requests.specs.Suffixes.{Suffix}
+use Rattle.driver_names.specs.Prints.{GivenState}
 
 -- the state of each cited entry, by its index
 abbrev pub States : Type 0
 States = List DisambiguateState
 
 -- no entry is disambiguated yet
-abbrev pub undisturbed_states : ℕ → States
-undisturbed_states n = replicate n undisturbed
+abbrev pub undisambiguated_states : ℕ → States
+undisambiguated_states n = replicate n undisambiguated
 
 -- the state of the entry at an index
 abbrev pub state_of : States → ℕ → DisambiguateState
-state_of states entry = slice_index_or states entry undisturbed
-
--- A state that a class gives to an entry, with the round and the class.
-pub record GivenState : Type 0 where
-  pub entry : ℕ
-  pub state : DisambiguateState
-  pub origin : Origin
-
--- a state that is given to the entry at an index
-abbrev pub given_to : ℕ → DisambiguateState → Origin → GivenState
-given_to entry state origin = record { entry = entry; state = state; origin = origin }
+state_of states entry = slice_index_or states entry undisambiguated
 
 -- whether a state is given to the entry at an index
 abbrev pub is_given_to : ℕ → GivenState → Bool
 is_given_to entry g = g.entry == entry
 
--- of all that is given to an entry the greatest; of equally great ones the last
+-- the greatest of all states that are given to an entry; of equally great ones the last
 abbrev pub joined_for : ℕ → List GivenState → Option DisambiguateState
 joined_for entry gs = reduce greater_state (map (λ g. g.state) (filter (is_given_to entry) gs))
 
@@ -41,7 +32,7 @@ states_after gs states = map (λ p. unwrap_or (joined_for p.0 gs) p.1) (enumerat
 
 -- the index of the year suffix that a state is
 abbrev pub suffix_index : DisambiguateState → Option ℕ
-suffix_index undisturbed = None
+suffix_index undisambiguated = None
 suffix_index (by_names ps) = None
 suffix_index by_choose = None
 suffix_index (by_suffix n) = Some n

@@ -1,55 +1,9 @@
--- The code's values without where they lie in memory.
-use Rattle.std.specs.Prelude.{List, map, if◌then◌else◌, Result, Ok, Err}
-use Rattle.std.specs.Borrow.{Bor}
-use Rattle.laws.specs.Text.{characters}
-use Rattle.rendering_context.specs.Cites.{DisambiguateState}
-use Rattle.rendering_context.specs.Views.{state_view}
-use Rattle.rendering_tree.specs.Trees.{Children}
-use Rattle.rendering_tree.specs.Views.{tree_view}
-use Rattle.rendering_tree.specs.Writing.{plain_text}
-use Rattle.driver_requests.specs.SuffixViews.{origin_view}
-use Rattle.driver_disambiguation.specs.Classes as classes
-use Rattle.driver_disambiguation.specs.States as states
+-- What is given, or a refusal.
+use Rattle.std.specs.Prelude.{List, if◌then◌else◌, Result, Ok, Err}
+use Rattle.driver_names.specs.Prints.{GivenState}
 use Rattle.driver_disambiguation.specs.States.{suffixes_overflow}
 use Rattle.driver_requests.specs.Errors.{Overflow, overflow}
-use Rattle.driver_disambiguation.specs.declared.given_state.GivenState.{GivenState}
-use Rattle.driver_disambiguation.specs.declared.printed.Candidate.{Candidate}
-use Rattle.driver_disambiguation.specs.declared.printed.Printed.{Printed}
 
--- a cite that prints a tree by its state
-abbrev pub printed_as_view : Candidate → DisambiguateState → Children → classes.Printed
-printed_as_view c state printed = record {
-  entry = c.entry;
-  has_date = c.has_date;
-  rule = c.rule;
-  adds_suffix = c.adds_suffix;
-  met_disambiguate = c.met_disambiguate;
-  names = c.names;
-  state = state;
-  tree = printed;
-  text = plain_text printed;
-}
-
--- a cite at the start of a round
-abbrev pub printed_view : Printed → classes.Printed
-printed_view s = record (printed_as_view s.cite (state_view s.state) (tree_view s.tree)) { text = characters s.text }
-
--- a cite, as it prints a tree by another state
-abbrev pub printed_again : classes.Printed → DisambiguateState → Children → classes.Printed
-printed_again s state printed = record s { state = state; tree = printed; text = plain_text printed }
-
--- cites of a class
-abbrev pub class_view : List (Bor Printed) → List classes.Printed
-class_view ss = map (λ s. printed_view s.now) ss
-
--- a state that a class gives
-abbrev pub given_view : GivenState → states.GivenState
-given_view g = record { entry = g.entry; state = state_view g.state; origin = origin_view g.origin }
-
--- the same of several
-abbrev pub given_states_view : List GivenState → List states.GivenState
-given_states_view gs = map given_view gs
-
--- what is given, unless some year suffixes are beyond the last
-abbrev pub unless_beyond : List states.GivenState → Result (List states.GivenState) Overflow
+-- what is given, unless some year suffix is after the 256th
+abbrev pub unless_beyond : List GivenState → Result (List GivenState) Overflow
 unless_beyond gs = if suffixes_overflow gs then Err overflow else Ok gs

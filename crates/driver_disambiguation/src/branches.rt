@@ -1,21 +1,20 @@
 //! Other branches of a style for the cites of a class.
 
-ghost use Rattle.std.specs.Prelude.{◌≡◌, ◌++◌, filter, map, IfOk, OnOk};
+ghost use Rattle.std.specs.Prelude.{◌≡◌, ◌++◌, filter, IfOk, OnOk};
 ghost use Rattle.std.specs.List.{flat_map, list_any};
 ghost use Rattle.rendering_context.specs.Cites.{may_change};
 ghost use Rattle.driver_disambiguation.specs.Rounds as rounds;
 ghost use Rattle.driver_disambiguation.specs.Rounds.{states_by_choose, choose_beside};
 ghost use Rattle.driver_disambiguation.specs.Gathered.{branches_for};
 ghost use Rattle.driver_requests.specs.SuffixViews.{origin_view};
-ghost use Rattle.driver_disambiguation.specs.Views.{class_view, given_states_view, printed_view};
+ghost use Rattle.driver_names.specs.Views.{class_view, given_states_view, printed_view};
 
-use crate::given_state::GivenState;
-use crate::printed::{Printed, push_where};
+use driver_names::{GivenState, Printed, push_where};
 use driver_requests::Origin;
 use rendering_context::DisambiguateState;
 use std::alloc::{AllocError, Global};
 
-/// What branches give to the cites of a class, where they may still change one that met the test whether it is like others.
+/// What branches give to the cites of a class, where they may still change one for which the test `disambiguate` was evaluated.
 ///
 /// # Errors
 /// Out of memory.
@@ -31,7 +30,7 @@ pub(crate) fn states_by_branches(
     branches_for(alloc, origin, asked.as_slice())
 }
 
-/// Other branches for cites that met the test, where some of these may still be changed.
+/// Other branches for cites for which the test was evaluated, where some of these may still be changed.
 fn branches_for(
     alloc: Global,
     origin: Origin,
@@ -54,7 +53,7 @@ fn some_may_change(cites: &[&Printed]) -> bool
     cites.iter().any(|cite| cite.may_change())
 }
 
-/// The cites that met the test whether they are like others.
+/// The cites for which the test `disambiguate` was evaluated.
 fn asked<'a>(alloc: Global, class: &[&'a Printed]) -> Result<Vec<&'a Printed>, AllocError>
     ensures { IfOk result (λ v. class_view v.items
         ≡ filter (λ s. s.met_disambiguate) (class_view class.now)) }

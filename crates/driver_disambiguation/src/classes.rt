@@ -6,9 +6,9 @@ ghost use Rattle.driver_disambiguation.specs.Classes as classes;
 ghost use Rattle.driver_disambiguation.specs.Classes.{is_mixed};
 ghost use Rattle.driver_disambiguation.specs.Grouping.{allowing, if_mixed, of_number, put_where, second_where, seconds, under};
 ghost use Rattle.driver_disambiguation.specs.Numbered.{AreNumbered};
-ghost use Rattle.driver_disambiguation.specs.Views.{printed_view, class_view};
+ghost use Rattle.driver_names.specs.Views.{printed_view, class_view};
 
-use crate::printed::Printed;
+use driver_names::Printed;
 use std::alloc::{AllocError, Global};
 use std::collections::HashMap;
 
@@ -72,7 +72,7 @@ fn no_groups<'a>(alloc: Global, count: usize) -> Result<Vec<Vec<&'a Printed>>, A
     Ok(groups)
 }
 
-/// Adds a cite to the group of its number, where it is wanted. Where it is the second one there, the number is put last.
+/// Adds a cite to the group of its number, where it is wanted. Where it is the second one there, the number is appended to `shared`.
 fn add_where<'a>(
     members: &mut Vec<Vec<&'a Printed>>,
     shared: &mut Vec<usize>,
@@ -93,7 +93,7 @@ fn add_where<'a>(
     Ok(())
 }
 
-/// Adds a cite to the group of its number. Where it is the second one there, the number is put last.
+/// Adds a cite to the group of its number. Where it is the second one there, the number is appended to `shared`.
 fn add<'a>(
     members: &mut Vec<Vec<&'a Printed>>,
     shared: &mut Vec<usize>,

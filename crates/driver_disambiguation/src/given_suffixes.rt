@@ -5,11 +5,11 @@ ghost use Rattle.std.specs.Option.{option_map, option_or};
 ghost use Rattle.driver_disambiguation.specs.SuffixesFound as suffixes_found;
 ghost use Rattle.driver_disambiguation.specs.SuffixesFound.{found_with, suffixes_by};
 ghost use Rattle.driver_disambiguation.specs.States as states;
-ghost use Rattle.driver_disambiguation.specs.Views.{given_view, given_states_view};
+ghost use Rattle.driver_names.specs.Views.{given_view, given_states_view};
 ghost use Rattle.driver_requests.specs.SuffixViews.{suffix_view};
 ghost use Rattle.rendering_context.specs.Views.{state_view};
 
-use crate::given_state::GivenState;
+use driver_names::GivenState;
 use driver_requests::Suffix;
 use rendering_context::DisambiguateState;
 use std::alloc::{AllocError, Global};

@@ -4,7 +4,7 @@ ghost use Rattle.std.specs.Prelude.{◌≡◌, Some, map, IfOk};
 ghost use Rattle.std.specs.HashMap.{get_by_text};
 ghost use Rattle.driver_disambiguation.specs.Numbered.{AreNumbers, AreStill, number_of};
 
-use crate::printed::Printed;
+use driver_names::Printed;
 use std::alloc::{AllocError, Global};
 use std::collections::HashMap;
 

@@ -3,10 +3,9 @@
 ghost use Rattle.driver_disambiguation.specs.Numbered.{AreNumbered};
 
 use crate::classes::classes;
-use crate::given_state::GivenState;
 use crate::numbers::{number_of, numbers_of};
-use crate::printed::{Printed, plain_text};
 use crate::round::{given_to_classes, some_prints_date};
+use driver_names::{GivenState, Printed, plain_text};
 use driver_requests::DriverError;
 use rendering_context::DisambiguateState;
 use rendering_tree::ElemChildren;
@@ -31,10 +30,11 @@ impl PrintedCites {
     ghost use Rattle.rendering_context.specs.Views.{state_view};
     ghost use Rattle.rendering_tree.specs.Views.{tree_view};
     ghost use Rattle.driver_requests.specs.Errors.{overflow_of};
-    ghost use Rattle.driver_disambiguation.specs.Classes as classes;
+    ghost use Rattle.driver_names.specs.Prints as prints;
     ghost use Rattle.driver_disambiguation.specs.CitesViews.{printed_cites_view};
     ghost use Rattle.driver_disambiguation.specs.Rounds as rounds;
-    ghost use Rattle.driver_disambiguation.specs.Views.{given_states_view, printed_again, printed_view, unless_beyond};
+    ghost use Rattle.driver_names.specs.Views.{given_states_view, printed_again, printed_view};
+    ghost use Rattle.driver_disambiguation.specs.Views.{unless_beyond};
 
     /// Cites in classes by what they print.
     ///
@@ -69,7 +69,7 @@ impl PrintedCites {
     /// What a round gives to the entries of cites, class by class.
     ///
     /// # Errors
-    /// Out of memory, or year suffixes are beyond the last.
+    /// `Overflow` where more than 256 entries that print alike need year suffixes; `Memory` where a request for memory was refused.
     pub fn round_given(
         &self,
         alloc: Global,
@@ -102,7 +102,7 @@ impl PrintedCites {
         printed: ElemChildren,
     ) -> Result<(), AllocError>
         requires { cite < length (printed_cites_view self.old) }
-        ensures { OnOk result ((d : classes.Printed)
+        ensures { OnOk result ((d : prints.Printed)
             → printed_cites_view self.new ≡ slice_set (printed_cites_view self.old) cite
             (printed_again (slice_index_or (printed_cites_view self.old) cite d)
             (state_view state) (tree_view printed))) }

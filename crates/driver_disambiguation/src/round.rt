@@ -1,22 +1,22 @@
 //! Rounds in which states are given, class by class.
 
-ghost use Rattle.std.specs.Prelude.{◌≡◌, ◌∷◌, ◌++◌, [], ℕ, List, map, OnOk};
+ghost use Rattle.std.specs.Prelude.{◌≡◌, ◌∷◌, ◌++◌, [], List, map, OnOk};
 ghost use Rattle.laws.specs.Results.{Gives, Leaves};
 ghost use Rattle.driver_requests.specs.Errors.{overflow_of};
 ghost use Rattle.driver_disambiguation.specs.Gathered.{AllInRange, AreEntriesOf, given_to_classes};
-ghost use Rattle.driver_disambiguation.specs.States as states;
-ghost use Rattle.driver_disambiguation.specs.Names as names;
+ghost use Rattle.driver_names.specs.Prints as prints;
+ghost use Rattle.driver_names.specs.Names as names;
 ghost use Rattle.driver_disambiguation.specs.Rounds as rounds;
-ghost use Rattle.driver_disambiguation.specs.Rounds.{is_given_to_class, prints_date, unless_given};
+ghost use Rattle.driver_disambiguation.specs.Rounds.{is_given_to_class, unless_given};
+ghost use Rattle.driver_names.specs.Prints.{prints_date};
 ghost use Rattle.std.specs.List.{list_any};
 ghost use Rattle.driver_requests.specs.SuffixViews.{origin_view};
-ghost use Rattle.driver_disambiguation.specs.Views.{class_view, given_states_view, printed_view, unless_beyond};
+ghost use Rattle.driver_names.specs.Views.{class_view, given_states_view, printed_view};
+ghost use Rattle.driver_disambiguation.specs.Views.{unless_beyond};
 
 use crate::branches::states_by_branches;
-use crate::given_state::GivenState;
-use crate::names::states_by_names;
-use crate::printed::Printed;
 use crate::year_suffixes::states_by_suffixes;
+use driver_names::{GivenState, Printed, states_by_names};
 use driver_requests::{DriverError, Origin};
 use std::alloc::{AllocError, Global};
 use std::collections::HashSet;
@@ -167,7 +167,7 @@ fn push(
 
 /// Whether something was given to an entry of a class.
 fn is_given_to_class(entries: &HashSet<usize>, class: &[&Printed]) -> bool
-    ensures { (gs : List states.GivenState) → AreEntriesOf entries.now gs
+    ensures { (gs : List prints.GivenState) → AreEntriesOf entries.now gs
         → result ≡ is_given_to_class gs (class_view class.now) }
 {
     class.iter().any(|cite| entries.contains(&cite.cite.entry))

@@ -5,10 +5,10 @@ ghost use Rattle.std.specs.List.{list_any, range_with_len};
 ghost use Rattle.driver_disambiguation.specs.Joining as joining;
 ghost use Rattle.driver_disambiguation.specs.Joining.{before_giving, joined_at};
 ghost use Rattle.driver_disambiguation.specs.States.{is_given_to, states_after};
-ghost use Rattle.driver_disambiguation.specs.Views.{given_states_view};
+ghost use Rattle.driver_names.specs.Views.{given_states_view};
 ghost use Rattle.rendering_context.specs.Views.{state_view};
 
-use crate::given_state::GivenState;
+use driver_names::GivenState;
 use rendering_context::DisambiguateState;
 use std::alloc::{AllocError, Global};
 use std::mem;

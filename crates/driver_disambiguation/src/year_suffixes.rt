@@ -1,6 +1,6 @@
 //! Year suffixes for the entries of a class.
 
-ghost use Rattle.std.specs.Prelude.{◌≡◌, ℕ, true, ◌==◌, nat_eq, [], ◌∷◌, ◌++◌, if◌then◌else◌, map, IfOk, OnOk};
+ghost use Rattle.std.specs.Prelude.{◌≡◌, ℕ, true, ◌==◌, nat_eq, [], ◌∷◌, ◌++◌, if◌then◌else◌, IfOk, OnOk};
 ghost use Rattle.std.specs.HashSet.{contains};
 ghost use Rattle.std.specs.List.{list_any};
 ghost use Rattle.laws.specs.Results.{Gives};
@@ -9,10 +9,10 @@ ghost use Rattle.driver_disambiguation.specs.Classes.{entries_of};
 ghost use Rattle.driver_disambiguation.specs.Gathered.{suffixes_where};
 ghost use Rattle.driver_disambiguation.specs.Rounds as rounds;
 ghost use Rattle.driver_requests.specs.SuffixViews.{origin_view};
-ghost use Rattle.driver_disambiguation.specs.Views.{class_view, given_view, given_states_view, unless_beyond};
+ghost use Rattle.driver_names.specs.Views.{class_view, given_states_view};
+ghost use Rattle.driver_disambiguation.specs.Views.{unless_beyond};
 
-use crate::given_state::GivenState;
-use crate::printed::Printed;
+use driver_names::{GivenState, Printed};
 use driver_requests::{DriverError, Origin};
 use rendering_context::DisambiguateState;
 use std::alloc::{AllocError, Global};

@@ -8,7 +8,8 @@ use Rattle.rendering_entries.specs.Answers.{Answers}
 use Rattle.driver_requests.specs.Cites.{cite_at, cites_after, cites_of, request_cites}
 use Rattle.driver_requests.specs.Notes.{facts_of, noted, note_view, notes_view}
 use Rattle.driver_requests.specs.Requests.{Item, Request, cites_entry}
-use Rattle.driver_requests.specs.History.{History, is_among, cited_in, facts_from, facts_after, facts_of_all, after_request}
+use Rattle.driver_requests.specs.History.{is_among, cited_in, facts_from, facts_after, facts_of_all, after_request}
+use Rattle.driver_requests.specs.declared.history.History.{History}
 use Rattle.driver_requests.specs.Views.{entries_of, entry_of_item, item_view, request_view}
 use Rattle.driver_requests.specs.declared.item.CitationItem.{CitationItem}
 use Rattle.driver_requests.specs.declared.request.CitationRequest.{CitationRequest}

@@ -6,7 +6,8 @@ use Rattle.std.specs.Option.{option_map_or, unwrap_or}
 use Rattle.std.proofs.Math.Path.{fun_ext}
 use Rattle.std.proofs.lemmas.Bool.Decides.{same_from_decides, Decides-like}
 use Rattle.std.proofs.lemmas.List.Folds.{list_any-append}
-use Rattle.driver_requests.specs.History.{History, is_among, cited_in, cited_by_note, noted_if, is_within}
+use Rattle.driver_requests.specs.History.{is_among, cited_in, cited_by_note, noted_if, is_within}
+use Rattle.driver_requests.specs.declared.history.History.{History}
 
 -- the index of the last that passes, counted from a number on, or what was found before
 abbrev pub last_from : {R : Type 0} → (R → Bool) → ℕ → List R → Option ℕ → Option ℕ

@@ -5,7 +5,8 @@ use Rattle.std.proofs.lemmas.List.{get_or-set_same, get_or-set_other, take_more,
 use Rattle.std.proofs.lemmas.List.FromFn.{get_or-enumerate_from, length-enumerate_from}
 use Rattle.std.proofs.lemmas.List.Folds.{list_any-append}
 use Rattle.std.proofs.lemmas.Bool.{cases_eq}
-use Rattle.driver_requests.specs.History.{History, is_among, cited_in, cited_by_note, noted_in}
+use Rattle.driver_requests.specs.History.{is_among, cited_in, cited_by_note, noted_in}
+use Rattle.driver_requests.specs.declared.history.History.{History}
 
 or_false : (b : Bool) → (b || false) ≡ b
 or_false true = refl
@@ -27,37 +28,37 @@ or_swap false b = sym (or_false b)
 abbrev pub with_cited : History → Bool → History
 with_cited s b = record s { is_cited = b }
 
-cite_cases : {X : Type 0} (f : X → History) (xs : List X) (d x : X) (entry q : ℕ) → entry < length xs → f x ≡ record (f (get_or xs entry d)) { is_cited = true }
+cite_cases : (xs : List History) (d x : History) (entry q : ℕ) → entry < length xs → x ≡ record (get_or xs entry d) { is_cited = true }
     → (q ≡ entry) ⊎ (q ≡ entry → ⊥)
-    → f (get_or (set xs entry x) q d) ≡ cited_in (entry ∷ []) q (f (get_or xs q d))
-cite_cases f xs d x entry q there is (inl e) =
-    subst (λ z. f (get_or (set xs entry x) z d) ≡ cited_in (entry ∷ []) z (f (get_or xs z d))) (sym e)
-    (ap f (get_or-set_same xs entry x d there) ∙ is
-    ∙ ap (with_cited (f (get_or xs entry d))) (sym (ap (λ b. (f (get_or xs entry d)).is_cited || (b || false)) (eq-eqb entry entry refl) ∙ or_true (f (get_or xs entry d)).is_cited)))
-cite_cases f xs d x entry q there is (inr ne) =
-    ap f (get_or-set_other xs entry q x d ne)
-    ∙ ap (with_cited (f (get_or xs q d))) (sym (ap (λ b. (f (get_or xs q d)).is_cited || (b || false)) (ne_eqb entry q (λ e. ne (sym e))) ∙ or_false (f (get_or xs q d)).is_cited))
+    → get_or (set xs entry x) q d ≡ cited_in (entry ∷ []) q (get_or xs q d)
+cite_cases xs d x entry q there is (inl e) =
+    subst (λ z. get_or (set xs entry x) z d ≡ cited_in (entry ∷ []) z (get_or xs z d)) (sym e)
+    (get_or-set_same xs entry x d there ∙ is
+    ∙ ap (with_cited (get_or xs entry d)) (sym (ap (λ b. (get_or xs entry d).is_cited || (b || false)) (eq-eqb entry entry refl) ∙ or_true (get_or xs entry d).is_cited)))
+cite_cases xs d x entry q there is (inr ne) =
+    get_or-set_other xs entry q x d ne
+    ∙ ap (with_cited (get_or xs q d)) (sym (ap (λ b. (get_or xs q d).is_cited || (b || false)) (ne_eqb entry q (λ e. ne (sym e))) ∙ or_false (get_or xs q d).is_cited))
 
 -- the entry at an index is cited
-pub cite_written : {X : Type 0} (f : X → History) (xs : List X) (d x : X) (entry q : ℕ) → entry < length xs → f x ≡ record (f (get_or xs entry d)) { is_cited = true }
-    → f (get_or (set xs entry x) q d) ≡ cited_in (entry ∷ []) q (f (get_or xs q d))
-cite_written f xs d x entry q there is = cite_cases f xs d x entry q there is (cases_eq q entry)
+pub cite_written : (xs : List History) (d x : History) (entry q : ℕ) → entry < length xs → x ≡ record (get_or xs entry d) { is_cited = true }
+    → get_or (set xs entry x) q d ≡ cited_in (entry ∷ []) q (get_or xs q d)
+cite_written xs d x entry q there is = cite_cases xs d x entry q there is (cases_eq q entry)
 
-note_cases : {X : Type 0} (f : X → History) (xs : List X) (d x : X) (index number entry q : ℕ) → entry < length xs → f x ≡ cited_by_note index number (f (get_or xs entry d))
+note_cases : (xs : List History) (d x : History) (index number entry q : ℕ) → entry < length xs → x ≡ cited_by_note index number (get_or xs entry d)
     → (q ≡ entry) ⊎ (q ≡ entry → ⊥)
-    → f (get_or (set xs entry x) q d) ≡ noted_in index number (entry ∷ []) q (f (get_or xs q d))
-note_cases f xs d x index number entry q there is (inl e) =
-    subst (λ z. f (get_or (set xs entry x) z d) ≡ noted_in index number (entry ∷ []) z (f (get_or xs z d))) (sym e)
-    (ap f (get_or-set_same xs entry x d there) ∙ is
-    ∙ sym (ap (λ b. cond (b || false) (cited_by_note index number (f (get_or xs entry d))) (f (get_or xs entry d))) (eq-eqb entry entry refl)))
-note_cases f xs d x index number entry q there is (inr ne) =
-    ap f (get_or-set_other xs entry q x d ne)
-    ∙ sym (ap (λ b. cond (b || false) (cited_by_note index number (f (get_or xs q d))) (f (get_or xs q d))) (ne_eqb entry q (λ e. ne (sym e))))
+    → get_or (set xs entry x) q d ≡ noted_in index number (entry ∷ []) q (get_or xs q d)
+note_cases xs d x index number entry q there is (inl e) =
+    subst (λ z. get_or (set xs entry x) z d ≡ noted_in index number (entry ∷ []) z (get_or xs z d)) (sym e)
+    (get_or-set_same xs entry x d there ∙ is
+    ∙ sym (ap (λ b. cond (b || false) (cited_by_note index number (get_or xs entry d)) (get_or xs entry d)) (eq-eqb entry entry refl)))
+note_cases xs d x index number entry q there is (inr ne) =
+    get_or-set_other xs entry q x d ne
+    ∙ sym (ap (λ b. cond (b || false) (cited_by_note index number (get_or xs q d)) (get_or xs q d)) (ne_eqb entry q (λ e. ne (sym e))))
 
 -- the entry at an index is cited in a note
-pub note_written : {X : Type 0} (f : X → History) (xs : List X) (d x : X) (index number entry q : ℕ) → entry < length xs → f x ≡ cited_by_note index number (f (get_or xs entry d))
-    → f (get_or (set xs entry x) q d) ≡ noted_in index number (entry ∷ []) q (f (get_or xs q d))
-note_written f xs d x index number entry q there is = note_cases f xs d x index number entry q there is (cases_eq q entry)
+pub note_written : (xs : List History) (d x : History) (index number entry q : ℕ) → entry < length xs → x ≡ cited_by_note index number (get_or xs entry d)
+    → get_or (set xs entry x) q d ≡ noted_in index number (entry ∷ []) q (get_or xs q d)
+note_written xs d x index number entry q there is = note_cases xs d x index number entry q there is (cases_eq q entry)
 
 among_more : (entries : List ℕ) (entry q : ℕ) → (is_among entries q || is_among (entry ∷ []) q) ≡ is_among (entries ++ entry ∷ []) q
 among_more entries entry q = sym (list_any-append (λ p. nat_eq p q) entries (entry ∷ []))

@@ -8,8 +8,8 @@ use Rattle.std.specs.List.{list_any, position_or_len}
 use Rattle.std.proofs.Math.Path.{fun_ext}
 use Rattle.std.proofs.lemmas.List.{length-map, map-append}
 use Rattle.std.proofs.lemmas.List.Folds.{list_any-append}
+use Rattle.laws.specs.Borrowed.{borrowed}
 use Rattle.driver_requests.specs.Indices.{pushed, grown, index_in, IsIndex}
-use Rattle.driver_requests.specs.Views.{lent}
 
 stays_step : (t a : Bool) (m n : ℕ) → (t || a) ≡ true → (a ≡ true → m ≡ n) → cond (not t) (1 + m) 0 ≡ cond (not t) (1 + n) 0
 stays_step true a m n h ih = refl
@@ -103,8 +103,8 @@ any_step : (t a : Bool) (m n : ℕ) → a ≡ nat_lt m n → (t || a) ≡ nat_lt
 any_step true a m n h = sym (lt-ltb 0 (suc n) (omega arith))
 any_step false a m n h = h ∙ any_later m n (nat_lt m n) refl
 
-lent_more : {T : Type 0} (items more : List (Bor T)) (e : Bor T) → more ≡ items ++ e ∷ [] → lent more ≡ lent items ++ e.now ∷ []
-lent_more {T} items more e is = ap (λ (bs : List (Bor T)). lent bs) is ∙ map-append (λ (b : Bor T). b.now) items (e ∷ [])
+lent_more : {T : Type 0} (items more : List (Bor T)) (e : Bor T) → more ≡ items ++ e ∷ [] → borrowed more ≡ borrowed items ++ e.now ∷ []
+lent_more {T} items more e is = ap (λ (bs : List (Bor T)). borrowed bs) is ∙ map-append (λ (b : Bor T). b.now) items (e ∷ [])
 
 -- one that passes has an index
 pub index_below : {K : Type 0} (p : K → Bool) (xs : List K) → list_any p xs ≡ true → position_or_len p xs < length xs
@@ -113,27 +113,27 @@ index_below p (x ∷ xs) h = below_step (p x) (list_any p xs) _ (length xs) h (i
 
 -- a map that has no index of an entry, after it has
 pub index_pushed : {T S : Type 0} {eq : T → T → Bool} (laws : IsEquivalence eq) (old new : HashMap (Bor T) ℕ S) (items more : List (Bor T)) (e : Bor T) (n : ℕ)
-    → list_any (eq e.now) (lent items) ≡ false
+    → list_any (eq e.now) (borrowed items) ≡ false
     → n ≡ length items
     → more ≡ items ++ e ∷ []
     → ((q : Bor T) → get_by (λ (k : Bor T). eq q.now k.now) new ≡ cond (eq e.now q.now) (Some n) (get_by (λ (k : Bor T). eq q.now k.now) old))
-    → IsIndex eq old (lent items)
-    → IsIndex eq new (lent more)
+    → IsIndex eq old (borrowed items)
+    → IsIndex eq new (borrowed more)
 index_pushed {T} {eq = eq} laws old new items more e n apart len is updates before =
     subst (λ es. IsIndex eq new es) (sym (lent_more items more e is))
-    (index_more laws old new (lent items) e apart (λ q. updates q ∙ ap (λ m. cond (eq e.now q.now) (Some m) (get_by (λ (k : Bor T). eq q.now k.now) old)) (len ∙ sym (length-map items (λ (b : Bor T). b.now)))) before)
+    (index_more laws old new (borrowed items) e apart (λ q. updates q ∙ ap (λ m. cond (eq e.now q.now) (Some m) (get_by (λ (k : Bor T). eq q.now k.now) old)) (len ∙ sym (length-map items (λ (b : Bor T). b.now)))) before)
 
 -- the entries after one more
-pub entries_pushed : {T : Type 0} (eq : T → T → Bool) (items more : List (Bor T)) (e : Bor T) → list_any (eq e.now) (lent items) ≡ false → more ≡ items ++ e ∷ []
-    → lent more ≡ pushed eq (lent items) e.now
-entries_pushed eq items more e apart is = lent_more items more e is ∙ sym (pushed_new eq (lent items) e.now apart)
+pub entries_pushed : {T : Type 0} (eq : T → T → Bool) (items more : List (Bor T)) (e : Bor T) → list_any (eq e.now) (borrowed items) ≡ false → more ≡ items ++ e ∷ []
+    → borrowed more ≡ pushed eq (borrowed items) e.now
+entries_pushed eq items more e apart is = lent_more items more e is ∙ sym (pushed_new eq (borrowed items) e.now apart)
 
 -- its index
-pub index_of_pushed : {T : Type 0} {eq : T → T → Bool} (laws : IsEquivalence eq) (items more : List (Bor T)) (e : Bor T) (n : ℕ) → list_any (eq e.now) (lent items) ≡ false
+pub index_of_pushed : {T : Type 0} {eq : T → T → Bool} (laws : IsEquivalence eq) (items more : List (Bor T)) (e : Bor T) (n : ℕ) → list_any (eq e.now) (borrowed items) ≡ false
     → n ≡ length items → more ≡ items ++ e ∷ []
-    → n ≡ position_or_len (eq e.now) (lent more)
+    → n ≡ position_or_len (eq e.now) (borrowed more)
 index_of_pushed {T} {eq = eq} laws items more e n apart len is =
-    len ∙ sym (length-map items (λ (b : Bor T). b.now)) ∙ index_new laws (lent items) e.now apart ∙ ap (position_or_len (eq e.now)) (sym (lent_more items more e is))
+    len ∙ sym (length-map items (λ (b : Bor T). b.now)) ∙ index_new laws (borrowed items) e.now apart ∙ ap (position_or_len (eq e.now)) (sym (lent_more items more e is))
 
 -- whether one passes says whether it has an index
 pub any_position : {K : Type 0} (p : K → Bool) (xs : List K) → list_any p xs ≡ nat_lt (position_or_len p xs) (length xs)

@@ -10,9 +10,9 @@ use Rattle.std.proofs.lemmas.List.Concat.{flat_map-append}
 use Rattle.std.proofs.lemmas.List.Folds.{list_any-append}
 use Rattle.std.proofs.lemmas.List.Sums.{fold_push, fold-append}
 use Rattle.std.proofs.lemmas.Map.Views.{All-from_any}
+use Rattle.laws.specs.Borrowed.{borrowed}
 use Rattle.driver_requests.specs.CitedEntries.{once, index_among}
 use Rattle.driver_requests.specs.Indices.{pushed, grown, indices_in}
-use Rattle.driver_requests.specs.Views.{lent}
 use Rattle.driver_requests.proofs.Once.{grown_all, once-any}
 use Rattle.driver_requests.proofs.IndicesFound.{index_below, index_kept}
 
@@ -110,13 +110,13 @@ one_to_list (Some n) = refl
 
 -- one more entry, which may have an index
 pub indices_step : {T : Type 0} (index : T → Option ℕ) (entries : List (Bor T)) (i : ℕ) (x : Bor T) → i < length entries → x ≡ get_or entries i x
-    → (indices more : List ℕ) (p : Option ℕ) → more ≡ indices ++ option_to_list p → p ≡ index x.now → indices ≡ filter_map index (lent (take i entries)) → more ≡ filter_map index (lent (take (i + 1) entries))
+    → (indices more : List ℕ) (p : Option ℕ) → more ≡ indices ++ option_to_list p → p ≡ index x.now → indices ≡ filter_map index (borrowed (take i entries)) → more ≡ filter_map index (borrowed (take (i + 1) entries))
 indices_step {T} index entries i x h is indices more p pushes one before =
     pushes
     ∙ ap₂ (λ ps qs. ps ++ qs) before (ap option_to_list one ∙ one_to_list (index x.now))
-    ∙ sym (filter_map-append index (lent (take i entries)) (x.now ∷ []))
+    ∙ sym (filter_map-append index (borrowed (take i entries)) (x.now ∷ []))
     ∙ ap (filter_map index) (sym (map-append (λ (e : Bor T). e.now) (take i entries) (x ∷ [])))
-    ∙ ap (λ (es : List (Bor T)). filter_map index (lent es)) (sym (take_more entries i x h ∙ ap (λ y. take i entries ++ y ∷ []) (sym is)))
+    ∙ ap (λ (es : List (Bor T)). filter_map index (borrowed es)) (sym (take_more entries i x h ∙ ap (λ y. take i entries ++ y ∷ []) (sym is)))
 
 among_first : (a b : Bool) → a ≡ true → (a || b) ≡ true
 among_first true b h = refl
@@ -140,7 +140,7 @@ runs_within {eq = eq} laws entries all (r ∷ rs) among =
 
 -- the indices of the items of all requests are below the number of entries
 pub indices_within : {T Request : Type 0} {eq : T → T → Bool} (laws : IsEquivalence eq) (entries : Request → List T) (requests : List Request) (cited : List (Bor T)) (runs : List (List ℕ))
-    → lent cited ≡ once eq (flat_map entries requests) → runs ≡ map (λ r. map (index_among eq (flat_map entries requests)) (entries r)) requests
+    → borrowed cited ≡ once eq (flat_map entries requests) → runs ≡ map (λ r. map (index_among eq (flat_map entries requests)) (entries r)) requests
     → All (All (λ p. p < length cited)) runs
 indices_within {T} {eq = eq} laws entries requests cited runs are is =
     let many : length cited ≡ length (once eq (flat_map entries requests)) = sym (length-map cited (λ (e : Bor T). e.now)) ∙ ap length are in

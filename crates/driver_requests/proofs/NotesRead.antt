@@ -7,10 +7,10 @@ use Rattle.std.proofs.lemmas.List.Elements.{All-get_or}
 use Rattle.std.proofs.lemmas.Slice.Zip.{get_or-zip, length-zip}
 use Rattle.driver_requests.specs.Notes.{note_view, notes_view}
 use Rattle.driver_requests.specs.Indices.{runs}
-use Rattle.driver_requests.specs.History.{History, Note, Facts, facts_in, facts_after, facts_of_all, after_request}
-use Rattle.driver_requests.specs.HistoryViews as views
+use Rattle.driver_requests.specs.History.{Note, Facts, facts_in, facts_after, facts_of_all, after_request, uncited}
+use Rattle.driver_requests.specs.HistoryViews.{history_at}
 use Rattle.driver_requests.specs.declared.request.CitationRequest.{CitationRequest}
-use Rattle.driver_requests.specs.declared.history.History as declared
+use Rattle.driver_requests.specs.declared.history.History.{History}
 
 -- one more run of what is known
 pub facts_more : {Run : Type 0} (view : Run → List Facts) (notes : List Note) (i : ℕ) (n : Note) → i < length notes → n ≡ get_or notes i n
@@ -62,6 +62,6 @@ everywhere (suc n) zero a = refl
 everywhere (suc n) (suc q) a = everywhere n q a
 
 -- before all requests
-pub none_cited : (count : ℕ) (histories : List declared.History) (notes : List Note) → histories ≡ replicate count views.nothing_cited
-    → facts_after 0 (views.history_at histories) notes ≡ facts_of_all notes
-none_cited count histories notes is = ap (λ s. facts_after 0 s notes) (fun_ext (λ q. ap (λ xs. views.history_at xs q) is ∙ ap views.history_view (everywhere count q views.nothing_cited)))
+pub none_cited : (count : ℕ) (histories : List History) (notes : List Note) → histories ≡ replicate count uncited
+    → facts_after 0 (history_at histories) notes ≡ facts_of_all notes
+none_cited count histories notes is = ap (λ s. facts_after 0 s notes) (fun_ext (λ q. ap (λ xs. history_at xs q) is ∙ everywhere count q uncited))

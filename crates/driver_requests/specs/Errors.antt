@@ -1,9 +1,9 @@
--- Why nothing is given.
+-- Why a driver gives nothing.
 use Rattle.std.specs.Prelude.{Option, Some, None}
 use Rattle.driver_requests.specs.declared.error.DriverError.{DriverError}
 use Rattle.driver_requests.specs.declared.error.DriverError.TheVariants as errors
 
--- a number or year suffixes are beyond the last
+-- a number or a year suffix is too great
 pub data Overflow : Type 0 where
   overflow : Overflow
 

@@ -2,6 +2,7 @@
 use Rattle.std.specs.Prelude.{ℕ, ◌+◌, ◌-◌, Bool, false, ◌&&◌, ◌||◌, ◌==◌, nat_le, not, List, [], ◌∷◌, map, take, is_some, if◌then◌else◌, Option, Some, None}
 use Rattle.std.specs.List.{list_any, enumerate_from}
 use Rattle.std.specs.Option.{option_map, option_map_or, unwrap_or}
+use Rattle.driver_requests.specs.declared.history.History.{History}
 
 -- The number of the note that a request stands in, how many requests before it are near, and the indices of the entries that it cites.
 pub record Note : Type 0 where
@@ -16,13 +17,7 @@ pub record Facts : Type 0 where
   pub is_near_note : Bool
   pub is_first : Bool
 
--- How an entry stands after some requests: whether they cite it, the number of the first note that does, and the index of the last.
-pub record History : Type 0 where
-  pub is_cited : Bool
-  pub first_note : Option ℕ
-  pub last_note : Option ℕ
-
--- an entry that nothing cites
+-- the history of an entry that nothing cites
 abbrev pub uncited : History
 uncited = record { is_cited = false; first_note = None; last_note = None }
 
@@ -30,24 +25,24 @@ uncited = record { is_cited = false; first_note = None; last_note = None }
 abbrev pub is_among : List ℕ → ℕ → Bool
 is_among entries entry = list_any (λ p. p == entry) entries
 
--- an entry after items one after the other
+-- the history of an entry after items one after the other
 abbrev pub cited_in : List ℕ → ℕ → History → History
 cited_in entries entry s = record s { is_cited = s.is_cited || is_among entries entry }
 
--- an entry that a request cites in a note of that number
+-- the history of an entry once a request cites it in a note of that number
 abbrev pub cited_by_note : ℕ → ℕ → History → History
 cited_by_note index n s = record s { first_note = Some (unwrap_or s.first_note n); last_note = Some index }
 
--- an entry after items one after the other of a note
+-- the history of an entry after items one after the other of a note
 abbrev pub noted_in : ℕ → ℕ → List ℕ → ℕ → History → History
 noted_in index n entries entry s = if is_among entries entry then cited_by_note index n s else s
 
--- an entry after items one after the other of a request, which stands in a note of that number or in none
+-- the history of an entry after items one after the other of a request, which stands in a note of that number or in none
 abbrev pub noted_if : ℕ → Option ℕ → List ℕ → ℕ → History → History
 noted_if index None entries entry s = s
 noted_if index (Some n) entries entry s = noted_in index n entries entry s
 
--- an entry after a request at an index among them all
+-- the history of an entry after a request at an index among them all
 abbrev pub after_request : ℕ → Note → ℕ → History → History
 after_request index n entry s = noted_if index n.number n.entries entry (cited_in n.entries entry s)
 
@@ -55,7 +50,7 @@ after_request index n entry s = noted_if index n.number n.entries entry (cited_i
 abbrev pub is_within : ℕ → ℕ → Option ℕ → Bool
 is_within index distance last = option_map_or (λ l. nat_le (index - l) distance) last false
 
--- what is known of a cite of an entry that stands so
+-- what is known of a cite of an entry with this history
 abbrev pub facts_from : ℕ → Option ℕ → ℕ → History → Facts
 facts_from index number distance s = record {
   first_note_number = option_map (λ n. unwrap_or s.first_note n) number;
@@ -72,6 +67,6 @@ abbrev pub facts_after : ℕ → (ℕ → History) → List Note → List (List 
 facts_after index histories [] = []
 facts_after index histories (n ∷ ns) = facts_in index n histories ∷ facts_after (index + 1) (λ entry. after_request index n entry (histories entry)) ns
 
--- the same of all requests
+-- what is known of the cites of all requests
 abbrev pub facts_of_all : List Note → List (List Facts)
 facts_of_all ns = facts_after 0 (λ entry. uncited) ns

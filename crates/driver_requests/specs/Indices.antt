@@ -4,15 +4,15 @@ use Rattle.std.specs.Borrow.{Bor}
 use Rattle.std.specs.HashMap.{HashMap, get_by}
 use Rattle.std.specs.List.{list_any, position_or_len}
 
--- an entry is put last, unless it is there
+-- entries with one appended, unless it is there
 abbrev pub pushed : {T : Type 0} → (T → T → Bool) → List T → T → List T
 pushed same es e = if list_any (same e) es then es else es ++ e ∷ []
 
--- entries are put last one after the other
+-- entries with others appended one after the other, each unless it is there
 abbrev pub grown : {T : Type 0} → (T → T → Bool) → List T → List T → List T
 grown same es more = fold (pushed same) es more
 
--- an index is put last where it is one of so many, unless it is there
+-- indices with one appended that is below the count, unless it is there
 abbrev pub put_last : ℕ → List ℕ → ℕ → List ℕ
 put_last count es index = if nat_lt index count then pushed nat_eq es index else es
 
@@ -20,11 +20,11 @@ put_last count es index = if nat_lt index count then pushed nat_eq es index else
 abbrev pub index_in : {T : Type 0} → (T → Bool) → List T → Option ℕ
 index_in test es = if list_any test es then Some (position_or_len test es) else None
 
--- a map says of each entry where it stands
+-- a map has the index of each entry
 abbrev pub IsIndex : {T S : Type 0} → (T → T → Bool) → HashMap (Bor T) ℕ S → List T → Type 0
 IsIndex {T} same index es = (e : Bor T) → get_by (λ (k : Bor T). same e.now k.now) index ≡ index_in (same e.now) es
 
--- runs of indices
+-- indices, request by request
 abbrev pub runs : {A : Type 0} → List (Vec ℕ A) → List (List ℕ)
 runs {A} vs = map (λ (v : Vec ℕ A). v.items) vs
 
@@ -32,6 +32,6 @@ runs {A} vs = map (λ (v : Vec ℕ A). v.items) vs
 abbrev pub indices_in : {T : Type 0} → (T → T → Bool) → List T → List T → List ℕ
 indices_in same all es = map (λ e. position_or_len (same e) all) es
 
--- it is marked of each of so many indices whether it stands
+-- a list says of each index below its length whether it is among some
 abbrev pub AreMarked : List Bool → List ℕ → Type 0
 AreMarked stands indices = (q : ℕ) → q < length stands → get_or stands q true ≡ list_any (nat_eq q) indices

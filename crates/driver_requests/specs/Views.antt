@@ -3,7 +3,6 @@ use Rattle.std.specs.Prelude.{ℕ, Bool, List, map, Option}
 use Rattle.std.specs.List.{flat_map}
 use Rattle.std.specs.Option.{option_map}
 use Rattle.std.specs.Str.{chars}
-use Rattle.std.specs.Borrow.{Bor}
 use Rattle.rendering_locale.specs.CodeViews.{code_view}
 use Rattle.rendering_locale.specs.Views.{locale_view}
 use Rattle.rendering_style.specs.StyleViews.{style_view}
@@ -77,7 +76,3 @@ entries_of r = map entry_of_item r.items.items
 -- the entries of the items of all requests
 abbrev pub entries_in : {T P : Type 0} → List (CitationRequest T P) → List T
 entries_in rs = flat_map entries_of rs
-
--- entries that are borrowed
-abbrev pub lent : {T : Type 0} → List (Bor T) → List T
-lent {T} es = map (λ (e : Bor T). e.now) es

@@ -15,8 +15,8 @@ pub struct BibliographyRequest<'a, T> {
 
 impl<'a, T> BibliographyRequest<'a, T> {
     ghost use Rattle.std.specs.Prelude.{◌≡◌, []};
+    ghost use Rattle.laws.specs.Borrowed.{borrowed};
     ghost use Rattle.rendering_style.specs.StyleViews.{style_view};
-    ghost use Rattle.driver_requests.specs.Views.{lent};
 
     /// A bibliography in the order of first cites.
     pub fn new(
@@ -37,12 +37,12 @@ impl<'a, T> BibliographyRequest<'a, T> {
         }
     }
 
-    /// The same with these entries first, so far as they are cited.
+    /// The same request with these entries first, so far as they are cited.
     pub fn with_order(self, order: &'a [&'a T]) -> BibliographyRequest<'a, T>
         ensures style { style_view result.style.now ≡ style_view self.entry.style.now }
         ensures locale { result.locale ≡ self.entry.locale }
         ensures files { result.locale_files.now ≡ self.entry.locale_files.now }
-        ensures order { lent result.order.now ≡ lent order.now }
+        ensures order { borrowed result.order.now ≡ borrowed order.now }
     {
         let BibliographyRequest {
             style,
@@ -60,7 +60,7 @@ impl<'a, T> BibliographyRequest<'a, T> {
 
     /// The entries that come first, so far as they are cited.
     pub fn order(&self) -> &'a [&'a T]
-        ensures { lent result.now ≡ lent self.now.order.now }
+        ensures { borrowed result.now ≡ borrowed self.now.order.now }
     {
         self.order
     }

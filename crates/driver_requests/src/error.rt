@@ -1,4 +1,4 @@
-//! Why nothing is given.
+//! Why a driver gives nothing.
 
 ghost use Rattle.std.specs.Prelude.{◌≡◌};
 ghost use Rattle.driver_requests.specs.declared.error.DriverError.TheVariants.{Memory};
@@ -6,13 +6,13 @@ ghost use Rattle.driver_requests.specs.declared.error.DriverError.TheVariants.{M
 use std::alloc::{AllocError, AllocFailed};
 use thiserror::Error;
 
-/// Why nothing is given.
+/// Why a driver gives nothing.
 #[derive(Debug, PartialEq, Eq, Drop, Error)]
 pub enum DriverError {
     /// A request for memory was refused.
     #[error("out of memory")]
     Memory,
-    /// A number or a year suffix is beyond the last.
+    /// The number of an entry would be above 2147483647, or more than 256 entries that print alike need year suffixes.
     #[error("a number or letters have no place")]
     Overflow,
 }

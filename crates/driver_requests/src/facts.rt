@@ -6,7 +6,7 @@ ghost use Rattle.driver_requests.specs.Cites.{cites_of};
 ghost use Rattle.driver_requests.specs.Notes.{facts_of, note_view, notes_view};
 ghost use Rattle.driver_requests.specs.Indices.{runs};
 ghost use Rattle.driver_requests.specs.History.{facts_after, facts_in, facts_of_all, after_request};
-ghost use Rattle.driver_requests.specs.HistoryViews.{fact_runs_view, facts_view, history_at};
+ghost use Rattle.driver_requests.specs.HistoryViews.{facts_by_request_view, facts_view, history_at};
 ghost use Rattle.driver_requests.specs.Views.{entries_of, request_view};
 
 use crate::history::{CiteFacts, History, RequestNote, UNCITED, facts_in};
@@ -26,10 +26,10 @@ pub fn cites<'a, T, P>(
 ) -> Result<Vec<Vec<CiteFacts>>, AllocError>
     requires runs { length indices.now ≡ length requests.now }
     requires within { All (All (λ p. p < count)) (runs indices.now) }
-    ensures facts { IfOk result (λ c. fact_runs_view c.items
+    ensures facts { IfOk result (λ c. facts_by_request_view c.items
         ≡ facts_of_all (notes_view requests.now (runs indices.now))) }
     ensures cites { IfOk result (λ c. (index : T → ℕ) (answers : T → Answers) → runs indices.now
-        ≡ map (λ r. map index (entries_of r)) requests.now → fact_runs_view c.items
+        ≡ map (λ r. map index (entries_of r)) requests.now → facts_by_request_view c.items
         ≡ map (map facts_of) (cites_of (map (request_view index answers) requests.now))) }
 {
     let mut histories = vec![in alloc; UNCITED; count]?;
@@ -45,7 +45,7 @@ fn facts_of_each<'a, T, P>(
 ) -> Result<Vec<Vec<CiteFacts>>, AllocError>
     requires runs { length indices.now ≡ length requests.now }
     requires within { All (All (λ p. p < length histories.old)) (runs indices.now) }
-    ensures { IfOk result (λ c. fact_runs_view c.items
+    ensures { IfOk result (λ c. facts_by_request_view c.items
         ≡ facts_after 0 (history_at histories.old) (notes_view requests.now (runs indices.now))) }
 {
     let mut facts = Vec::with_capacity(alloc, requests.len())?;

@@ -1,8 +1,8 @@
 //! How entries stand after some requests.
 
-ghost use Rattle.std.specs.Prelude.{◌≡◌, ◌<◌, ℕ, [], ◌∷◌, All, true, length, map, option_map, unwrap_or, IfOk, OnOk};
-ghost use Rattle.driver_requests.specs.History.{cited_by_note, cited_in, facts_from, facts_in, is_within, noted_if, noted_in, after_request};
-ghost use Rattle.driver_requests.specs.HistoryViews.{facts_view, history_at, history_view};
+ghost use Rattle.std.specs.Prelude.{◌≡◌, ◌<◌, ℕ, [], ◌∷◌, All, true, length, option_map, unwrap_or, OnOk};
+ghost use Rattle.driver_requests.specs.History.{cited_by_note, cited_in, facts_from, is_within, noted_if, noted_in, after_request};
+ghost use Rattle.driver_requests.specs.HistoryViews.{GivesFacts, facts_view, history_at, note_of};
 
 use std::alloc::{AllocError, Global};
 
@@ -42,9 +42,9 @@ pub(crate) struct RequestNote {
 }
 
 impl History {
-    /// The entry is cited.
+    /// The history of the entry once it is cited.
     fn cited(self) -> History
-        ensures { history_view result ≡ record (history_view self) { is_cited = true } }
+        ensures { result ≡ record self { is_cited = true } }
     {
         History {
             is_cited: true,
@@ -53,9 +53,9 @@ impl History {
         }
     }
 
-    /// The entry is cited in the note of that number, in the request at that index.
+    /// The history of the entry once it is cited in the note of that number, in the request at that index.
     fn noted(self, index: usize, number: usize) -> History
-        ensures { history_view result ≡ cited_by_note index number (history_view self) }
+        ensures { result ≡ cited_by_note index number self }
     {
         History {
             is_cited: self.is_cited,
@@ -66,8 +66,7 @@ impl History {
 
     /// What is known of a cite of the entry.
     fn facts(self, note: RequestNote) -> CiteFacts
-        ensures { facts_view result
-            ≡ facts_from note.index note.number note.distance (history_view self) }
+        ensures { facts_view result ≡ facts_from note.index note.number note.distance self }
     {
         CiteFacts {
             first_note_number: first_note(self.first_note, note.number),
@@ -97,15 +96,15 @@ fn is_within(note: RequestNote, last: Option<usize>) -> bool
     }
 }
 
-/// How the entry at the index stands.
+/// The history of the entry at the index.
 fn history_at(histories: &[History], entry: usize) -> History
     requires { entry < length histories.now }
-    ensures { history_view result ≡ history_at histories.now entry }
+    ensures { result ≡ history_at histories.now entry }
 {
     histories[entry]
 }
 
-/// The entry at the index is cited.
+/// Notes that the entry at the index is cited.
 fn cite(histories: &mut [History], entry: usize)
     requires { entry < length histories.old }
     ensures { (q : ℕ)
@@ -115,7 +114,7 @@ fn cite(histories: &mut [History], entry: usize)
     histories[entry] = history;
 }
 
-/// The entry at the index is cited in the note of that number, in the request at that index.
+/// Notes that the entry at the index is cited in the note of that number, in the request at that index.
 fn note_cite(histories: &mut [History], entry: usize, index: usize, number: usize)
     requires { entry < length histories.old }
     ensures { (q : ℕ) → history_at histories.new q
@@ -125,7 +124,7 @@ fn note_cite(histories: &mut [History], entry: usize, index: usize, number: usiz
     histories[entry] = history;
 }
 
-/// The entries at the indices are cited in the note of that number, in the request at that index.
+/// Notes that the entries at the indices are cited in the note of that number, in the request at that index.
 fn note_each(histories: &mut [History], entries: &[usize], index: usize, number: usize)
     requires { All (λ p. p < length histories.old) entries.now }
     ensures { (q : ℕ) → history_at histories.new q
@@ -144,9 +143,7 @@ fn cite_each(
     note: RequestNote,
 ) -> Result<Vec<CiteFacts>, AllocError>
     requires { All (λ p. p < length histories.old) entries.now }
-    ensures facts { IfOk result (λ f. map facts_view f.items ≡ facts_in note.index
-        (record { number = note.number; distance = note.distance; entries = entries.now })
-        (history_at histories.old)) }
+    ensures facts { GivesFacts note entries.now histories.old result }
     ensures cited { OnOk result ((q : ℕ)
         → history_at histories.new q ≡ cited_in entries.now q (history_at histories.old q)) }
 {
@@ -167,12 +164,9 @@ pub(crate) fn facts_in(
     note: RequestNote,
 ) -> Result<Vec<CiteFacts>, AllocError>
     requires { All (λ p. p < length histories.old) entries.now }
-    ensures facts { IfOk result (λ f. map facts_view f.items ≡ facts_in note.index
-        (record { number = note.number; distance = note.distance; entries = entries.now })
-        (history_at histories.old)) }
+    ensures facts { GivesFacts note entries.now histories.old result }
     ensures after_request { OnOk result ((q : ℕ)
-        → history_at histories.new q ≡ after_request note.index
-        (record { number = note.number; distance = note.distance; entries = entries.now }) q
+        → history_at histories.new q ≡ after_request note.index (note_of note entries.now) q
         (history_at histories.old q)) }
 {
     let facts = cite_each(alloc, histories, entries, note)?;
@@ -180,7 +174,7 @@ pub(crate) fn facts_in(
     Ok(facts)
 }
 
-/// The entries at the indices are cited in a note, where the request stands in one.
+/// Notes that the entries at the indices are cited in the note that the request stands in, if it stands in one.
 fn note_if(histories: &mut [History], entries: &[usize], note: RequestNote)
     requires { All (λ p. p < length histories.old) entries.now }
     ensures { (q : ℕ) → history_at histories.new q

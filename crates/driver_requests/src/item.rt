@@ -64,7 +64,7 @@ impl<'a, T, P> CitationItem<'a, T, P> {
         }
     }
 
-    /// The same for a purpose.
+    /// The same item for a purpose.
     pub fn kind(self, purpose: CitePurpose) -> CitationItem<'a, T, P>
         ensures { parts_of result ≡ record (parts_of self.entry) { purpose = Some purpose } }
     {

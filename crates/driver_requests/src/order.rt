@@ -68,7 +68,7 @@ fn numbered(alloc: Global, offset: usize, order: &[usize]) -> Result<Vec<usize>,
     Ok(numbers)
 }
 
-/// So many indices in order.
+/// The indices below the count, in order.
 fn all_indices(alloc: Global, count: usize) -> Result<Vec<usize>, AllocError>
     ensures { IfOk result (λ v. v.items ≡ range_with_len 0 count) }
 {
@@ -91,7 +91,7 @@ fn wanted_first(alloc: Global, wanted: &[usize], count: usize) -> Result<Vec<usi
     Ok(order)
 }
 
-/// Puts indices last that are of so many, each once.
+/// Appends those of the indices that are below the count, each once.
 fn put_each(
     order: &mut Vec<usize>,
     stands: &mut [bool],
@@ -108,7 +108,7 @@ fn put_each(
     Ok(())
 }
 
-/// Puts all of so many indices last, each once.
+/// Appends the indices below the count that are not there yet.
 fn put_rest(order: &mut Vec<usize>, stands: &mut [bool]) -> Result<(), AllocError>
     requires { AreMarked stands.old order.old.items }
     ensures { OnOk result (order.new.items ≡ fold (put_last (length stands.old)) order.old.items
@@ -120,7 +120,7 @@ fn put_rest(order: &mut Vec<usize>, stands: &mut [bool]) -> Result<(), AllocErro
     Ok(())
 }
 
-/// Puts an index last where it is one of so many, unless it stands already.
+/// Appends an index that is below the count, unless it is there already.
 fn put_last(order: &mut Vec<usize>, stands: &mut [bool], index: usize) -> Result<(), AllocError>
     requires { AreMarked stands.old order.old.items }
     ensures stands { OnOk result (AreMarked stands.new order.new.items) }

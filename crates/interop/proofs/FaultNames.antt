@@ -38,10 +38,10 @@ all_entries Q es all =
     all-flat_map (OfKey Q) Q (λ (e : Source). faults_of e.key (values e.fields)) (λ e holds. one_entry Q e.key (values e.fields) holds) (works_in es)
     (All-filter (λ (e : Source). not (is_xdata (written_type e.entry_type))) (OfKey Q) es all)
 
-told_by : {W : Type 0} (Q : Fault → Type 0) (faults : List Fault) (w : W) → All Q faults → IfErr (unless_faulty faults w) (All Q)
-told_by Q [] w all = tt
-told_by Q (f ∷ fs) w all = all
+refused_by : {W : Type 0} (Q : Fault → Type 0) (faults : List Fault) (w : W) → All Q faults → IfErr (unless_faulty faults w) (All Q)
+refused_by Q [] w all = tt
+refused_by Q (f ∷ fs) w all = all
 
 -- all faults for which a file has no library
 pub library_faults : (Q : Fault → Type 0) (es : List Source) → All (λ (e : Source). HoldsOfFaults Q e.key) es → IfErr (library_of es) (All Q)
-library_faults Q es all = told_by Q (all_faults es) (put_after [] (all_works es)) (all_entries Q es all)
+library_faults Q es all = refused_by Q (all_faults es) (put_after [] (all_works es)) (all_entries Q es all)

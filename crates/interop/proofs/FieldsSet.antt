@@ -1,4 +1,5 @@
 -- What an entry says once its fields have been set.
+use Rattle.std.specs.Option.{option_or}
 use Rattle.std.proofs.Common.{◌≡◌, ℕ, List, ap, ◌∙◌, Option, None, codes}
 use Rattle.literature_values.specs.declared.entry_type.EntryType.{EntryType}
 use Rattle.literature_numbers.specs.Numerics.{Numeral}
@@ -9,63 +10,63 @@ use Rattle.literature_values.specs.TextViews.{Format, Publishing}
 use Rattle.literature_values.specs.TypedViews.{ValueOrText}
 use Rattle.literature_values.specs.declared.date.Date.{Date}
 use Rattle.literature_entries.specs.Fields.{Fields, nothing_but}
-use Rattle.interop_values.specs.Values.{Values, first_or}
+use Rattle.interop_values.specs.Values.{Values}
 use Rattle.interop.specs.Fields.{own_fields, container_fields, also, issue_of, series_number, is_periodical}
 use Rattle.interop_values.specs.Readings.{title_of, format_under, people_under, number_under, pages_under, bytes_under, publisher_of, own_date, date_under, date_if_read, address_of}
 use Rattle.interop.specs.Views.{IsBare}
 use Rattle.interop.proofs.ViewsEntries.{before_none}
 
 -- what comes before a field that is not there
-set_first : {V : Type 0} (x old wanted : Option V) → old ≡ None → x ≡ wanted → first_or x old ≡ wanted
-set_first x old wanted bare e = ap (first_or x) bare ∙ (before_none x ∙ e)
+set_first : {V : Type 0} (x old wanted : Option V) → old ≡ None → x ≡ wanted → option_or x old ≡ wanted
+set_first x old wanted bare e = ap (option_or x) bare ∙ (before_none x ∙ e)
 
 abbrev pub put_title : Option (Format) → Fields → Fields
-put_title x fs = record fs { title = first_or x fs.title }
+put_title x fs = record fs { title = option_or x fs.title }
 
 abbrev pub put_author : Option (List Named) → Fields → Fields
-put_author x fs = record fs { author = first_or x fs.author }
+put_author x fs = record fs { author = option_or x fs.author }
 
 abbrev pub put_editor : Option (List Named) → Fields → Fields
-put_editor x fs = record fs { editor = first_or x fs.editor }
+put_editor x fs = record fs { editor = option_or x fs.editor }
 
 abbrev pub put_translator : Option (List Named) → Fields → Fields
-put_translator x fs = record fs { translator = first_or x fs.translator }
+put_translator x fs = record fs { translator = option_or x fs.translator }
 
 abbrev pub put_date : Option (Date) → Fields → Fields
-put_date x fs = record fs { date = first_or x fs.date }
+put_date x fs = record fs { date = option_or x fs.date }
 
 abbrev pub put_publisher : Option (Publishing) → Fields → Fields
-put_publisher x fs = record fs { publisher = first_or x fs.publisher }
+put_publisher x fs = record fs { publisher = option_or x fs.publisher }
 
 abbrev pub put_volume : Option (ValueOrText Numeral) → Fields → Fields
-put_volume x fs = record fs { volume = first_or x fs.volume }
+put_volume x fs = record fs { volume = option_or x fs.volume }
 
 abbrev pub put_volume_total : Option (ValueOrText Numeral) → Fields → Fields
-put_volume_total x fs = record fs { volume_total = first_or x fs.volume_total }
+put_volume_total x fs = record fs { volume_total = option_or x fs.volume_total }
 
 abbrev pub put_issue : Option (ValueOrText Numeral) → Fields → Fields
-put_issue x fs = record fs { issue = first_or x fs.issue }
+put_issue x fs = record fs { issue = option_or x fs.issue }
 
 abbrev pub put_chapter : Option (ValueOrText Numeral) → Fields → Fields
-put_chapter x fs = record fs { chapter = first_or x fs.chapter }
+put_chapter x fs = record fs { chapter = option_or x fs.chapter }
 
 abbrev pub put_edition : Option (ValueOrText Numeral) → Fields → Fields
-put_edition x fs = record fs { edition = first_or x fs.edition }
+put_edition x fs = record fs { edition = option_or x fs.edition }
 
 abbrev pub put_page_range : Option (ValueOrText (List Part)) → Fields → Fields
-put_page_range x fs = record fs { page_range = first_or x fs.page_range }
+put_page_range x fs = record fs { page_range = option_or x fs.page_range }
 
 abbrev pub put_page_total : Option (ValueOrText Numeral) → Fields → Fields
-put_page_total x fs = record fs { page_total = first_or x fs.page_total }
+put_page_total x fs = record fs { page_total = option_or x fs.page_total }
 
 abbrev pub put_url : Option (Address) → Fields → Fields
-put_url x fs = record fs { url = first_or x fs.url }
+put_url x fs = record fs { url = option_or x fs.url }
 
 abbrev pub put_note : Option (Format) → Fields → Fields
-put_note x fs = record fs { note = first_or x fs.note }
+put_note x fs = record fs { note = option_or x fs.note }
 
 abbrev pub put_language : Option (List ℕ) → Fields → Fields
-put_language x fs = record fs { language = first_or x fs.language }
+put_language x fs = record fs { language = option_or x fs.language }
 
 abbrev pub put_number : List ℕ → Option (List ℕ) → Fields → Fields
 put_number scheme x fs = record fs { serial_number = also scheme x fs.serial_number }

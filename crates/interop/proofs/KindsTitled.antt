@@ -18,14 +18,14 @@ pub view_title : (t : EntryType) (r : Option (Bor (List (Spanned Chunk)))) (x : 
 view_title t None x e = ap (λ (y : Option (List Member)). option_to_list (option_map (titled t) y)) e
 view_title t (Some v) x e = ap (λ (y : Option (List Member)). option_to_list (option_map (titled t) y)) e
 
--- neither a title nor a date
+-- with neither a title nor a date there is no conference
 pub no_conference : (r : Option (Bor (List (Spanned Chunk)))) (date : Option Date) → (is_some r || is_some date) ≡ false → conference_of (option_map (λ v. styled v.now) r) date ≡ []
 no_conference None None e = refl
 no_conference None (Some d) e = absurd cc
 no_conference (Some v) None e = absurd cc
 no_conference (Some v) (Some d) e = absurd cc
 
--- a title or a date
+-- with a title or a date there is a conference
 pub some_conference : (r : Option (Bor (List (Spanned Chunk)))) (date : Option Date) → (is_some r || is_some date) ≡ true → parent (record (nothing_but works.Conference) { title = option_map (λ v. format_of (styled v.now)) r; date = date }) [] ∷ [] ≡ conference_of (option_map (λ v. styled v.now) r) date
 some_conference None None e = absurd cc
 some_conference None (Some d) e = refl

@@ -7,7 +7,7 @@ use Rattle.biblatex_content.specs.Styled.{Member}
 use Rattle.biblatex_entries.specs.Entries.{Source}
 use Rattle.biblatex_entries.specs.TypeNames.{written_type}
 use Rattle.literature.specs.Keys.{put, with_key}
-use Rattle.literature_entries.specs.Wholes.{Whole}
+use Rattle.literature_entries.specs.EntriesData.{EntryData}
 use Rattle.literature_values.specs.declared.entry_type.EntryType.{EntryType}
 use Rattle.interop_values.specs.Values.{Values, values}
 use Rattle.interop.specs.Bridge.{container_of, entry_in, faults_of, work_of}
@@ -18,58 +18,58 @@ not_true : (b : Bool) → (b ≡ true → ⊥) → b ≡ false
 not_true true h = absurd (h refl)
 not_true false h = refl
 
-same_test : (b c : Bool) (x y o : Option Whole) → b ≡ c → cond b x o ≡ cond b x (cond c y o)
+same_test : (b c : Bool) (x y o : Option EntryData) → b ≡ c → cond b x o ≡ cond b x (cond c y o)
 same_test true c x y o e = refl
 same_test false c x y o e = ap (λ (d : Bool). cond d y o) e
 
-swapped : (b c : Bool) (x y o : Option Whole) → (b ≡ true → c ≡ true → ⊥) → cond b x (cond c y o) ≡ cond c y (cond b x o)
+swapped : (b c : Bool) (x y o : Option EntryData) → (b ≡ true → c ≡ true → ⊥) → cond b x (cond c y o) ≡ cond c y (cond b x o)
 swapped true true x y o h = absurd (h refl refl)
 swapped true false x y o h = refl
 swapped false c x y o h = refl
 
-put_by : (k : List ℕ) (v w : Whole) (ws : List Whole) → with_key key_of k (put key_of ws w) ≡ cond (bytes_eq k (key_of w)) (Some w) (with_key key_of k ws)
+put_by : (k : List ℕ) (v w : EntryData) (ws : List EntryData) → with_key key_of k (put key_of ws w) ≡ cond (bytes_eq k (key_of w)) (Some w) (with_key key_of k ws)
     → (b : Bool) → bytes_eq (key_of w) (key_of v) ≡ b
     → with_key key_of k (cond b (w ∷ ws) (v ∷ put key_of ws w)) ≡ cond (bytes_eq k (key_of w)) (Some w) (cond (bytes_eq k (key_of v)) (Some v) (with_key key_of k ws))
 put_by k v w ws more true is =
     same_test (bytes_eq k (key_of w)) (bytes_eq k (key_of v)) (Some w) (Some v) (with_key key_of k ws) (ap (bytes_eq k) ((bytes_eq-Decides (key_of w) (key_of v)).0 is))
 put_by k v w ws more false is =
-    ap (λ (o : Option Whole). cond (bytes_eq k (key_of v)) (Some v) o) more
+    ap (λ (o : Option EntryData). cond (bytes_eq k (key_of v)) (Some v) o) more
     ∙ swapped (bytes_eq k (key_of v)) (bytes_eq k (key_of w)) (Some v) (Some w) (with_key key_of k ws)
     (λ other same. true≢false (sym ((bytes_eq-Decides (key_of w) (key_of v)).1 (sym ((bytes_eq-Decides k (key_of w)).0 same) ∙ (bytes_eq-Decides k (key_of v)).0 other)) ∙ is))
 
 -- what is found under a key where one more work is put
-put_found : (k : List ℕ) (ws : List Whole) (w : Whole) → with_key key_of k (put key_of ws w) ≡ cond (bytes_eq k (key_of w)) (Some w) (with_key key_of k ws)
+put_found : (k : List ℕ) (ws : List EntryData) (w : EntryData) → with_key key_of k (put key_of ws w) ≡ cond (bytes_eq k (key_of w)) (Some w) (with_key key_of k ws)
 put_found k [] w = refl
 put_found k (v ∷ ws) w = put_by k v w ws (put_found k ws w) (bytes_eq (key_of w) (key_of v)) refl
 
 -- the last of works that has the key, else what was found before
-abbrev last_under : List ℕ → Option Whole → List Whole → Option Whole
+abbrev last_under : List ℕ → Option EntryData → List EntryData → Option EntryData
 last_under k o [] = o
 last_under k o (w ∷ ws) = last_under k (cond (bytes_eq k (key_of w)) (Some w) o) ws
 
-after_found : (k : List ℕ) (more ws : List Whole) → with_key key_of k (put_after ws more) ≡ last_under k (with_key key_of k ws) more
+after_found : (k : List ℕ) (more ws : List EntryData) → with_key key_of k (put_after ws more) ≡ last_under k (with_key key_of k ws) more
 after_found k [] ws = refl
-after_found k (w ∷ more) ws = after_found k more (put key_of ws w) ∙ ap (λ (o : Option Whole). last_under k o more) (put_found k ws w)
+after_found k (w ∷ more) ws = after_found k more (put key_of ws w) ∙ ap (λ (o : Option EntryData). last_under k o more) (put_found k ws w)
 
-module _ (k : List ℕ) (f : Source → Whole) (n p : Source → Bool) where
-  with_one : (e : Source) (es fs : List Source) (o : Option Whole) → ((q : Option Whole) → last_under k q (map f fs) ≡ last_under k q (map f es)) → (b : Bool)
+module _ (k : List ℕ) (f : Source → EntryData) (n p : Source → Bool) where
+  with_one : (e : Source) (es fs : List Source) (o : Option EntryData) → ((q : Option EntryData) → last_under k q (map f fs) ≡ last_under k q (map f es)) → (b : Bool)
       → last_under k o (map f (cond b (e ∷ fs) fs)) ≡ last_under k o (map f (cond b (e ∷ es) es))
   with_one e es fs o more true = more (cond (bytes_eq k (key_of (f e))) (Some (f e)) o)
   with_one e es fs o more false = more o
 
-  without : (e : Source) (es fs : List Source) (o : Option Whole) → last_under k o (map f fs) ≡ last_under k o (map f es) → bytes_eq k (key_of (f e)) ≡ false → (b : Bool)
+  without : (e : Source) (es fs : List Source) (o : Option EntryData) → last_under k o (map f fs) ≡ last_under k o (map f es) → bytes_eq k (key_of (f e)) ≡ false → (b : Bool)
       → last_under k o (map f fs) ≡ last_under k o (map f (cond b (e ∷ es) es))
   without e es fs o more is true = more ∙ ap (λ (b : Bool). last_under k (cond b (Some (f e)) o) (map f es)) (sym is)
   without e es fs o more is false = more
 
-  by_test : (e : Source) (es : List Source) (o : Option Whole) → ((q : Option Whole) → last_under k q (map f (filter n (filter p es))) ≡ last_under k q (map f (filter n es)))
+  by_test : (e : Source) (es : List Source) (o : Option EntryData) → ((q : Option EntryData) → last_under k q (map f (filter n (filter p es))) ≡ last_under k q (map f (filter n es)))
       → (p e ≡ false → bytes_eq k (key_of (f e)) ≡ false) → (b : Bool) → p e ≡ b
       → last_under k o (map f (filter n (cond b (e ∷ filter p es) (filter p es)))) ≡ last_under k o (map f (filter n (e ∷ es)))
   by_test e es o more other true is = with_one e (filter n es) (filter n (filter p es)) o more (n e)
   by_test e es o more other false is = without e (filter n es) (filter n (filter p es)) o (more o) (other is) (n e)
 
   -- entries that pass the test, where others have other keys
-  found_among : ((e : Source) → p e ≡ false → bytes_eq k (key_of (f e)) ≡ false) → (es : List Source) (o : Option Whole)
+  found_among : ((e : Source) → p e ≡ false → bytes_eq k (key_of (f e)) ≡ false) → (es : List Source) (o : Option EntryData)
       → last_under k o (map f (filter n (filter p es))) ≡ last_under k o (map f (filter n es))
   found_among other [] o = refl
   found_among other (e ∷ es) o = by_test e es o (found_among other es) (other e) (p e) refl
@@ -79,7 +79,7 @@ entry_key key v t None = refl
 entry_key key v t (Some outer) = refl
 
 -- the work of an entry
-abbrev work : Source → Whole
+abbrev work : Source → EntryData
 work e = work_of e.key (written_type e.entry_type) (values e.fields)
 
 work_key : (e : Source) → key_of (work e) ≡ e.key

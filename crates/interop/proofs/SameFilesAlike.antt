@@ -8,7 +8,7 @@ use Rattle.interop.specs.SameFiles.{SaysTheSameAs, SayTheSame}
 entry_alike : (e f : Source) → SaysTheSameAs e f → IsAlike e f
 entry_alike e f h = record { key = h.key; entry_type = h.entry_type; values = values_alike e.fields f.fields h.fields }
 
--- entry by entry
+-- files that say the same are alike entry by entry
 pub files_alike : (es fs : List Source) → SayTheSame es fs → AreAlike es fs
 files_alike [] [] h = tt
 files_alike [] (f ∷ fs) h = absurd h

@@ -1,12 +1,13 @@
 -- What a library's entry says of itself, by the contents of the fields.
 use Rattle.std.specs.Prelude.{ℕ, Bool, true, false, List, Option, Some, None, codes}
+use Rattle.std.specs.Option.{option_or}
 use Rattle.literature_values.specs.declared.entry_type.EntryType.{EntryType}
 use Rattle.literature_values.specs.declared.entry_type.EntryType.TheVariants as works
 use Rattle.literature_entries.specs.Fields.{Fields, Serials, nothing_but}
 use Rattle.literature_values.specs.TypedViews.{ValueOrText}
 use Rattle.literature_numbers.specs.Numerics.{Numeral}
 use Rattle.literature_entries.specs.Names.{with_number}
-use Rattle.interop_values.specs.Values.{Values, first_or}
+use Rattle.interop_values.specs.Values.{Values}
 use Rattle.interop_values.specs.Readings.{title_of, format_under, people_under, number_under, pages_under, bytes_under, publisher_of, own_date, date_under, date_if_read, address_of}
 
 -- numbers with one more under the name of a scheme, if there is one
@@ -36,7 +37,7 @@ is_periodical _ = false
 
 -- the issue of a periodical, by `number` or else by `issue`; other works have none
 abbrev pub issue_of : Bool → Values → Option (ValueOrText Numeral)
-issue_of true v = first_or (number_under (codes "number") v) (number_under (codes "issue") v)
+issue_of true v = option_or (number_under (codes "number") v) (number_under (codes "issue") v)
 issue_of false v = None
 
 -- `number`, where it is no issue

@@ -11,7 +11,7 @@ pub record SaysTheSameAs (e f : Source) : Type 0 where
   pub entry_type : written_type e.entry_type ≡ written_type f.entry_type
   pub fields : AreWrittenAlike e.fields f.fields
 
--- Each entry of a file says the same as the one at its index.
+-- Each entry of a file says the same as the one at its index in the other file.
 abbrev pub SayTheSame : List Source → List Source → Type 0
 SayTheSame [] [] = Unit {0}
 SayTheSame [] (f ∷ fs) = ⊥

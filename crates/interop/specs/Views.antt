@@ -11,7 +11,7 @@ use Rattle.interop.specs.declared.kinds.Container.{Container as CodeContainer}
 use Rattle.interop.specs.declared.kinds.Row.{Row as CodeRow}
 use Rattle.literature.specs.Entries.{entries}
 use Rattle.literature.specs.declared.library.Library.{Library}
-use Rattle.literature_entries.specs.Wholes.{Whole, entry_view}
+use Rattle.literature_entries.specs.EntriesData.{EntryData, entry_view}
 use Rattle.literature_entries.specs.Fields.{Fields}
 use Rattle.interop_values.specs.Values.{Values}
 use Rattle.interop_values.specs.Readings.{own_date, date_under, date_if_read}
@@ -20,7 +20,7 @@ use Rattle.interop.specs.declared.error.FieldFault.{FieldFault}
 use Rattle.interop.specs.declared.error.BridgeError.{BridgeError}
 use Rattle.interop.specs.declared.error.BridgeError.TheVariants as errors
 
--- borrowed entries of a file
+-- the entries of a file that are borrowed
 abbrev pub lent_sources_view : List (Bor Entry) → List Source
 lent_sources_view es = map (λ (e : Bor Entry). source_view e.now) es
 
@@ -34,10 +34,10 @@ abbrev pub fault_view : FieldFault → Fault
 fault_view f = record { key = string_bytes f.key; field = field_name f.field; kind = f.kind }
 
 -- the works of a library
-abbrev pub library_view : Library → List Whole
+abbrev pub library_view : Library → List EntryData
 library_view l = map entry_view (entries l)
 
--- the faults that an error tells of; out of memory tells of none
+-- the faults that an error has; out of memory has none
 abbrev pub refusal_of : BridgeError → Option (List Fault)
 refusal_of errors.Memory = None
 refusal_of (errors.Fields fs) = Some (map fault_view fs.items)

@@ -10,7 +10,7 @@ ghost use Rattle.literature_entries.specs.Views as views;
 ghost use Rattle.interop_values.specs.Values.{values};
 ghost use Rattle.interop.specs.Kinds.{row_of};
 ghost use Rattle.literature_values.specs.declared.entry_type.EntryType.TheVariants as works;
-ghost use Rattle.literature_entries.specs.Wholes.{Holding, wholes, entry_view};
+ghost use Rattle.literature_entries.specs.EntriesData.{Holding, wholes, entry_view};
 ghost use Rattle.interop.specs.Fields.{container_fields};
 ghost use Rattle.interop.specs.Bridge.{bridged, unless_faulty, work_of, container_of, further, titled_under};
 ghost use Rattle.interop.specs.Library.{is_xdata, all_faults, all_works, put_after, library_of, IsPut, AreAlike};
@@ -131,15 +131,16 @@ fn container_of<'f>(
     Some((container.entry_type, title))
 }
 
-/// The library of a file: its entries in order, of equal keys the last at the first's index. Entries of type `xdata`, which only
-/// lend their fields, are passed over with their faults.
+/// The library of a file: its entries in order; of entries with equal keys the last stands where the first did. Entries
+/// of type `xdata`, which only lend their fields, are passed over with their faults.
 ///
 /// # Errors
-/// `Fields` with all dates that cannot be read, in the order of the file; `Memory` where a request for memory was refused.
+/// `Fields` with all dates that cannot be read, in the order of the file; `Memory` where a request for memory was
+/// refused.
 pub fn from_biblatex(alloc: Global, bibliography: &Bibliography) -> Result<Library, BridgeError>
     // The library of the entries, or all faults of works.
     ensures library { Gives refusal_of library_view result (library_of bibliography.now.entries) }
-    // The same as of any entries with equal keys, written types and contents under written names.
+    // All entries with the same keys, written types and contents under written names have the same library or faults.
     ensures alike { (es : List Source) → AreAlike es bibliography.now.entries
         → Gives refusal_of library_view result (library_of es) }
 {
@@ -173,7 +174,7 @@ fn finished(library: Library, faults: Vec<FieldFault>) -> Result<Library, Bridge
     Err(BridgeError::Fields(faults))
 }
 
-/// Appends works into the library, or faults after the others.
+/// Puts works into the library, or their faults after the others.
 fn put_all(
     alloc: Global,
     library: &mut Library,
@@ -191,7 +192,7 @@ fn put_all(
     Ok(())
 }
 
-/// Appends works that are borrowed one by one into the library, or faults after the others.
+/// Puts works that are borrowed one by one into the library, or their faults after the others.
 fn put_each(
     alloc: Global,
     library: &mut Library,
@@ -209,7 +210,8 @@ fn put_each(
     Ok(())
 }
 
-/// Appends an entry into the library, or its faults after the others, unless it only lends its fields.
+/// Puts the work that an entry is into the library, or its faults after the others; nothing where the entry only lends
+/// its fields.
 fn put_work(
     alloc: Global,
     library: &mut Library,
@@ -236,7 +238,7 @@ pub fn is_xdata(entry_type: &SourceType) -> bool
     matches!(entry_type, SourceType::XData)
 }
 
-/// Appends an entry into the library, or its faults after the others.
+/// Puts the work that an entry is into the library, or its faults after the others.
 fn put(
     alloc: Global,
     library: &mut Library,

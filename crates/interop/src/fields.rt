@@ -79,7 +79,6 @@ pub(crate) fn set_container_fields(
     )
 }
 
-/// Whether it is a periodical.
 fn is_periodical(entry_type: EntryType) -> bool
     ensures { result ≡ is_periodical entry_type }
 {

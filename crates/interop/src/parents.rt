@@ -5,7 +5,7 @@ ghost use Rattle.std.specs.Option.{option_map, is_some};
 ghost use Rattle.biblatex_content.specs.Views.{styled};
 ghost use Rattle.literature_values.specs.declared.entry_type.EntryType.TheVariants as works;
 ghost use Rattle.interop_values.specs.Values.{values};
-ghost use Rattle.literature_entries.specs.Wholes.{entry_view};
+ghost use Rattle.literature_entries.specs.EntriesData.{entry_view};
 ghost use Rattle.interop.specs.Bridge.{titled, titled_under, container_entry, conference_of, original_of, further};
 ghost use Rattle.interop.specs.Views.{dates_of};
 
@@ -67,7 +67,7 @@ pub(crate) fn push_further(
     push_original(alloc, parents, dates.original)
 }
 
-/// Appends a work of a title alone, where there is one.
+/// Appends a work that has a title alone, where there is a title.
 fn push_titled(
     alloc: Global,
     parents: &mut Vec<Entry>,
@@ -83,7 +83,7 @@ fn push_titled(
     }
 }
 
-/// Appends a work of a title alone.
+/// Appends a work that has a title alone.
 fn push_work(
     alloc: Global,
     parents: &mut Vec<Entry>,

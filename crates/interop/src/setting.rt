@@ -1,14 +1,13 @@
 //! Fields of a library's entry that may be absent.
 
 ghost use Rattle.std.specs.Prelude.{◌≡◌, OnOk, string_bytes};
-ghost use Rattle.std.specs.Option.{option_map};
+ghost use Rattle.std.specs.Option.{option_map, option_or};
 ghost use Rattle.literature_numbers.specs.PageViews.{pages_view};
 ghost use Rattle.literature_numbers.specs.Views.{numeral_view};
 ghost use Rattle.literature_values.specs.TextViews.{format_view, publishing_view};
 ghost use Rattle.literature_entries.specs.Views.{people_view, fields_view, Sets};
 ghost use Rattle.literature_values.specs.OtherViews.{address_view};
 ghost use Rattle.literature_values.specs.TypedViews.{typed_view};
-ghost use Rattle.interop_values.specs.Values.{first_or};
 ghost use Rattle.interop.specs.Fields.{also};
 
 use literature_entries::Entry;
@@ -19,7 +18,7 @@ use std::alloc::AllocError;
 
 pub(crate) fn set_title(entry: &mut Entry, title: Option<FormatString>)
     ensures { Sets entry.old (record (fields_view entry.old)
-        { title = first_or (option_map format_view title) (fields_view entry.old).title })
+        { title = option_or (option_map format_view title) (fields_view entry.old).title })
         entry.new }
 {
     if let Some(title) = title {
@@ -28,7 +27,7 @@ pub(crate) fn set_title(entry: &mut Entry, title: Option<FormatString>)
 }
 
 pub(crate) fn set_author(entry: &mut Entry, author: Option<Vec<Person>>)
-    ensures { Sets entry.old (record (fields_view entry.old) { author = first_or (option_map (λ v. people_view v.items) author) (fields_view entry.old).author }) entry.new }
+    ensures { Sets entry.old (record (fields_view entry.old) { author = option_or (option_map (λ v. people_view v.items) author) (fields_view entry.old).author }) entry.new }
 {
     if let Some(author) = author {
         entry.set_author(author);
@@ -36,7 +35,7 @@ pub(crate) fn set_author(entry: &mut Entry, author: Option<Vec<Person>>)
 }
 
 pub(crate) fn set_editor(entry: &mut Entry, editor: Option<Vec<Person>>)
-    ensures { Sets entry.old (record (fields_view entry.old) { editor = first_or (option_map (λ v. people_view v.items) editor) (fields_view entry.old).editor }) entry.new }
+    ensures { Sets entry.old (record (fields_view entry.old) { editor = option_or (option_map (λ v. people_view v.items) editor) (fields_view entry.old).editor }) entry.new }
 {
     if let Some(editor) = editor {
         entry.set_editor(editor);
@@ -44,7 +43,7 @@ pub(crate) fn set_editor(entry: &mut Entry, editor: Option<Vec<Person>>)
 }
 
 pub(crate) fn set_translator(entry: &mut Entry, translator: Option<Vec<Person>>)
-    ensures { Sets entry.old (record (fields_view entry.old) { translator = first_or (option_map (λ v. people_view v.items) translator) (fields_view entry.old).translator }) entry.new }
+    ensures { Sets entry.old (record (fields_view entry.old) { translator = option_or (option_map (λ v. people_view v.items) translator) (fields_view entry.old).translator }) entry.new }
 {
     if let Some(translator) = translator {
         entry.set_translator(translator);
@@ -53,7 +52,7 @@ pub(crate) fn set_translator(entry: &mut Entry, translator: Option<Vec<Person>>)
 
 pub(crate) fn set_date(entry: &mut Entry, date: Option<Date>)
     ensures { Sets entry.old
-        (record (fields_view entry.old) { date = first_or (date) (fields_view entry.old).date })
+        (record (fields_view entry.old) { date = option_or (date) (fields_view entry.old).date })
         entry.new }
 {
     if let Some(date) = date {
@@ -62,7 +61,7 @@ pub(crate) fn set_date(entry: &mut Entry, date: Option<Date>)
 }
 
 pub(crate) fn set_publisher(entry: &mut Entry, publisher: Option<Publisher>)
-    ensures { Sets entry.old (record (fields_view entry.old) { publisher = first_or (option_map publishing_view publisher) (fields_view entry.old).publisher }) entry.new }
+    ensures { Sets entry.old (record (fields_view entry.old) { publisher = option_or (option_map publishing_view publisher) (fields_view entry.old).publisher }) entry.new }
 {
     if let Some(publisher) = publisher {
         entry.set_publisher(publisher);
@@ -70,7 +69,7 @@ pub(crate) fn set_publisher(entry: &mut Entry, publisher: Option<Publisher>)
 }
 
 pub(crate) fn set_volume(entry: &mut Entry, volume: Option<MaybeTyped<Numeric>>)
-    ensures { Sets entry.old (record (fields_view entry.old) { volume = first_or (option_map (typed_view numeral_view) volume) (fields_view entry.old).volume }) entry.new }
+    ensures { Sets entry.old (record (fields_view entry.old) { volume = option_or (option_map (typed_view numeral_view) volume) (fields_view entry.old).volume }) entry.new }
 {
     if let Some(volume) = volume {
         entry.set_volume(volume);
@@ -78,7 +77,7 @@ pub(crate) fn set_volume(entry: &mut Entry, volume: Option<MaybeTyped<Numeric>>)
 }
 
 pub(crate) fn set_volume_total(entry: &mut Entry, volume_total: Option<MaybeTyped<Numeric>>)
-    ensures { Sets entry.old (record (fields_view entry.old) { volume_total = first_or (option_map (typed_view numeral_view) volume_total) (fields_view entry.old).volume_total }) entry.new }
+    ensures { Sets entry.old (record (fields_view entry.old) { volume_total = option_or (option_map (typed_view numeral_view) volume_total) (fields_view entry.old).volume_total }) entry.new }
 {
     if let Some(volume_total) = volume_total {
         entry.set_volume_total(volume_total);
@@ -86,7 +85,7 @@ pub(crate) fn set_volume_total(entry: &mut Entry, volume_total: Option<MaybeType
 }
 
 pub(crate) fn set_issue(entry: &mut Entry, issue: Option<MaybeTyped<Numeric>>)
-    ensures { Sets entry.old (record (fields_view entry.old) { issue = first_or (option_map (typed_view numeral_view) issue) (fields_view entry.old).issue }) entry.new }
+    ensures { Sets entry.old (record (fields_view entry.old) { issue = option_or (option_map (typed_view numeral_view) issue) (fields_view entry.old).issue }) entry.new }
 {
     if let Some(issue) = issue {
         entry.set_issue(issue);
@@ -94,7 +93,7 @@ pub(crate) fn set_issue(entry: &mut Entry, issue: Option<MaybeTyped<Numeric>>)
 }
 
 pub(crate) fn set_chapter(entry: &mut Entry, chapter: Option<MaybeTyped<Numeric>>)
-    ensures { Sets entry.old (record (fields_view entry.old) { chapter = first_or (option_map (typed_view numeral_view) chapter) (fields_view entry.old).chapter }) entry.new }
+    ensures { Sets entry.old (record (fields_view entry.old) { chapter = option_or (option_map (typed_view numeral_view) chapter) (fields_view entry.old).chapter }) entry.new }
 {
     if let Some(chapter) = chapter {
         entry.set_chapter(chapter);
@@ -102,7 +101,7 @@ pub(crate) fn set_chapter(entry: &mut Entry, chapter: Option<MaybeTyped<Numeric>
 }
 
 pub(crate) fn set_edition(entry: &mut Entry, edition: Option<MaybeTyped<Numeric>>)
-    ensures { Sets entry.old (record (fields_view entry.old) { edition = first_or (option_map (typed_view numeral_view) edition) (fields_view entry.old).edition }) entry.new }
+    ensures { Sets entry.old (record (fields_view entry.old) { edition = option_or (option_map (typed_view numeral_view) edition) (fields_view entry.old).edition }) entry.new }
 {
     if let Some(edition) = edition {
         entry.set_edition(edition);
@@ -110,7 +109,7 @@ pub(crate) fn set_edition(entry: &mut Entry, edition: Option<MaybeTyped<Numeric>
 }
 
 pub(crate) fn set_page_range(entry: &mut Entry, page_range: Option<MaybeTyped<PageRanges>>)
-    ensures { Sets entry.old (record (fields_view entry.old) { page_range = first_or (option_map (typed_view pages_view) page_range) (fields_view entry.old).page_range }) entry.new }
+    ensures { Sets entry.old (record (fields_view entry.old) { page_range = option_or (option_map (typed_view pages_view) page_range) (fields_view entry.old).page_range }) entry.new }
 {
     if let Some(page_range) = page_range {
         entry.set_page_range(page_range);
@@ -118,7 +117,7 @@ pub(crate) fn set_page_range(entry: &mut Entry, page_range: Option<MaybeTyped<Pa
 }
 
 pub(crate) fn set_page_total(entry: &mut Entry, page_total: Option<MaybeTyped<Numeric>>)
-    ensures { Sets entry.old (record (fields_view entry.old) { page_total = first_or (option_map (typed_view numeral_view) page_total) (fields_view entry.old).page_total }) entry.new }
+    ensures { Sets entry.old (record (fields_view entry.old) { page_total = option_or (option_map (typed_view numeral_view) page_total) (fields_view entry.old).page_total }) entry.new }
 {
     if let Some(page_total) = page_total {
         entry.set_page_total(page_total);
@@ -127,7 +126,7 @@ pub(crate) fn set_page_total(entry: &mut Entry, page_total: Option<MaybeTyped<Nu
 
 pub(crate) fn set_url(entry: &mut Entry, url: Option<QualifiedUrl>)
     ensures { Sets entry.old (record (fields_view entry.old)
-        { url = first_or (option_map address_view url) (fields_view entry.old).url }) entry.new }
+        { url = option_or (option_map address_view url) (fields_view entry.old).url }) entry.new }
 {
     if let Some(url) = url {
         entry.set_url(url);
@@ -136,7 +135,7 @@ pub(crate) fn set_url(entry: &mut Entry, url: Option<QualifiedUrl>)
 
 pub(crate) fn set_note(entry: &mut Entry, note: Option<FormatString>)
     ensures { Sets entry.old (record (fields_view entry.old)
-        { note = first_or (option_map format_view note) (fields_view entry.old).note }) entry.new }
+        { note = option_or (option_map format_view note) (fields_view entry.old).note }) entry.new }
 {
     if let Some(note) = note {
         entry.set_note(note);
@@ -144,9 +143,10 @@ pub(crate) fn set_note(entry: &mut Entry, note: Option<FormatString>)
 }
 
 pub(crate) fn set_language(entry: &mut Entry, language: Option<String>)
-    ensures { Sets entry.old (record (fields_view entry.old)
-        { language = first_or (option_map string_bytes language) (fields_view entry.old).language })
-        entry.new }
+    ensures { Sets entry.old (record (fields_view entry.old) {
+      language = option_or (option_map string_bytes language)
+          (fields_view entry.old).language;
+    }) entry.new }
 {
     if let Some(language) = language {
         entry.set_language(language);

@@ -6,6 +6,7 @@ use Rattle.std.proofs.lemmas.List.{append-nil, map-append}
 use Rattle.biblatex_content.specs.declared.chunk.Kind.{Kind}
 use Rattle.biblatex_content.specs.declared.chunk.Kind.TheVariants as kinds
 use Rattle.biblatex_content.specs.Styled.{Member, Letter, Math, letters}
+use Rattle.laws.specs.Characters as character
 use Rattle.laws.specs.Text.{characters, is_filled}
 use Rattle.literature_values.specs.declared.text.ChunkKind.TheVariants as pieces
 use Rattle.literature_values.specs.declared.text.StringChunk.{StringChunk}
@@ -21,7 +22,7 @@ ended ps s k cs same kind filled =
     map-append chunk_view ps (s ∷ [])
     ∙ ap (λ (qs : List Chunk). map chunk_view ps ++ qs) ((λ i. record { value = same i; kind = kind i } ∷ []) ∙ sym (one_piece k cs filled))
 
--- a text that goes on
+-- the pieces of a text that goes on are those of both its parts together
 pub goes_on : (ps : List Chunk) (k : Kind) (run cs : List ℕ) (rest : List Member) → ps ++ pieces_of (letters k (run ++ cs) ++ rest) ≡ ps ++ pieces_of (letters k run ++ (letters k cs ++ rest))
 goes_on ps k run cs rest = ap (λ (ms : List Member). ps ++ pieces_of ms) (ap (λ (ms : List Member). ms ++ rest) (map-append (Letter k) run cs) ∙ append_assoc (letters k run) (letters k cs) rest)
 
@@ -58,9 +59,9 @@ put_last new b d run (c ∷ cs) old rest e filled h =
 -- a title with its subtitle after it
 pub after_title : (ms : List Member) (subtitle : Option (List Member)) → ms ++ (with_subtitle [] subtitle ++ []) ≡ with_subtitle ms subtitle
 after_title ms None = append-nil ms
-after_title ms (Some sub) = ap (λ (ns : List Member). ms ++ ns) (append-nil (letters kinds.Normal (58 ∷ 32 ∷ []) ++ sub))
+after_title ms (Some sub) = ap (λ (ns : List Member). ms ++ ns) (append-nil (letters kinds.Normal (character.colon ∷ character.space ∷ []) ++ sub))
 
--- a colon and a space
-pub colon : chars (codes ": ") ≡ 58 ∷ 32 ∷ []
+-- a colon and a space spell themselves
+pub colon : chars (codes ": ") ≡ character.colon ∷ character.space ∷ []
 unfolding chars
 colon = refl

@@ -5,6 +5,7 @@ use Rattle.std.specs.List.{list_any, AllByRecursion, IsDistinct}
 use Rattle.std.specs.Map.{lookup, keys_of}
 use Rattle.std.specs.Str.{bytes_eq}
 use Rattle.std.specs.Cmp.Lexicographic.{nat_list_eq_equiv}
+use Rattle.std.specs.Option.{option_or}
 use Rattle.std.proofs.lemmas.List.Elements.{Contains-append_left, Contains-append_right}
 use Rattle.std.proofs.lemmas.Map.Views.{Contains-from_lookup, lookup-from_Contains}
 use Rattle.std.proofs.lemmas.Option.{none-some, same_Some}
@@ -12,7 +13,7 @@ use Rattle.std.proofs.lemmas.Slice.Eq.{bytes_eq-Decides}
 use Rattle.biblatex_content.specs.Styled.{Member}
 use Rattle.biblatex_fields.specs.Fields.{Named, value_named, text_named}
 use Rattle.biblatex_fields.specs.Value.{Value}
-use Rattle.interop_values.specs.Values.{filled, first_or, other_names, is_never_written, values}
+use Rattle.interop_values.specs.Values.{filled, other_names, is_never_written, values}
 use Rattle.interop_values.specs.Written.{Written, written_name, written_fields, AreWrittenApart, AreWrittenAlike}
 
 -- a row of the names: fields of the first name are written under it, and those of the other under the first
@@ -68,7 +69,7 @@ Read = List ℕ → Option (List Member)
 
 -- what stands under each name that is written
 abbrev under : Read → Read
-under look n = if is_never_written n then None else first_or (look n) (option_and_then look (lookup (bytes_eq n) other_names))
+under look n = if is_never_written n then None else option_or (look n) (option_and_then look (lookup (bytes_eq n) other_names))
 
 -- a content that was read under a name that is written as n
 abbrev IsRead : Read → List ℕ → List Member → Type 0
@@ -82,11 +83,11 @@ some_read look n ms h = by_test (is_never_written n) refl h
     by_other None e is = absurd (none-some ms is)
     by_other (Some other) e is = (other, other_by other_names rows n other e, is)
 
-    by_own : is_never_written n ≡ false → (o : Option (List Member)) → look n ≡ o → first_or o (option_and_then look (lookup (bytes_eq n) other_names)) ≡ Some ms → IsRead look n ms
+    by_own : is_never_written n ≡ false → (o : Option (List Member)) → look n ≡ o → option_or o (option_and_then look (lookup (bytes_eq n) other_names)) ≡ Some ms → IsRead look n ms
     by_own may None e is = by_other (lookup (bytes_eq n) other_names) refl is
     by_own may (Some v) e is = (n, ap (λ (found : Option (List ℕ × List ℕ)). unwrap_or (option_map (λ names. names.0) found) n) (any_none (λ names. bytes_eq n names.1) other_names may), e ∙ is)
 
-    by_test : (b : Bool) → is_never_written n ≡ b → (if b then None else first_or (look n) (option_and_then look (lookup (bytes_eq n) other_names))) ≡ Some ms → IsRead look n ms
+    by_test : (b : Bool) → is_never_written n ≡ b → (if b then None else option_or (look n) (option_and_then look (lookup (bytes_eq n) other_names))) ≡ Some ms → IsRead look n ms
     by_test true e is = absurd (none-some ms is)
     by_test false e is = by_own e (look n) refl is
 
@@ -94,16 +95,16 @@ some_read look n ms h = by_test (is_never_written n) refl h
 none_read : (look : Read) (q : List ℕ) → under look (written_name q) ≡ None → look q ≡ None
 none_read look q h = by_row (find (λ names. bytes_eq q names.1) other_names) refl h
   where
-    first_none : (a b : Option (List Member)) → first_or a b ≡ None → a ≡ None
+    first_none : (a b : Option (List Member)) → option_or a b ≡ None → a ≡ None
     first_none None b is = refl
     first_none (Some v) b is = absurd (none-some v (sym is))
 
-    next_none : (a b : Option (List Member)) → first_or a b ≡ None → b ≡ None
+    next_none : (a b : Option (List Member)) → option_or a b ≡ None → b ≡ None
     next_none None b is = is
     next_none (Some v) b is = absurd (none-some v (sym is))
 
-    open_at : (n : List ℕ) → is_never_written n ≡ false → under look n ≡ None → first_or (look n) (option_and_then look (lookup (bytes_eq n) other_names)) ≡ None
-    open_at n may is = sym (ap (λ (b : Bool). if b then None else first_or (look n) (option_and_then look (lookup (bytes_eq n) other_names))) may) ∙ is
+    open_at : (n : List ℕ) → is_never_written n ≡ false → under look n ≡ None → option_or (look n) (option_and_then look (lookup (bytes_eq n) other_names)) ≡ None
+    open_at n may is = sym (ap (λ (b : Bool). if b then None else option_or (look n) (option_and_then look (lookup (bytes_eq n) other_names))) may) ∙ is
 
     by_row : (found : Option (List ℕ × List ℕ)) → find (λ names. bytes_eq q names.1) other_names ≡ found → under look (unwrap_or (option_map (λ names. names.0) found) q) ≡ None → look q ≡ None
     by_row None e is = first_none (look q) (option_and_then look (lookup (bytes_eq q) other_names)) (open_at q (none_any (λ names. bytes_eq q names.1) other_names e) is)

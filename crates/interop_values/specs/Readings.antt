@@ -1,8 +1,9 @@
 -- The contents of fields as values of a library.
 use Rattle.std.specs.Prelude.{ℕ, Bool, List, [], ◌∷◌, ◌++◌, map, ◌==◌, ◌&&◌, ◌||◌, if◌then◌else◌, Option, Some, None, Result, Ok, Err, codes}
-use Rattle.std.specs.Option.{option_map, option_eq}
+use Rattle.std.specs.Option.{option_map, option_eq, option_or}
 use Rattle.std.specs.Ordering.{int_eq}
-use Rattle.laws.specs.Text.{text}
+use Rattle.laws.specs.Characters.{space, colon}
+use Rattle.laws.specs.Text.{text, if_filled}
 use Rattle.url.specs.Parser.{Parsed, parse_url}
 use Rattle.url.specs.Parts.{Parts, serialize}
 use Rattle.texts.specs.declared.reader.Unreadable.{Unreadable}
@@ -15,7 +16,7 @@ use Rattle.biblatex_dates.specs.declared.date.DateValue.{DateValue}
 use Rattle.biblatex_dates.specs.declared.date.DateValue.TheVariants.{At, After, Before, Between}
 use Rattle.biblatex_dates.specs.declared.datetime.Datetime.{Datetime}
 use Rattle.biblatex_dates.specs.declared.error.TypeErrorKind.{TypeErrorKind}
-use Rattle.biblatex_people.specs.Reading.{Named as SourceName, people_in}
+use Rattle.biblatex_lists.specs.Reading.{Named as SourceName, people_in}
 use Rattle.literature_numbers.specs.Numerics.{Numeral, numeral_of}
 use Rattle.literature_numbers.specs.Pages.{Part, pages_of}
 use Rattle.literature_values.specs.declared.date.Date.{Date}
@@ -25,7 +26,7 @@ use Rattle.literature_values.specs.PersonViews.{Named}
 use Rattle.literature_values.specs.TextViews.{Format, Publishing}
 use Rattle.literature_values.specs.OtherViews.{Address}
 use Rattle.literature_values.specs.TypedViews.{ValueOrText, Value, Text}
-use Rattle.interop_values.specs.Values.{Values, first_or, text_under}
+use Rattle.interop_values.specs.Values.{Values, text_under}
 use Rattle.interop_values.specs.Pieces.{pieces_of}
 
 -- a text without a short form
@@ -35,7 +36,7 @@ format_of ms = record { value = pieces_of ms; short = None }
 -- a title, and a colon, a space and the subtitle after it
 abbrev pub with_subtitle : List Member → Option (List Member) → List Member
 with_subtitle ms None = ms
-with_subtitle ms (Some sub) = ms ++ (letters Normal (58 ∷ 32 ∷ []) ++ sub)
+with_subtitle ms (Some sub) = ms ++ (letters Normal (colon ∷ space ∷ []) ++ sub)
 
 -- the title of an entry, with its subtitle and its short form; without `title` there is none of them
 abbrev pub title_of : Values → Option Format
@@ -45,24 +46,14 @@ title_of v = option_map (λ ms. record { value = pieces_of (with_subtitle ms (v 
 abbrev pub format_under : List ℕ → Values → Option Format
 format_under name v = option_map format_of (v name)
 
--- a part of a name; an empty one is absent
-abbrev pub part : List ℕ → Option (List ℕ)
-part [] = None
-part (c ∷ cs) = Some (c ∷ cs)
-
--- a person as a library holds one
+-- a person as a library holds one; an empty part of the name is absent
 abbrev pub person_of : SourceName → Named
-person_of p = record { name = p.name; given_name = part p.given_name; prefix = part p.prefix; suffix = part p.suffix }
-
--- people, if there are any
-abbrev pub if_any : {X : Type 0} → List X → Option (List X)
-if_any [] = None
-if_any (x ∷ xs) = Some (x ∷ xs)
+person_of p = record { name = p.name; given_name = if_filled p.given_name; prefix = if_filled p.prefix; suffix = if_filled p.suffix }
 
 -- the people that a content names
 abbrev pub people_of : Option (List Member) → Option (List Named)
 people_of None = None
-people_of (Some ms) = if_any (map person_of (people_in ms))
+people_of (Some ms) = if_filled (map person_of (people_in ms))
 
 -- the people under a name
 abbrev pub people_under : List ℕ → Values → Option (List Named)
@@ -104,7 +95,7 @@ publishing_of name location = Some (record { name = option_map format_of name; l
 
 -- the publisher: its name is that of the publisher, else of the institution, else of the organization
 abbrev pub publisher_of : Values → Option Publishing
-publisher_of v = publishing_of (first_or (v (codes "publisher")) (first_or (v (codes "institution")) (v (codes "organization")))) (v (codes "location"))
+publisher_of v = publishing_of (option_or (v (codes "publisher")) (option_or (v (codes "institution")) (v (codes "organization")))) (v (codes "location"))
 
 -- the point that a date of a library begins with: the first of a range, the end of one without a start
 abbrev pub point_of : DateValue → Datetime
@@ -161,7 +152,7 @@ sure d = Ok d
 
 -- the date of an entry: that of `date`, where it has a text, else that of year, month and day
 abbrev pub own_date : Values → ReadDate
-own_date v = first_or (date_under (codes "date") v) (option_map sure (date_by_parts v))
+own_date v = option_or (date_under (codes "date") v) (option_map sure (date_by_parts v))
 
 -- the date that a library has, where there is one
 abbrev pub date_if_read : ReadDate → Option Date

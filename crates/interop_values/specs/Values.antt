@@ -3,6 +3,7 @@ use Rattle.std.specs.Prelude.{ℕ, Bool, List, [], ◌∷◌, if◌then◌else�
 use Rattle.std.specs.List.{list_any}
 use Rattle.std.specs.Map.{lookup}
 use Rattle.std.specs.Str.{bytes_eq}
+use Rattle.std.specs.Option.{option_or}
 use Rattle.biblatex_content.specs.Styled.{Member}
 use Rattle.biblatex_fields.specs.Fields.{Named, text_named}
 use Rattle.biblatex_entries.specs.Typed.{characters_of}
@@ -16,11 +17,6 @@ abbrev pub filled : Option (List Member) → Option (List Member)
 filled None = None
 filled (Some []) = None
 filled (Some (m ∷ ms)) = Some (m ∷ ms)
-
--- the first, or what comes after it
-abbrev pub first_or : {V : Type 0} → Option V → Option V → Option V
-first_or None next = next
-first_or (Some v) next = Some v
 
 -- the fields that are written under another name than they may be read under: that name, and the other one
 abbrev pub other_names : List (List ℕ × List ℕ)
@@ -45,7 +41,7 @@ by_other_name name fs = option_and_then (λ other. filled (text_named other fs))
 -- what stands under a written name: of two fields that are written as one, the one that was read under it, unless it is empty; under the
 -- other of the two names nothing stands
 abbrev pub values : List Named → Values
-values fs name = if is_never_written name then None else first_or (filled (text_named name fs)) (by_other_name name fs)
+values fs name = if is_never_written name then None else option_or (filled (text_named name fs)) (by_other_name name fs)
 
 -- the characters under a name; none where nothing stands under it
 abbrev pub text_under : List ℕ → Values → List ℕ

@@ -25,7 +25,7 @@ pub(crate) struct Pieces {
 }
 
 impl Pieces {
-    /// No piece.
+    /// Pieces of which there are none yet.
     pub(crate) fn new(alloc: Global) -> Pieces
         ensures { (rest : List Member) → with_pieces result rest ≡ pieces_of rest }
     {
@@ -37,7 +37,6 @@ impl Pieces {
         }
     }
 
-    /// Appends chunks.
     pub(crate) fn push_chunks(&mut self, value: &[Spanned<Chunk>]) -> Result<(), AllocError>
         ensures { OnOk result (Grows self.old self.new (styled value.now)) }
     {
@@ -47,7 +46,6 @@ impl Pieces {
         Ok(())
     }
 
-    /// Appends a chunk.
     fn push_chunk(&mut self, chunk: &Chunk) -> Result<(), AllocError>
         ensures { OnOk result (Grows self.old self.new (members chunk.now)) }
     {
@@ -86,7 +84,6 @@ impl Pieces {
         Ok(())
     }
 
-    /// Appends a formula.
     fn push_math(&mut self, text: &str) -> Result<(), AllocError>
         ensures { OnOk result (Grows self.old self.new (Math (chars text.now) ∷ [])) }
     {

@@ -1,30 +1,30 @@
 //! The contents of fields as values of a library.
 
 ghost use Rattle.std.specs.Prelude.{◌≡◌, ◌++◌, [], map, codes, IfOk, OnOk, Some, None, string_bytes};
-ghost use Rattle.std.specs.Option.{option_map};
+ghost use Rattle.std.specs.Option.{option_map, option_or};
 ghost use Rattle.url.specs.Parser.{parse_url};
 ghost use Rattle.url.specs.Parts.{serialize};
 ghost use Rattle.biblatex_content.specs.Styled.{letters};
 ghost use Rattle.biblatex_content.specs.Views.{styled};
-ghost use Rattle.biblatex_people.specs.Views.{named_view};
+ghost use Rattle.biblatex_lists.specs.Views.{named_view};
 ghost use Rattle.literature_numbers.specs.PageViews.{pages_view};
 ghost use Rattle.literature_numbers.specs.Views.{numeral_view};
-ghost use Rattle.laws.specs.Text.{characters};
+ghost use Rattle.laws.specs.Text.{characters, if_filled};
 ghost use Rattle.literature_values.specs.PersonViews.{person_view};
 ghost use Rattle.literature_values.specs.TextViews.{chunks_view, format_view, publishing_view};
 ghost use Rattle.literature_entries.specs.Views.{people_view};
 ghost use Rattle.literature_values.specs.OtherViews.{address_view};
 ghost use Rattle.literature_values.specs.TypedViews.{typed_view};
-ghost use Rattle.interop_values.specs.Values.{values, first_or};
+ghost use Rattle.interop_values.specs.Values.{values};
 ghost use Rattle.interop_values.specs.Pieces.{pieces_of};
 ghost use Rattle.interop_values.specs.Views.{Grows};
-ghost use Rattle.interop_values.specs.Readings.{format_of, with_subtitle, title_of, format_under, part, person_of, people_of, people_under, number_of, number_under, pages_under, bytes_of, bytes_under, publishing_of, publisher_of, url_or, address_of};
+ghost use Rattle.interop_values.specs.Readings.{format_of, with_subtitle, title_of, format_under, person_of, people_of, people_under, number_of, number_under, pages_under, bytes_of, bytes_under, publishing_of, publisher_of, url_or, address_of};
 
 use crate::pieces::Pieces;
 use crate::values::{text, value};
 use biblatex_content::{Chunk, Spanned};
 use biblatex_fields::Fields;
-use biblatex_people::{Person as SourcePerson, read_people};
+use biblatex_lists::{Person as SourcePerson, read_people};
 use biblatex_values::plain_text;
 use literature_values::{
     ChunkedString, Date, FormatString, MaybeTyped, Numeric, PageRanges, Person, Publisher,
@@ -188,7 +188,7 @@ fn person_of(read: SourcePerson) -> Person
 
 /// A part of a name; an empty one is absent.
 fn part(text: String) -> Option<String>
-    ensures { option_map characters result ≡ part (characters text) }
+    ensures { option_map characters result ≡ if_filled (characters text) }
 {
     if has_text(text.as_str()) {
         return Some(text);
@@ -269,7 +269,7 @@ pub fn publisher(alloc: Global, fields: &Fields) -> Result<Option<Publisher>, Al
 /// The name of the publisher, else of the institution, else of the organization.
 fn publisher_name(fields: &Fields) -> Option<&[Spanned<Chunk>]>
     ensures { option_map (λ v. styled v.now) result
-        ≡ first_or (values fields.now (codes "publisher")) (first_or
+        ≡ option_or (values fields.now (codes "publisher")) (option_or
         (values fields.now (codes "institution")) (values fields.now (codes "organization"))) }
 {
     if let Some(publisher) = value(fields, "publisher") {

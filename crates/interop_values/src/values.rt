@@ -1,14 +1,14 @@
 //! The contents of an entry's fields, by the names under which they are written.
 
 ghost use Rattle.std.specs.Prelude.{◌≡◌, [], List, IfOk};
-ghost use Rattle.std.specs.Option.{option_map};
+ghost use Rattle.std.specs.Option.{option_map, option_or};
 ghost use Rattle.std.specs.Map.{lookup};
 ghost use Rattle.std.specs.Str.{bytes_eq};
 ghost use Rattle.laws.specs.Text.{text as text_of, characters, is_filled};
 ghost use Rattle.biblatex_content.specs.Views.{styled, members};
 ghost use Rattle.biblatex_fields.specs.Fields.{text_named};
 ghost use Rattle.biblatex_fields.specs.Value.{field_value_view};
-ghost use Rattle.interop_values.specs.Values.{filled, first_or, is_never_written, other_names, by_other_name, values, text_under};
+ghost use Rattle.interop_values.specs.Values.{filled, is_never_written, other_names, by_other_name, values, text_under};
 
 use biblatex_content::{Chunk, Chunks, Spanned};
 use biblatex_fields::Fields;
@@ -33,7 +33,7 @@ pub fn value<'f>(fields: &'f Fields, name: &str) -> Option<&'f [Spanned<Chunk>]>
 #[inline(always)]
 fn by_either_name<'f>(fields: &'f Fields, name: &str) -> Option<&'f [Spanned<Chunk>]>
     ensures { option_map (λ v. styled v.now) result
-        ≡ first_or (filled (text_named name.now fields.now)) (by_other_name name.now fields.now) }
+        ≡ option_or (filled (text_named name.now fields.now)) (by_other_name name.now fields.now) }
 {
     match by_name(fields, name) {
         Some(value) => Some(value),

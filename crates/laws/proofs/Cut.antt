@@ -33,7 +33,7 @@ IsUtf8-first whole rest c u e =
 pub runs_none : (test : ℕ → Bool) (whole : List ℕ) → IsUtf8 whole → Runs test whole whole 0
 runs_none test whole u = record { prefix_text = []; parts = refl; long = refl; rest_utf8 = u; prefix_utf8 = IsUtf8-nil; prefix = rw chars-nil refl; rest_is = refl }
 
--- one more character passes
+-- a run goes on past a character that passes
 pub runs_more : (test : ℕ → Bool) (whole rest more : List ℕ) (end c : ℕ) → Runs test whole rest end → rest ≡ encode_utf8 c ++ more → test c ≡ true
     → Runs test whole more (end + length (encode_utf8 c))
 runs_more test whole rest more end c r e passes =
@@ -71,14 +71,14 @@ cut_at test whole rest end r none all =
       back_is = rw back (sym (r.rest_is ∙ all));
     }
 
--- the next character does not pass
+-- a text is cut where the next character does not pass
 pub stops_before : (test : ℕ → Bool) (whole rest more : List ℕ) (end c : ℕ) → Runs test whole rest end → rest ≡ encode_utf8 c ++ more → test c ≡ false
     → CutsRun test whole (take end whole) (drop end whole)
 stops_before test whole rest more end c r e fails =
     let next : chars rest ≡ c ∷ chars more = chars_past_char rest more c r.rest_utf8 e in
     cut_at test whole rest end r (ap (prefix_of test) next ∙ rw fails refl) (ap (after test) next ∙ (let same : after test (c ∷ chars more) ≡ c ∷ chars more = rw fails refl in same ∙ sym next))
 
--- the text is at its end
+-- a text is cut at its end where all of it passes
 pub stops_at_end : (test : ℕ → Bool) (whole rest : List ℕ) (end : ℕ) → Runs test whole rest end → length rest ≡ 0 → CutsRun test whole (take (length whole) whole) (drop (length whole) whole)
 stops_at_end test whole rest end r none =
     let all : end ≡ length whole = omega (arith, r.long, ap length r.parts, length-append r.prefix_text rest) in

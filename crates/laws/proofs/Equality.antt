@@ -17,7 +17,7 @@ use Rattle.laws.proofs.Text.{text_of_chars}
 pub Decides-moved : {P R : Type 0} (b : Bool) → Decides b P → (P → R) → (R → P) → Decides b R
 Decides-moved b d to from = (λ h. to (d.0 h), λ r. d.1 (from r))
 
--- one thing is no other
+-- what cannot be is decided as false
 pub Decides-never : {P : Type 0} → (P → ⊥) → Decides false P
 Decides-never never = (λ h. search rules, λ p. absurd (never p))
 

@@ -13,17 +13,17 @@ pub bind_bind : {F A B C : Type 0} (r : Result A F) (f : A → Result B F) (g : 
 bind_bind (Ok x) f g = refl
 bind_bind (Err d) f g = refl
 
--- a test that let the step go on
+-- where a value comes from behind a test, the test held and the step gave the value
 pub test_ok : {F A : Type 0} (b : Bool) (r : Result A F) (d : F) (y : A) → cond b r (Err d) ≡ Ok y → (b ≡ true) × (r ≡ Ok y)
 test_ok true r d y e = (refl, e)
 test_ok false r d y e = absurd cc
 
--- a test that did not make the step fail
+-- where a value comes from behind a test that refuses, the test did not hold and the step gave the value
 pub guard_ok : {F A : Type 0} (b : Bool) (r : Result A F) (d : F) (y : A) → cond b (Err d) r ≡ Ok y → (b ≡ false) × (r ≡ Ok y)
 guard_ok true r d y e = absurd cc
 guard_ok false r d y e = (refl, e)
 
--- a test, and which of the two went on
+-- the test says which of the two a choice is
 pub chosen : {A : Type 0} (b : Bool) (x y z : A) → cond b x y ≡ z → (b ≡ true → x ≡ z) × (b ≡ false → y ≡ z)
 chosen true x y z e = (λ _. e, λ h. absurd cc)
 chosen false x y z e = (λ h. absurd cc, λ _. e)
@@ -39,7 +39,7 @@ pub bind_if_ok : {F A B : Type 0} (P : A → Type 0) (Q : B → Type 0) (r : Res
 bind_if_ok P Q (Ok x) f p more = more x p
 bind_if_ok P Q (Err d) f p more = tt
 
--- a test whose other outcome is a fault
+-- what holds of the value of a step holds where a test may refuse before it
 pub test_if_ok : {F A : Type 0} (Q : A → Type 0) (b : Bool) (r : Result A F) (d : F) → IfOk r Q → IfOk (cond b r (Err d)) Q
 test_if_ok Q true r d p = p
 test_if_ok Q false r d p = tt

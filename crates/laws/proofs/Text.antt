@@ -19,7 +19,7 @@ text_of_chars bs u = encodes-chars bs u
 pub text-append : (cs ds : List ℕ) → text (cs ++ ds) ≡ text cs ++ text ds
 text-append cs ds = encodes-append cs ds
 
--- what a loop over characters knows of the rest, after one more
+-- what is known of the rest of a text after one more of its characters was read
 pub record Next (rest more : List ℕ) (c : ℕ) : Type 0 where
   pub chars_are : chars rest ≡ c ∷ chars more
   pub utf8 : IsUtf8 more

@@ -1,3 +1,6 @@
+pub mod Borrowed
+pub mod Characters
+pub mod Counts
 pub mod Equality
 pub mod Results
 pub mod Runs

@@ -6,7 +6,7 @@ use Rattle.laws.specs.Results.{◌>>=◌}
 abbrev pub Step : Type 0 → Type 0 → Type 0
 Step F X = List ℕ → Result (Option X × List ℕ) F
 
--- what comes after a step: nothing, or its gift before the gifts of the others
+-- what comes after a step: nothing, or what it gave before what the other steps give
 abbrev pub go_on : {F X : Type 0} → (List ℕ → Result (List X × List ℕ) F) → Option X → List ℕ → Result (List X × List ℕ) F
 go_on others None rest = Ok ([], rest)
 go_on others (Some x) rest = others rest >>= λ p. Ok (x ∷ p.0, p.1)

@@ -1,6 +1,6 @@
 -- Characters and the texts that they spell. Characters are numbers, texts are bytes.
 use Rattle.std.specs.Global.{Global}
-use Rattle.std.specs.Prelude.{ℕ, Bool, true, false, List, [], ◌∷◌, map, encode_utf8_all, String, string_bytes}
+use Rattle.std.specs.Prelude.{ℕ, Bool, true, false, List, [], ◌∷◌, map, Option, Some, None, encode_utf8_all, String, string_bytes}
 use Rattle.std.specs.Borrow.{Bor}
 use Rattle.std.specs.Str.{chars}
 use Rattle.std.specs.Char.{to_ascii_lowercase}
@@ -25,3 +25,8 @@ spelled s = chars s.now
 abbrev pub is_filled : {A : Type 0} → List A → Bool
 is_filled [] = false
 is_filled (x ∷ xs) = true
+
+-- a list, where there is something in it
+abbrev pub if_filled : {A : Type 0} → List A → Option (List A)
+if_filled [] = None
+if_filled (x ∷ xs) = Some (x ∷ xs)

@@ -28,7 +28,7 @@ found : (name : List ℕ) (es : Under) → AreInStep es
 found name [] h = refl
 found name (e ∷ es) h = λ i. cond (bytes_eq name (h.0 i)) (Some e.1) (found name es h.1 i)
 
--- one that was put after others, or before them
+-- an entry that is put instead of the first, or after it
 put_step : (b : Bool) (e : String Global × Entry) (entry : Entry) (es more : Under) (viewed : List Entry) → values_of more ≡ viewed
     → values_of (cond b ((e.0, entry) ∷ es) (e ∷ more)) ≡ cond b (entry ∷ values_of es) (e.1 ∷ viewed)
 put_step true e entry es more viewed i = refl
@@ -42,13 +42,13 @@ insertion name entry (e ∷ es) k h =
     put_step (bytes_eq (string_bytes name) (string_bytes e.0)) e entry es _ _ (insertion name entry es k h.1)
     ∙ (λ i. cond (bytes_eq (k i) (h.0 i)) (entry ∷ values_of es) (e.1 ∷ put key_view (values_of es) entry))
 
--- bytes that a test distinguishes, or are the same
+-- where an entry is put instead of the first, or after it, each key is still that of its entry
 put_step_in : (b : Bool) (name : String Global) (e : String Global × Entry) (entry : Entry) (es more : Under)
     → (b ≡ true → string_bytes e.0 ≡ key_view entry) → string_bytes e.0 ≡ key_view e.1 → AreInStep es → AreInStep more → AreInStep (cond b ((e.0, entry) ∷ es) (e ∷ more))
 put_step_in true name e entry es more same k h m = (same refl, h)
 put_step_in false name e entry es more same k h m = (k, m)
 
--- and stays in step with the others
+-- after an entry was put, each key is still that of its entry
 insertion_in_step : (name : String Global) (entry : Entry) (es : Under) → string_bytes name ≡ key_view entry → AreInStep es → AreInStep (insert_entry string_eq es name entry)
 insertion_in_step name entry [] k h = (k, tt)
 insertion_in_step name entry (e ∷ es) k h =
@@ -72,7 +72,7 @@ taken name (e ∷ es) h =
     removed_step (bytes_eq name (string_bytes e.0)) e es _ _ (taken name es h.1)
     ∙ (λ i. cond (bytes_eq name (h.0 i)) (values_of es) (e.1 ∷ without_key key_view name (values_of es)))
 
--- the others stay in step
+-- after an entry was taken out, each key is still that of its entry
 taken_in_step : (test : String Global → Bool) (es : Under) → AreInStep es → AreInStep (remove_entry test es)
 taken_in_step test [] h = tt
 taken_in_step test (e ∷ es) h = removed_step_in (test e.0) e es _ h.0 h.1 (taken_in_step test es h.1)

@@ -1,1 +1,15 @@
+pub mod Tokens
+pub mod Views
+pub mod ReadingRepeats
+pub mod ReadingLevels
+pub mod GrammarAgain
+pub mod GrammarTakes
+pub mod GrammarOutcome
+pub mod HoldingMembers
+pub mod HoldingWorks
+pub mod TreesWeights
+pub mod LeftIndices
+pub mod BindingsAdded
+pub mod HoldingTurns
+pub mod BindingsNames
 pub mod KeysStored

@@ -1,3 +1,15 @@
+pub mod Tokens
+pub mod TokenViews
+pub mod Trees
+pub mod Reading
+pub mod Grammar
+pub mod Views
+pub mod Errors
+pub mod Holding
+pub mod Left
+pub mod Bindings
+pub mod Found
+pub mod Pairs
 pub mod Keys
 pub mod InStep
 pub mod Entries

@@ -1,15 +1,29 @@
-//! Libraries of entries, with what entries are made of and the selectors that choose among them.
+//! Libraries of entries, the selectors that choose among them, and what entries are made of.
 #![tactic(auto)]
 
+mod binding;
+mod bindings;
+mod character;
+mod holding;
 mod library;
+mod node;
+mod parser;
 mod query;
+mod reader;
+mod select;
+mod selector;
+mod selector_error;
+mod token;
 
+pub use bindings::Bindings;
 pub use library::Library;
 pub use literature_entries::Entry;
-pub use literature_selectors::{Bindings, BoundSelect, Selector, SelectorError};
 pub use literature_values::{
     ChunkKind, ChunkedString, Date, DateEnd, DateError, EntryType, FormatString, MaybeTyped,
     Numeric, NumericDelimiter, NumericError, NumericValue, PageRanges, PageRangesError,
     PageRangesPart, Person, Publisher, QualifiedUrl, SerialNumber, StringChunk, Url,
 };
 pub use query::Selected;
+pub use select::BoundSelect;
+pub use selector::Selector;
+pub use selector_error::SelectorError;

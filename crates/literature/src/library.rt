@@ -32,7 +32,7 @@ impl Library {
         }
     }
 
-    /// A library without entries, with room for so many.
+    /// A library without entries, with room for `capacity` of them.
     ///
     /// # Errors
     /// Out of memory.
@@ -51,7 +51,7 @@ impl Library {
         self.entries.len()
     }
 
-    /// Whether there are none.
+    /// Whether there are no entries.
     pub fn is_empty(&self) -> bool
         ensures { IsTrue result ↔ (entries self.now ≡ []) }
     {
@@ -75,7 +75,7 @@ impl Library {
         }
     }
 
-    /// Puts an entry instead of the one that has its key, else at the end.
+    /// Replaces the entry that has the key of the new one, or appends the new one.
     ///
     /// # Errors
     /// Out of memory; the library is as it was, and the entry is dropped.
@@ -90,7 +90,7 @@ impl Library {
         Ok(())
     }
 
-    /// Takes the entry of that key out. Those after it move up.
+    /// Removes the entry of that key, and returns it. The indices of the entries after it are one less.
     #[tactic(auto, using(crate::proofs::KeysStored::removed_in_step, crate::proofs::KeysStored::unique_keys))]
     pub fn remove(&mut self, key: &str) -> Option<Entry>
         ensures removed { result ≡ with_key views.key_view key.now (entries self.old) }

@@ -2,15 +2,17 @@
 
 ghost use Rattle.std.specs.Prelude.{◌≡◌, ◌++◌, ◌∷◌, [], map, IfOk, OnOk};
 ghost use Rattle.std.specs.Str.{chars};
-ghost use Rattle.literature_selectors.specs.Reading.{selector_of};
-ghost use Rattle.literature_selectors.specs.Views.{selector_view, fault};
+ghost use Rattle.literature.specs.Reading.{selector_of};
+ghost use Rattle.literature.specs.Views.{selector_view, fault};
 ghost use Rattle.laws.specs.Results.{Gives};
 ghost use Rattle.literature.specs.Answers.{answers, answered, shown};
 ghost use Rattle.literature.specs.Entries.{entries};
 
+use crate::bindings::Bindings;
 use crate::library::Library;
+use crate::selector::Selector;
+use crate::selector_error::SelectorError;
 use literature_entries::Entry;
-use literature_selectors::{Bindings, Selector, SelectorError};
 use std::alloc::{AllocError, Global};
 
 /// An entry that a selector chose, with what the selector's names are bound to there.

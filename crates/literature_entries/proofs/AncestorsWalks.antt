@@ -1,7 +1,9 @@
 -- Levels of ancestors, and questions to entries one after the other.
 use Rattle.std.proofs.Common.{◌≡◌, ℕ, suc, ◌+◌, ◌<◌, ◌≤◌, max, List, [], ◌∷◌, ◌++◌, length, drop, get_or, drop-cons, add-one, refl, sym, ap, subst, ◌∙◌, Option, Some, None, Result, Ok, Err, IfOk, Bor, arith, rules}
 use Rattle.std.specs.List.{flat_map}
-use Rattle.literature_entries.specs.Ancestors.{height, levels, level_by_level, upwards, Ends, Asks, AsksFrom, borrowed, first_or, first_of}
+use Rattle.std.specs.Option.{option_or}
+use Rattle.laws.specs.Borrowed.{borrowed}
+use Rattle.literature_entries.specs.Ancestors.{height, levels, level_by_level, upwards, Ends, Asks, AsksFrom, first_of}
 use Rattle.literature_entries.specs.Views.{parents, view_in}
 use Rattle.literature_entries.specs.declared.entry.Entry.{Entry, the_lemmas}
 
@@ -62,7 +64,7 @@ module _ {F T : Type 0} (step : F → Bor Entry → Option T → F → Type 0) w
 borrowed_next : (bs : List (Bor Entry)) (i : ℕ) (b : Bor Entry) → i < length bs → b ≡ get_or bs i b → borrowed (drop i bs) ≡ b.now ∷ borrowed (drop (i + 1) bs)
 borrowed_next bs i b below e =
     let cut : drop i bs ≡ get_or bs i b ∷ drop (i + 1) bs = rw add-one (drop-cons bs i b below) in
-    ap borrowed (cut ∙ (λ j. sym e j ∷ drop (i + 1) bs))
+    ap (borrowed {T = Entry}) (cut ∙ (λ j. sym e j ∷ drop (i + 1) bs))
 
 -- above entries there are fewer levels than from them up
 pub levels_below : (bs : List (Bor Entry)) (new : List Entry) → (length bs ≡ 0 → ⊥) → new ≡ flat_map parents (borrowed bs) → suc (levels new) ≤ levels (borrowed bs)
@@ -112,7 +114,7 @@ module _ {F T : Type 0} (step : F → Bor Entry → Option T → F → Type 0) w
 
 module _ {F X V : Type 0} (step : F → Bor Entry → Option (Bor X) → F → Type 0) (view : X → V) (look : Entry → Option V) where
   found_or : (o answer : Option (Bor X)) (g last : F) (es : List Entry) → Ends o g (Asks step g es) answer last
-      → (Asks step g es answer last → view_in view answer ≡ first_of look es) → view_in view answer ≡ first_or (view_in view o) (first_of look es)
+      → (Asks step g es answer last → view_in view answer ≡ first_of look es) → view_in view answer ≡ option_or (view_in view o) (first_of look es)
   found_or None answer g last es e more = more e
   found_or (Some x) answer g last es e more = ap (view_in view) e.0
 
@@ -122,7 +124,7 @@ module _ {F X V : Type 0} (step : F → Bor Entry → Option (Bor X) → F → T
   first_found says f last [] answer a = ap (view_in view) a.0
   first_found says f last (e ∷ es) answer a =
       found_or a.1 answer a.2 last es a.5 (λ rest. first_found says a.2 last es answer rest)
-      ∙ ap (λ o. first_or o (first_of look es)) (says f a.2 a.0 a.1 a.4 ∙ ap look a.3)
+      ∙ ap (λ o. option_or o (first_of look es)) (says f a.2 a.0 a.1 a.4 ∙ ap look a.3)
 
   -- the same of what a call returned
   pub found_ok : {E : Type 0} → (f : F) (es : List Entry) (r : Result (Option (Bor X)) E) → IfOk r (AsksFrom step f es)

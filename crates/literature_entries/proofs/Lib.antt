@@ -1,3 +1,3 @@
 pub mod NamesSerials
 pub mod AncestorsWalks
-pub mod WholesEquality
+pub mod EntriesDataEquality

@@ -2,6 +2,7 @@
 use Rattle.std.specs.Prelude.{◌≡◌, ℕ, zero, suc, max, List, [], ◌∷◌, ◌++◌, map, Option, Some, None}
 use Rattle.std.specs.List.{flat_map}
 use Rattle.std.specs.Borrow.{Bor}
+use Rattle.std.specs.Option.{option_or}
 use Rattle.literature_entries.specs.Views.{parents}
 use Rattle.literature_entries.specs.declared.entry.Entry.{Entry, fold-Entry}
 
@@ -47,16 +48,7 @@ module _ {F T : Type 0} where
       pub last : F
       pub asked : Asks f es answer last
 
--- the first, or what comes after it
-abbrev pub first_or : {V : Type 0} → Option V → Option V → Option V
-first_or None next = next
-first_or (Some v) next = Some v
-
 -- what a look at the entries finds first
 abbrev pub first_of : {V : Type 0} → (Entry → Option V) → List Entry → Option V
 first_of look [] = None
-first_of look (e ∷ es) = first_or (look e) (first_of look es)
-
--- borrowed entries
-abbrev pub borrowed : List (Bor Entry) → List Entry
-borrowed bs = map (λ b. b.now) bs
+first_of look (e ∷ es) = option_or (look e) (first_of look es)

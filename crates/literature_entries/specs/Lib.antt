@@ -2,4 +2,4 @@ pub mod Fields
 pub mod Views
 pub mod Names
 pub mod Ancestors
-pub mod Wholes
+pub mod EntriesData

@@ -1,5 +1,5 @@
 -- Names of fields, and whether an entry has them. Names are bytes.
-use Rattle.std.specs.Prelude.{ℕ, Bool, true, false, List, [], ◌∷◌, Option, Some, None, is_some, codes}
+use Rattle.std.specs.Prelude.{ℕ, Bool, false, List, [], ◌∷◌, Option, Some, None, is_some, codes}
 use Rattle.std.specs.Option.{option_or, unwrap_or}
 use Rattle.std.specs.Str.{bytes_eq}
 use Rattle.std.specs.Ordering.{nat_cmp}
@@ -17,7 +17,7 @@ number_under scheme (Some numbers) = lookup (bytes_eq scheme) numbers
 abbrev pub serial : List ℕ → Fields → Option (List ℕ)
 serial scheme fs = number_under scheme fs.serial_number
 
--- A number under a scheme's name, instead of the one that was there, or at its index in the order of the names.
+-- A number under a scheme's name, instead of the one that was there, or inserted in the order of the names.
 abbrev pub with_number : List ℕ → List ℕ → Option Serials → Serials
 with_number scheme number None = (scheme, number) ∷ []
 with_number scheme number (Some numbers) = insert_entry (slice_cmp nat_cmp) numbers scheme number
@@ -26,12 +26,7 @@ with_number scheme number (Some numbers) = insert_entry (slice_cmp nat_cmp) numb
 abbrev pub with_serial : List ℕ → List ℕ → Fields → Fields
 with_serial scheme number fs = record fs { serial_number = Some (with_number scheme number fs.serial_number) }
 
--- whether there are any
-abbrev pub are_some : {X : Type 0} → List X → Bool
-are_some [] = false
-are_some (x ∷ xs) = true
-
--- What the names that are known say, each whether the field is set. First those of what the work is and who made it;
+-- whether a field that says what the work is and who made it is set, or nothing where no such field has the name
 unfoldable pub of_work : List ℕ → Fields → Option Bool
 of_work name fs = lookup (bytes_eq name) (
     (codes "title", is_some fs.title) ∷
@@ -41,7 +36,7 @@ of_work name fs = lookup (bytes_eq name) (
     (codes "date", is_some fs.date) ∷
     (codes "publisher", is_some fs.publisher) ∷ [])
 
--- of what part of others it is;
+-- the same of a field that says what part of other works the work is
 unfoldable pub of_part : List ℕ → Fields → Option Bool
 of_part name fs = lookup (bytes_eq name) (
     (codes "volume", is_some fs.volume) ∷
@@ -52,7 +47,7 @@ of_part name fs = lookup (bytes_eq name) (
     (codes "page-range", is_some fs.page_range) ∷
     (codes "page-total", is_some fs.page_total) ∷ [])
 
--- of where it is found, and of parents, which are distinguished;
+-- the same of a field that says where the work is found, and of parents, of which it is given whether there are any
 unfoldable pub of_address : List ℕ → Fields → Bool → Option Bool
 of_address name fs has_parents = lookup (bytes_eq name) (
     (codes "url", is_some fs.url) ∷
@@ -61,7 +56,7 @@ of_address name fs has_parents = lookup (bytes_eq name) (
     (codes "language", is_some fs.language) ∷
     (codes "parent", has_parents) ∷ [])
 
--- and of its serial numbers by their schemes.
+-- the same of a serial number by the name of its scheme
 unfoldable pub of_scheme : List ℕ → Fields → Option Bool
 of_scheme name fs = lookup (bytes_eq name) (
     (codes "doi", is_some (serial (codes "doi") fs)) ∷

@@ -2,7 +2,8 @@
 
 ghost use Rattle.std.specs.Prelude.{◌≡◌, ◌∷◌, ◌++◌, IfOk, OnOk};
 ghost use Rattle.std.specs.List.{flat_map};
-ghost use Rattle.literature_entries.specs.Ancestors.{ancestors, Asks, AsksFrom, borrowed, first_of};
+ghost use Rattle.laws.specs.Borrowed.{borrowed};
+ghost use Rattle.literature_entries.specs.Ancestors.{ancestors, Asks, AsksFrom, first_of};
 ghost use Rattle.literature_entries.specs.Views.{parents, fields_view, view_in};
 ghost use Rattle.literature_values.specs.OtherViews.{address_view};
 
@@ -77,7 +78,7 @@ impl Entry {
     }
 }
 
-/// The first answer of a closure that is asked of each of the entries, and the closure then.
+/// The first answer of a closure that is asked of each of the entries in turn, and the closure after that.
 fn first_answer<'a, T, F: FnMut(&'a Entry) -> Option<T>>(
     entries: &[&'a Entry],
     mut f: F,

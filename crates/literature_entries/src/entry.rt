@@ -1,8 +1,9 @@
 //! Entries.
 
 ghost use Rattle.std.specs.Prelude.{◌≡◌, [], string_bytes};
+ghost use Rattle.laws.specs.Text.{is_filled};
 ghost use Rattle.literature_entries.specs.Fields.{nothing_but};
-ghost use Rattle.literature_entries.specs.Names.{has, of_work, of_part, of_address, of_scheme, are_some};
+ghost use Rattle.literature_entries.specs.Names.{has, of_work, of_part, of_address, of_scheme};
 ghost use Rattle.literature_entries.specs.Views as views;
 
 use crate::details::Details;
@@ -69,7 +70,7 @@ impl Entry {
     /// `isbn`, `issn`, `pmid`, `pmcid` or `arxiv`, or parents by `parent`. No other name is a field's.
     pub fn has(&self, name: &str) -> bool
         ensures { result
-            ≡ has name.now (views.fields_view self.now) (are_some (views.parents self.now)) }
+            ≡ has name.now (views.fields_view self.now) (is_filled (views.parents self.now)) }
     {
         self.has_of_work(name)
             .or(self.has_of_part(name))
@@ -95,7 +96,7 @@ impl Entry {
         }
     }
 
-    /// The same of a field that says what part of others the work is.
+    /// The same of a field that says what part of other works the work is.
     #[tactic(auto, unfolding(crate::specs::Names::of_part))]
     fn has_of_part(&self, name: &str) -> Option<bool>
         ensures { result ≡ of_part name.now (views.fields_view self.now) }
@@ -116,8 +117,8 @@ impl Entry {
     /// The same of a field that says where the work is found, and of parents.
     #[tactic(auto, unfolding(crate::specs::Names::of_address))]
     fn has_of_address(&self, name: &str) -> Option<bool>
-        ensures { result
-            ≡ of_address name.now (views.fields_view self.now) (are_some (views.parents self.now)) }
+        ensures { result ≡ of_address name.now (views.fields_view self.now)
+            (is_filled (views.parents self.now)) }
     {
         let details = &self.details;
         match name {

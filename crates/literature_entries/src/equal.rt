@@ -1,7 +1,7 @@
 //! When values are equal: `==` is true exactly where the view of the two is one. Each function carries this law of a type.
 
 ghost use Rattle.std.specs.Prelude.{◌≡◌, ◌↔◌, IsTrue};
-ghost use Rattle.literature_entries.specs.Wholes.{entry_view};
+ghost use Rattle.literature_entries.specs.EntriesData.{entry_view};
 
 use crate::Entry;
 

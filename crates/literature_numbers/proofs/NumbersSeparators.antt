@@ -1,6 +1,7 @@
 -- Separators that were written are read back.
 use Rattle.std.proofs.Common.{◌≡◌, ℕ, true, false, List, [], ◌∷◌, ◌++◌, Some, None, refl, arith, eqb}
 use Rattle.std.proofs.lemmas.Bool.Decides.{nat_tests}
+use Rattle.laws.specs.Characters as character
 use Rattle.laws.specs.Runs.{AllPassTest, Bars}
 use Rattle.laws.proofs.Runs.{cuts}
 use Rattle.texts.specs.Character.{passes}
@@ -12,7 +13,7 @@ use Rattle.literature_numbers.specs.declared.separator.NumericDelimiter.TheVaria
 use Rattle.texts.proofs.ReadingStarts.{Starts, digit_bars}
 
 -- a letter is of no other class, and no comma or ampersand
-letter_only : (c : ℕ) → passes Letter c ≡ true → (passes Digit c ≡ false) × (passes Space c ≡ false) × (passes Dash c ≡ false) × (eqb c 44 ≡ false) × (eqb c 38 ≡ false)
+letter_only : (c : ℕ) → passes Letter c ≡ true → (passes Digit c ≡ false) × (passes Space c ≡ false) × (passes Dash c ≡ false) × (eqb c character.comma ≡ false) × (eqb c character.ampersand ≡ false)
 unfolding passes
 letter_only c d = (grind (arith, nat_tests), grind (arith, nat_tests), grind (arith, nat_tests), grind (arith, nat_tests), grind (arith, nat_tests))
 

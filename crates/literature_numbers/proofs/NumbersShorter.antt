@@ -1,6 +1,7 @@
 -- Each step of the reader that gives something leaves less to read.
 use Rattle.std.proofs.Common.{◌≡◌, ℕ, ◌<◌, Bool, true, false, cond, List, [], ◌∷◌, length, Option, Some, None, Result, Ok, Err, ℤ, ap, arith, eqb}
 use Rattle.std.specs.Prelude.{IfOk}
+use Rattle.laws.specs.Characters.{ampersand, comma}
 use Rattle.laws.specs.Results.{◌>>=◌}
 use Rattle.laws.specs.Steps.{Shortens}
 use Rattle.laws.specs.Runs.{after}
@@ -23,7 +24,7 @@ TakesOne n (Some p) = length p.1 < n
 
 delimiter-takes : (cs : List ℕ) → TakesOne (length cs) (delimiter_at cs)
 delimiter-takes [] = tt
-delimiter-takes (c ∷ cs) = by_tests (eqb c 44) (eqb c 38) (passes Dash c)
+delimiter-takes (c ∷ cs) = by_tests (eqb c comma) (eqb c ampersand) (passes Dash c)
   where
     by_tests : (a b d : Bool) → TakesOne (length (c ∷ cs)) (cond a (Some (Comma, cs)) (cond b (Some (Ampersand, cs)) (cond d (Some (Hyphen, after (passes Dash) cs)) None)))
     by_tests true b d = omega arith

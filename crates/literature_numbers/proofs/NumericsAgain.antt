@@ -2,10 +2,11 @@
 use Rattle.std.proofs.Common.{◌≡◌, ℕ, List, [], ◌∷◌, ◌++◌, Option, Some, None, Result, Ok, Err, refl, sym, ap, ◌∙◌, arith, append-nil}
 use Rattle.laws.specs.Runs.{prefix_of, after, AllPassTest}
 use Rattle.laws.specs.Results.{GivesBack, GivesOrRefuses}
+use Rattle.laws.specs.Text.{if_filled}
 use Rattle.laws.proofs.Results.{gives_back_or_refuses}
 use Rattle.laws.proofs.Runs.{cuts}
 use Rattle.texts.specs.Character.{passes}
-use Rattle.literature_numbers.specs.Numerics.{Numeral, affix, numeral_of}
+use Rattle.literature_numbers.specs.Numerics.{Numeral, numeral_of}
 use Rattle.literature_numbers.specs.NumericText.{value_text, affix_text, numeral_text, IsAffix, IsReadable}
 use Rattle.texts.specs.declared.character.Class.TheVariants.{Letter}
 use Rattle.literature_numbers.specs.Views.{numeral_view, refusal_of}
@@ -19,7 +20,7 @@ affix_letters : (a : Option (List ℕ)) → IsAffix a → AllPassTest (passes Le
 affix_letters None is = tt
 affix_letters (Some cs) is = is.1
 
-affix_again : (a : Option (List ℕ)) → IsAffix a → affix (affix_text a) ≡ a
+affix_again : (a : Option (List ℕ)) → IsAffix a → if_filled (affix_text a) ≡ a
 affix_again None is = refl
 affix_again (Some []) is =
     let long = is.0 in

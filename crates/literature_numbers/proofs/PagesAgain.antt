@@ -2,6 +2,7 @@
 use Rattle.std.proofs.Common.{◌≡◌, ℕ, true, List, [], ◌∷◌, ◌++◌, Option, Some, None, Result, Ok, Err, ℤ, refl, sym, ap, ◌∙◌, subst, append_assoc, append-nil}
 use Rattle.std.specs.Fmt.{signed_decimal}
 use Rattle.std.specs.List.{flat_map}
+use Rattle.laws.specs.Characters.{en_dash}
 use Rattle.laws.specs.Results.{GivesBack, GivesOrRefuses}
 use Rattle.laws.proofs.Results.{gives_back_or_refuses}
 use Rattle.literature_numbers.specs.Numerics.{Numbers, Numeral, plain, numbers_at}
@@ -66,7 +67,7 @@ page_before (Range m n) is o ns ps f = subst (λ (r : Part). Grouped (r ∷ ps))
 })
   where
     range_text : (y z : ℤ) → flat_map linked_text ((y, Some Hyphen) ∷ (z, o) ∷ ns) ≡ pages_text (Range (plain y) (plain z) ∷ ps)
-    range_text y z = simp (append_assoc, append-nil) (ap (λ (t : List ℕ). signed_decimal y ++ (8211 ∷ (signed_decimal z ++ t))) f.written)
+    range_text y z = simp (append_assoc, append-nil) (ap (λ (t : List ℕ). signed_decimal y ++ (en_dash ∷ (signed_decimal z ++ t))) f.written)
 
 grouped_from : (ps : List Part) → AreReadable ps → Grouped ps
 grouped_from [] are = absurd are

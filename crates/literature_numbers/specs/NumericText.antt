@@ -2,6 +2,7 @@
 use Rattle.std.specs.Prelude.{◌≡◌, ℕ, ◌<◌, ◌^◌, Bool, false, nat_lt, List, [], ◌∷◌, ◌++◌, length, Option, Some, None, IsSome, ℤ, pos}
 use Rattle.std.specs.List.{flat_map}
 use Rattle.std.specs.Fmt.{signed_decimal}
+use Rattle.laws.specs.Characters.{space, ampersand, comma, en_dash}
 use Rattle.laws.specs.Runs.{AllPassTest}
 use Rattle.texts.specs.Character.{passes}
 use Rattle.literature_numbers.specs.Numerics.{Numbers, Value, Number, Set, Numeral}
@@ -11,9 +12,9 @@ use Rattle.literature_numbers.specs.declared.separator.NumericDelimiter.TheVaria
 
 -- a comma and a space, an ampersand between spaces, or an en dash
 abbrev pub delimiter_text : NumericDelimiter → List ℕ
-delimiter_text Comma = 44 ∷ 32 ∷ []
-delimiter_text Ampersand = 32 ∷ 38 ∷ 32 ∷ []
-delimiter_text Hyphen = 8211 ∷ []
+delimiter_text Comma = comma ∷ space ∷ []
+delimiter_text Ampersand = space ∷ ampersand ∷ space ∷ []
+delimiter_text Hyphen = en_dash ∷ []
 
 -- the separator, where there is one
 abbrev pub separator_text : Option NumericDelimiter → List ℕ

@@ -3,6 +3,7 @@ use Rattle.std.specs.Prelude.{ℕ, List, [], ◌∷◌, map, Option, Some, None,
 use Rattle.laws.specs.Results.{◌>>=◌}
 use Rattle.laws.specs.Steps.{each}
 use Rattle.laws.specs.Runs.{prefix_of, after}
+use Rattle.laws.specs.Text.{if_filled}
 use Rattle.texts.specs.Character.{passes}
 use Rattle.texts.specs.Reading.{number_at, end_at}
 use Rattle.literature_numbers.specs.Numbers.{separator_at}
@@ -51,11 +52,6 @@ value_of [] = Set []
 value_of (n ∷ []) = Number n.0
 value_of (n ∷ m ∷ ns) = Set (n ∷ m ∷ ns)
 
--- no letters are no affix
-abbrev pub affix : List ℕ → Option (List ℕ)
-affix [] = None
-affix (c ∷ cs) = Some (c ∷ cs)
-
 -- after a separator a number is wanted
 abbrev pub number_after : Option NumericDelimiter × List ℕ → Result (Option (NumericDelimiter × ℤ) × List ℕ) Unreadable
 number_after (None, rest) = Ok (None, rest)
@@ -72,9 +68,9 @@ numbers_at cs = do
   others ← each next_number_at first.1
   Ok (linked first.0 others.0, others.1)
 
--- letters, numbers and letters, up to the end
+-- letters, numbers and letters, up to the end; no letters are no prefix and no suffix
 unfoldable pub numeral_of : List ℕ → Result Numeral Unreadable
 numeral_of cs = do
   numbers ← numbers_at (after (passes Letter) cs)
   rest ← end_at (after (passes Letter) numbers.1)
-  Ok (record { value = value_of numbers.0; prefix = affix (prefix_of (passes Letter) cs); suffix = affix (prefix_of (passes Letter) numbers.1) })
+  Ok (record { value = value_of numbers.0; prefix = if_filled (prefix_of (passes Letter) cs); suffix = if_filled (prefix_of (passes Letter) numbers.1) })

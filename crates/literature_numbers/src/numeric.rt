@@ -5,8 +5,8 @@ ghost use Rattle.std.specs.Fmt.{DisplaysOnOk, signed_decimal};
 ghost use Rattle.std.specs.List.{flat_map};
 ghost use Rattle.std.specs.Option.{option_map};
 ghost use Rattle.std.specs.Str.{chars};
-ghost use Rattle.literature_numbers.specs.Numerics.{Numeral, plain, numeral_of, numbers_at, numbers_in, only_one, value_of, affix};
-ghost use Rattle.laws.specs.Text.{text as text_of, characters};
+ghost use Rattle.literature_numbers.specs.Numerics.{Numeral, plain, numeral_of, numbers_at, numbers_in, only_one, value_of};
+ghost use Rattle.laws.specs.Text.{text as text_of, characters, if_filled};
 ghost use Rattle.laws.specs.Results.{GivesBack, GivesOrRefuses, GivesRestOrRefuses};
 ghost use Rattle.literature_numbers.specs.NumericText.{delimiter_text, linked_text, value_text, affix_text, numeral_text, is_plural, IsReadable};
 ghost use Rattle.texts.specs.Views.{left};
@@ -75,7 +75,7 @@ impl Numeric {
         }
     }
 
-    /// The number at the index, where there are so many. Indices count from zero; letters before and after do not count.
+    /// The number at the index, if there is one. Indices count from zero; letters before and after do not count.
     pub fn nth(&self, index: usize) -> Option<i32>
         ensures { result ≡ slice_get (numbers_in (numeral_view self.now).value) index }
     {
@@ -162,7 +162,7 @@ fn value_of(numbers: Vec<(i32, Option<NumericDelimiter>)>) -> NumericValue
 
 /// The letters as a text of their own, where there are any.
 fn owned_affix(alloc: Global, letters: &str) -> Result<Option<String>, AllocError>
-    ensures { IfOk result (λ a. option_map characters a ≡ affix (chars letters.now)) }
+    ensures { IfOk result (λ a. option_map characters a ≡ if_filled (chars letters.now)) }
 {
     match split_first(letters) {
         Some(_) => Ok(Some(String::from_str(alloc, letters)?)),

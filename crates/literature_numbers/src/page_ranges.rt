@@ -248,7 +248,6 @@ impl fmt::Display for PageRangesPart {
     }
 }
 
-/// Writes a range.
 fn write_range<W: fmt::Write>(
     first: &Numeric,
     last: &Numeric,

@@ -11,6 +11,7 @@ use Rattle.texts.specs.declared.reader.Unreadable.{Unreadable}
 use Rattle.texts.specs.declared.reader.Unreadable.TheVariants.{NotThere}
 use Rattle.texts.specs.Character.{passes}
 use Rattle.texts.specs.declared.character.Class.TheVariants.{Digit}
+use Rattle.laws.specs.Characters.{full_stop, slash}
 use Rattle.laws.specs.Results.{◌>>=◌}
 use Rattle.laws.specs.Runs.{AllPassTest}
 use Rattle.laws.proofs.Runs.{cuts}
@@ -76,20 +77,20 @@ alone cs all =
     ap range_of (sym (append-nil cs)) ∙ (λ i. range_with (c.prefix i) (c.after i))
 
 -- a text with a slash is a side and what follows it
-cut : (a b : List ℕ) → AllPassTest is_of_side a → range_of (a ++ 47 ∷ b) ≡ range_with a (47 ∷ b)
+cut : (a b : List ℕ) → AllPassTest is_of_side a → range_of (a ++ slash ∷ b) ≡ range_with a (slash ∷ b)
 cut a b all =
-    let c = cuts is_of_side a (47 ∷ b) all refl in
+    let c = cuts is_of_side a (slash ∷ b) all refl in
     (λ i. range_with (c.prefix i) (c.after i))
 
-no_side : side_of (46 ∷ 46 ∷ []) ≡ Err NotThere
+no_side : side_of (full_stop ∷ full_stop ∷ []) ≡ Err NotThere
 unfolding side_of passes
 no_side = refl
 
 -- what is read as a side is no open end
 not_open : (cs : List ℕ) (s : Side) → side_of cs ≡ Ok s → is_open cs ≡ false
-not_open cs s is = by_test (is_open cs) (bytes_eq-Decides cs (46 ∷ 46 ∷ []))
+not_open cs s is = by_test (is_open cs) (bytes_eq-Decides cs (full_stop ∷ full_stop ∷ []))
   where
-    by_test : (b : Bool) → Decides b (cs ≡ 46 ∷ 46 ∷ []) → b ≡ false
+    by_test : (b : Bool) → Decides b (cs ≡ full_stop ∷ full_stop ∷ []) → b ≡ false
     by_test false d = refl
     by_test true d = absurd (true≢false (ap is_ok (sym is ∙ ap side_of (d.0 refl) ∙ no_side)))
 
@@ -129,8 +130,8 @@ again y month day (Some (On z n e)) b exists ends =
     ∙ between_again y z month day n e b exists ends
 again y month day (Some Open) b exists ends =
     let a : List ℕ = side_text y month day ++ mark_text b in
-    ap range_of (sym (append_assoc (side_text y month day) (mark_text b) (47 ∷ 46 ∷ 46 ∷ [])))
-    ∙ cut a (46 ∷ 46 ∷ []) (marked_passes y month day b exists)
+    ap range_of (sym (append_assoc (side_text y month day) (mark_text b) (slash ∷ full_stop ∷ full_stop ∷ [])))
+    ∙ cut a (full_stop ∷ full_stop ∷ []) (marked_passes y month day b exists)
     ∙ ap opened (one_again y month day b exists)
 
 pub date_again : (d : Date) → Exists d → range_of (date_text d) ≡ Ok d

@@ -4,12 +4,13 @@ use Rattle.std.specs.Str.{bytes_eq, chars, IsUtf8}
 use Rattle.std.proofs.lemmas.Bool.Decides.{same_from_decides}
 use Rattle.std.proofs.lemmas.Slice.Eq.{bytes_eq-Decides}
 use Rattle.std.proofs.lemmas.Str.{chars-encodes}
+use Rattle.laws.specs.Characters.{full_stop}
 use Rattle.laws.specs.Text.{text}
 use Rattle.laws.proofs.Text.{text_of_chars}
 use Rattle.literature_values.specs.DateRanges.{is_open}
 
 abbrev two_points : List ℕ
-two_points = 46 ∷ 46 ∷ []
+two_points = full_stop ∷ full_stop ∷ []
 
 pub points : (bs : List ℕ) → IsUtf8 bs → bytes_eq bs two_points ≡ is_open (chars bs)
 unfolding lib.Utf8.encode

@@ -3,6 +3,7 @@ use Rattle.std.proofs.Common.{◌≡◌, ℕ, ◌+◌, ◌-◌, ◌≤◌, Bool,
 use Rattle.std.specs.Prelude.{unsigned_abs}
 use Rattle.std.specs.Int.{is_negative}
 use Rattle.texts.specs.declared.reader.Unreadable.{Unreadable}
+use Rattle.laws.specs.Characters.{hyphen}
 use Rattle.laws.specs.Results.{◌>>=◌}
 use Rattle.laws.specs.Runs.{Bars}
 use Rattle.texts.specs.Character.{passes}
@@ -11,7 +12,7 @@ use Rattle.date_parts.specs.Parts.{part_at, signed}
 use Rattle.date_parts.specs.Written.{padded, year_text, counted_text}
 use Rattle.date_parts.proofs.WrittenAgain.{digits_again, part_again, year_sign, signed_again}
 use Rattle.date_parts.proofs.CalendarDays.{few_days, no_season, of_twelve, day_within}
-use Rattle.literature_values.specs.Dates.{time_at, year_at, side_of, month_of}
+use Rattle.literature_values.specs.Dates.{time_at, year_at, side_of, date_of}
 use Rattle.literature_values.specs.DateText.{day_text, month_text, side_text, mark_text, HasMonth, SideExists}
 use Rattle.texts.specs.declared.character.Class.TheVariants.{Digit}
 use Rattle.literature_values.specs.declared.date.Date.{Date}
@@ -39,13 +40,13 @@ mark_bars false = tt
 mark_bars true = refl
 
 -- a year that was written is read back
-year_again : (y : ℤ) (rest : List ℕ) → unsigned_abs y ≤ 9999 → Bars (passes Digit) rest → year_at (taken 45 (year_text y ++ rest)).0 (taken 45 (year_text y ++ rest)).1 ≡ Ok (y, rest)
+year_again : (y : ℤ) (rest : List ℕ) → unsigned_abs y ≤ 9999 → Bars (passes Digit) rest → year_at (taken hyphen (year_text y ++ rest)).0 (taken hyphen (year_text y ++ rest)).1 ≡ Ok (y, rest)
 year_again y rest small bars =
     let sign = year_sign y rest small in
     let digits = digits_again 4 4 (unsigned_abs y) rest (lit≤ tt) (lit< tt) (omega arith) (omega arith) bars in
     ap (λ (p : Bool × List ℕ). year_at p.0 p.1) sign ∙ ap (λ (r : Result (ℕ × List ℕ) Unreadable). r >>= λ n. Ok (signed (is_negative y) n.0, n.1)) digits ∙ (λ i. Ok (signed_again y i, rest))
 
-hyphen_bars : (cs : List ℕ) → Bars (passes Digit) (45 ∷ cs)
+hyphen_bars : (cs : List ℕ) → Bars (passes Digit) (hyphen ∷ cs)
 unfolding passes
 hyphen_bars cs = refl
 
@@ -93,7 +94,7 @@ one_less n = omega arith
 abbrev pub meant : ℤ → Option ℕ → Option ℕ → Bool → Date
 meant y month day b = record { year = y; month = month; day = day; end = None; approximate = b }
 
-pub meant_again : (y : ℤ) (month day : Option ℕ) (b : Bool) → HasMonth y month day → month_of (written y month day b) (counted month) ≡ Ok (meant y month day b)
+pub meant_again : (y : ℤ) (month day : Option ℕ) (b : Bool) → HasMonth y month day → date_of (Ok (written y month day b)) ≡ Ok (meant y month day b)
 meant_again y None None b has = refl
 meant_again y None (Some d) b has = absurd has
 meant_again y (Some m) None b has =

@@ -58,5 +58,5 @@ pub Shows-EntryType : Shows entry_type.ghosts.eq type_name
 Shows-EntryType t u = Decides-moved (entry_type.ghosts.eq t u) (same_true the_type (search rules) t u, true_same the_type t u) (ap type_name) (one_name t u)
 
 -- `==` answers what their names do
-pub told_by_names : (t u : EntryType) → entry_type.ghosts.eq t u ≡ bytes_eq (type_name t) (type_name u)
-told_by_names t u = one_answer (entry_type.ghosts.eq t u) (bytes_eq (type_name t) (type_name u)) (Shows-EntryType t u) (bytes_decides (type_name t) (type_name u))
+pub decided_by_names : (t u : EntryType) → entry_type.ghosts.eq t u ≡ bytes_eq (type_name t) (type_name u)
+decided_by_names t u = one_answer (entry_type.ghosts.eq t u) (bytes_eq (type_name t) (type_name u)) (Shows-EntryType t u) (bytes_decides (type_name t) (type_name u))

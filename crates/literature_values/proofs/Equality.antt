@@ -94,7 +94,7 @@ abbrev text_of : {V : Type 0} → ValueOrText V → List ℕ
 text_of (Value v) = []
 text_of (Text cs) = cs
 
--- at any type, where it is known what `==` answers there
+-- `==` of values that may be texts decides of them where it does of values
 pub Shows-MaybeTyped : (T : RattleType) (g : Ghosts T.Denot) (d : Dict) {V : Type 0} (view : T.Denot → V) → Shows g.eq view → Shows ((maybe_typed.ghosts T g d).eq) (typed_view view)
 Shows-MaybeTyped T g d view s (typed.Typed v) (typed.Typed w) = Decides-moved (g.eq v w) (s v w) (ap Value) (ap (value_or (view v)))
 Shows-MaybeTyped T g d view s (typed.Typed v) (typed.String t) = Decides-never (λ e. true≢false (sym (ap is_text e)))

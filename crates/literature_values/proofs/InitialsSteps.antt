@@ -2,6 +2,7 @@
 use Rattle.std.proofs.Common.{◌≡◌, ℕ, ◌+◌, ◌≤◌, ◌<◌, Bool, true, false, cond, eqb, List, [], ◌∷◌, ◌++◌, length, Option, Some, None, Result, Ok, Err, refl, sym, ap, ◌∙◌, subst, arith, append_assoc, append-nil, length-append}
 use Rattle.std.specs.Fmt.{WritesInCalls}
 use Rattle.std.specs.List.{flat_map}
+use Rattle.laws.specs.Characters.{hyphen}
 use Rattle.laws.specs.Results.{◌>>=◌}
 use Rattle.laws.specs.Steps.{each, Shortens}
 use Rattle.laws.specs.Runs.{prefix_of, after}
@@ -29,18 +30,18 @@ pub runs_shorten : Shortens next_run_at
 unfolding next_run_at
 runs_shorten cs rest r is =
     by_run (prefix_of (passes Name) left) (ap length (prefix-after (passes Name) left) ∙ length-append (prefix_of (passes Name) left) (after (passes Name) left))
-    (ok_is {F = ⊥} (run_from (taken 45 (after (passes Blank) cs))) (Some r, rest) is)
+    (ok_is {F = ⊥} (run_from (taken hyphen (after (passes Blank) cs))) (Some r, rest) is)
   where
     left : List ℕ
-    left = after (passes Apart) (taken 45 (after (passes Blank) cs)).1
+    left = after (passes Apart) (taken hyphen (after (passes Blank) cs)).1
 
-    by_run : (run : List ℕ) → length left ≡ length run + length (after (passes Name) left) → run_after (taken 45 (after (passes Blank) cs)).0 run (after (passes Name) left) ≡ (Some r, rest)
+    by_run : (run : List ℕ) → length left ≡ length run + length (after (passes Name) left) → run_after (taken hyphen (after (passes Blank) cs)).0 run (after (passes Name) left) ≡ (Some r, rest)
         → length rest < length cs
     by_run [] parts e =
         let none = ap (λ (p : Option Run × List ℕ). p.0) e in
         absurd cc
     by_run (c ∷ run) parts e =
-        omega (arith, ap (λ (p : Option Run × List ℕ). length p.1) e, taken-leaves 45 (after (passes Blank) cs), length-after (passes Blank) cs, length-after (passes Apart) (taken 45 (after (passes Blank) cs)).1)
+        omega (arith, ap (λ (p : Option Run × List ℕ). length p.1) e, taken-leaves hyphen (after (passes Blank) cs), length-after (passes Blank) cs, length-after (passes Apart) (taken hyphen (after (passes Blank) cs)).1)
 
 -- all initials of the runs that are left, each after another one
 abbrev others : Style → Result (List Run × List ℕ) ⊥ → List ℕ
@@ -81,11 +82,11 @@ pub record WritesSoFar {W : Type 0} (took : W → List ℕ → W → Type 0) (fr
   pub together : so_far ++ others s (each next_run_at rest) ≡ initials_of s whole
 
 module _ {W : Type 0} (took : W → List ℕ → W → Type 0) (from : W) (s : Style) (whole : List ℕ) where
-  -- the first initial
+  -- after the first initial the initials so far are written
   pub begins : (r : Run) (rest : List ℕ) (to : W) → next_run_at whole ≡ Ok (Some r, rest) → WritesInCalls took from (text (initial s r.name)) to → WritesSoFar took from s whole rest to
   begins r rest to is wrote = record { so_far = initial s r.name; wrote = wrote; together = sym (initials_first s r whole rest is) }
 
-  -- one more
+  -- so they are after one more
   pub goes_on : (r : Run) (rest more : List ℕ) (to last : W) → WritesSoFar took from s whole rest to → next_run_at rest ≡ Ok (Some r, more) → WritesInCalls took to (text (further s r)) last
       → WritesSoFar took from s whole more last
   goes_on r rest more to last w is wrote = record {
@@ -94,7 +95,7 @@ module _ {W : Type 0} (took : W → List ℕ → W → Type 0) (from : W) (s : S
     together = append_assoc w.so_far (further s r) (others s (each next_run_at more)) ∙ ap (λ (t : List ℕ). w.so_far ++ t) (sym (others_more s r rest more is)) ∙ w.together;
   }
 
-  -- no further one
+  -- where no further run follows, all initials are written
   pub ends : (rest more : List ℕ) (to : W) → WritesSoFar took from s whole rest to → next_run_at rest ≡ Ok (None, more) → WritesInCalls took from (text (initials_of s whole)) to
   ends rest more to w is =
       let all : w.so_far ≡ initials_of s whole = sym (append-nil w.so_far) ∙ ap (λ (t : List ℕ). w.so_far ++ t) (sym (others_none s rest more is)) ∙ w.together in

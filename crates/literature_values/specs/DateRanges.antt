@@ -2,6 +2,7 @@
 -- are numbers.
 use Rattle.std.specs.Prelude.{ℕ, Bool, not, ◌==◌, ◌||◌, List, [], ◌∷◌, if◌then◌else◌, Some, Result, Ok, Err}
 use Rattle.std.specs.Str.{bytes_eq}
+use Rattle.laws.specs.Characters.{full_stop, slash}
 use Rattle.laws.specs.Results.{◌>>=◌}
 use Rattle.laws.specs.Runs.{prefix_of, after}
 use Rattle.literature_values.specs.Dates.{side_of, date_of}
@@ -14,11 +15,11 @@ use Rattle.texts.specs.declared.reader.Unreadable.{Unreadable}
 
 -- a side ends at a slash
 abbrev pub is_of_side : ℕ → Bool
-is_of_side c = not (c == 47)
+is_of_side c = not (c == slash)
 
--- two points
+-- two points, which say that a range has no end yet
 abbrev pub is_open : List ℕ → Bool
-is_open cs = bytes_eq cs (46 ∷ 46 ∷ [])
+is_open cs = bytes_eq cs (full_stop ∷ full_stop ∷ [])
 
 -- a range without an end yet
 abbrev pub with_open_end : Date → Date
@@ -45,7 +46,7 @@ between a b = do
 -- what a text spells by its first side and what follows it
 abbrev pub range_with : List ℕ → List ℕ → Result Date DateError
 range_with a [] = date_of (side_of a)
-range_with a (slash ∷ b) = if is_open b then (date_of (side_of a) >>= λ d. Ok (with_open_end d)) else between a b
+range_with a (c ∷ b) = if is_open b then (date_of (side_of a) >>= λ d. Ok (with_open_end d)) else between a b
 
 -- the date or range that a text spells, or the first fault
 abbrev pub range_of : List ℕ → Result Date DateError

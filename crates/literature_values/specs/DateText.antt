@@ -1,5 +1,6 @@
 -- How dates and ranges are written, and which of them are read back.
 use Rattle.std.specs.Prelude.{ℕ, ◌+◌, ◌<◌, ◌≤◌, Bool, true, false, List, [], ◌∷◌, ◌++◌, Option, Some, None, ℤ, unsigned_abs, codes}
+use Rattle.laws.specs.Characters.{tilde}
 use Rattle.jiff.specs.Words.{days_in_month}
 use Rattle.date_parts.specs.Written.{year_text, counted_text}
 use Rattle.literature_values.specs.declared.date.Date.{Date}
@@ -11,7 +12,7 @@ abbrev pub day_text : Option ℕ → List ℕ
 day_text None = []
 day_text (Some d) = counted_text d
 
--- a day is written after its month alone
+-- the month and the day, where there is a month; a day is written after its month alone
 abbrev pub month_text : Option ℕ → Option ℕ → List ℕ
 month_text None day = []
 month_text (Some m) day = counted_text m ++ day_text day
@@ -23,7 +24,7 @@ side_text y month day = year_text y ++ month_text month day
 -- a tilde, where the date is approximate
 abbrev pub mark_text : Bool → List ℕ
 mark_text false = []
-mark_text true = 126 ∷ []
+mark_text true = tilde ∷ []
 
 -- What stands after the first side. The mark is after the last side that there is.
 abbrev pub end_text : Bool → Option DateEnd → List ℕ

@@ -2,6 +2,7 @@
 use Rattle.std.specs.Prelude.{ℕ, Bool, true, ◌&&◌, List, [], ◌∷◌, ◌++◌, length, drop, if◌then◌else◌, Option, Some, None, Result, Ok, Err}
 use Rattle.std.specs.List.{flat_map}
 use Rattle.std.specs.Str.{chars, drop_trailing_whitespace}
+use Rattle.laws.specs.Characters.{hyphen}
 use Rattle.laws.specs.Steps.{each}
 use Rattle.laws.specs.Runs.{prefix_of, after}
 use Rattle.laws.specs.Text.{text}
@@ -17,16 +18,16 @@ pub record Run : Type 0 where
 
 -- a run that is not empty, and what follows it
 abbrev pub run_after : Bool → List ℕ → List ℕ → Option Run × List ℕ
-run_after hyphen [] rest = (None, rest)
-run_after hyphen (c ∷ cs) rest = (Some (record { is_hyphenated = hyphen; name = c ∷ cs }), rest)
+run_after is_hyphenated [] rest = (None, rest)
+run_after is_hyphenated (c ∷ cs) rest = (Some (record { is_hyphenated = is_hyphenated; name = c ∷ cs }), rest)
 
 -- what follows white space and hyphens, of which the first that is no white space decides
 abbrev pub run_from : Bool × List ℕ → Option Run × List ℕ
-run_from (hyphen, cs) = run_after hyphen (prefix_of (passes Name) (after (passes Apart) cs)) (after (passes Name) (after (passes Apart) cs))
+run_from (is_hyphenated, cs) = run_after is_hyphenated (prefix_of (passes Name) (after (passes Apart) cs)) (after (passes Name) (after (passes Apart) cs))
 
--- the next run, or nothing at the end; there is no fault
+-- the next run, or nothing at the end; no text is refused
 unfoldable pub next_run_at : List ℕ → Result (Option Run × List ℕ) ⊥
-next_run_at cs = Ok (run_from (taken 45 (after (passes Blank) cs)))
+next_run_at cs = Ok (run_from (taken hyphen (after (passes Blank) cs)))
 
 -- the first of the pieces of a text, or nothing
 abbrev pub first_piece : List (List ℕ) → List ℕ
@@ -45,7 +46,7 @@ pub record Style : Type 0 where
 
 -- the style of a delimiter
 abbrev pub style : List ℕ → Bool → Style
-style delimiter hyphen = record { trimmed = drop_trailing_whitespace delimiter; dropped = drop (length (drop_trailing_whitespace delimiter)) delimiter; with_hyphen = hyphen }
+style delimiter with_hyphen = record { trimmed = drop_trailing_whitespace delimiter; dropped = drop (length (drop_trailing_whitespace delimiter)) delimiter; with_hyphen = with_hyphen }
 
 -- the first cluster of a run, and the delimiter without the white space at its end
 abbrev pub initial : Style → List ℕ → List ℕ
@@ -53,7 +54,7 @@ initial s name = cluster name ++ s.trimmed
 
 -- between two initials: a hyphen, where one is asked and stands there, or the white space at the delimiter's end
 abbrev pub between : Style → Bool → List ℕ
-between s hyphen = if s.with_hyphen && hyphen then 45 ∷ [] else s.dropped
+between s is_hyphenated = if s.with_hyphen && is_hyphenated then hyphen ∷ [] else s.dropped
 
 -- an initial after another one
 abbrev pub further : Style → Run → List ℕ

@@ -1,9 +1,9 @@
 -- People of the code as callers see them.
-use Rattle.std.specs.Prelude.{ℕ, List, [], Option, Some, None, String}
-use Rattle.std.specs.Global.{Global}
-use Rattle.std.specs.Option.{option_map}
+use Rattle.std.specs.Prelude.{ℕ, List, [], Option}
+use Rattle.std.specs.Cow.{cow_value}
+use Rattle.std.specs.Option.{option_map, unwrap_or}
 use Rattle.std.specs.Str.{chars}
-use Rattle.std.specs.Borrow.{Bor}
+use Rattle.std.specs.declared.borrow.Cow.{Cow}
 use Rattle.literature_values.specs.Initials.{Run, Style}
 use Rattle.laws.specs.Text.{characters}
 use Rattle.literature_values.specs.declared.person.InitialsStyle.{InitialsStyle}
@@ -26,6 +26,10 @@ person_view p = record {
   suffix = option_map characters p.suffix;
 }
 
+-- a person, borrowed or not
+abbrev pub lent_person_view : Cow Person → Named
+lent_person_view p = person_view (cow_value p)
+
 -- a run by its characters
 abbrev pub run_view : NameRun → Run
 run_view r = record { is_hyphenated = r.is_hyphenated; name = chars r.name.now }
@@ -34,16 +38,6 @@ run_view r = record { is_hyphenated = r.is_hyphenated; name = chars r.name.now }
 abbrev pub initials_style_view : InitialsStyle → Style
 initials_style_view s = record { trimmed = chars s.trimmed.now; dropped = chars s.dropped.now; with_hyphen = s.with_hyphen }
 
--- the characters of a text, where there is one
-abbrev pub borrowed : Option (Bor (List ℕ)) → List ℕ
-borrowed None = []
-borrowed (Some s) = chars s.now
-
--- the same of a text of its own
-abbrev pub owned : Option (String Global) → List ℕ
-owned None = []
-owned (Some s) = characters s
-
 -- the characters of the given name, where there is one
 abbrev pub given_name_view : Person → List ℕ
-given_name_view p = owned p.given_name
+given_name_view p = unwrap_or (option_map characters p.given_name) []

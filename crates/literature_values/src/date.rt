@@ -5,7 +5,7 @@ ghost use Rattle.std.specs.Fmt.{DisplaysOnOk};
 ghost use Rattle.std.specs.Str.{chars};
 ghost use Rattle.laws.specs.Results.{Reads, Passes};
 ghost use Rattle.laws.specs.Runs.{prefix_of, after};
-ghost use Rattle.literature_values.specs.Dates.{minutes_at, offset_at, clock_at, time_at, year_at, side_of, year_alone, in_month, day_of, month_of, date_of};
+ghost use Rattle.literature_values.specs.Dates.{minutes_at, offset_at, clock_at, time_at, year_at, side_of, of_calendar, date_of};
 ghost use Rattle.literature_values.specs.DateRanges.{is_of_side, is_open, with_open_end, with_end, between, range_of};
 ghost use Rattle.laws.specs.Text.{text as text_of};
 ghost use Rattle.literature_values.specs.DateText.{month_text, side_text, mark_text, end_text, date_text, Exists};
@@ -14,7 +14,7 @@ ghost use Rattle.literature_values.specs.declared.date.DateError.TheVariants.{Un
 ghost use Rattle.literature_values.specs.declared.date.Date.{Date};
 ghost use Rattle.literature_values.specs.declared.date.DateEnd.TheVariants.{On};
 
-use date_parts::{has_day, read_part, signed_year, write_counted, write_year};
+use date_parts::{CalendarDate, OutOfRange, read_part, signed_year, write_counted, write_year};
 use std::fmt;
 use texts::{CharacterClass, Reader, Unreadable, split_first, split_run};
 use thiserror::Error;
@@ -252,61 +252,25 @@ fn read_offset(reader: &mut Reader) -> Result<(), Unreadable>
 /// The date that a text of the shape means.
 fn dated(side: Side) -> Result<Date, DateError>
     requires { unsigned_abs side.year ≤ 9999 }
-    ensures { result ≡ month_of side side.month }
+    ensures { result ≡ date_of (Ok side) }
 {
-    let Some(month) = side.month else {
-        return Ok(year_alone(side));
-    };
-    if (21..=24).contains(&month) {
-        return Ok(year_alone(side));
+    match date_parts::dated(side.year, side.month, side.day) {
+        Ok(date) => Ok(of_calendar(date, side.is_marked)),
+        Err(OutOfRange::Month) => Err(DateError::MonthOutOfBounds),
+        Err(OutOfRange::Day) => Err(DateError::DayOutOfBounds),
     }
-    if !(1..=12).contains(&month) {
-        return Err(DateError::MonthOutOfBounds);
-    }
-    dated_in_month(side, month)
 }
 
-/// The year, without month and day.
-fn year_alone(side: Side) -> Date
-    ensures { result ≡ year_alone side }
+/// A date of the calendar as that of a side, which is approximate or not.
+fn of_calendar(date: CalendarDate, is_marked: bool) -> Date
+    ensures { result ≡ of_calendar is_marked date }
 {
     Date {
-        year: side.year,
-        month: None,
-        day: None,
+        year: date.year,
+        month: date.month,
+        day: date.day,
         end: None,
-        approximate: side.is_marked,
-    }
-}
-
-/// The month, and the day where there is one, which the month must have.
-fn dated_in_month(side: Side, month: u16) -> Result<Date, DateError>
-    requires years { unsigned_abs side.year ≤ 9999 }
-    requires first { 1 ≤ month }
-    requires last { month ≤ 12 }
-    ensures { result ≡ day_of side month side.day }
-{
-    match side.day {
-        None => Ok(in_month(side, month, None)),
-        Some(day) if has_day(side.year, month, day) => {
-            Ok(in_month(side, month, Some((day - 1) as u8)))
-        }
-        Some(_) => Err(DateError::DayOutOfBounds),
-    }
-}
-
-/// The date of a month that counts from one, and of a day that counts from zero.
-fn in_month(side: Side, month: u16, day: Option<u8>) -> Date
-    requires first { 1 ≤ month }
-    requires last { month ≤ 12 }
-    ensures { result ≡ in_month side month day }
-{
-    Date {
-        year: side.year,
-        month: Some((month - 1) as u8),
-        day,
-        end: None,
-        approximate: side.is_marked,
+        approximate: is_marked,
     }
 }
 

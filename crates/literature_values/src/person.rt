@@ -1,17 +1,17 @@
 //! People.
 
-ghost use Rattle.std.specs.Prelude.{◌≡◌, Ok, IsOk, length, drop};
+ghost use Rattle.std.specs.Prelude.{◌≡◌, [], Ok, IsOk, length, drop};
 ghost use Rattle.std.specs.Fmt.{WritesInCalls};
-ghost use Rattle.std.specs.Option.{option_map};
+ghost use Rattle.std.specs.Option.{option_map, unwrap_or};
 ghost use Rattle.std.specs.Str.{chars, drop_trailing_whitespace};
-ghost use Rattle.laws.specs.Text.{text as text_of};
+ghost use Rattle.laws.specs.Text.{text as text_of, spelled};
 ghost use Rattle.literature_values.specs.Initials.{next_run_at, cluster, style, initial, between, further, initials_of};
-ghost use Rattle.literature_values.specs.PersonViews.{person_view, run_view, initials_style_view, borrowed, given_name_view};
+ghost use Rattle.literature_values.specs.PersonViews.{person_view, run_view, initials_style_view, given_name_view};
 ghost use Rattle.texts.specs.Views.{left};
 
 use std::alloc::AllocError;
 use std::fmt;
-use texts::{Class, Reader, split_first};
+use texts::{Class, Reader, or_empty, split_first};
 use unicode_segmentation::UnicodeSegmentation;
 
 /// A person by name.
@@ -46,7 +46,8 @@ impl Person {
     ) -> fmt::Result
         // What the writer took is exactly the initials.
         ensures { IsOk result → WritesInCalls W.write_str_gives writer.old (text_of (initials_of
-            (style (borrowed delimiter.entry) with_hyphen) (given_name_view self.now))) writer.new }
+            (style (unwrap_or (option_map spelled delimiter.entry) []) with_hyphen)
+            (given_name_view self.now))) writer.new }
     {
         let Some(given) = &self.given_name else {
             return Ok(());
@@ -68,25 +69,16 @@ impl Clone for Person {
     }
 }
 
-/// How initials are parted.
+/// How a delimiter parts initials.
 fn style<'s>(delimiter: Option<&'s str>, with_hyphen: bool) -> InitialsStyle<'s>
-    ensures { initials_style_view result ≡ style (borrowed delimiter.entry) with_hyphen }
+    ensures { initials_style_view result
+        ≡ style (unwrap_or (option_map spelled delimiter.entry) []) with_hyphen }
 {
-    let (trimmed, dropped) = split_trailing(borrowed(delimiter));
+    let (trimmed, dropped) = split_trailing(or_empty(delimiter));
     InitialsStyle {
         trimmed,
         dropped,
         with_hyphen,
-    }
-}
-
-/// The text, or an empty one.
-fn borrowed<'s>(text: Option<&'s str>) -> &'s str
-    ensures { chars result.now ≡ borrowed text.entry }
-{
-    match text {
-        Some(text) => text,
-        None => "",
     }
 }
 
@@ -135,7 +127,6 @@ fn write_initial<W: fmt::Write>(name: &str, style: InitialsStyle, writer: &mut W
     write_text(style.trimmed, writer)
 }
 
-/// Writes a text.
 fn write_text<W: fmt::Write>(text: &str, writer: &mut W) -> fmt::Result
     ensures { IsOk result
         → WritesInCalls W.write_str_gives writer.old (text_of (chars text.now)) writer.new }

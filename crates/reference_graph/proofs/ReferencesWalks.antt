@@ -3,7 +3,7 @@ use Rattle.std.proofs.Common.{◌≡◌, ℕ, zero, suc, List, Contains, refl, s
 use Rattle.reference_graph.specs.References.{references_of, Walk, IsCircular}
 use Rattle.reference_graph.specs.Invariant.{Reaches}
 
--- one walk after another
+-- a walk may go on with another one
 pub goes_on : (R : List (List ℕ)) (a b c n : ℕ) → Walk R a b n → Reaches R b c → Reaches R a c
 goes_on R a b c zero p q = subst (λ (x : ℕ). Reaches R x c) (sym p) q
 goes_on R a b c (suc n) p q = let r = goes_on R p.0 b c n p.2 q in (suc r.0, (p.0, p.1, r.1))

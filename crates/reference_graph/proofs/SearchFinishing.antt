@@ -14,7 +14,7 @@ use Rattle.reference_graph.proofs.SearchLists.{drop_has, in_drop, index_in, with
 use Rattle.reference_graph.proofs.ReferencesWalks.{circular_by, circular_at_once, stays}
 use Rattle.reference_graph.proofs.SearchVisits.{there_is, same_index, path_below, on_or_off}
 
--- the group has no part before the index
+-- a number that is before the index on the path, or not on it, is not in the group that begins there
 off_group : (R : List (List ℕ)) (s : State) → IsInvariant R s → (q v : ℕ) → ((i : ℕ) → visit_of s v ≡ At i → i < q) → Contains (drop q s.path) v → ⊥
 off_group R s k q v off c =
     let p = drop_has q s.path v c in
@@ -42,7 +42,7 @@ group R s q c k g = record {
   top = λ b h. let t = starts_top R s k b h in let e = g.starts_last in omega arith;
 }
 
--- where numbers are after the step
+-- a number that is not in the last group stays where it is
 keeps_visit : (R : List (List ℕ)) (s : State) (q : ℕ) (c : Bool) → Group R s q c → (v : ℕ) (p : Visit) → visit_of s v ≡ p → ((i : ℕ) → p ≡ At i → i < q) → visit_of (finished s q c) v ≡ p
 keeps_visit R s q c g v p e off = written_not (drop q s.path) Done s.visits v Done (off_group R s g.holds q v (λ i a. off i (sym e ∙ a))) ∙ e
 
@@ -51,7 +51,7 @@ turns_done R s q c g v i e le =
     let h = g.holds.found v i e in
     written_at (drop q s.path) Done s.visits v Done (in_drop q s.path i v le h.0 h.1) (there_is s v (At i) e (λ f. absurd cc))
 
--- where they were before it
+-- where a number was before the step: the same, or in the last group, whose numbers are done after it
 data Change (R : List (List ℕ)) (s : State) (q v : ℕ) (new : Visit) : Type 0 where
   same : visit_of s v ≡ new → ((i : ℕ) → visit_of s v ≡ At i → i < q) → Change R s q v new
   done : (i : ℕ) → visit_of s v ≡ At i → q ≤ i → i < length s.path → get_or s.path i 0 ≡ v → new ≡ Done → Change R s q v new
@@ -140,7 +140,7 @@ told : (R : List (List ℕ)) (s : State) (q : ℕ) (c : Bool) → IsGroupRead R 
 told R s q true g ring = refl
 told R s q false g ring = absurd (g.lone refl ring)
 
--- the marks
+-- what is marked is circular
 marked_sound : (R : List (List ℕ)) (s : State) (q : ℕ) (c : Bool) → Group R s q c → (v : ℕ) → is_marked (written (drop q s.path) c s.circular) v ≡ true → IsCircular R v
 marked_sound R s q c g v marked = elim (change R s q c g v) [
   | same e off ↦ g.holds.sound v (sym (written_not (drop q s.path) c s.circular v false (off_group R s g.holds q v off)) ∙ marked)
@@ -163,7 +163,7 @@ marked_complete R s q c g v d circular = elim (change R s q c g v) [
       w ∙ told R s q c g.read (circular_ring R s q c g i le hi (subst (λ (x : ℕ). IsCircular R x) (sym is) circular))
 ]
 
--- the order
+-- the step changes no tally
 tally_invariant : (R : List (List ℕ)) (s : State) (q : ℕ) (c : Bool) → Group R s q c → (v : ℕ) → tally (visit_of (finished s q c) v) ≡ tally (visit_of s v)
 tally_invariant R s q c g v = elim (change R s q c g v) [
   | same e off ↦ ap tally (sym e)
@@ -215,7 +215,7 @@ all_ordered R s q c g k h = elim (cases_lt k (length s.order)) [
       rw (take_at s.order (drop q s.path) k e) (b.1 r c' lt))
 ]
 
--- what remains on the path
+-- each number before the group keeps its index on the path
 visited_before : (R : List (List ℕ)) (s : State) (q : ℕ) (c : Bool) → Group R s q c → (i : ℕ) → i < q → visit_of (finished s q c) (get_or (take q s.path) i 0) ≡ At i
 visited_before R s q c g i lt =
     let h = g.inside in

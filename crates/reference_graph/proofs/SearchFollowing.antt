@@ -30,7 +30,7 @@ is_last R s q k some e =
       top = λ b h. let t = last_top s.reading b k.reading_rises (k.starts_read b h) in omega arith;
     }
 
--- what holds after it
+-- What holds after a reference was followed.
 pub record IsFollowed (R : List (List ℕ)) (old new : State) (q r : ℕ) : Type 0 where
   pub holds : IsInvariant R new
   pub settled : IsSettled new q r

@@ -6,7 +6,7 @@ use Rattle.std.proofs.lemmas.Bool.{cases_eq, cases_lt}
 use Rattle.reference_graph.specs.Search.{without_last, last, written}
 use Rattle.reference_graph.specs.Invariant.{Rising}
 
--- where it stands
+-- the index of a number that a list contains
 pub index_in : (xs : List ℕ) (x : ℕ) → Contains xs x → (k : ℕ) × (k < length xs) × (get_or xs k 0 ≡ x)
 index_in xs x c = (c.0, c.1, get_or_default xs c.0 0 x c.1 ∙ c.2)
 
@@ -44,7 +44,7 @@ read_index xs i x h e = get_or_default xs i 0 x h ∙ sym e
 pub has_last : (xs : List ℕ) (q : ℕ) → 0 < length xs → last xs ≡ q → Contains xs q
 has_last xs q some e = contained_at xs (length xs - 1) q (omega arith) e
 
--- all but the last
+-- what stands in all but the last stands in the list
 pub without_last_has : (xs : List ℕ) (x : ℕ) → Contains (without_last xs) x → Contains xs x
 without_last_has xs x c =
     let p = take_has (length xs - 1) xs x (omega arith) c in
@@ -89,7 +89,7 @@ push_rises xs y rises top i j h lt =
       | inr hj ↦ let ej = get_or_push xs y 0 j (omega arith) in rw (ei, ej) (top (get_or xs i 0) (Contains-get_or xs i 0 hi))
     ]
 
--- an element after a push
+-- an element of a list after a push is one of before or the new one
 pub push_read : (xs : List ℕ) (y i : ℕ) → i < length (xs ++ y ∷ []) → ((i < length xs) × (get_or (xs ++ y ∷ []) i 0 ≡ get_or xs i 0)) ⊎ ((i ≡ length xs) × (get_or (xs ++ y ∷ []) i 0 ≡ y))
 push_read xs y i h =
     let l = length_push xs y in
@@ -98,7 +98,7 @@ push_read xs y i h =
       | inr ge ↦ let e : i ≡ length xs = omega arith in inr (e, get_or_push xs y 0 i (sym e))
     ]
 
--- an element after a write
+-- an element after a write is the new one at its index, else the old one
 pub set_read : {X : Type 0} (xs : List X) (k i : ℕ) (x d : X) → k < length xs → ((i ≡ k) × (get_or (set xs k x) i d ≡ x)) ⊎ ((i ≢ k) × (get_or (set xs k x) i d ≡ get_or xs i d))
 set_read xs k i x d h =
     elim (cases_eq i k) [
@@ -117,7 +117,7 @@ pub written_long : {X : Type 0} (ks : List ℕ) (x : X) (xs : List X) → length
 written_long [] x xs = refl
 written_long (k ∷ ks) x xs = written_long ks x (set xs k x) ∙ length-set xs k x
 
--- an element after many writes
+-- an element at none of the indices that were written stays
 pub written_not : {X : Type 0} (ks : List ℕ) (x : X) (xs : List X) (i : ℕ) (d : X) → (Contains ks i → ⊥) → get_or (written ks x xs) i d ≡ get_or xs i d
 written_not [] x xs i d absent = refl
 written_not (k ∷ ks) x xs i d absent =

@@ -43,6 +43,6 @@ merged_invariant R s k p q new cut hp hq top edge = record {
   ordered = k.ordered;
 }
 
--- what is in the group now
+-- the number whose group the others were joined to is in that group
 pub merged_settled : (s : State) (p q r : ℕ) (new : List ℕ) → IsCutTo p s.starts new → visit_of s r ≡ At p → IsSettled (record s { starts = new }) q r
 merged_settled s p q r new cut e = inr (p, e, λ b c low high. let u = cut.upto b c in absurd (omega arith))

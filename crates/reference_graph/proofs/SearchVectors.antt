@@ -19,8 +19,8 @@ lists_long vectors = length-map vectors (λ (y : Vec ℕ Global). y.items)
 pub lengths_of : (vectors : List (Vec ℕ Global)) → map (λ (r : List ℕ). length r) (lists vectors) ≡ map (λ (y : Vec ℕ Global). length y.items) vectors
 lengths_of vectors = map-map (λ (r : List ℕ). length r) (λ (y : Vec ℕ Global). y.items) vectors
 
-pub ring_told : (R : List (List ℕ)) (s : State) (q number : ℕ) (items : List ℕ) (r : Bool) → get_or s.path q 0 ≡ number → references_of R number ≡ items → length s.path ≤ q + 1 → (IsTrue r ↔ Contains items number) → IsTrue r ↔ IsRing R s q
-ring_told R s q number items r e f one k =
+pub ring_decided : (R : List (List ℕ)) (s : State) (q number : ℕ) (items : List ℕ) (r : Bool) → get_or s.path q 0 ≡ number → references_of R number ≡ items → length s.path ≤ q + 1 → (IsTrue r ↔ Contains items number) → IsTrue r ↔ IsRing R s q
+ring_decided R s q number items r e f one k =
     let P : ℕ → Type 0 = λ x. Contains (references_of R x) x in
     let Q : List ℕ → Type 0 = λ x. Contains x number in (
       λ t. inr (subst P (sym e) (subst Q (sym f) (k.0 t))),

@@ -1,4 +1,4 @@
--- Where numbers are, and what follows.
+-- Where the search has each number, and what follows from it.
 use Rattle.std.proofs.Common.{◌≡◌, ℕ, ◌<◌, ◌⊎◌, inl, inr, List, length, get_or, refl, ap, arith}
 use Rattle.reference_graph.specs.declared.search.Visit.{Visit}
 use Rattle.reference_graph.specs.declared.search.Visit.TheVariants.{New, At, Done}

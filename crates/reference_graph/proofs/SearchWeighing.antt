@@ -42,12 +42,12 @@ pub finished_less : (s : State) (q : ℕ) (c : Bool) → weight (finished s q c)
 finished_less s q c = let r = written_count (drop q s.path) s.visits in omega arith
 
 -- the test for a number that is not met
-pub new_told : (p : Visit) → is_new p ≡ true → p ≡ New
-new_told New e = refl
-new_told (At i) e = absurd cc
-new_told Done e = absurd cc
+pub new_decided : (p : Visit) → is_new p ≡ true → p ≡ New
+new_decided New e = refl
+new_decided (At i) e = absurd cc
+new_decided Done e = absurd cc
 
-pub met_told : (p : Visit) → is_new p ≡ false → p ≡ New → ⊥
-met_told New e f = absurd cc
-met_told (At i) e f = absurd cc
-met_told Done e f = absurd cc
+pub met_decided : (p : Visit) → is_new p ≡ false → p ≡ New → ⊥
+met_decided New e f = absurd cc
+met_decided (At i) e f = absurd cc
+met_decided Done e f = absurd cc

@@ -34,7 +34,7 @@ tally Done = 1
 
 -- What holds of the search between its steps.
 pub record IsInvariant (references : List (List ℕ)) (s : State) : Type 0 where
-  -- there is an index, a count and a mark for each number
+  -- each number has a visit, a count and a mark
   pub visits_long : length s.visits ≡ length references
   pub unread_long : length s.unread ≡ length references
   pub marks_long : length s.circular ≡ length references
@@ -77,7 +77,7 @@ pub record IsStep (references : List (List ℕ)) (old new : State) : Type 0 wher
 abbrev pub IsRing : List (List ℕ) → State → ℕ → Type 0
 IsRing references s q = (q + 1 < length s.path) ⊎ Contains (references_of references (slice_index s.path q)) (slice_index s.path q)
 
--- The last number that is being read is read whole, the last group begins with it, and it is told whether the group is a ring.
+-- The last number that is being read is read whole, the last group begins with it, and it is known whether the group is a ring.
 pub record IsGroupRead (references : List (List ℕ)) (s : State) (q : ℕ) (circular : Bool) : Type 0 where
   pub some : 0 < length s.reading
   pub reading_last : last s.reading ≡ q

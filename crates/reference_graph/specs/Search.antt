@@ -22,24 +22,24 @@ search_view s = record { visits = s.visits.items; unread = s.unread.items; path 
 abbrev pub visit_of : State → ℕ → Visit
 visit_of s v = slice_index_or s.visits v Done
 
--- how many of its references are not read
+-- how many references of a number are not read
 abbrev pub unread_of : State → ℕ → ℕ
 unread_of s v = slice_index s.unread v
 
--- all but the last
+-- all numbers but the last
 abbrev pub without_last : List ℕ → List ℕ
 without_last xs = take (length xs - 1) xs
 
--- the last
+-- the last number
 abbrev pub last : List ℕ → ℕ
 last xs = slice_index xs (length xs - 1)
 
--- the value at each of the indices
+-- the values after one value was written at each of the indices
 abbrev pub written : {X : Type 0} → List ℕ → X → List X → List X
 written [] x xs = xs
 written (k ∷ ks) x xs = written ks x (slice_set xs k x)
 
--- nothing met yet
+-- a search that has met nothing
 abbrev pub begun : List (List ℕ) → State
 begun references = record { visits = replicate (length references) New; unread = map (λ (r : List ℕ). length r) references; path = []; reading = []; starts = []; order = []; circular = replicate (length references) false }
 

@@ -12,7 +12,7 @@ use std::alloc::{AllocError, Global};
 pub(crate) enum Visit {
     /// Not met yet.
     New,
-    /// On the path, so many numbers from its start.
+    /// On the path, at this index.
     At(usize),
     /// Ordered, and so is all that it leads to.
     Done,
@@ -22,9 +22,9 @@ pub(crate) enum Visit {
 /// reach those of the groups after.
 #[derive(Drop)]
 pub(crate) struct Search {
-    /// Where each number is.
+    /// Where each number is in the search.
     pub visits: Vec<Visit>,
-    /// How many of its references are not read yet; the last ones are read first.
+    /// How many references of each number are not read yet; the last ones are read first.
     pub unread: Vec<usize>,
     /// The numbers that are met and not ordered.
     pub path: Vec<usize>,
@@ -34,7 +34,7 @@ pub(crate) struct Search {
     pub starts: Vec<usize>,
     /// The numbers that are ordered.
     pub order: Vec<usize>,
-    /// Those of them that reach themselves.
+    /// For each number whether it is ordered and reaches itself.
     pub circular: Vec<bool>,
 }
 
@@ -165,7 +165,7 @@ impl Search {
     }
 }
 
-/// How many each refers to.
+/// How many references each number has.
 fn lengths(alloc: Global, references: &[Vec<usize>]) -> Result<Vec<usize>, AllocError>
     ensures { IfOk result (λ v. v.items ≡ map (λ r. length r.items) references.now) }
 {
@@ -175,7 +175,7 @@ fn lengths(alloc: Global, references: &[Vec<usize>]) -> Result<Vec<usize>, Alloc
         .collect(alloc)
 }
 
-/// Takes away the indices after the one that is given.
+/// Takes away the starts of groups after the index.
 fn cut_to(starts: &mut Vec<usize>, index: usize)
     requires { Rising starts.old.items }
     ensures { IsCutTo index starts.old.items starts.new.items }
@@ -188,7 +188,6 @@ fn cut_to(starts: &mut Vec<usize>, index: usize)
     }
 }
 
-/// The last of the numbers.
 fn last_of(numbers: &[usize]) -> Option<usize>
     ensures { MatchOption result (length numbers.now ≡ 0) (λ x. (0 < length numbers.now)
         × (x ≡ last numbers.now)) }
@@ -196,7 +195,7 @@ fn last_of(numbers: &[usize]) -> Option<usize>
     numbers.last().copied()
 }
 
-/// Whether the number is the last.
+/// Whether the number is the last of the numbers.
 fn ends_in(numbers: &[usize], number: usize) -> bool
     ensures { IsTrue result ↔ ((0 < length numbers.now) × (last numbers.now ≡ number)) }
 {

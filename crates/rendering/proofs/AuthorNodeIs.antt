@@ -2,12 +2,12 @@
 use Rattle.std.proofs.Common.{◌≡◌, ℕ, Bool, true, false, not, ◌&&◌, true≢false, List, [], ◌∷◌, refl, sym, ap, Option, Some, None, is_none}
 use Rattle.std.proofs.lemmas.Bool.{and_parts}
 use Rattle.laws.specs.Text.{is_filled}
-use Rattle.rendering_style.specs.Nodes.{Look, NamesNode, Node, leaf, call, opened, names, choose, group, no_nodes, node}
+use Rattle.rendering_style.specs.Nodes.{Look, NamesNode, Node, leaf, call, opened, names, choose, group, no_nodes, node, plain_look}
 use Rattle.rendering_taxonomy.specs.Formats.{Changes, unchanged}
 use Rattle.rendering_taxonomy.specs.declared.variable.NameVariable.{NameVariable}
 use Rattle.rendering_taxonomy.specs.declared.variable.NameVariable.TheVariants as name
 use Rattle.rendering.specs.AuthorNodes.{says_no_change, says_no_look, are_authors, is_author_node, is_made}
-use Rattle.rendering.specs.Purposes.{author_node, plain_look}
+use Rattle.rendering.specs.Purposes.{author_node}
 
 none_is : {X : Type 0} (o : Option X) → is_none o ≡ true → o ≡ None
 none_is None e = refl

@@ -3,11 +3,12 @@ use Rattle.std.proofs.Common.{◌≡◌, ℕ, true, false, not, ◌&&◌, List, 
 use Rattle.std.specs.Prelude.{if◌then◌else◌, filter_map, codes}
 use Rattle.std.specs.List.{cons_option}
 use Rattle.std.specs.Option.{option_map, option_map_or, unwrap_or}
+use Rattle.laws.specs.Characters.{open_parenthesis, close_parenthesis}
 use Rattle.literature_values.specs.declared.date.Date.{Date}
 use Rattle.rendering_locale.specs.Lookup.{term}
 use Rattle.rendering_dates.specs.Dates.{years_text}
 use Rattle.rendering_page.specs.Pieces.{normal, begin, end}
-use Rattle.rendering_page.specs.PageCharacters.{plainly}
+use Rattle.rendering_page.specs.PageCharacters.{plain_manner}
 use Rattle.rendering_entries.specs.Answers.{Answers}
 use Rattle.rendering_style.specs.Options.{NameOptions}
 use Rattle.rendering_style.specs.Nodes.{names, no_nodes, node}
@@ -80,7 +81,7 @@ dates_same a b h =
 
 year_same : (a b : Answers) (c : Context) (st : State) → AreAlike always_named a b → append_year (with_answers a c) st ≡ append_year (with_answers b c) st
 year_same a b c st h =
-    ap (λ (ds : List Date). append c (normal plainly (option_map_or (years_text c.locales) (first_dated ds) (unwrap_or (term c.locales (terms.Other others.NoDate) forms.Long false) (codes "n.d."))) ∷ []) st)
+    ap (λ (ds : List Date). append c (normal plain_manner (option_map_or (years_text c.locales) (first_dated ds) (unwrap_or (term c.locales (terms.Other others.NoDate) forms.Long false) (codes "n.d."))) ∷ []) st)
     (dates_same a b h)
 
 -- the authors
@@ -158,7 +159,7 @@ prose_same a b c s st h =
     let authors = author_same a b c s st h in
     λ i. if prints_identifiers s
     then enclosed_same a b c s whole (unwrap_or s.citation.layout.prefix []) (unwrap_or s.citation.layout.suffix []) (authors i) h i
-    else enclosed_same a b c s without_author (unwrap_or s.citation.layout.prefix (40 ∷ [])) (unwrap_or s.citation.layout.suffix (41 ∷ [])) (authors i) h i
+    else enclosed_same a b c s without_author (unwrap_or s.citation.layout.prefix (open_parenthesis ∷ [])) (unwrap_or s.citation.layout.suffix (close_parenthesis ∷ [])) (authors i) h i
 
 -- the whole item
 full_same : (a b : Answers) (c : Context) (s : Style) (verdict : Option CollapseVerdict) (o : Option Bibliography) → StyleAlike s a b → AreAlike (named_in_bibliography s o) a b

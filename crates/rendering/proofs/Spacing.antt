@@ -1,6 +1,7 @@
 -- A space after the last text.
 use Rattle.std.proofs.Common.{◌≡◌, ℕ, ◌+◌, ◌-◌, ◌<◌, ◌≤◌, Bool, true, false, ◌||◌, true≢false, List, [], ◌∷◌, ◌++◌, length, take, drop, get_or, set, append-nil, append_assoc, refl, sym, ap, subst, ◌∙◌, arith, Option, Some, None}
 use Rattle.std.proofs.lemmas.List.{drop_more, drop_all, drop-set, take-set, take-append-drop, get_or-set_other}
+use Rattle.laws.specs.Characters.{space}
 use Rattle.rendering_taxonomy.specs.declared.formatting.Display.{Display}
 use Rattle.rendering_taxonomy.specs.declared.formatting.Formatting.{Formatting}
 use Rattle.rendering_tree.specs.Metas.{Meta}
@@ -66,19 +67,19 @@ or_false : (b : Bool) → b || false ≡ b
 or_false true = refl
 or_false false = refl
 
-around : (d : Option Display) (m : Option Meta) (ts us : List Token) → us ≡ with_letter_after 32 ts → closing ∷ us ++ opening d m ∷ [] ≡ with_letter_after 32 (closing ∷ ts ++ opening d m ∷ [])
-around d m ts us e = ap (λ vs. closing ∷ vs ++ opening d m ∷ []) e ∙ ap (λ vs. closing ∷ vs) (sym (after_opening 32 d m ts))
+around : (d : Option Display) (m : Option Meta) (ts us : List Token) → us ≡ with_letter_after space ts → closing ∷ us ++ opening d m ∷ [] ≡ with_letter_after space (closing ∷ ts ++ opening d m ∷ [])
+around d m ts us e = ap (λ vs. closing ∷ vs ++ opening d m ∷ []) e ∙ ap (λ vs. closing ∷ vs) (sym (after_opening space d m ts))
 
 -- in an element
-pub element_spaced : (d : Option Display) (m : Option Meta) (xs ys : Children) → flat ys ≡ with_letter_after 32 (flat xs) → flat_child (Elem d m ys) ≡ with_letter_after 32 (flat_child (Elem d m xs))
+pub element_spaced : (d : Option Display) (m : Option Meta) (xs ys : Children) → flat ys ≡ with_letter_after space (flat xs) → flat_child (Elem d m ys) ≡ with_letter_after space (flat_child (Elem d m xs))
 element_spaced None None xs ys e = e
 element_spaced None (Some m) xs ys e = around None (Some m) (flat xs) (flat ys) e
 element_spaced (Some d) None xs ys e = around (Some d) None (flat xs) (flat ys) e
 element_spaced (Some d) (Some m) xs ys e = around (Some d) (Some m) (flat xs) (flat ys) e
 
 -- the same where what the element says of itself is as it was
-pub element_as : (d e : Option Display) (m n : Option Meta) (xs ys : Children) → e ≡ d → n ≡ m → flat ys ≡ with_letter_after 32 (flat xs)
-    → flat_child (Elem e n ys) ≡ with_letter_after 32 (flat_child (Elem d m xs))
+pub element_as : (d e : Option Display) (m n : Option Meta) (xs ys : Children) → e ≡ d → n ≡ m → flat ys ≡ with_letter_after space (flat xs)
+    → flat_child (Elem e n ys) ≡ with_letter_after space (flat_child (Elem d m xs))
 element_as d e m n xs ys f g h = (λ i. flat_child (Elem (f i) (g i) ys)) ∙ element_spaced d m xs ys h
 
 pub element_end : (d : Option Display) (m : Option Meta) (xs : Children) → has_end (flat_child (Elem d m xs)) ≡ has_end (flat xs)
@@ -88,7 +89,7 @@ element_end (Some d) None xs = has_end-append (flat xs) (opening (Some d) None �
 element_end (Some d) (Some m) xs = has_end-append (flat xs) (opening (Some d) (Some m) ∷ []) ∙ or_false (has_end (flat xs))
 
 -- after a text
-letter_last : (f : Formatting) (c : ℕ) (cs : List ℕ) (ts : List Token) → with_letter_after 32 (with_letters f cs (letter f c ∷ ts)) ≡ letter f 32 ∷ with_letters f cs (letter f c ∷ ts)
+letter_last : (f : Formatting) (c : ℕ) (cs : List ℕ) (ts : List Token) → with_letter_after space (with_letters f cs (letter f c ∷ ts)) ≡ letter f space ∷ with_letters f cs (letter f c ∷ ts)
 letter_last f c [] ts = refl
 letter_last f c (d ∷ cs) ts = letter_last f d cs (letter f c ∷ ts)
 
@@ -96,9 +97,9 @@ letter_end : (f : Formatting) (c : ℕ) (cs : List ℕ) (ts : List Token) → ha
 letter_end f c [] ts = refl
 letter_end f c (d ∷ cs) ts = letter_end f d cs (letter f c ∷ ts)
 
-pub text_spaced : (f : Formatting) (cs ds : List ℕ) → is_filled cs ≡ true → ds ≡ cs ++ 32 ∷ [] → with_letters f ds [] ≡ with_letter_after 32 (with_letters f cs [])
+pub text_spaced : (f : Formatting) (cs ds : List ℕ) → is_filled cs ≡ true → ds ≡ cs ++ space ∷ [] → with_letters f ds [] ≡ with_letter_after space (with_letters f cs [])
 text_spaced f [] ds e h = absurd (true≢false (sym e))
-text_spaced f (c ∷ cs) ds e h = ap (λ bs. with_letters f bs []) h ∙ with_letters-both f (c ∷ cs) (32 ∷ []) ∙ sym (letter_last f c cs [])
+text_spaced f (c ∷ cs) ds e h = ap (λ bs. with_letters f bs []) h ∙ with_letters-both f (c ∷ cs) (space ∷ []) ∙ sym (letter_last f c cs [])
 
 pub text_end : (f : Formatting) (cs : List ℕ) → has_end (with_letters f cs []) ≡ is_filled cs
 text_end f [] = refl
@@ -122,17 +123,17 @@ pub spacing_begins : (xs : List ElemChild) (i : ℕ) → length xs ≤ i → Spa
 spacing_begins xs i all = record { same = refl; passed = ap (λ ys. has_end (flat (children_view ys))) (drop_all i xs all) }
 
 -- after all children
-pub spacing_ends : (old xs : List ElemChild) → Spacing old xs 0 → (false ≡ has_end (flat (children_view old))) × (flat (children_view xs) ≡ with_letter_after 32 (flat (children_view old)))
+pub spacing_ends : (old xs : List ElemChild) → Spacing old xs 0 → (false ≡ has_end (flat (children_view old))) × (flat (children_view xs) ≡ with_letter_after space (flat (children_view old)))
 spacing_ends old xs s =
     let none : has_end (flat (children_view old)) ≡ false = ap has_end (sym s.same) ∙ s.passed in
-    (sym none, s.same ∙ sym (none_same 32 (flat (children_view old)) none))
+    (sym none, s.same ∙ sym (none_same space (flat (children_view old)) none))
 
 -- the same where the index of the first child is reached
-pub spacing_at_end : (old xs : List ElemChild) (i : ℕ) → Spacing old xs i → i ≡ 0 → (false ≡ has_end (flat (children_view old))) × (flat (children_view xs) ≡ with_letter_after 32 (flat (children_view old)))
+pub spacing_at_end : (old xs : List ElemChild) (i : ℕ) → Spacing old xs i → i ≡ 0 → (false ≡ has_end (flat (children_view old))) × (flat (children_view xs) ≡ with_letter_after space (flat (children_view old)))
 spacing_at_end old xs i s none = spacing_ends old xs (subst (λ (k : ℕ). Spacing old xs k) none s)
 
 module _ (old xs : List ElemChild) (i : ℕ) (x y : ElemChild) (spacing : Spacing old xs (i + 1)) (less : i < length xs) (is : x ≡ get_or xs i x)
-    (spaced : flat_child (child_view y) ≡ with_letter_after 32 (flat_child (child_view x))) where
+    (spaced : flat_child (child_view y) ≡ with_letter_after space (flat_child (child_view x))) where
   from : flat (children_view (drop i xs)) ≡ flat (children_view (drop (i + 1) xs)) ++ flat_child (child_view x)
   from = ap (λ ys. flat (children_view ys)) (drop_more xs i x less) ∙ ap (λ z. flat (children_view (drop (i + 1) xs)) ++ flat_child (child_view z)) (sym is)
 
@@ -150,16 +151,16 @@ module _ (old xs : List ElemChild) (i : ℕ) (x y : ElemChild) (spacing : Spacin
   end_here b e = has_end-append (flat (children_view (drop (i + 1) xs))) (flat_child (child_view x)) ∙ ap (λ c. c || has_end (flat_child (child_view x))) spacing.passed ∙ e
 
   -- a child that prints something has the space
-  pub found : has_end (flat_child (child_view x)) ≡ true → (true ≡ has_end (flat (children_view old))) × (flat (children_view (set xs i y)) ≡ with_letter_after 32 (flat (children_view old)))
+  pub found : has_end (flat_child (child_view x)) ≡ true → (true ≡ has_end (flat (children_view old))) × (flat (children_view (set xs i y)) ≡ with_letter_after space (flat (children_view old)))
   found e =
       let a = flat (children_view (drop (i + 1) xs)) in
       let b = flat (children_view (take i xs)) in (
         sym (ap has_end whole ∙ has_end-append (a ++ flat_child (child_view x)) b ∙ ap (λ c. c || has_end b) (end_here true e)),
         changed
             ∙ ap (λ ts. (a ++ ts) ++ b) spaced
-            ∙ ap (λ ts. ts ++ b) (sym (before_none 32 a (flat_child (child_view x)) spacing.passed))
-            ∙ sym (after_end 32 (a ++ flat_child (child_view x)) b (end_here true e))
-            ∙ ap (with_letter_after 32) (sym whole),
+            ∙ ap (λ ts. ts ++ b) (sym (before_none space a (flat_child (child_view x)) spacing.passed))
+            ∙ sym (after_end space (a ++ flat_child (child_view x)) b (end_here true e))
+            ∙ ap (with_letter_after space) (sym whole),
       )
 
   -- where a child prints nothing, those before it are asked
@@ -167,7 +168,7 @@ module _ (old xs : List ElemChild) (i : ℕ) (x y : ElemChild) (spacing : Spacin
   passed_on e =
       let a = flat (children_view (drop (i + 1) xs)) in
       let b = flat (children_view (take i xs)) in
-      let same : flat_child (child_view y) ≡ flat_child (child_view x) = spaced ∙ none_same 32 (flat_child (child_view x)) e in
+      let same : flat_child (child_view y) ≡ flat_child (child_view x) = spaced ∙ none_same space (flat_child (child_view x)) e in
       record {
         same = changed ∙ ap (λ ts. (a ++ ts) ++ b) same ∙ sym whole;
         passed = ap has_end (changed_from ∙ ap (λ ts. a ++ ts) same) ∙ end_here false e;
@@ -180,12 +181,12 @@ spacing_at old xs i s some =
     subst (λ (k : ℕ). Spacing old xs k) same s
 
 pub found_before : (old xs : List ElemChild) (i : ℕ) (x y : ElemChild) → Spacing old xs i → 0 < i → i ≤ length xs → x ≡ get_or xs (i - 1) x
-    → flat_child (child_view y) ≡ with_letter_after 32 (flat_child (child_view x)) → has_end (flat_child (child_view x)) ≡ true
-    → (true ≡ has_end (flat (children_view old))) × (flat (children_view (set xs (i - 1) y)) ≡ with_letter_after 32 (flat (children_view old)))
+    → flat_child (child_view y) ≡ with_letter_after space (flat_child (child_view x)) → has_end (flat_child (child_view x)) ≡ true
+    → (true ≡ has_end (flat (children_view old))) × (flat (children_view (set xs (i - 1) y)) ≡ with_letter_after space (flat (children_view old)))
 found_before old xs i x y s some below is spaced e = found old xs (i - 1) x y (spacing_at old xs i s some) (omega arith) is spaced e
 
 pub passed_before : (old xs : List ElemChild) (i : ℕ) (x y : ElemChild) → Spacing old xs i → 0 < i → i ≤ length xs → x ≡ get_or xs (i - 1) x
-    → flat_child (child_view y) ≡ with_letter_after 32 (flat_child (child_view x)) → has_end (flat_child (child_view x)) ≡ false
+    → flat_child (child_view y) ≡ with_letter_after space (flat_child (child_view x)) → has_end (flat_child (child_view x)) ≡ false
     → Spacing old (set xs (i - 1) y) (i - 1)
 passed_before old xs i x y s some below is spaced e = passed_on old xs (i - 1) x y (spacing_at old xs i s some) (omega arith) is spaced e
 

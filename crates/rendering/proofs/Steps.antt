@@ -41,10 +41,10 @@ author_admitted s c v old mid new is admitted note append =
     (asked_then (citation_survey s c (author_only v) old) (append_citation s c (author_only v)) (author_elsewhere s c (author_only v)) old mid new admitted note append)
 
 -- they are not
-pub author_shut : (s : Style) (c : Context) (v : NameVariable) (old mid new : State) → v ≡ author_variable c
+pub author_excluded : (s : Style) (c : Context) (v : NameVariable) (old mid new : State) → v ≡ author_variable c
     → false ≡ (citation_survey s c (author_only v) old).is_admitted → mid ≡ noted (citation_survey s c (author_only v) old).met old
     → new ≡ author_elsewhere s c (author_only v) mid → new ≡ append_author s c old
-author_shut s c v old mid new is shut note append =
+author_excluded s c v old mid new is shut note append =
     subst (λ (w : NameVariable). new ≡ author_by s c w old) is
     (asked_else (citation_survey s c (author_only v) old) (append_citation s c (author_only v)) (author_elsewhere s c (author_only v)) old mid new shut note append)
 
@@ -63,10 +63,10 @@ elsewhere_admitted s c d f old mid new is admitted note append =
     (asked_then (citation_survey s d f old) (append_citation s d f) (author_last s c f s.bibliography) old mid new admitted note append)
 
 -- they are not
-pub elsewhere_shut : (s : Style) (c d : Context) (f : SpecialForm) (old mid new : State) → d ≡ elsewhere c
+pub elsewhere_excluded : (s : Style) (c d : Context) (f : SpecialForm) (old mid new : State) → d ≡ elsewhere c
     → false ≡ (citation_survey s d f old).is_admitted → mid ≡ noted (citation_survey s d f old).met old
     → new ≡ author_last s c f s.bibliography mid → new ≡ author_elsewhere s c f old
-elsewhere_shut s c d f old mid new is shut note append =
+elsewhere_excluded s c d f old mid new is shut note append =
     subst (λ (k : Context). new ≡ author_there s c f k old) is
     (asked_else (citation_survey s d f old) (append_citation s d f) (author_last s c f s.bibliography) old mid new shut note append)
 
@@ -77,7 +77,7 @@ pub last_admitted : (s : Style) (c : Context) (f : SpecialForm) (b : Bibliograph
 last_admitted s c f b old mid new admitted note append = asked_then (bibliography_survey s c f old b) (append_bibliography s c f b) (append_made s c f) old mid new admitted note append
 
 -- they are not
-pub last_shut : (s : Style) (c : Context) (f : SpecialForm) (b : Bibliography) (old mid new : State)
+pub last_excluded : (s : Style) (c : Context) (f : SpecialForm) (b : Bibliography) (old mid new : State)
     → false ≡ (bibliography_survey s c f old b).is_admitted → mid ≡ noted (bibliography_survey s c f old b).met old
     → new ≡ append_made s c f mid → new ≡ author_last s c f (Some b) old
-last_shut s c f b old mid new shut note append = asked_else (bibliography_survey s c f old b) (append_bibliography s c f b) (append_made s c f) old mid new shut note append
+last_excluded s c f b old mid new shut note append = asked_else (bibliography_survey s c f old b) (append_bibliography s c f b) (append_made s c f) old mid new shut note append

@@ -2,12 +2,13 @@
 use Rattle.std.proofs.Common.{◌≡◌, [], ◌∷◌, codes, refl}
 use Rattle.std.specs.Str.{chars}
 use Rattle.std.proofs.lemmas.Str.{chars-encodes}
+use Rattle.laws.specs.Characters.{open_parenthesis, close_parenthesis}
 
-pub open_characters : chars (40 ∷ []) ≡ 40 ∷ []
+pub open_characters : chars (codes "(") ≡ open_parenthesis ∷ []
 unfolding chars
 open_characters = refl
 
-pub close_characters : chars (41 ∷ []) ≡ 41 ∷ []
+pub close_characters : chars (codes ")") ≡ close_parenthesis ∷ []
 unfolding chars
 close_characters = refl
 

@@ -18,13 +18,13 @@ named_in_bibliography s (Some b) = named (layout_nodes s b.layout)
 abbrev pub style_named : Style → Named
 style_named s = joined_named always_named (joined_named (named (layout_nodes s s.citation.layout)) (named_in_bibliography s s.bibliography))
 
--- cites of entries that answer alike are one tree with the same facts
+-- cites of entries that answer alike give one tree with the same facts
 abbrev pub AlikeCitesAreOne : Type 0
 AlikeCitesAreOne =
     (x : StyleContext) (a b : Answers) (p : CiteProperties) (locale : Option (List ℕ)) (purpose : Option CitePurpose) (verdict : Option CollapseVerdict)
     → AreAlike (style_named x.style) a b → citation x a p locale purpose verdict ≡ citation x b p locale purpose verdict
 
--- and so are items of a bibliography
+-- items of a bibliography of entries that answer alike give one tree with the same facts
 abbrev pub AlikeItemsAreOne : Type 0
 AlikeItemsAreOne =
     (x : StyleContext) (a b : Answers) (p : CiteProperties) (locale : Option (List ℕ))

@@ -1,9 +1,10 @@
 -- What cites and items of a bibliography print.
-use Rattle.std.specs.Prelude.{ℕ, ◌+◌, ◌-◌, ◌^◌, Bool, true, false, not, ◌&&◌, ◌||◌, min, List, [], ◌∷◌, ◌++◌, filter_map, if◌then◌else◌, Option, Some, None, codes}
+use Rattle.std.specs.Prelude.{ℕ, ◌+◌, Bool, true, false, not, ◌&&◌, ◌||◌, List, [], ◌∷◌, ◌++◌, filter_map, if◌then◌else◌, Option, Some, None, codes}
 use Rattle.std.specs.List.{list_any}
 use Rattle.std.specs.Option.{option_map, option_map_or, option_or, unwrap_or}
 use Rattle.std.specs.Char.{is_whitespace}
-use Rattle.rendering_taxonomy.specs.Formats.{plain, changed, unchanged}
+use Rattle.laws.specs.Characters.{space, open_parenthesis, close_parenthesis}
+use Rattle.rendering_taxonomy.specs.Formats.{plain, changed}
 use Rattle.rendering_tree.specs.Tokens.{Token, with_letter_after}
 use Rattle.rendering_tree.specs.Trees.{Children, Elem, tree_of, flat, flat_child, Parted, parted}
 use Rattle.rendering_locale.specs.Locales.{Locale}
@@ -12,10 +13,10 @@ use Rattle.literature_values.specs.declared.date.Date.{Date}
 use Rattle.rendering_dates.specs.Dates.{years_text}
 use Rattle.rendering_page.specs.Pages.{Manner, Frame, append_space}
 use Rattle.rendering_page.specs.Pieces.{normal, begin, end}
-use Rattle.rendering_page.specs.PageCharacters.{plainly}
+use Rattle.rendering_page.specs.PageCharacters.{plain_manner}
 use Rattle.rendering_entries.specs.Answers.{Answers}
 use Rattle.rendering_style.specs.Options.{NameOptions, options_over}
-use Rattle.rendering_style.specs.Nodes.{Look, NamesNode, Nodes, names, no_nodes, node}
+use Rattle.rendering_style.specs.Nodes.{NamesNode, Nodes, names, no_nodes, node, plain_look}
 use Rattle.rendering_style.specs.Styles.{Layout, Bibliography, Style}
 use Rattle.rendering_style.specs.Opening.{opened_nodes}
 use Rattle.rendering_people.specs.Properties.{Properties}
@@ -92,7 +93,7 @@ setting_of s l options form = record {
 abbrev pub append_layout : Style → Context → Layout → NameOptions → SpecialForm → State → State
 append_layout s c l options form st = contents c (setting_of s l options form) true (layout_nodes s l) st
 
--- whether anything of a layout is admitted in a form, and whether it was asked if the cite is like others
+-- whether anything of a layout is admitted in a form, and whether the test `disambiguate` was evaluated
 abbrev pub layout_survey : Style → Context → Layout → NameOptions → SpecialForm → State → Survey
 layout_survey s c l options form st = surveys (stage c (setting_of s l options form) st) (layout_nodes s l)
 
@@ -112,7 +113,7 @@ append_bibliography s c form b st = append_layout s c b.layout b.name_options fo
 abbrev pub bibliography_survey : Style → Context → SpecialForm → State → Bibliography → Survey
 bibliography_survey s c form st b = layout_survey s c b.layout b.name_options form st
 
--- texts of a citation's own look as its layout does
+-- a text of the citation's own, which looks as its layout does
 abbrev pub citation_normal : Style → Context → List ℕ → State → State
 citation_normal s c cs st = append c (normal (layout_manner s.citation.layout) cs ∷ []) st
 
@@ -129,9 +130,9 @@ first_dated (d ∷ ds) = Some d
 abbrev pub year_text : Context → List ℕ
 year_text c = option_map_or (years_text c.locales) (first_dated (filter_map c.answers.date year_dates)) (unwrap_or (term c.locales (terms.Other others.NoDate) forms.Long false) (codes "n.d."))
 
--- the year by itself looks as texts do of themselves
+-- the year by itself, in the default formatting
 abbrev pub append_year : Context → State → State
-append_year c st = append c (normal plainly (year_text c) ∷ []) st
+append_year c st = append c (normal plain_manner (year_text c) ∷ []) st
 
 -- the variable whose people are the authors: the editors stand for authors that are missing
 abbrev pub author_variable : Context → NameVariable
@@ -140,10 +141,6 @@ author_variable c = if not (has_answer c (variables.Name name.Author)) && has_an
 -- a cite as it stands where the one before it is of another entry
 abbrev pub elsewhere : Context → Context
 elsewhere c = record c { properties = record c.properties { ibid = ibids.Different } }
-
--- names of the authors, for which nothing is specified
-abbrev pub plain_look : Look
-plain_look = record { formatting = unchanged; prefix = []; suffix = []; display = None }
 
 -- a node for the authors, for which nothing is specified
 abbrev pub author_node : NamesNode
@@ -168,7 +165,8 @@ author_last s c form (Some b) st =
     let asked = bibliography_survey s c form st b in
     if asked.is_admitted then append_bibliography s c form b (noted asked.met st) else append_made s c form (noted asked.met st)
 
--- else from that of the citation, as it stands after another entry
+-- the authors from the layout of the citation as it stands after a cite of another entry, where they are admitted there, else from one of
+-- those above
 abbrev pub author_elsewhere : Style → Context → SpecialForm → State → State
 author_elsewhere s c form st =
     let asked = citation_survey s (elsewhere c) form st in
@@ -209,7 +207,7 @@ abbrev pub append_prose : Style → Context → State → State
 append_prose s c st =
     if prints_identifiers s
     then append_enclosed s c whole (unwrap_or s.citation.layout.prefix []) (unwrap_or s.citation.layout.suffix []) (append_author s c st)
-    else append_enclosed s c without_author (unwrap_or s.citation.layout.prefix (40 ∷ [])) (unwrap_or s.citation.layout.suffix (41 ∷ [])) (append_author s c st)
+    else append_enclosed s c without_author (unwrap_or s.citation.layout.prefix (open_parenthesis ∷ [])) (unwrap_or s.citation.layout.suffix (close_parenthesis ∷ [])) (append_author s c st)
 
 -- what collapsing leaves of a cite
 abbrev pub form_of : Option CollapseVerdict → SpecialForm
@@ -220,7 +218,7 @@ form_of (Some verdicts.YearSuffix) = suffix_only
 -- the first field of an item stands in front, with a space after it
 abbrev pub in_front : List Token → Parted → Children
 in_front ts None = tree_of ts
-in_front ts (Some (e, others)) = tree_of (flat others ++ with_letter_after 32 (flat_child (Elem e.display e.meta e.children)))
+in_front ts (Some (e, others)) = tree_of (flat others ++ with_letter_after space (flat_child (Elem e.display e.meta e.children)))
 
 -- an item whose second field is aligned has its first field in front
 abbrev pub fields_joined : Option SecondFieldAlign → State → Children
@@ -234,8 +232,8 @@ usage_by true false = usages.OnlyCitationLabel
 usage_by false true = usages.OnlyCitationNumber
 usage_by true true = usages.Mixed
 
--- What a call gives: a tree; whether it was asked if the cite is like others; what was printed of the first names by their options; and
--- which identifiers were printed.
+-- What a call gives: a tree; whether the test `disambiguate` was evaluated; what was printed of the first names by their options; and which
+-- identifiers were printed.
 pub record Rendered : Type 0 where
   pub tree : Children
   pub met_disambiguate : Bool
@@ -279,7 +277,3 @@ append_item s c b st = append c (end (layout_frame b.layout) ∷ []) (append_bib
 abbrev pub bibliography : StyleContext → Answers → CiteProperties → Option (List ℕ) → Option Rendered
 bibliography x answers properties term_locale =
     option_map (λ b. rendered (append_item x.style (context_of x term_locale true answers properties) b begun)) x.style.bibliography
-
--- each call counts one, up to the last number that a counter holds
-abbrev pub counted : ℕ → ℕ
-counted n = min (n + 1) (2 ^ 64 - 1)

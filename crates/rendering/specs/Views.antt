@@ -32,8 +32,8 @@ abbrev pub context_in : Answers → Call → Context
 context_in a c = context_view a c.walk.context
 
 -- what is printed from in these words
-abbrev pub spoken : Style → Answers → CiteProperties → List Locale → Quotes → List ℕ → Bool → Context
-spoken s a p locales quotes year_suffix is_bibliography = record {
+abbrev pub in_words : Style → Answers → CiteProperties → List Locale → Quotes → List ℕ → Bool → Context
+in_words s a p locales quotes year_suffix is_bibliography = record {
   answers = a;
   properties = p;
   locales = locales;

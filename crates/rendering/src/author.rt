@@ -66,7 +66,8 @@ impl<'s, 'a> Call<'s, 'a> {
         self.push_author_after(entry, form, &properties, state)
     }
 
-    /// The same, with what is known of the cite after a cite of another entry.
+    /// Appends the authors from the layout of the citation, given what is known of the cite after a cite of another entry, where they are
+    /// admitted there, else from what comes next.
     fn push_author_after<E: EntryLike>(
         &self,
         entry: &'a E,

@@ -2,14 +2,13 @@
 
 ghost use Rattle.std.specs.Prelude.{◌≡◌, ◌∷◌, [], true, map, IfOk};
 ghost use Rattle.rendering_style.specs.Nodes.{names, no_nodes};
-ghost use Rattle.rendering_style.specs.Views.{look_view, names_node_view, node_view};
+ghost use Rattle.rendering_style.specs.Views.{names_node_view, node_view};
 ghost use Rattle.rendering.specs.AuthorNodes.{is_made};
-ghost use Rattle.rendering.specs.Purposes.{author_node, plain_look};
+ghost use Rattle.rendering.specs.Purposes.{author_node};
 
 use rendering_style::{Look, Names, Node};
-use rendering_taxonomy::{FormattingChanges, NameVariable};
+use rendering_taxonomy::NameVariable;
 use std::alloc::{AllocError, Global};
-use texts::empty_text;
 
 /// A node for the authors, for which nothing is specified.
 #[derive(Debug, Drop)]
@@ -50,18 +49,6 @@ fn author_names(alloc: Global) -> Result<Names, AllocError>
         label: None,
         label_is_first: false,
         delimiter: None,
-        look: plain_look(alloc),
+        look: Look::plain(alloc),
     })
-}
-
-/// A look for which nothing is specified.
-fn plain_look(alloc: Global) -> Look
-    ensures { look_view result ≡ plain_look }
-{
-    Look {
-        formatting: FormattingChanges::default(),
-        prefix: empty_text(alloc),
-        suffix: empty_text(alloc),
-        display: None,
-    }
 }

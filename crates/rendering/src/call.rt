@@ -90,8 +90,8 @@ impl<'s, 'a> Call<'s, 'a> {
         state.page.push_text(self.walk.context.quotes, manner, text)
     }
 
-    /// Whether anything of the layout of the citation is admitted in a form. Remembers whether it was asked on the way if the cite is
-    /// like others.
+    /// Whether anything of the layout of the citation is admitted in a form. Remembers whether the test `disambiguate` was evaluated
+    /// on the way.
     pub(crate) fn admits_citation<E: EntryLike>(
         &self,
         entry: &'a E,
@@ -108,7 +108,7 @@ impl<'s, 'a> Call<'s, 'a> {
         self.admits(entry, &self.walk.style.parts().citation.layout, form, state)
     }
 
-    /// Whether anything of a layout is admitted in a form. Remembers whether it was asked on the way if the cite is like others.
+    /// Whether anything of a layout is admitted in a form. Remembers whether the test `disambiguate` was evaluated on the way.
     pub(crate) fn admits<E: EntryLike>(
         &self,
         entry: &'a E,

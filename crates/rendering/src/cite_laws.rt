@@ -1,4 +1,4 @@
-//! When cites and items of a bibliography are one.
+//! When two cites, or two items of a bibliography, are the same.
 
 ghost use Rattle.rendering.specs.Alike.{AlikeCitesAreOne, AlikeItemsAreOne};
 

@@ -1,22 +1,13 @@
-//! Short texts.
+//! Optional texts, and the texts that stand where a style says nothing.
 
 ghost use Rattle.std.specs.Prelude.{◌≡◌, ◌∷◌, [], codes};
 ghost use Rattle.std.specs.Option.{option_map, unwrap_or};
+ghost use Rattle.laws.specs.Characters.{open_parenthesis, close_parenthesis};
 ghost use Rattle.laws.specs.Text.{characters, spelled};
-
-/// A text, empty where there is none.
-pub(crate) fn text_or_empty(text: &Option<String>) -> &str
-    ensures { spelled result ≡ unwrap_or (option_map characters text.now) [] }
-{
-    match text {
-        Some(text) => text.as_str(),
-        None => no_text(),
-    }
-}
 
 /// A text, or else what stands before a cite in prose where the style says nothing of it.
 pub(crate) fn text_or_open(text: &Option<String>) -> &str
-    ensures { spelled result ≡ unwrap_or (option_map characters text.now) (40 ∷ []) }
+    ensures { spelled result ≡ unwrap_or (option_map characters text.now) (open_parenthesis ∷ []) }
 {
     match text {
         Some(text) => text.as_str(),
@@ -26,7 +17,7 @@ pub(crate) fn text_or_open(text: &Option<String>) -> &str
 
 /// A text, or else what stands after it.
 pub(crate) fn text_or_close(text: &Option<String>) -> &str
-    ensures { spelled result ≡ unwrap_or (option_map characters text.now) (41 ∷ []) }
+    ensures { spelled result ≡ unwrap_or (option_map characters text.now) (close_parenthesis ∷ []) }
 {
     match text {
         Some(text) => text.as_str(),
@@ -34,18 +25,9 @@ pub(crate) fn text_or_close(text: &Option<String>) -> &str
     }
 }
 
-/// No text.
-#[tactic(auto, using(rendering_locale::proofs::LookupTexts::no_characters))]
-fn no_text() -> &'static str
-    ensures { spelled result ≡ [] }
-{
-    ""
-}
-
-/// An opening parenthesis.
 #[tactic(auto, using(crate::proofs::Texts::open_characters))]
 fn open_parenthesis() -> &'static str
-    ensures { spelled result ≡ 40 ∷ [] }
+    ensures { spelled result ≡ open_parenthesis ∷ [] }
 {
     "("
 }
@@ -53,7 +35,7 @@ fn open_parenthesis() -> &'static str
 /// A closing parenthesis.
 #[tactic(auto, using(crate::proofs::Texts::close_characters))]
 fn close_parenthesis() -> &'static str
-    ensures { spelled result ≡ 41 ∷ [] }
+    ensures { spelled result ≡ close_parenthesis ∷ [] }
 {
     ")"
 }

@@ -1,11 +1,11 @@
 //! How many calls were made.
 
 ghost use Rattle.std.specs.Prelude.{◌≡◌};
-ghost use Rattle.rendering.specs.Purposes.{counted};
+ghost use Rattle.laws.specs.Counts.{next_count};
 
 use std::marker::Model;
 
-/// How many calls of a style context were made, up to the last number that there is room for.
+/// How many calls of a style context were made; it stays at the greatest number that it holds.
 #[derive(Debug, Drop)]
 pub struct Effort {
     calls: u64,
@@ -29,7 +29,7 @@ impl Effort {
 
     /// Counts a call.
     pub(crate) fn count_one(&mut self)
-        ensures { self.new ≡ counted self.old }
+        ensures { self.new ≡ next_count self.old }
     {
         self.calls = self.calls.saturating_add(1);
     }

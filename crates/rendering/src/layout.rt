@@ -12,19 +12,19 @@ ghost use Rattle.rendering_style.specs.StyleViews.{style_view};
 ghost use Rattle.rendering_style.specs.Views.{bibliography_layout_view, layout_view, options_view, style_parts_view};
 ghost use Rattle.rendering.specs.Purposes.{citation_options, layout_frame, layout_manner, layout_nodes, prints_suffix, setting_of};
 
-use crate::default_texts::text_or_empty;
 use rendering_leaves::{NodeSetting, SpecialForm};
 use rendering_names::ResolvedNameOptions;
 use rendering_nodes::has_suffix;
-use rendering_page::{Frame, Manner, plainly};
+use rendering_page::{Frame, Manner, plain_manner};
 use rendering_style::{Bibliography, Layout, NameOptions, Style, StyleParts};
+use texts::text_or_empty;
 
 /// How a layout's texts are appended.
 pub(crate) fn layout_manner(layout: &Layout) -> Manner
     ensures { manner_view result ≡ layout_manner (layout_view layout.now) }
 {
     Manner {
-        formatting: layout.formatting.over(plainly().formatting),
+        formatting: layout.formatting.over(plain_manner().formatting),
         strips_periods: false,
     }
 }

@@ -9,13 +9,13 @@ ghost use Rattle.rendering.specs.Purposes.{begins_spaced, append_enclosed, is_id
 ghost use Rattle.rendering.specs.Views.{context_in, style_of};
 
 use crate::call::Call;
-use crate::default_texts::{text_or_close, text_or_empty, text_or_open};
+use crate::default_texts::{text_or_close, text_or_open};
 use rendering_entries::EntryLike;
 use rendering_leaves::{SpecialForm, State};
 use rendering_style::StyleParts;
 use rendering_taxonomy::StyleCategory;
 use std::alloc::AllocError;
-use texts::split_first;
+use texts::{split_first, text_or_empty};
 
 impl<'s, 'a> Call<'s, 'a> {
     /// Appends the authors, then the citation in its affixes; where cites are no numbers or labels, without the authors, and in

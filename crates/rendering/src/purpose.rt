@@ -36,7 +36,6 @@ impl<'s, 'a> Call<'s, 'a> {
         }
     }
 
-    /// An item of a bibliography.
     pub(crate) fn item<E: EntryLike>(
         &self,
         entry: &'a E,

@@ -15,7 +15,7 @@ use std::alloc::AllocError;
 #[derive(Debug, Drop)]
 pub struct Rendering {
     pub tree: ElemChildren,
-    /// Whether it was asked if the cite is like others.
+    /// Whether the test `disambiguate` was evaluated.
     pub met_disambiguate: bool,
     /// What was printed of the first names by their options.
     pub names: Option<NameDisambiguationProperties>,
@@ -30,7 +30,7 @@ pub(crate) fn rendered(state: State<'_>) -> Result<Rendering, AllocError>
     joined(state, None)
 }
 
-/// The same; where a second field is aligned the first one stands in front.
+/// The tree of what was appended, and what became known. Where a second field is aligned the first one stands in front.
 pub(crate) fn joined(
     state: State<'_>,
     align: Option<SecondFieldAlign>,

@@ -1,6 +1,7 @@
 //! Items whose second field is aligned.
 
 ghost use Rattle.std.specs.Prelude.{◌≡◌, ◌++◌, [], List, IfOk, OnOk};
+ghost use Rattle.laws.specs.Characters.{space};
 ghost use Rattle.laws.specs.Text.{characters};
 ghost use Rattle.rendering_leaves.specs.NodeSettings.{begun};
 ghost use Rattle.rendering_tree.specs.Tokens.{Token, with_letter_after, with_letters};
@@ -9,6 +10,7 @@ ghost use Rattle.rendering_tree.specs.Views.{child_view, element_view, children_
 ghost use Rattle.rendering.specs.Ends.{has_end};
 ghost use Rattle.rendering.specs.Purposes.{fields_joined, in_front};
 
+use rendering_building::into_tree;
 use rendering_page::Page;
 use rendering_taxonomy::SecondFieldAlign;
 use rendering_tree::{Elem, ElemChild, ElemChildren, Formatted, simplify_children};
@@ -24,7 +26,7 @@ pub(crate) fn joined_tree(
     ensures { IfOk result (λ t. tree_view t
         ≡ fields_joined align (record begun { page = page.entry })) }
 {
-    let tree = page.into_tree()?;
+    let tree = into_tree(page)?;
     match align {
         Some(_) => in_front(tree),
         None => Ok(tree),
@@ -46,7 +48,7 @@ fn in_front(whole: ElemChildren) -> Result<ElemChildren, AllocError>
 /// A field with a space after it before others, in the normal form.
 fn spaced_before(field: Elem, others: ElemChildren) -> Result<ElemChildren, AllocError>
     ensures { IfOk result (λ t. tree_view t
-        ≡ tree_of (flat (tree_view others) ++ with_letter_after 32 (flat_child (Element
+        ≡ tree_of (flat (tree_view others) ++ with_letter_after space (flat_child (Element
         (element_view field).display (element_view field).meta (element_view field).children)))) }
 {
     let field = spaced(field)?;
@@ -67,7 +69,7 @@ fn both(field: Elem, others: ElemChildren) -> Result<ElemChildren, AllocError>
 fn spaced(field: Elem) -> Result<Elem, AllocError>
     ensures { IfOk result (λ e. flat_child
         (Element (element_view e).display (element_view e).meta (element_view e).children)
-        ≡ with_letter_after 32 (flat_child (Element (element_view field).display
+        ≡ with_letter_after space (flat_child (Element (element_view field).display
         (element_view field).meta (element_view field).children))) }
 {
     let Elem {
@@ -89,7 +91,7 @@ fn spaced(field: Elem) -> Result<Elem, AllocError>
 fn push_space(parts: &mut Vec<ElemChild>) -> Result<bool, AllocError>
     ensures end { IfOk result (λ b. b ≡ has_end (flat (children_view parts.old.items))) }
     ensures spaced { OnOk result (flat (children_view parts.new.items)
-        ≡ with_letter_after 32 (flat (children_view parts.old.items))) }
+        ≡ with_letter_after space (flat (children_view parts.old.items))) }
 {
     for index in (0..parts.len()).rev() {
         if push_space_to(&mut parts[index])? {
@@ -99,12 +101,12 @@ fn push_space(parts: &mut Vec<ElemChild>) -> Result<bool, AllocError>
     Ok(false)
 }
 
-/// The same of a child.
+/// Puts a space after the last text of a child, where a text is the last that it prints. Returns whether it prints anything.
 #[cycle(spacing)]
 fn push_space_to(part: &mut ElemChild) -> Result<bool, AllocError>
     ensures end { IfOk result (λ b. b ≡ has_end (flat_child (child_view part.old))) }
     ensures spaced { OnOk result (flat_child (child_view part.new)
-        ≡ with_letter_after 32 (flat_child (child_view part.old))) }
+        ≡ with_letter_after space (flat_child (child_view part.old))) }
 {
     match part {
         ElemChild::Text(text) => push_space_after(text),
@@ -113,23 +115,24 @@ fn push_space_to(part: &mut ElemChild) -> Result<bool, AllocError>
     }
 }
 
-/// The same of an element.
+/// Puts a space after the last text of an element, where a text is the last that it prints. Returns whether it prints anything.
 #[cycle(spacing)]
 fn push_space_in(elem: &mut Elem) -> Result<bool, AllocError>
     ensures end { IfOk result (λ b. b ≡ has_end (flat (tree_view elem.old.children))) }
     ensures spaced { OnOk result (flat (tree_view elem.new.children)
-        ≡ with_letter_after 32 (flat (tree_view elem.old.children))) }
+        ≡ with_letter_after space (flat (tree_view elem.old.children))) }
     ensures same { (elem.new.display ≡ elem.old.display) × (elem.new.meta ≡ elem.old.meta) }
 {
     push_space(&mut elem.children.0)
 }
 
-/// The same of a text.
+/// Puts a space after a text, unless that is empty. Returns whether it is not.
 fn push_space_after(text: &mut Formatted) -> Result<bool, AllocError>
     ensures end { IfOk result (λ b. b
         ≡ has_end (with_letters text.old.formatting (characters text.old.text) [])) }
     ensures spaced { OnOk result (with_letters text.new.formatting (characters text.new.text) []
-        ≡ with_letter_after 32 (with_letters text.old.formatting (characters text.old.text) [])) }
+        ≡ with_letter_after space
+        (with_letters text.old.formatting (characters text.old.text) [])) }
 {
     if !has_text(text.text.as_str()) {
         return Ok(false);

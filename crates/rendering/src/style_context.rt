@@ -47,14 +47,15 @@ pub struct StyleContext<'a> {
 }
 
 impl<'a> StyleContext<'a> {
+    ghost use Rattle.laws.specs.Counts.{next_count};
     ghost use Rattle.rendering_context.specs.Cites.{year_suffix_of};
     ghost use Rattle.rendering_context.specs.Views.{cite_properties_view};
     ghost use Rattle.rendering_entries.specs.Answers.{Answers};
     ghost use Rattle.rendering_style.specs.Views.{bibliography_layout_view};
     ghost use Rattle.rendering_leaves.specs.NodeSettings.{begun};
     ghost use Rattle.rendering_nodes.specs.Views.{walk_context};
-    ghost use Rattle.rendering.specs.Purposes.{bibliography, citation, context_of, counted, append_item, rendered, rendered_for};
-    ghost use Rattle.rendering.specs.Views.{context_in, style_context_view, rendering_view, spoken, style_of};
+    ghost use Rattle.rendering.specs.Purposes.{bibliography, citation, context_of, append_item, rendered, rendered_for};
+    ghost use Rattle.rendering.specs.Views.{context_in, style_context_view, rendering_view, in_words, style_of};
 
     /// A style with the language that is asked for where a call asks for none, and the files with locales.
     ///
@@ -99,7 +100,7 @@ impl<'a> StyleContext<'a> {
         ensures cite { IfOk result (λ r. rendering_view r ≡ citation (style_context_view self.now)
             (E.answers entry.now) (cite_properties_view properties.now)
             (option_map borrowed_code_view term_locale.entry) purpose verdict) }
-        ensures effort { effort.new ≡ counted effort.old }
+        ensures effort { effort.new ≡ next_count effort.old }
     {
         effort.count_one();
         let year_suffix = YearSuffixText::new(self.alloc, &properties.disambiguation)?;
@@ -129,7 +130,7 @@ impl<'a> StyleContext<'a> {
             ≡ bibliography (style_context_view self.now)
             (E.answers entry.now) (cite_properties_view properties.now)
             (option_map borrowed_code_view term_locale.entry)) }
-        ensures effort { effort.new ≡ counted effort.old }
+        ensures effort { effort.new ≡ next_count effort.old }
     {
         effort.count_one();
         match &self.style.parts().bibliography {
@@ -203,7 +204,7 @@ impl<'a> StyleContext<'a> {
         verdict: Option<CollapseVerdict>,
     ) -> Result<Rendering, AllocError>
         ensures { IfOk result (λ r. rendering_view r ≡ rendered_for
-            (style_context_view self.now).style (spoken (style_context_view self.now).style
+            (style_context_view self.now).style (in_words (style_context_view self.now).style
             (E.answers entry.now) (cite_properties_view properties.now) words.now.locales
             (quotes_view words.now.quotes.items) (characters year_suffix.now.0) false)
             verdict purpose) }
@@ -254,7 +255,7 @@ impl<'a> StyleContext<'a> {
         bibliography: &'c Bibliography,
     ) -> Result<Rendering, AllocError>
         ensures { IfOk result (λ r. rendering_view r ≡ rendered (append_item
-            (style_context_view self.now).style (spoken (style_context_view self.now).style
+            (style_context_view self.now).style (in_words (style_context_view self.now).style
             (E.answers entry.now) (cite_properties_view properties.now) words.now.locales
             (quotes_view words.now.quotes.items) (characters year_suffix.now.0) true)
             (bibliography_layout_view bibliography.now) begun)) }
@@ -288,7 +289,7 @@ impl<'a> StyleContext<'a> {
     ) -> Walk<'s, 'c>
         ensures style { style_view result.style.now ≡ (style_context_view self.now).style }
         ensures context { (a : Answers)
-            → walk_context a result ≡ spoken (style_context_view self.now).style a
+            → walk_context a result ≡ in_words (style_context_view self.now).style a
             (cite_properties_view properties.now) words.now.locales
             (quotes_view words.now.quotes.items) (characters year_suffix.now.0) is_bibliography }
     {
@@ -307,7 +308,6 @@ impl<'a> StyleContext<'a> {
         }
     }
 
-    /// A call in these words.
     fn call<'s, 'c>(
         &'c self,
         words: &'s Words<'c>,
@@ -317,7 +317,7 @@ impl<'a> StyleContext<'a> {
     ) -> Call<'s, 'c>
         ensures style { style_of result ≡ (style_context_view self.now).style }
         ensures context { (a : Answers)
-            → context_in a result ≡ spoken (style_context_view self.now).style a
+            → context_in a result ≡ in_words (style_context_view self.now).style a
             (cite_properties_view properties.now) words.now.locales
             (quotes_view words.now.quotes.items) (characters year_suffix.now.0) is_bibliography }
     {

@@ -16,14 +16,14 @@ use rendering_dates::push_years;
 use rendering_entries::EntryLike;
 use rendering_leaves::State;
 use rendering_locale::AskedLocales;
-use rendering_page::plainly;
+use rendering_page::plain_manner;
 use rendering_taxonomy::{DateVariable, OtherTerm, Term, TermForm};
 use std::alloc::{AllocError, Global};
 use std::borrow::Cow;
 use texts::empty_text;
 
 impl<'s, 'a> Call<'s, 'a> {
-    /// Appends the years of the first date that there is, else the term for none; they look as texts do of themselves.
+    /// Appends the years of the first date that there is, else the term for none, in the default formatting.
     pub(crate) fn push_year<E: EntryLike>(
         &self,
         entry: &'a E,
@@ -36,11 +36,11 @@ impl<'s, 'a> Call<'s, 'a> {
         match first_date(entry) {
             Some(date) => {
                 let years = years_of(context.alloc, context.locales, &date)?;
-                state.page.push_made(context.quotes, plainly(), years)
+                state.page.push_made(context.quotes, plain_manner(), years)
             }
             None => {
                 let text = no_year(context.locales);
-                state.page.push_text(context.quotes, plainly(), text)
+                state.page.push_text(context.quotes, plain_manner(), text)
             }
         }
     }
@@ -66,7 +66,6 @@ fn first_date<E: EntryLike>(entry: &E) -> Option<Cow<'_, Date>>
     None
 }
 
-/// The years of a date.
 fn years_of(alloc: Global, locales: &AskedLocales, date: &Date) -> Result<String, AllocError>
     ensures { IfOk result (λ s. characters s ≡ years_text locales.now date.now) }
 {

@@ -3,6 +3,7 @@ use Rattle.std.specs.Prelude.{ℕ, ◌+◌, ◌^◌, nat_lt, Bool, true, false, 
 use Rattle.std.specs.Fmt.{decimal}
 use Rattle.std.specs.List.{list_any}
 use Rattle.std.specs.Option.{option_map_or}
+use Rattle.laws.specs.Characters.{ampersand, comma, hyphen, en_dash}
 use Rattle.literature_numbers.specs.Numerics.{Numeral, plain, numeral_of}
 use Rattle.literature_numbers.specs.NumericText.{is_plural}
 use Rattle.literature_numbers.specs.Pages.{Part, pages_text, has_more}
@@ -92,7 +93,7 @@ number_answer c number.FirstReferenceNoteNumber = or_no_answer of_count c.proper
 number_answer c number.Locator = or_no_answer (λ l. of_payload l.payload) c.properties.locator
 number_answer c v = or_no_answer of_number (c.answers.number v)
 
--- the same of a variable that is a text; two of them are addresses
+-- what the cite answers, and else the entry, to a variable that is a text; two of them are addresses
 abbrev pub standard_answer : Context → LongShortForm → StandardVariable → Answer
 standard_answer c form standard.Doi = or_no_answer (λ cs. of_address (codes "https://doi.org/") (characters_of cs)) (c.answers.standard form standard.Doi)
 standard_answer c form standard.Url = or_no_answer (λ cs. of_address [] (characters_of cs)) (c.answers.standard form standard.Url)
@@ -149,7 +150,7 @@ has_people c suppressed vs = list_any (λ v. with_people (people_answer c suppre
 
 -- whether there is more than one, by the value or by the signs in a locator's text
 abbrev pub is_range_sign : ℕ → Bool
-is_range_sign c = c == 44 || c == 38 || c == 45 || c == 8211
+is_range_sign c = c == comma || c == ampersand || c == hyphen || c == en_dash
 
 -- whether a locator's text has such a sign
 abbrev pub is_plural_payload : Payload → Bool

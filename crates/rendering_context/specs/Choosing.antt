@@ -5,7 +5,7 @@ use Rattle.std.specs.Option.{option_map_or}
 use Rattle.rendering_taxonomy.specs.Kinds.{is_locator}
 use Rattle.rendering_style.specs.Nodes as nodes
 use Rattle.rendering_style.specs.Nodes.{Test, Condition}
-use Rattle.rendering_context.specs.Cites.{CiteProperties, DisambiguateState, undisturbed, by_names, by_choose, by_suffix}
+use Rattle.rendering_context.specs.Cites.{CiteProperties, DisambiguateState, undisambiguated, by_names, by_choose, by_suffix}
 use Rattle.rendering_context.specs.Contexts.{Context}
 use Rattle.rendering_context.specs.Answering.{has_answer, is_numeric_variable}
 use Rattle.rendering_taxonomy.specs.declared.choose.ChooseMatch.{ChooseMatch}
@@ -21,13 +21,14 @@ is_ibid ibids.Different = false
 is_ibid ibids.IbidWithLocator = true
 is_ibid ibids.Ibid = true
 
--- whether it is, with another locator
+-- whether the cite before is of the same entry and has another locator
 abbrev pub is_ibid_with_locator : IbidState → Bool
 is_ibid_with_locator ibids.Different = false
 is_ibid_with_locator ibids.IbidWithLocator = true
 is_ibid_with_locator ibids.Ibid = false
 
--- A cite that repeats the one before it, stands near the first note or is not the first is a subsequent one.
+-- Whether a cite is at a position. One that repeats the cite before it, is near the first note or is not the first of its entry is a
+-- subsequent one.
 abbrev pub is_at : CiteProperties → TestPosition → Bool
 is_at p positions.First = p.is_first
 is_at p positions.Subsequent = is_ibid p.ibid || p.is_near_note || not p.is_first
@@ -37,7 +38,7 @@ is_at p positions.NearNote = p.is_near_note
 
 -- whether the cite is to be disambiguated by branches
 abbrev pub is_chosen : DisambiguateState → Bool
-is_chosen undisturbed = false
+is_chosen undisambiguated = false
 is_chosen (by_names ps) = false
 is_chosen by_choose = true
 is_chosen (by_suffix n) = false
@@ -62,11 +63,11 @@ match_holds matches.None test ts = not (list_any test ts)
 abbrev pub is_met : Context → Condition → Bool
 is_met c condition = match_holds condition.required (holds c) condition.tests
 
--- whether it is asked if the cite is like others
-abbrev pub is_asking : Test → Bool
-is_asking nodes.is_alike = true
-is_asking t = false
+-- whether a test is `disambiguate`
+abbrev pub is_disambiguate : Test → Bool
+is_disambiguate nodes.is_alike = true
+is_disambiguate t = false
 
--- whether one of its tests asks that
+-- whether one of the tests of a condition is `disambiguate`
 abbrev pub asks_disambiguate : Condition → Bool
-asks_disambiguate condition = list_any is_asking condition.tests
+asks_disambiguate condition = list_any is_disambiguate condition.tests

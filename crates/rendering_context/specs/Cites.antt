@@ -16,9 +16,9 @@ pub record SpecificLocator : Type 0 where
   pub label : Locator
   pub payload : Payload
 
--- The state of disambiguation of a cite: nothing, more of its names, other branches of a style, a year suffix.
+-- The state of disambiguation of a cite: none, more of its names, other branches of the style, or a year suffix.
 pub data DisambiguateState : Type 0 where
-  undisturbed : DisambiguateState
+  undisambiguated : DisambiguateState
   by_names : Properties → DisambiguateState
   by_choose : DisambiguateState
   by_suffix : ℕ → DisambiguateState
@@ -40,32 +40,32 @@ pub record CiteProperties : Type 0 where
 
 -- the year suffix, where there is one
 abbrev pub year_suffix_of : DisambiguateState → List ℕ
-year_suffix_of undisturbed = []
+year_suffix_of undisambiguated = []
 year_suffix_of (by_names ps) = []
 year_suffix_of by_choose = []
 year_suffix_of (by_suffix n) = year_suffix_text n
 
 -- the properties of names that disambiguate a cite
 abbrev pub names_of : DisambiguateState → Properties
-names_of undisturbed = []
+names_of undisambiguated = []
 names_of (by_names ps) = ps
 names_of by_choose = []
 names_of (by_suffix n) = []
 
 -- the order of states of disambiguation, from the least on
 abbrev pub state_rank : DisambiguateState → ℕ
-state_rank undisturbed = 0
+state_rank undisambiguated = 0
 state_rank (by_names ps) = 1
 state_rank by_choose = 2
 state_rank (by_suffix n) = 3
 
--- of two of one kind: the greater properties, or the greater suffix
+-- of two states of one kind: the greater properties, or the greater suffix
 abbrev pub greater_of_kind : DisambiguateState → DisambiguateState → DisambiguateState
 greater_of_kind (by_names ps) (by_names qs) = by_names (greater ps qs)
 greater_of_kind (by_suffix m) (by_suffix n) = by_suffix (max m n)
 greater_of_kind a b = b
 
--- the greater of two
+-- the greater of two states
 abbrev pub greater_state : DisambiguateState → DisambiguateState → DisambiguateState
 greater_state a b = if nat_lt (state_rank b) (state_rank a) then a else (if nat_lt (state_rank a) (state_rank b) then b else greater_of_kind a b)
 

@@ -39,7 +39,7 @@ locator_view l = record { label = l.label; payload = payload_view l.payload }
 
 -- the state of disambiguation of a cite
 abbrev pub state_view : DisambiguateState → cites.DisambiguateState
-state_view states.None = cites.undisturbed
+state_view states.None = cites.undisambiguated
 state_view (states.NameDisambiguation ps) = cites.by_names ps
 state_view states.Choose = cites.by_choose
 state_view (states.YearSuffix n) = cites.by_suffix n

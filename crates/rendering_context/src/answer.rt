@@ -66,7 +66,6 @@ impl Answer<'_> {
     }
 }
 
-/// The text of a variable, where it has one.
 pub(crate) fn text_of<'a, E: EntryLike>(
     alloc: Global,
     entry: &'a E,
@@ -82,7 +81,6 @@ pub(crate) fn text_of<'a, E: EntryLike>(
     }
 }
 
-/// The text, where it has pieces.
 fn text_with_pieces(text: Cow<'_, ChunkedString>) -> Option<Answer<'_>>
     ensures { answer_if result ≡ answering.of_pieces (lent_text_view text.entry) }
 {
@@ -115,7 +113,6 @@ fn is_piece(piece: &StringChunk) -> bool
     }
 }
 
-/// The year suffix, where there is one.
 pub(crate) fn year_suffix(year_suffix: &str) -> Option<Answer<'_>>
     ensures { answer_if result ≡ answering.of_pieces (one_chunk (chars year_suffix.now)) }
 {
@@ -161,7 +158,6 @@ fn address<'a>(
     Ok(Some(Answer::Address { text, url }))
 }
 
-/// The characters of all pieces.
 fn all_characters(alloc: Global, pieces: &[StringChunk]) -> Result<String, AllocError>
     ensures { IfOk result (λ s. characters s ≡ characters_of (map chunk_view pieces.now)) }
 {
@@ -236,7 +232,6 @@ fn numeral<'a>(number: i32) -> Answer<'a>
     Answer::Number(MaybeTyped::Typed(Cow::Owned(Numeric::new(number))))
 }
 
-/// A number in digits.
 fn digits(alloc: Global, number: u128) -> Result<String, AllocError>
     ensures { IfOk result (λ s. characters s ≡ decimal number) }
 {

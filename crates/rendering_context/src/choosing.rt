@@ -35,7 +35,6 @@ impl<'s, 'a> Context<'s, 'a> {
         }
     }
 
-    /// Whether all tests hold.
     fn all_hold<E: EntryLike>(&self, entry: &'a E, tests: &[ChooseTest]) -> Result<bool, AllocError>
         ensures { IfOk result (λ b. b
             ≡ list_all (choosing.holds (context_view (E.answers entry.now) self.now))
@@ -49,7 +48,7 @@ impl<'s, 'a> Context<'s, 'a> {
         Ok(true)
     }
 
-    /// Whether a test holds.
+    /// Whether one of the tests holds.
     fn any_holds<E: EntryLike>(
         &self,
         entry: &'a E,
@@ -85,8 +84,8 @@ impl<'s, 'a> Context<'s, 'a> {
 }
 
 impl CiteProperties<'_> {
-    /// Whether the cite stands there. A cite that repeats the one before it, stands near the first note or is not the first is a
-    /// subsequent one.
+    /// Whether the cite is at the position. A cite that repeats the one before it, is near the first note or is not the first of its
+    /// entry is a subsequent one.
     fn is_at(&self, position: TestPosition) -> bool
         ensures { result ≡ choosing.is_at (cite_properties_view self.now) position }
     {
@@ -110,7 +109,7 @@ fn is_ibid(ibid: IbidState) -> bool
     }
 }
 
-/// Whether it is, with another locator.
+/// Whether the cite before is of the same entry and has another locator.
 fn is_ibid_with_locator(ibid: IbidState) -> bool
     ensures { result ≡ choosing.is_ibid_with_locator ibid }
 {
@@ -131,21 +130,21 @@ fn is_uncertain<E: EntryLike>(entry: &E, variable: DateVariable) -> bool
     }
 }
 
-/// Whether a condition asks if the cite is like others.
+/// Whether a condition has the test `disambiguate`.
 pub fn asks_disambiguate(condition: &Condition) -> bool
     ensures { result ≡ choosing.asks_disambiguate (condition_view condition.now) }
 {
     for test in &condition.tests {
-        if is_asking(*test) {
+        if is_disambiguate(*test) {
             return true;
         }
     }
     false
 }
 
-/// Whether a test asks if the cite is like others.
-fn is_asking(test: ChooseTest) -> bool
-    ensures { result ≡ choosing.is_asking (test_view test) }
+/// Whether a test is `disambiguate`.
+fn is_disambiguate(test: ChooseTest) -> bool
+    ensures { result ≡ choosing.is_disambiguate (test_view test) }
 {
     match test {
         ChooseTest::Disambiguate => true,

@@ -16,7 +16,7 @@ use rendering_people::NameDisambiguationProperties;
 use rendering_taxonomy::{IbidState, IdentifierUsage, Locator};
 use std::alloc::{AllocError, Global};
 
-/// The state of disambiguation of a cite: nothing, more of its names, other branches of a style, a year suffix.
+/// The state of disambiguation of a cite: none, more of its names, other branches of the style, or a year suffix.
 #[derive(Debug, Default, Drop)]
 pub enum DisambiguateState {
     #[default]
@@ -74,7 +74,6 @@ impl<'a> CiteProperties<'a> {
         })
     }
 
-    /// The locator, where there is one.
     fn plain_locator(&self) -> Option<SpecificLocator<'a, ()>>
         ensures { option_map locator_view result ≡ (cite_properties_view self.now).locator }
     {
@@ -166,7 +165,8 @@ impl DisambiguateState {
         }
     }
 
-    /// The greater of two: by kind, in the order of the variants' list with year suffixes last; of one kind the one that prints more.
+    /// The greater of two states: the one whose variant stands later in the list; of one variant the one that prints more of the names or
+    /// has the greater index.
     pub fn max(self, other: DisambiguateState) -> DisambiguateState
         ensures { state_view result ≡ greater_state (state_view self) (state_view other) }
     {
@@ -223,7 +223,7 @@ impl DisambiguateState {
         matches!(self, DisambiguateState::Choose)
     }
 
-    /// The index of its kind.
+    /// The index of its variant.
     fn rank(&self) -> u8
         ensures { result ≡ state_rank (state_view self.now) }
     {

@@ -129,7 +129,6 @@ impl<'s, 'a> Context<'s, 'a> {
         Ok(false)
     }
 
-    /// Whether the variable has people.
     fn is_answered_by_people<E: EntryLike>(
         &self,
         entry: &'a E,
@@ -304,7 +303,6 @@ impl<'s, 'a> Context<'s, 'a> {
         }
     }
 
-    /// Appends the people of a variable, where it has some.
     fn push_people<E: EntryLike>(
         &self,
         entry: &'a E,
@@ -324,7 +322,6 @@ impl<'s, 'a> Context<'s, 'a> {
     }
 }
 
-/// Appends people of a variable, where there are some.
 fn push_answered<'a>(
     answered: &mut Vec<Answered<'a>>,
     people: Vec<Cow<'a, Person>>,
@@ -340,7 +337,6 @@ fn push_answered<'a>(
     Ok(())
 }
 
-/// Whether a variable has people.
 fn has_people<E: EntryLike>(
     alloc: Global,
     entry: &E,

@@ -95,7 +95,7 @@ impl<'a, P: Clone + PartialEq> SpecificLocator<'a, P> {
 }
 
 impl<'a, P> SpecificLocator<'a, P> {
-    /// The same without what the caller prints by itself.
+    /// The locator without what the caller prints by itself.
     pub fn without_payload(&self) -> SpecificLocator<'a, ()>
         ensures { locator_view result ≡ locator_view self.now }
     {
@@ -107,7 +107,7 @@ impl<'a, P> SpecificLocator<'a, P> {
 }
 
 impl<'a, P> LocatorPayload<'a, P> {
-    /// The same without what the caller prints by itself.
+    /// The payload without what the caller prints by itself.
     fn without_payload(&self) -> LocatorPayload<'a, ()>
         ensures { payload_view result ≡ payload_view self.now }
     {
@@ -154,7 +154,6 @@ fn is_range_sign(c: char) -> bool
     c == ',' || c == '&' || c == '-' || c == '\u{2013}'
 }
 
-/// Whether the text spells a number.
 fn spells_number(alloc: Global, text: &str) -> Result<bool, AllocError>
     ensures { IfOk result (λ b. b ≡ answering.spells_number (numeral_of (chars text.now))) }
 {

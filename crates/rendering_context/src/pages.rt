@@ -11,7 +11,6 @@ ghost use Rattle.literature_numbers.specs.Views.{numeric_value_view, numeral_vie
 use literature_values::{Numeric, NumericValue, PageRanges, PageRangesPart};
 use texts::has_text;
 
-/// Whether pages have a text.
 pub(crate) fn have_text(pages: &PageRanges) -> bool
     ensures { result ≡ is_filled (pages_text (pages_view pages.now)) }
 {
@@ -43,7 +42,6 @@ fn has_number_text(number: &Numeric) -> bool
         || has_affix_text(&number.suffix)
 }
 
-/// Whether there are letters.
 fn has_affix_text(letters: &Option<String>) -> bool
     ensures { result ≡ is_filled (affix_text (option_map characters letters.now)) }
 {

@@ -4,6 +4,7 @@ use Rattle.std.specs.Str.{chars}
 use Rattle.std.proofs.lemmas.Str.{chars-encodes}
 use Rattle.rendering_dates.specs.Dates.{dash}
 
+-- the bytes of the en dash
 pub dash_characters : chars (226 ∷ 128 ∷ 147 ∷ []) ≡ dash
 unfolding chars
 dash_characters = refl

@@ -103,7 +103,7 @@ abbrev pub text_pieces : Manner → List ℕ → DatePart → List ℕ → List 
 text_pieces m year_suffix p cs =
     framed (part_frame m p) (normal (part_manner m p) cs ∷ normal (part_manner m p) (year_suffix_of p.form year_suffix) ∷ [])
 
--- the same, but nothing of an empty text
+-- the pieces of a text of a part, or nothing where the text is empty
 abbrev pub filled_pieces : Manner → List ℕ → DatePart → List ℕ → List (List Piece)
 filled_pieces m year_suffix p cs = if is_filled cs then text_pieces m year_suffix p cs ∷ [] else []
 
@@ -128,9 +128,9 @@ side_pieces ls m shape year_suffix d = joined_with (normal m shape.delimiter ∷
 abbrev pub side_text : List Locale → Manner → DateShape → Date → List ℕ
 side_text ls m shape d = page_text (append_pieces [] (side_pieces ls m shape [] d) empty_page).tokens
 
--- an en dash
+-- the text between the sides of a range: an en dash
 abbrev pub dash : List ℕ
-dash = 8211 ∷ []
+dash = codes "–"
 
 -- the first side, a dash and the last side, which has the year suffix; where both print the same, the first alone
 abbrev pub both_pieces : List Locale → Manner → DateShape → List ℕ → Date → Date → List Piece

@@ -32,7 +32,7 @@ pub(crate) enum PartText<'a> {
 }
 
 impl<'a> PartText<'a> {
-    /// Whether there is a character.
+    /// Whether the text is not empty.
     pub(crate) fn is_filled(&self) -> bool
         ensures { result ≡ is_filled (part_text_view self.now) }
     {
@@ -44,7 +44,6 @@ impl<'a> PartText<'a> {
     }
 }
 
-/// The text of a part in its form.
 pub(crate) fn part_text<'a>(
     alloc: Global,
     locales: &AskedLocales<'a>,
@@ -108,7 +107,6 @@ fn month_word<'a>(locales: &AskedLocales<'a>, form: TermForm, month: u8) -> Part
     PartText::Word(locales.term_text(Term::Other(OtherTerm::Month(month)), form, false))
 }
 
-/// The text of a year.
 fn year_text<'a>(
     alloc: Global,
     locales: &AskedLocales<'a>,

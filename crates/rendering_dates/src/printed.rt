@@ -15,6 +15,7 @@ use rendering_locale::DatePart;
 use rendering_page::{Frame, Manner, Page};
 use rendering_taxonomy::DatePartForm;
 use std::alloc::AllocError;
+use texts::no_text;
 
 /// Appends a text of a part and, of a year, the year suffix directly after it, between the part's affixes.
 pub(crate) fn push_part<'a>(
@@ -37,7 +38,6 @@ pub(crate) fn push_part<'a>(
     page.end(quotes, &frame)
 }
 
-/// Appends a text of a part.
 fn push_part_text<'a>(
     page: &mut Page<'a>,
     quotes: &[&str],
@@ -55,13 +55,12 @@ fn push_part_text<'a>(
 }
 
 /// The year suffix after a part: a year has it.
-#[tactic(auto, using(rendering_locale::proofs::LookupTexts::no_characters))]
 fn year_suffix_of(form: DatePartForm, year_suffix: &str) -> &str
     ensures { spelled result ≡ year_suffix_of form (chars year_suffix.now) }
 {
     match form {
         DatePartForm::Year(_) => year_suffix,
-        DatePartForm::Day(_) | DatePartForm::Month(_) => "",
+        DatePartForm::Day(_) | DatePartForm::Month(_) => no_text(),
     }
 }
 

@@ -53,7 +53,6 @@ fn push_dash(out: &mut String) -> Result<(), AllocError>
     push_character(out, '–')
 }
 
-/// Appends a whole year.
 fn push_whole_year(out: &mut String, locales: &AskedLocales, year: i32) -> Result<(), AllocError>
     ensures { OnOk result (characters out.new ≡ characters out.old ++ whole_year locales.now year) }
 {
@@ -86,7 +85,6 @@ fn has_era(year: i32) -> bool
     year < 1000
 }
 
-/// Whether a form is the short one.
 fn is_short(form: LongShortForm) -> bool
     ensures { result ≡ is_short form }
 {

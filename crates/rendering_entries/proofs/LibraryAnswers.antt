@@ -1,6 +1,6 @@
 -- What an entry of a library answers, by how the entry stands among works.
 use Rattle.std.proofs.Common.{◌≡◌, sym, ap}
-use Rattle.literature_entries.specs.Wholes.{entry_view}
+use Rattle.literature_entries.specs.EntriesData.{entry_view}
 use Rattle.literature_entries.specs.declared.entry.Entry.{Entry}
 use Rattle.rendering_entries.specs.Library.{answers_of, answers_among}
 use Rattle.rendering_entries.specs.Views.{entry_ancestry}

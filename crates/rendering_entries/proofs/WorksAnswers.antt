@@ -5,7 +5,7 @@ use Rattle.std.specs.Option.{option_or, is_some}
 use Rattle.std.proofs.lemmas.List.{map-append, at_drop_more}
 use Rattle.std.proofs.lemmas.List.Folds.{find-append}
 use Rattle.std.proofs.lemmas.Result.{IfOk-weaker}
-use Rattle.literature_entries.specs.Ancestors.{ancestors, AsksFrom, first_or, first_of}
+use Rattle.literature_entries.specs.Ancestors.{ancestors, AsksFrom, first_of}
 use Rattle.literature_entries.specs.Fields.{Fields}
 use Rattle.literature_entries.specs.Views.{fields_view, parents, view_in}
 use Rattle.literature_entries.specs.declared.entry.Entry.{Entry}
@@ -34,16 +34,12 @@ view_is_some view (Some x) = refl
 
 first_answer_is : {V : Type 0} (look : Fields → Option V) (es : List Entry) → first_of (λ e. look (fields_view e)) es ≡ first_answer look (map fields_view es)
 first_answer_is look [] = refl
-first_answer_is look (e ∷ es) = ap (first_or (look (fields_view e))) (first_answer_is look es)
+first_answer_is look (e ∷ es) = ap (option_or (look (fields_view e))) (first_answer_is look es)
 
 nearest_is : {V : Type 0} (look : Fields → Option V) (e : Entry) → first_of (λ a. look (fields_view a)) (e ∷ ancestors e) ≡ nearest look (entry_ancestry e)
 nearest_is look e =
     first_answer_is look (e ∷ ancestors e)
     ∙ ap (λ (ws : List Fields). first_answer look (fields_view e ∷ ws)) (fields_upwards (parents e))
-
-or_is : {V : Type 0} (x y : Option V) → first_or x y ≡ option_or x y
-or_is None y = refl
-or_is (Some v) y = refl
 
 -- what is found before others is found in the whole
 pub found_in_leading : (p : Fields → Bool) (xs ys : List Fields) (w : Fields) → Some w ≡ find p xs → Some w ≡ find p (xs ++ ys)
@@ -57,8 +53,7 @@ found_behind p xs ys e = ap (λ (o : Option Fields). option_or o (find p ys)) e 
 first_among : (p : Fields → Bool) (es : List Entry) → first_of (λ e. find p (map fields_view (parents e))) es ≡ find p (map fields_view (flat_map parents es))
 first_among p [] = refl
 first_among p (e ∷ es) =
-    ap (first_or (find p (map fields_view (parents e)))) (first_among p es)
-    ∙ or_is (find p (map fields_view (parents e))) (find p (map fields_view (flat_map parents es)))
+    ap (option_or (find p (map fields_view (parents e)))) (first_among p es)
     ∙ sym (find-append p (map fields_view (parents e)) (map fields_view (flat_map parents es)))
     ∙ ap (find p) (sym (map-append fields_view (parents e) (flat_map parents es)))
 

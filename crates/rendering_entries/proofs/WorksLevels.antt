@@ -6,7 +6,7 @@ use Rattle.std.proofs.lemmas.List.Concat.{flat_map-append}
 use Rattle.literature_entries.specs.Ancestors.{upwards}
 use Rattle.literature_entries.specs.Fields.{Fields}
 use Rattle.literature_entries.specs.Views.{key_view, fields_view, parents}
-use Rattle.literature_entries.specs.Wholes.{Holding, wholes, entry_view}
+use Rattle.literature_entries.specs.EntriesData.{Holding, wholes, entry_view}
 use Rattle.literature_entries.specs.declared.entry.Entry.{Entry, the_lemmas}
 use Rattle.literature_entries.proofs.AncestorsWalks.{upwards_more}
 use Rattle.rendering_entries.specs.Views.{entry_ancestry}

@@ -10,7 +10,7 @@ use Rattle.literature_values.specs.TextViews.{Chunk, Format}
 use Rattle.literature_values.specs.TypedViews.{ValueOrText, Value, Text}
 use Rattle.literature_entries.specs.Fields.{Fields}
 use Rattle.literature_entries.specs.Names.{serial}
-use Rattle.literature_entries.specs.Wholes.{Whole}
+use Rattle.literature_entries.specs.EntriesData.{EntryData}
 use Rattle.rendering_entries.specs.Answers.{Answers}
 use Rattle.rendering_entries.specs.Works.{Ancestry, ancestry, is_one_of, nearest, first_parent, container, collection, is_article_in}
 use Rattle.rendering_numbers.specs.SuffixesAndLabels.{citation_label}
@@ -78,7 +78,7 @@ abbrev pub number_or_text : List ℕ → Result Numeral Unreadable → ValueOrTe
 number_or_text cs (Ok n) = Value n
 number_or_text cs (Err e) = Text cs
 
--- the same of a text in bytes
+-- the number that a text in bytes spells, or the text
 abbrev pub read_number : List ℕ → ValueOrText Numeral
 read_number bs = number_or_text (chars bs) (numeral_of (chars bs))
 
@@ -179,5 +179,5 @@ answers_among s = record {
 }
 
 -- all that an entry of a library answers
-abbrev pub answers_of : Whole → Answers
+abbrev pub answers_of : EntryData → Answers
 answers_of w = answers_among (ancestry w)

@@ -2,10 +2,10 @@
 use Rattle.std.specs.Prelude.{ℕ, Bool, ◌&&◌, is_some, List, [], ◌∷◌, ◌++◌, if◌then◌else◌, Option, None}
 use Rattle.std.specs.List.{find, flat_map, list_any}
 use Rattle.std.specs.Str.{bytes_eq}
+use Rattle.std.specs.Option.{option_or}
 use Rattle.literature_values.specs.EntryTypes.{type_name}
-use Rattle.literature_entries.specs.Ancestors.{first_or}
 use Rattle.literature_entries.specs.Fields.{Fields}
-use Rattle.literature_entries.specs.Wholes.{Whole, Wholes, Holding, nothing, before}
+use Rattle.literature_entries.specs.EntriesData.{EntryData, EntriesData, Holding, nothing, before}
 use Rattle.literature_values.specs.declared.entry_type.EntryType.{EntryType}
 use Rattle.literature_values.specs.declared.entry_type.EntryType.TheVariants as types
 
@@ -25,11 +25,11 @@ beside (l ∷ ls) (m ∷ ms) = (l ++ m) ∷ beside ls ms
 
 abbrev mutual
   -- an entry on a level of its own, its parents on the next, their parents on the one after that, and so on
-  pub by_level : Whole → List (List Fields)
+  pub by_level : EntryData → List (List Fields)
   by_level (Holding key fs ws) = (fs ∷ []) ∷ each_by_level ws
 
-  -- the same of several entries
-  pub each_by_level : Wholes → List (List Fields)
+  -- the levels of several entries, side by side
+  pub each_by_level : EntriesData → List (List Fields)
   each_by_level nothing = []
   each_by_level (before w ws) = beside (by_level w) (each_by_level ws)
 
@@ -44,7 +44,7 @@ later_levels [] = []
 later_levels (l ∷ ls) = flat_map (λ x. x) ls
 
 -- an entry among the works that it is part of
-abbrev pub ancestry : Whole → Ancestry
+abbrev pub ancestry : EntryData → Ancestry
 ancestry (Holding key fs ws) = record { key = key; own = fs; parents = first_level (each_by_level ws); further = later_levels (each_by_level ws) }
 
 -- whether a work is of one of the types
@@ -54,7 +54,7 @@ is_one_of ts fs = list_any (λ t. bytes_eq (type_name t) (type_name fs.entry_typ
 -- what the first of some works says that says something
 abbrev pub first_answer : {V : Type 0} → (Fields → Option V) → List Fields → Option V
 first_answer look [] = None
-first_answer look (fs ∷ more) = first_or (look fs) (first_answer look more)
+first_answer look (fs ∷ more) = option_or (look fs) (first_answer look more)
 
 -- what the entry says, or else the first of its ancestors
 abbrev pub nearest : {V : Type 0} → (Fields → Option V) → Ancestry → Option V

@@ -21,7 +21,6 @@ pub(crate) fn date_answer(entry: &Entry, variable: DateVariable) -> Option<Cow<'
     Some(Cow::Borrowed(variable_date(entry, variable)?))
 }
 
-/// The date of a variable.
 fn variable_date(entry: &Entry, variable: DateVariable) -> Option<&Date>
     ensures { view_in (λ d. d) result ≡ date_answer (entry_ancestry entry.now) variable }
 {

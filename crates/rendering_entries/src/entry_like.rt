@@ -5,8 +5,9 @@ ghost use Rattle.std.specs.Cow.{cow_value, cow_str_bytes};
 ghost use Rattle.std.specs.Option.{option_map};
 ghost use Rattle.literature_numbers.specs.PageViews.{pages_view};
 ghost use Rattle.literature_values.specs.TypedViews.{typed_view};
+ghost use Rattle.literature_values.specs.PersonViews.{lent_person_view};
 ghost use Rattle.rendering_entries.specs.Answers.{Answers};
-ghost use Rattle.rendering_entries.specs.Views.{lent_number_view, lent_text_view, lent_person_view};
+ghost use Rattle.rendering_entries.specs.Views.{lent_number_view, lent_text_view};
 
 use literature_values::{ChunkedString, Date, MaybeTyped, Numeric, PageRanges, Person};
 use rendering_taxonomy::{
@@ -78,7 +79,7 @@ pub trait EntryLike: Eq {
     ghost alike: { (a b : Self) → Self.eq a b ≡ true → answers a ≡ answers b };
 }
 
-/// Whether two entries are equal. Those that are answer alike.
+/// Whether two entries are equal. Equal entries answer alike.
 pub fn are_one_entry<E: EntryLike>(a: &E, b: &E) -> bool
     ensures equal { result ≡ E.eq a.now b.now }
     ensures alike { IsTrue result → E.answers a.now ≡ E.answers b.now }

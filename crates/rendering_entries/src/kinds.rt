@@ -9,7 +9,6 @@ use literature_entries::Entry;
 use literature_values::EntryType;
 use rendering_taxonomy::Kind;
 
-/// Whether the entry is of the kind.
 pub(crate) fn kind_answer(entry: &Entry, kind: Kind) -> bool
     ensures { result ≡ kind_answer (entry_ancestry entry.now) kind }
 {

@@ -5,7 +5,7 @@ ghost use Rattle.std.specs.Option.{option_map, option_map_or};
 ghost use Rattle.laws.specs.Text.{characters};
 ghost use Rattle.literature_values.specs.TextViews.{chunk_view};
 ghost use Rattle.literature_entries.specs.Views.{fields_view};
-ghost use Rattle.literature_entries.specs.Wholes.{entry_view};
+ghost use Rattle.literature_entries.specs.EntriesData.{entry_view};
 ghost use Rattle.rendering_entries.specs.Library.{characters_of, long_text, label_of};
 ghost use Rattle.rendering_entries.specs.Views.{entry_ancestry};
 ghost use Rattle.rendering_entries.specs.Works.{ancestry};

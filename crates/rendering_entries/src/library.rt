@@ -25,8 +25,8 @@ use std::borrow::{Cow, CowStr};
 /// first, and of one depth those of the first parent.
 impl EntryLike for Entry {
     ghost use Rattle.std.proofs.Common.{ap};
-    ghost use Rattle.literature_entries.specs.Wholes.{entry_view};
-    ghost use Rattle.literature_entries.proofs.WholesEquality.{Shows-Entry};
+    ghost use Rattle.literature_entries.specs.EntriesData.{entry_view};
+    ghost use Rattle.literature_entries.proofs.EntriesDataEquality.{Shows-Entry};
     ghost use Rattle.rendering_entries.specs.Library.{answers_of};
 
     ghost answers = { λ e. answers_of (entry_view e) };

@@ -14,7 +14,6 @@ use literature_entries::Entry;
 use literature_values::{FormatString, MaybeTyped, Numeric, Person};
 use std::alloc::AllocError;
 
-/// The edition.
 pub(crate) fn nearest_edition(entry: &Entry) -> Result<Option<&MaybeTyped<Numeric>>, AllocError>
     ensures { IfOk result (λ n. view_in (typed_view numeral_view) n
         ≡ nearest (λ fs. fs.edition) (entry_ancestry entry.now)) }
@@ -22,7 +21,6 @@ pub(crate) fn nearest_edition(entry: &Entry) -> Result<Option<&MaybeTyped<Numeri
     entry.map(|work| work.edition())
 }
 
-/// The issue.
 pub(crate) fn nearest_issue(entry: &Entry) -> Result<Option<&MaybeTyped<Numeric>>, AllocError>
     ensures { IfOk result (λ n. view_in (typed_view numeral_view) n
         ≡ nearest (λ fs. fs.issue) (entry_ancestry entry.now)) }
@@ -40,7 +38,6 @@ pub(crate) fn nearest_volume_total(
     entry.map(|work| work.volume_total())
 }
 
-/// The volume.
 pub(crate) fn nearest_volume(entry: &Entry) -> Result<Option<&MaybeTyped<Numeric>>, AllocError>
     ensures { IfOk result (λ n. view_in (typed_view numeral_view) n
         ≡ nearest (λ fs. fs.volume) (entry_ancestry entry.now)) }
@@ -48,7 +45,6 @@ pub(crate) fn nearest_volume(entry: &Entry) -> Result<Option<&MaybeTyped<Numeric
     entry.map(|work| work.volume())
 }
 
-/// The editors.
 pub(crate) fn nearest_editor(entry: &Entry) -> Result<Option<&[Person]>, AllocError>
     ensures { IfOk result (λ ps. view_in people_view ps
         ≡ nearest (λ fs. fs.editor) (entry_ancestry entry.now)) }

@@ -1,10 +1,10 @@
 //! People of entries.
 
 ghost use Rattle.std.specs.Prelude.{◌≡◌, ◌++◌, map, option_and_then, IfOk, OnOk};
-ghost use Rattle.literature_values.specs.PersonViews.{person_view as person_of};
+ghost use Rattle.literature_values.specs.PersonViews.{person_view as person_of, lent_person_view};
 ghost use Rattle.literature_entries.specs.Views.{fields_view, people_view, view_in};
 ghost use Rattle.rendering_entries.specs.Library.{people_or_none, people_answer};
-ghost use Rattle.rendering_entries.specs.Views.{lent_person_view, entry_ancestry};
+ghost use Rattle.rendering_entries.specs.Views.{entry_ancestry};
 ghost use Rattle.rendering_entries.specs.Works.{container};
 
 use crate::nearest::nearest_editor;
@@ -35,7 +35,6 @@ pub(crate) fn people_answer(
     }
 }
 
-/// The authors of the container.
 fn container_author(entry: &Entry) -> Option<&[Person]>
     ensures { view_in people_view result
         ≡ option_and_then (λ fs. fs.author) (container (entry_ancestry entry.now)) }

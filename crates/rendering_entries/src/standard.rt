@@ -152,7 +152,6 @@ fn short_or_long(text: &FormatString) -> &ChunkedString
     }
 }
 
-/// The title of a work, where there is a work with one.
 fn title_of(work: Option<&Entry>) -> Option<Cow<'_, ChunkedString>>
     ensures { option_map lent_text_view result ≡ title_of (view_in fields_view work.entry) }
 {

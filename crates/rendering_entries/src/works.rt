@@ -27,14 +27,12 @@ const WITH_ANTHOLOGY: [EntryType; 5] = [
     EntryType::Anthology,
 ];
 
-/// Whether the entry is of one of the types.
 pub(crate) fn is_one_of(entry: &Entry, entry_types: &[EntryType]) -> bool
     ensures { result ≡ is_one_of entry_types.now (fields_view entry.now) }
 {
     entry_types.contains(entry.entry_type())
 }
 
-/// The first of the entries that is of one of the types.
 fn first_of<'a>(entries: &'a [Entry], entry_types: &[EntryType]) -> Option<&'a Entry>
     ensures { view_in fields_view result
         ≡ find (is_one_of entry_types.now) (map fields_view entries.now) }
@@ -47,7 +45,6 @@ fn first_of<'a>(entries: &'a [Entry], entry_types: &[EntryType]) -> Option<&'a E
     None
 }
 
-/// The first parent of that type.
 pub(crate) fn first_parent(entry: &Entry, entry_type: EntryType) -> Option<&Entry>
     ensures { view_in fields_view result
         ≡ first_parent (entry_type ∷ []) (entry_ancestry entry.now) }
@@ -86,7 +83,7 @@ pub(crate) fn collection(entry: &Entry) -> Result<Option<&Entry>, AllocError>
     }
 }
 
-/// The first anthology among parents, the first aside that is of a type of containers.
+/// The first anthology among parents, without the first parent that is of one of the types of containers.
 fn anthology_beside<'a>(parents: &'a [Entry], containers: &[EntryType]) -> Option<&'a Entry>
     ensures { view_in fields_view result
         ≡ first_anthology (without_first (is_one_of containers.now) (map fields_view parents.now)) }
@@ -112,7 +109,6 @@ fn further_anthology(entry: &Entry) -> Result<Option<&Entry>, AllocError>
     entry.map_parents(|work| first_anthology(work.parents()))
 }
 
-/// The first anthology of the entries.
 fn first_anthology(entries: &[Entry]) -> Option<&Entry>
     ensures { view_in fields_view result ≡ first_anthology (map fields_view entries.now) }
 {

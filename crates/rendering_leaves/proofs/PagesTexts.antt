@@ -1,5 +1,5 @@
 -- Pages as texts.
-use Rattle.std.proofs.Common.{◌≡◌, ℕ, List, [], ◌∷◌, ◌++◌, append_assoc, refl, ap, ◌∙◌}
+use Rattle.std.proofs.Common.{◌≡◌, ℕ, List, [], ◌∷◌, ◌++◌, append_assoc, codes, refl, ap, ◌∙◌}
 use Rattle.std.specs.Str.{chars}
 use Rattle.literature_numbers.specs.Numerics.{Value, Number, Set, Numeral}
 use Rattle.literature_numbers.specs.NumericText.{affix_text, delimiter_text, numeral_text, value_text}
@@ -19,14 +19,15 @@ numeral_in_digits o n =
     ∙ append_assoc (affix_text n.prefix) (value_text n.value) (affix_text n.suffix)
 
 -- the separators as the characters of a text
-pub comma_characters : chars (44 ∷ 32 ∷ []) ≡ delimiter_text Comma
+pub comma_characters : chars (codes ", ") ≡ delimiter_text Comma
 unfolding chars
 comma_characters = refl
 
-pub ampersand_characters : chars (32 ∷ 38 ∷ 32 ∷ []) ≡ delimiter_text Ampersand
+pub ampersand_characters : chars (codes " & ") ≡ delimiter_text Ampersand
 unfolding chars
 ampersand_characters = refl
 
+-- the bytes of the en dash
 pub dash_characters : chars (226 ∷ 128 ∷ 147 ∷ []) ≡ delimiter_text Hyphen
 unfolding chars
 dash_characters = refl

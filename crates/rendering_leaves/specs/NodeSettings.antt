@@ -33,8 +33,8 @@ pub record Used : Type 0 where
   pub label : Bool
   pub number : Bool
 
--- What was appended, whether the first date was, the variables that are not printed again, whether it was asked if the cite is like
--- others, what was printed of the first names by their options, and which identifiers were printed.
+-- What was appended, whether the first date was, the variables that are not printed again, whether the test `disambiguate` was
+-- evaluated, what was printed of the first names by their options, and which identifiers were printed.
 pub record State : Type 0 where
   pub page : Page
   pub has_date : Bool
@@ -43,7 +43,7 @@ pub record State : Type 0 where
   pub names : Option Properties
   pub used : Used
 
--- before anything was appended
+-- the state before anything was appended
 abbrev pub begun : State
 begun = record {
   page = empty_page;
@@ -58,7 +58,7 @@ begun = record {
 abbrev pub append : Context → List Piece → State → State
 append c ps st = record st { page = append_pieces c.quotes ps st.page }
 
--- it was asked whether the cite is like others, if so
+-- the state once the test `disambiguate` was evaluated, or not
 abbrev pub noted : Bool → State → State
 noted met st = record st { met_disambiguate = st.met_disambiguate || met }
 

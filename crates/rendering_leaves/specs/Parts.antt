@@ -50,7 +50,7 @@ in_label c s v l plural =
 abbrev pub in_date : Context → NodeSetting → DateNode → List ℕ → Date → List Piece
 in_date c s d year_suffix day = framed (date_frame s s.form d) (date_inside c (look_manner s.manner d.look) s.form d year_suffix day)
 
--- the same, and nothing where there is no date
+-- a date in a date node, with a year suffix; nothing where there is no date
 abbrev pub day_in : Context → NodeSetting → DateNode → List ℕ → Option Date → List Piece
 day_in c s d year_suffix None = []
 day_in c s d year_suffix (Some day) = in_date c s d year_suffix day

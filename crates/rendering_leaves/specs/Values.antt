@@ -34,7 +34,7 @@ use Rattle.rendering_taxonomy.specs.declared.variable.Variable.TheVariants as va
 abbrev pub look_manner : Manner → Look → Manner
 look_manner m l = record m { formatting = changed l.formatting m.formatting }
 
--- the same of a text node, whose full stops may go
+-- a text node's look inside what is around it; its full stops may be left out
 abbrev pub text_manner : Manner → TextLook → Manner
 text_manner m t = record { formatting = changed t.look.formatting m.formatting; strips_periods = m.strips_periods || t.strips_periods }
 
@@ -42,22 +42,22 @@ text_manner m t = record { formatting = changed t.look.formatting m.formatting; 
 abbrev pub frame : Manner → Option Meta → Look → Frame
 frame m meta l = record { display = l.display; meta = meta; manner = m; prefix = l.prefix; suffix = l.suffix }
 
--- the quotes, of which those inside others are of another kind
+-- the open quotes, of which those inside others are of another kind
 abbrev pub open_term : Bool → OtherTerm
 open_term false = others.OpenQuote
 open_term true = others.OpenInnerQuote
 
--- the same of close quotes
+-- the close quotes, of which those inside others are of another kind
 abbrev pub close_term : Bool → OtherTerm
 close_term false = others.CloseQuote
 close_term true = others.CloseInnerQuote
 
--- what a node appends before and after what it prints, where it stands in quotes
+-- what a node appends before what it prints, where it stands in quotes
 abbrev pub quote_before : Context → Manner → Bool → Bool → List Piece
 quote_before c m false inside = []
 quote_before c m true inside = normal m (quote_text c.locales (terms.Other (open_term inside))) ∷ []
 
--- the same after it
+-- what a node appends after what it prints, where it stands in quotes
 abbrev pub quote_after : Context → Manner → Bool → Bool → List Piece
 quote_after c m false inside = []
 quote_after c m true inside = close_quote m (quote_text c.locales (terms.Other (close_term inside))) ∷ []
@@ -93,7 +93,7 @@ is_number_variable v = is_variable v (variables.Number number.CitationNumber)
 abbrev pub own_year_suffix : Context → List ℕ
 own_year_suffix c = if c.has_suffix_node then [] else c.year_suffix
 
--- they stand after a label too
+-- what stands after a label: the year suffix, by the same rule
 abbrev pub label_suffix : Context → Manner → Variable → List Piece
 label_suffix c m v = if is_label_variable v then normal m (own_year_suffix c) ∷ [] else []
 
@@ -164,11 +164,11 @@ abbrev pub day_pieces : Context → NodeSetting → Bool → DateNode → Option
 day_pieces c s has_date d None = []
 day_pieces c s has_date d (Some day) = framed (date_frame s s.form d) (date_inside c (look_manner s.manner d.look) s.form d (date_suffix c has_date) day)
 
--- a variable that a substitute prints is not printed again
+-- the state in which a variable that a substitute prints is not printed again
 abbrev pub suppressing : NodeSetting → Variable → State → State
 suppressing s v st = if s.in_substitute then record st { suppressed = with_variable st.suppressed v } else st
 
--- cites remember which identifiers they printed
+-- the state once a variable was printed, by which it is known which identifiers cites printed
 abbrev pub using : Context → Variable → State → State
 using c v st =
     if c.is_bibliography then st

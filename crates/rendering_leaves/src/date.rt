@@ -19,7 +19,7 @@ ghost use Rattle.rendering_style.specs.Views.{date_node_view};
 
 use crate::date_shape::date_shape;
 use crate::entry_identifiers::own_year_suffix;
-use crate::node_frame::{bare_frame, frame_of, look_manner, no_text};
+use crate::node_frame::{bare_frame, frame_of, look_manner};
 use crate::node_setting::{NodeSetting, SpecialForm};
 use crate::state::State;
 use crate::suppression::suppress_in_substitute;
@@ -33,6 +33,7 @@ use rendering_taxonomy::Variable;
 use rendering_tree::ElemMeta;
 use std::alloc::AllocError;
 use std::borrow::Cow;
+use texts::no_text;
 
 /// Appends a date node: the date of its variable, with the year suffix of the first date.
 ///

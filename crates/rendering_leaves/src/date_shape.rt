@@ -12,12 +12,12 @@ ghost use Rattle.rendering_locale.specs.Lookup.{date_found};
 ghost use Rattle.rendering_locale.specs.Views.{localized_date_view, part_view};
 ghost use Rattle.rendering_style.specs.Views.{date_node_view};
 
-use crate::node_frame::no_text;
 use rendering_context::Context;
 use rendering_dates::DateShape;
 use rendering_locale::{AskedLocales, DatePart, LocalizedDate};
 use rendering_style::Date;
 use rendering_taxonomy::DateForm;
+use texts::no_text;
 
 /// The parts of a date node, cut to so much of a date, and what stands between them.
 pub(crate) fn date_shape<'a>(context: &Context<'_, 'a>, node: &'a Date) -> DateShape<'a>

@@ -9,13 +9,14 @@ ghost use Rattle.rendering_page.specs.Pieces.{append_pieces};
 ghost use Rattle.rendering_page.specs.Views.{quotes_view, manner_view};
 ghost use Rattle.rendering_tree.specs.Views.{meta_view};
 
-use crate::node_frame::{bare_frame, no_text};
+use crate::node_frame::bare_frame;
 use crate::printed_answers::append_answer;
 use rendering_context::{Answer, Context};
 use rendering_page::{Manner, Page};
 use rendering_taxonomy::{NumberForm, NumberVariable, StandardVariable, Variable};
 use rendering_tree::ElemMeta;
 use std::alloc::AllocError;
+use texts::no_text;
 
 /// Appends the answer to a variable. The label and the number of an entry stand in an element of their own.
 pub(crate) fn append_identified<'a>(

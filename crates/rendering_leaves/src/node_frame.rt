@@ -1,13 +1,13 @@
 //! How nodes look, and the elements round them.
 
 ghost use Rattle.std.specs.Prelude.{◌≡◌, [], None};
-ghost use Rattle.laws.specs.Text.{spelled};
 ghost use Rattle.rendering_leaves.specs.Values.{frame, look_manner, text_manner};
 ghost use Rattle.rendering_page.specs.Views.{manner_view, frame_view};
 ghost use Rattle.rendering_style.specs.Views.{look_view, text_look_view};
 
 use rendering_page::{Frame, Manner};
 use rendering_style::{Look, TextLook};
+use texts::no_text;
 
 /// How the texts of a node with that look are appended, inside what is around it.
 pub fn look_manner(manner: Manner, look: &Look) -> Manner
@@ -19,7 +19,7 @@ pub fn look_manner(manner: Manner, look: &Look) -> Manner
     }
 }
 
-/// The same of a text node, whose full stops may go.
+/// How the texts of a text node with that look are appended, inside what is around it; their full stops may be left out.
 pub fn text_manner(manner: Manner, look: &TextLook) -> Manner
     ensures { manner_view result ≡ text_manner (manner_view manner) (text_look_view look.now) }
 {
@@ -54,12 +54,4 @@ pub(crate) fn bare_frame<'a>(manner: Manner) -> Frame<'a>
         prefix: no_text(),
         suffix: no_text(),
     }
-}
-
-/// No text.
-#[tactic(auto, using(rendering_locale::proofs::LookupTexts::no_characters))]
-pub(crate) fn no_text() -> &'static str
-    ensures { spelled result ≡ [] }
-{
-    ""
 }

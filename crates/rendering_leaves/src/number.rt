@@ -43,7 +43,6 @@ pub fn push_number<'a, E: EntryLike>(
     after_variable(context, setting, node.variable, state)
 }
 
-/// Appends an answer in a number node.
 fn append_number<'a>(
     context: &Context<'_, 'a>,
     setting: &NodeSetting<'a>,

@@ -14,7 +14,6 @@ use rendering_taxonomy::NumberForm;
 use std::alloc::{AllocError, Global};
 use texts::empty_text;
 
-/// The text of a numeral.
 pub(crate) fn numeral_text(
     alloc: Global,
     locales: &AskedLocales<'_>,

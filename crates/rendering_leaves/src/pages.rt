@@ -16,7 +16,6 @@ use rendering_taxonomy::NumberForm;
 use std::alloc::{AllocError, Global};
 use texts::{empty_text, push_text};
 
-/// The text of pages.
 pub(crate) fn pages_text(alloc: Global, pages: &PageRanges) -> Result<String, AllocError>
     ensures { IfOk result (λ s. characters s ≡ pages_text (pages_view pages.now)) }
 {

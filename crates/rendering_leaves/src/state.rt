@@ -18,7 +18,7 @@ pub struct State<'a> {
     pub has_date: bool,
     /// The variables that are not printed again, each once.
     pub suppressed: Vec<Variable>,
-    /// Whether it was asked if the cite is like others.
+    /// Whether the test `disambiguate` was evaluated.
     pub met_disambiguate: bool,
     /// What was printed of the first names by their options.
     pub names: Option<NameDisambiguationProperties>,
@@ -37,7 +37,7 @@ impl<'a> Model for State<'a> {
 }
 
 impl<'a> State<'a> {
-    /// Before anything was appended.
+    /// The state before anything was appended.
     pub fn new(alloc: Global) -> State<'a>
         ensures { result ≡ begun }
     {
@@ -52,7 +52,7 @@ impl<'a> State<'a> {
         }
     }
 
-    /// Remembers that it was asked whether the cite is like others, if so.
+    /// Remembers that the test `disambiguate` was evaluated, if `met`.
     pub fn note(&mut self, met: bool)
         ensures { self.new ≡ noted met self.old }
     {

@@ -21,7 +21,6 @@ pub(crate) fn add_variable(
     Ok(())
 }
 
-/// Whether a variable is among some.
 fn is_among(variables: &[Variable], variable: Variable) -> bool
     ensures { result ≡ is_among variables.now variable }
 {

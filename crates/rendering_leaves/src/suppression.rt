@@ -16,8 +16,8 @@ use rendering_context::Context;
 use rendering_taxonomy::Variable;
 use std::alloc::AllocError;
 
-/// After a node of a variable: it is not printed again where a substitute printed it, and cites remember which identifiers they
-/// printed.
+/// What is remembered after a node of a variable: that it is not printed again, where a substitute printed it, and that an identifier
+/// was printed.
 pub(crate) fn after_variable<'a>(
     context: &Context<'_, 'a>,
     setting: &NodeSetting<'a>,
@@ -32,7 +32,7 @@ pub(crate) fn after_variable<'a>(
     Ok(())
 }
 
-/// A variable that a substitute prints is not printed again, unless another one was asked instead.
+/// In a substitute, adds a variable to those that are not printed again, unless another one was asked instead.
 fn suppress_answered<'a>(
     context: &Context<'_, 'a>,
     setting: &NodeSetting<'a>,
@@ -49,7 +49,7 @@ fn suppress_answered<'a>(
     suppress_in_substitute(setting, variable, state)
 }
 
-/// A variable that a substitute prints is not printed again.
+/// In a substitute, adds a variable to those that are not printed again.
 pub(crate) fn suppress_in_substitute<'a>(
     setting: &NodeSetting<'a>,
     variable: Variable,
@@ -63,7 +63,7 @@ pub(crate) fn suppress_in_substitute<'a>(
     state.suppress(variable)
 }
 
-/// Cites remember which identifiers they printed.
+/// Remembers that an identifier was printed, if the variable is one.
 fn remember_use<'a>(context: &Context<'_, 'a>, variable: Variable, state: &mut State<'a>)
     ensures { (a : Answers) → state.new ≡ using (context_view a context.now) variable state.old }
 {

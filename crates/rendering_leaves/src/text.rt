@@ -87,7 +87,6 @@ pub fn push_value<'a>(
     append_text(context, setting, value, look, &mut state.page)
 }
 
-/// Appends the answer to a variable in a text node.
 fn append_variable<'a>(
     context: &Context<'_, 'a>,
     setting: &NodeSetting<'a>,
@@ -124,7 +123,6 @@ fn append_labelled<'a>(
     append_label_suffix(context, manner, variable, page)
 }
 
-/// Appends a text in a text node.
 fn append_text<'a>(
     context: &Context<'_, 'a>,
     setting: &NodeSetting<'a>,

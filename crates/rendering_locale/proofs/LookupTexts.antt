@@ -1,11 +1,6 @@
--- Empty texts, and looking for the first that passes a test.
-use Rattle.std.proofs.Common.{◌≡◌, ℕ, ◌+◌, ◌<◌, Bool, false, cond, List, [], map, length, get_or, drop, find, Some, sym, ap, ◌∙◌}
-use Rattle.std.specs.Str.{chars}
-use Rattle.std.proofs.lemmas.Str.{chars-nil}
+-- Looking for the first that passes a test.
+use Rattle.std.proofs.Common.{◌≡◌, ℕ, ◌+◌, ◌<◌, Bool, false, cond, List, map, length, get_or, drop, find, Some, sym, ap, ◌∙◌}
 use Rattle.std.proofs.lemmas.List.{at_drop_more}
-
-pub no_characters : chars [] ≡ []
-no_characters = chars-nil
 
 -- where one does not pass, those after it are looked at
 pub find_on : {X Y : Type 0} (v : X → Y) (p : Y → Bool) (xs : List X) (i : ℕ) (x : X) → i < length xs → x ≡ get_or xs i x → p (v x) ≡ false → find p (map v (drop (i + 1) xs)) ≡ find p (map v (drop i xs))

@@ -2,6 +2,7 @@
 use Rattle.std.specs.Prelude.{ℕ, not, ◌==◌, List, [], ◌∷◌, Option, codes, take_while}
 use Rattle.std.specs.List.{find}
 use Rattle.std.specs.Str.{bytes_eq}
+use Rattle.laws.specs.Characters.{hyphen}
 
 -- English as it is written in the United States
 abbrev pub en_us : List ℕ
@@ -9,7 +10,7 @@ en_us = codes "en-US"
 
 -- the language that a code begins with, up to the first hyphen
 abbrev pub base_of : List ℕ → List ℕ
-base_of code = take_while (λ c. not (c == 45)) code
+base_of code = take_while (λ c. not (c == hyphen)) code
 
 -- the codes that stand for languages without a locale of their own
 abbrev pub fallbacks : List (List ℕ)

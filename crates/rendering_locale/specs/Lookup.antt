@@ -61,7 +61,7 @@ text_of true t = unwrap_or t.multiple []
 abbrev pub term : List Locale → Term → TermForm → Bool → Option (List ℕ)
 term ls name form plural = option_map (text_of plural) (term_found ls name form)
 
--- the same, empty where there is none
+-- the text of a term, empty where there is no term
 abbrev pub term_text : List Locale → Term → TermForm → Bool → List ℕ
 term_text ls name form plural = unwrap_or (term ls name form plural) []
 

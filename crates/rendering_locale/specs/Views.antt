@@ -3,7 +3,7 @@ use Rattle.std.specs.Prelude.{ℕ, List, map}
 use Rattle.std.specs.Borrow.{Bor}
 use Rattle.std.specs.Option.{option_map}
 use Rattle.laws.specs.Text.{characters}
-pub use Rattle.rendering_taxonomy.specs.Views.{changes_view}
+use Rattle.rendering_taxonomy.specs.Views.{changes_view}
 use Rattle.rendering_locale.specs.CodeViews.{code_view}
 use Rattle.rendering_locale.specs.Locales as locales
 use Rattle.rendering_locale.specs.declared.locale.LocalizedTerm.{LocalizedTerm}

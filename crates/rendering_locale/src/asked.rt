@@ -1,8 +1,8 @@
 //! Which locales are asked, and what they answer.
 
-ghost use Rattle.std.specs.Prelude.{◌≡◌, ◌++◌, [], map, IfOk, OnOk};
+ghost use Rattle.std.specs.Prelude.{◌≡◌, ◌++◌, map, IfOk, OnOk};
 ghost use Rattle.std.specs.Option.{option_map, option_to_list, unwrap_or};
-ghost use Rattle.laws.specs.Text.{characters, spelled};
+ghost use Rattle.laws.specs.Text.{spelled};
 ghost use Rattle.rendering_locale.specs.Lookup.{asked, first_answer, term, term_text, text_of, date_found, punctuates_in_quotes, quote_text, close_quotes};
 ghost use Rattle.rendering_locale.specs.Views.{term_view, localized_date_view, ordinals_view, locale_view, locales_view};
 
@@ -14,6 +14,7 @@ use crate::looking::{
 use rendering_taxonomy::{DateForm, OtherTerm, Term, TermForm};
 use std::alloc::{AllocError, Global};
 use std::marker::Model;
+use texts::{no_text, text_or_empty};
 
 /// The locales that are asked for words, dates and endings, in order. Each form of a term is asked of all of them.
 #[derive(Drop)]
@@ -67,14 +68,13 @@ impl<'a> AskedLocales<'a> {
         }
     }
 
-    /// The same, empty where there is no such term.
-    #[tactic(auto, using(crate::proofs::LookupTexts::no_characters))]
+    /// The text of a term as `term` gives it, empty where there is no such term.
     pub fn term_text(&self, name: Term, form: TermForm, plural: bool) -> &'a str
         ensures { spelled result ≡ term_text self.now name form plural }
     {
         match self.term(name, form, plural) {
             Some(text) => text,
-            None => "",
+            None => no_text(),
         }
     }
 
@@ -134,18 +134,6 @@ fn text_of(term: &LocalizedTerm, plural: bool) -> &str
     }
 }
 
-/// The text, empty where there is none.
-#[tactic(auto, using(crate::proofs::LookupTexts::no_characters))]
-fn text_or_empty(text: &Option<String>) -> &str
-    ensures { spelled result ≡ unwrap_or (option_map characters text.now) [] }
-{
-    match text {
-        Some(text) => text.as_str(),
-        None => "",
-    }
-}
-
-/// Appends a locale where there is one.
 fn push_some<'a>(locales: &mut Vec<&'a Locale>, found: Option<&'a Locale>) -> Result<(), AllocError>
     ensures { OnOk result (locales_view locales.new.items ≡ locales_view locales.old.items
         ++ option_to_list (option_map (λ l. locale_view l.now) found.entry)) }

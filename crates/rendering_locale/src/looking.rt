@@ -49,7 +49,6 @@ pub(crate) fn in_fallback<'a>(code: &str, files: &'a [Locale]) -> Option<&'a Loc
     }
 }
 
-/// Whether the term has that name and form.
 fn is_named(term: &LocalizedTerm, name: Term, form: TermForm) -> bool
     ensures { result ≡ (is_term term.now.name name && is_form term.now.form form) }
 {

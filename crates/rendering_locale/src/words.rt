@@ -1,4 +1,4 @@
-//! Which terms are one, and which forms of a term stand for another. A term is known by its word.
+//! Which terms are the same, and which forms of a term stand for another. A term is known by its word.
 
 ghost use Rattle.std.specs.Prelude.{◌≡◌, ◌+◌};
 ghost use Rattle.rendering_taxonomy.specs.Variables.{standard_index, number_index, name_index, date_index, variable_index};
@@ -50,7 +50,6 @@ fn standard_index(variable: StandardVariable) -> u16
     }
 }
 
-/// The index of a variable that is a number.
 fn number_index(variable: NumberVariable) -> u16
     ensures { result ≡ number_index variable }
 {
@@ -81,7 +80,6 @@ fn name_index(variable: NameVariable) -> u16
     }
 }
 
-/// The index of a variable that is a date.
 fn date_index(variable: DateVariable) -> u16
     ensures { result ≡ date_index variable }
 {
@@ -95,7 +93,6 @@ fn date_index(variable: DateVariable) -> u16
     }
 }
 
-/// The index of a variable.
 fn variable_index(variable: Variable) -> u16
     ensures { result ≡ variable_index variable }
 {
@@ -155,7 +152,6 @@ fn other_index(term: OtherTerm) -> u16
     }
 }
 
-/// The index of a form of a term.
 fn form_index(form: TermForm) -> u8
     ensures { result ≡ form_index form }
 {

@@ -6,10 +6,11 @@ use Rattle.std.proofs.lemmas.List.{append-nil, length-map, get_or-map, get_or_de
 use Rattle.std.proofs.lemmas.List.FromFn.{length-enumerate_from, get_or-enumerate_from}
 use Rattle.std.proofs.lemmas.Slice.Zip.{length-zip, get_or-zip}
 use Rattle.literature_values.specs.declared.person.Person.{Person}
+use Rattle.literature_values.specs.PersonViews.{lent_person_view}
 use Rattle.rendering_page.specs.Pages.{Page, Quotes}
 use Rattle.rendering_page.specs.Pieces.{Piece, append_pieces}
 use Rattle.rendering_names.specs.Names.{NameStyle, IndexedPerson, after_ellipsis, before_name, name_pieces, indexed_pieces, shown_pieces, last_pieces, rest_pieces, list_pieces}
-use Rattle.rendering_people.specs.Views.{lent_person_view, lent_people_view}
+use Rattle.rendering_people.specs.Views.{lent_people_view}
 use Rattle.rendering_names.specs.Views.{indexed}
 use Rattle.rendering_names.proofs.PiecesAppended.{append-both}
 use Rattle.rendering_taxonomy.specs.declared.name.DisambiguatedNameForm.{DisambiguatedNameForm}

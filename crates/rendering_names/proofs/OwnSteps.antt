@@ -1,9 +1,10 @@
 -- The forms of the people of one variable after those of others.
 use Rattle.std.proofs.Common.{arith, ◌≡◌, ℕ, ◌+◌, ◌<◌, List, [], ◌∷◌, ◌++◌, map, length, take, get_or, replicate, sym, ap, ◌∙◌}
 use Rattle.std.proofs.lemmas.List.{length-map, map_more, replicate-append-replicate}
+use Rattle.literature_values.specs.PersonViews.{lent_person_view}
 use Rattle.rendering_tree.specs.Metas as metas
 use Rattle.rendering_names.specs.Counts.{people_count}
-use Rattle.rendering_people.specs.Views.{lent_answered_view, lent_person_view}
+use Rattle.rendering_people.specs.Views.{lent_answered_view}
 use Rattle.rendering_people.specs.declared.people.Answered.{Answered}
 use Rattle.rendering_taxonomy.specs.declared.name.DisambiguatedNameForm.{DisambiguatedNameForm}
 

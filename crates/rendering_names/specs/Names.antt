@@ -1,8 +1,9 @@
 -- How names are printed.
-use Rattle.std.specs.Prelude.{ℕ, ◌+◌, ◌-◌, Bool, true, false, ◌==◌, ◌&&◌, ◌||◌, nat_le, nat_lt, List, [], ◌∷◌, ◌++◌, map, length, replicate, take, drop, zip, if◌then◌else◌, is_some, Option, Some, None}
+use Rattle.std.specs.Prelude.{ℕ, ◌+◌, ◌-◌, Bool, true, false, ◌==◌, ◌&&◌, ◌||◌, nat_le, nat_lt, List, [], ◌∷◌, ◌++◌, codes, map, length, replicate, take, drop, zip, if◌then◌else◌, is_some, Option, Some, None}
 use Rattle.std.specs.List.{flat_map, enumerate_from}
 use Rattle.std.specs.Option.{option_map_or, option_or, unwrap_or}
 use Rattle.std.specs.Fmt.{decimal}
+use Rattle.laws.specs.Characters.{space, ampersand}
 use Rattle.literature_values.specs.PersonViews.{Named}
 use Rattle.rendering_taxonomy.specs.Formats.{changed, unchanged}
 use Rattle.rendering_tree.specs.Metas.{Answered, NameVariableOf, Name, Names}
@@ -61,7 +62,7 @@ shown_of o false n = shown_by (option_or o.et_al_subsequent_min o.et_al_min) (op
 abbrev pub own_properties : NameOptions → Bool → Answered → VariableProperties
 own_properties o is_first a = record { variable = a.1; forms = replicate (length a.0) (base_form o); shown = shown_of o is_first (length a.0) }
 
--- the same of the people of each variable
+-- what is printed of the people of each variable by the options
 abbrev pub properties_by : NameOptions → Bool → List Answered → Properties
 properties_by o is_first people = map (own_properties o is_first) people
 
@@ -78,7 +79,7 @@ inverts (Some orders.First) i = i == 0
 -- the sign or the word before the last name; a word that the locale lacks is none
 abbrev pub and_text : List Locale → Option NameAnd → List ℕ
 and_text ls None = []
-and_text ls (Some ands.Symbol) = 38 ∷ []
+and_text ls (Some ands.Symbol) = ampersand ∷ []
 and_text ls (Some ands.Text) = term_text ls (terms.Other others.And) term_forms.Long false
 
 -- whether the delimiter stands before the last of n names, where a word does
@@ -92,8 +93,8 @@ delimits_last o n behaviors.AfterInvertedName = inverts o.name_as_sort_order (n 
 abbrev pub before_last_by : Manner → NameOptions → ℕ → List ℕ → List Piece
 before_last_by m o n [] = normal m (delimiter_by o) ∷ []
 before_last_by m o n (c ∷ cs) =
-    normal m (if delimits_last o n (unwrap_or o.delimiter_precedes_last behaviors.Contextual) then delimiter_by o else 32 ∷ [])
-    ∷ normal m (c ∷ cs) ∷ normal m (32 ∷ []) ∷ []
+    normal m (if delimits_last o n (unwrap_or o.delimiter_precedes_last behaviors.Contextual) then delimiter_by o else space ∷ [])
+    ∷ normal m (c ∷ cs) ∷ normal m (space ∷ []) ∷ []
 
 -- what stands before the name at an index among n: nothing before the first; before the last, if it is not the first, the word; the
 -- delimiter before others
@@ -102,7 +103,7 @@ before_name ls m o n i =
     if i == 0 then []
     else (if i + 1 == n then before_last_by m o n (and_text ls o.and_term) else normal m (delimiter_by o) ∷ [])
 
--- How names stand: the locales, the manner of the node, the look of single names, and the options.
+-- How names are appended: the locales, the manner of the node, the look of single names, and the options.
 pub record NameStyle : Type 0 where
   pub locales : List Locale
   pub manner : Manner
@@ -141,20 +142,20 @@ et_al_term et_al_terms.AndOthers = others.AndOthers
 abbrev pub et_al_by : NameStyle → ℕ → List ℕ → List Piece
 et_al_by s shown [] = []
 et_al_by s shown (c ∷ cs) =
-    normal s.manner (if nat_le 2 shown then delimiter_by s.options else 32 ∷ [])
+    normal s.manner (if nat_le 2 shown then delimiter_by s.options else space ∷ [])
     ∷ normal (record s.manner { formatting = changed s.et_al.formatting s.manner.formatting }) (c ∷ cs) ∷ []
 
 -- what stands for those left out
 abbrev pub et_al_pieces : NameStyle → ℕ → List Piece
 et_al_pieces s shown = et_al_by s shown (term_text s.locales (terms.Other (et_al_term s.et_al.name)) term_forms.Long false)
 
--- an ellipsis
+-- the text before the last of many names, where that is shown
 abbrev pub ellipsis : List ℕ
-ellipsis = 8230 ∷ []
+ellipsis = codes "…"
 
 -- a name after the delimiter, an ellipsis and a space
 abbrev pub after_ellipsis : NameStyle → List Piece → List Piece
-after_ellipsis s ps = normal s.manner (delimiter_by s.options) ∷ normal s.manner ellipsis ∷ normal s.manner (32 ∷ []) ∷ ps
+after_ellipsis s ps = normal s.manner (delimiter_by s.options) ∷ normal s.manner ellipsis ∷ normal s.manner (space ∷ []) ∷ ps
 
 -- After the shown names, where there are more: the last one, after an ellipsis, where it is wanted and two or more are left out;
 -- else the term for them.
@@ -215,7 +216,7 @@ plain_et_al = record { name = et_al_terms.EtAl; formatting = unchanged }
 abbrev pub node_options : NamesNode → NameOptions → NameOptions
 node_options h around = option_map_or (λ n. options_over n.options around) h.name around
 
--- how the names of a node stand
+-- how the names of a node are appended
 abbrev pub style_of : List Locale → Manner → NamesNode → NameOptions → NameStyle
 style_of ls m h around = record {
   locales = ls;

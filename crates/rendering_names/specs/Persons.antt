@@ -1,6 +1,7 @@
 -- How a single name is printed.
-use Rattle.std.specs.Prelude.{ℕ, Bool, true, false, List, [], ◌∷◌, ◌++◌}
+use Rattle.std.specs.Prelude.{ℕ, Bool, true, false, List, [], ◌∷◌, ◌++◌, codes}
 use Rattle.std.specs.Option.{unwrap_or}
+use Rattle.laws.specs.Characters.{space}
 use Rattle.literature_values.specs.Initials.{style, initials_of}
 use Rattle.literature_values.specs.PersonViews.{Named}
 use Rattle.rendering_style.specs.Options.{NameOptions}
@@ -15,15 +16,15 @@ joined between (c ∷ cs) (d ∷ ds) = (c ∷ cs) ++ between ++ (d ∷ ds)
 
 -- with a space between them
 abbrev pub spaced : List ℕ → List ℕ → List ℕ
-spaced cs ds = joined (32 ∷ []) cs ds
+spaced cs ds = joined (space ∷ []) cs ds
 
 -- what stands between names where nothing is specified for it
 abbrev pub comma_and_space : List ℕ
-comma_and_space = 44 ∷ 32 ∷ []
+comma_and_space = codes ", "
 
 -- what stands after initials where nothing is specified for it
 abbrev pub stop_and_space : List ℕ
-stop_and_space = 46 ∷ 32 ∷ []
+stop_and_space = codes ". "
 
 -- the given name; empty where there is none, as the two parts after it
 abbrev pub given_of : Named → List ℕ

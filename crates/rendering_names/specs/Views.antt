@@ -74,6 +74,6 @@ name_style_view s = record {
   options = resolved_options_view s.options;
 }
 
--- what a page comes to when these are appended
+-- the page after these pieces were appended
 abbrev pub append_here : NameStyle → List Piece → Page → Page
 append_here s ps p = append_pieces (quotes_view s.setting.quotes.now) ps p

@@ -14,7 +14,7 @@ use rendering_style::LabelLook;
 use rendering_taxonomy::{LabelPluralize, NameVariable, Term, Variable};
 use std::alloc::AllocError;
 
-/// Whether a label stands in the plural, where what it is the label of is more than one or not.
+/// Whether a label stands in the plural. `is_plural` says whether its value is more than one.
 pub fn pluralizes(plural: LabelPluralize, is_plural: bool) -> bool
     ensures { result ≡ pluralizes plural is_plural }
 {

@@ -1,11 +1,11 @@
 //! The names of one variable on a page: those that are shown, and what stands for the rest.
 
 ghost use Rattle.std.specs.Prelude.{◌≡◌, ◌+◌, ◌<◌, ◌≤◌, ◌∷◌, [], IfOk, OnOk, length, take, if◌then◌else◌};
+ghost use Rattle.laws.specs.Characters.{space};
 ghost use Rattle.laws.specs.Text.{characters, spelled};
-ghost use Rattle.literature_values.specs.PersonViews.{person_view};
+ghost use Rattle.literature_values.specs.PersonViews.{person_view, lent_person_view};
 ghost use Rattle.rendering_names.specs.Names.{after_ellipsis, and_text, before_last_by, before_name, delimiter_by, et_al_by, et_al_pieces, inverts, last_pieces, list_pieces, name_pieces, rest_pieces, shown_pieces};
 ghost use Rattle.rendering_names.specs.Persons.{person_text};
-ghost use Rattle.rendering_people.specs.Views.{lent_person_view};
 ghost use Rattle.rendering_names.specs.Views.{append_here, resolved_options_view, indexed, name_style_view};
 ghost use Rattle.rendering_page.specs.Pages.{append_normal};
 ghost use Rattle.rendering_page.specs.Views.{quotes_view};
@@ -104,7 +104,7 @@ impl<'s, 'a> NameStyle<'s, 'a> {
     ) -> Result<(), AllocError>
         ensures { OnOk result (page.new ≡ append_normal (quotes_view self.now.setting.quotes.now)
             (name_style_view self.now).manner (if is_delimited
-            then delimiter_by (resolved_options_view self.now.options) else 32 ∷ []) page.old) }
+            then delimiter_by (resolved_options_view self.now.options) else space ∷ []) page.old) }
     {
         if is_delimited {
             return self.push_delimiter(page);
@@ -125,10 +125,9 @@ impl<'s, 'a> NameStyle<'s, 'a> {
         )
     }
 
-    /// Appends a space.
     fn push_space(&self, page: &mut Page<'a>) -> Result<(), AllocError>
         ensures { OnOk result (page.new ≡ append_normal (quotes_view self.now.setting.quotes.now)
-            (name_style_view self.now).manner (32 ∷ []) page.old) }
+            (name_style_view self.now).manner (space ∷ []) page.old) }
     {
         page.push_text(self.setting.quotes, self.setting.manner, space())
     }
@@ -154,7 +153,6 @@ impl<'s, 'a> NameStyle<'s, 'a> {
         Ok(())
     }
 
-    /// The text of the name at an index.
     fn name_text(
         &self,
         index: usize,

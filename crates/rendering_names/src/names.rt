@@ -15,7 +15,6 @@ ghost use Rattle.rendering_page.specs.Views.{quotes_view, manner_view, frame_vie
 use crate::options::ResolvedNameOptions;
 use crate::parts::NamesParts;
 use crate::style::{NameSetting, NameStyle, changed_manner};
-use crate::words::no_text;
 use rendering_page::{Frame, Manner, Page};
 use rendering_people::{
     Answered, NameDisambiguationProperties, PeopleCount, names_meta, split_forms,
@@ -24,12 +23,12 @@ use rendering_taxonomy::{DisambiguatedNameForm, NameVariable};
 use rendering_tree::ElemMeta;
 use std::alloc::{AllocError, Global};
 use std::fmt::Write;
-use texts::empty_text;
+use texts::{empty_text, no_text};
 
 /// Appends the people of a names node in an element that stands for them: of each variable the names that the properties
 /// show, each in its form, with the label of the variable; or only how many are shown, where the options say so. The options are those
-/// of the node over those around it. The
-/// properties are those of the same people, variable by variable. Nothing is promised of the page after an error.
+/// of the node over those around it. The properties are those of the same people, variable by variable. Nothing is promised of the page
+/// after an error.
 ///
 /// # Errors
 /// Out of memory alone.
@@ -71,7 +70,7 @@ fn names_frame<'a>(manner: Manner, node: &NamesParts<'a>) -> Frame<'a>
     }
 }
 
-/// Where the names of a node are appended: there, with the look of the node.
+/// The setting in which the names of a node are appended: that around it, with the look of the node.
 fn names_setting<'s, 'a>(
     setting: &NameSetting<'s, 'a>,
     node: &NamesParts<'a>,
@@ -218,7 +217,6 @@ impl<'s, 'a> NameStyle<'s, 'a> {
     }
 }
 
-/// A number in digits.
 fn digits(alloc: Global, number: usize) -> Result<String, AllocError>
     ensures { IfOk result (λ s. characters s ≡ decimal number) }
 {
@@ -227,7 +225,6 @@ fn digits(alloc: Global, number: usize) -> Result<String, AllocError>
     Ok(text)
 }
 
-/// Appends a number in digits.
 fn push_digits(out: &mut String, number: usize) -> Result<(), AllocError>
     ensures { OnOk result (characters out.new ≡ characters out.old ++ decimal number) }
 {

@@ -9,11 +9,12 @@ ghost use Rattle.rendering_names.specs.Views.{resolved_options_view};
 ghost use Rattle.rendering_style.specs.Options.{options_over};
 ghost use Rattle.rendering_style.specs.Views.{options_view};
 
-use crate::words::{borrowed, comma_and_space, or_text, stop_and_space, text_or};
+use crate::words::{comma_and_space, stop_and_space};
 use rendering_style::NameOptions;
 use rendering_taxonomy::{
     DelimiterBehavior, DisambiguatedNameForm, NameAnd, NameAsSortOrder, NameForm,
 };
+use texts::{borrowed_text, first_text, text_or};
 
 /// What is specified for names, taken together from a node, the layout around it and the style. What none of them says is left
 /// open.
@@ -52,7 +53,7 @@ impl<'a> ResolvedNameOptions<'a> {
     {
         ResolvedNameOptions {
             and: options.and,
-            delimiter: borrowed(&options.delimiter),
+            delimiter: borrowed_text(&options.delimiter),
             delimiter_precedes_last: options.delimiter_precedes_last,
             et_al_min: options.et_al_min,
             et_al_use_first: options.et_al_use_first,
@@ -60,9 +61,9 @@ impl<'a> ResolvedNameOptions<'a> {
             et_al_subsequent_use_first: options.et_al_subsequent_use_first,
             et_al_use_last: options.et_al_use_last,
             form: options.form,
-            initialize_with: borrowed(&options.initialize_with),
+            initialize_with: borrowed_text(&options.initialize_with),
             name_as_sort_order: options.name_as_sort_order,
-            sort_separator: borrowed(&options.sort_separator),
+            sort_separator: borrowed_text(&options.sort_separator),
             demote_non_dropping_particle: options.demote_non_dropping_particle,
         }
     }
@@ -75,7 +76,7 @@ impl<'a> ResolvedNameOptions<'a> {
     {
         ResolvedNameOptions {
             and: self.and.or(around.and),
-            delimiter: or_text(self.delimiter, around.delimiter),
+            delimiter: first_text(self.delimiter, around.delimiter),
             delimiter_precedes_last: self
                 .delimiter_precedes_last
                 .or(around.delimiter_precedes_last),
@@ -87,9 +88,9 @@ impl<'a> ResolvedNameOptions<'a> {
                 .or(around.et_al_subsequent_use_first),
             et_al_use_last: self.et_al_use_last.or(around.et_al_use_last),
             form: self.form.or(around.form),
-            initialize_with: or_text(self.initialize_with, around.initialize_with),
+            initialize_with: first_text(self.initialize_with, around.initialize_with),
             name_as_sort_order: self.name_as_sort_order.or(around.name_as_sort_order),
-            sort_separator: or_text(self.sort_separator, around.sort_separator),
+            sort_separator: first_text(self.sort_separator, around.sort_separator),
             demote_non_dropping_particle: self
                 .demote_non_dropping_particle
                 .or(around.demote_non_dropping_particle),

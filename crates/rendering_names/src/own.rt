@@ -30,7 +30,7 @@ pub fn properties_by(
     Ok(NameDisambiguationProperties::new(counts, forms))
 }
 
-/// The numbers of each variable.
+/// For each variable how many people it has and how many are shown.
 fn own_counts(
     alloc: Global,
     options: &ResolvedNameOptions,
@@ -48,7 +48,7 @@ fn own_counts(
     Ok(counts)
 }
 
-/// The numbers of a variable.
+/// How many people a variable has and how many are shown.
 fn own_count(options: &ResolvedNameOptions, is_first: bool, answered: &Answered) -> PeopleCount
     ensures { result
         ≡ own_count (resolved_options_view options.now) is_first (lent_answered_view answered.now) }
@@ -77,7 +77,7 @@ fn own_forms(
     Ok(forms)
 }
 
-/// Appends a form so many times.
+/// Appends a form for each of so many people.
 fn push_forms(
     forms: &mut Vec<DisambiguatedNameForm>,
     count: usize,

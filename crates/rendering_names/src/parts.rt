@@ -9,9 +9,10 @@ ghost use Rattle.rendering_names.specs.Views.{names_parts_view, resolved_options
 ghost use Rattle.rendering_style.specs.Views.{names_node_view, label_look_view};
 
 use crate::options::ResolvedNameOptions;
-use crate::words::{borrowed, comma_and_space, text_or};
+use crate::words::comma_and_space;
 use rendering_style::{EtAl, LabelLook, Look, Name, Names};
 use rendering_taxonomy::NameVariable;
+use texts::{borrowed_text, text_or};
 
 /// What a names node says: its own, and, where it is a substitute for another one, what it takes from that.
 #[derive(Clone, Copy)]
@@ -38,7 +39,7 @@ impl<'a> NamesParts<'a> {
             et_al: node.et_al.as_ref(),
             label: node.label.as_ref(),
             label_is_first: node.label_is_first,
-            delimiter: borrowed(&node.delimiter),
+            delimiter: borrowed_text(&node.delimiter),
             look: &node.look,
         }
     }
@@ -72,7 +73,7 @@ impl<'a> NamesParts<'a> {
         }
     }
 
-    /// Whether the label stands before the names, where there is none as another one does.
+    /// Whether the label stands before the names; where there is no label, what holds of another one.
     fn label_is_first_or(&self, other: bool) -> bool
         ensures { result ≡ (if is_some (names_parts_view self.now).label
             then self.now.label_is_first else other) }

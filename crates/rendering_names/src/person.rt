@@ -2,17 +2,18 @@
 
 ghost use Rattle.std.specs.Prelude.{◌≡◌, ◌∷◌, [], IfOk, OnOk, false, true, if◌then◌else◌};
 ghost use Rattle.std.specs.Str.{chars};
+ghost use Rattle.laws.specs.Characters.{space};
 ghost use Rattle.laws.specs.Text.{characters, spelled, is_filled};
 ghost use Rattle.literature_values.specs.PersonViews.{person_view};
 ghost use Rattle.rendering_names.specs.Persons.{joined, short_text, straight, inverted_by, long_text, initials_by, person_text};
 ghost use Rattle.rendering_names.specs.Views.{resolved_options_view};
 
 use crate::options::ResolvedNameOptions;
-use crate::words::{space, text_or_empty};
+use crate::words::space;
 use literature_values::Person;
 use rendering_taxonomy::DisambiguatedNameForm;
 use std::alloc::{AllocError, Global};
-use texts::{empty_text, has_text, push_text};
+use texts::{empty_text, has_text, push_text, text_or_empty};
 
 /// The text of a name in a form, inverted or not.
 pub(crate) fn person_text(
@@ -159,7 +160,7 @@ fn demoted(
 /// What stands before a particle after a given name: a space, or the separator where there is no given name.
 fn after_given<'a>(separator: &'a str, given: &str) -> &'a str
     ensures { spelled result
-        ≡ (if is_filled (chars given.now) then 32 ∷ [] else spelled separator.entry) }
+        ≡ (if is_filled (chars given.now) then space ∷ [] else spelled separator.entry) }
 {
     if has_text(given) { space() } else { separator }
 }

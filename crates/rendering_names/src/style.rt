@@ -1,8 +1,8 @@
-//! How the names of a node stand.
+//! How the names of a node are appended.
 
 ghost use Rattle.std.specs.Prelude.{◌≡◌, None};
 ghost use Rattle.laws.specs.Text.{spelled};
-ghost use Rattle.rendering_locale.specs.Views.{changes_view};
+ghost use Rattle.rendering_taxonomy.specs.Views.{changes_view};
 ghost use Rattle.rendering_names.specs.Names.{style_of, and_text, et_al_term, node_options};
 ghost use Rattle.rendering_names.specs.Views.{names_parts_view, resolved_options_view, name_style_view};
 ghost use Rattle.rendering_page.specs.Views.{manner_view, frame_view};
@@ -11,12 +11,13 @@ ghost use Rattle.rendering_taxonomy.specs.Formats.{changed};
 
 use crate::options::ResolvedNameOptions;
 use crate::parts::NamesParts;
-use crate::words::{ampersand, no_text};
+use crate::words::ampersand;
 use rendering_locale::AskedLocales;
 use rendering_page::{Frame, Manner};
 use rendering_style::{EtAl, Name};
 use rendering_taxonomy::{EtAlTerm, FormattingChanges, NameAnd, OtherTerm, Term, TermForm};
 use std::alloc::Global;
+use texts::no_text;
 
 /// Where names are appended: the close quotes inside which punctuation goes, the locales that are asked for words, and how
 /// texts are appended there.
@@ -28,7 +29,7 @@ pub struct NameSetting<'s, 'a> {
     pub manner: Manner,
 }
 
-/// How the names of a node stand.
+/// How the names of a node are appended.
 #[derive(Clone, Copy)]
 pub(crate) struct NameStyle<'s, 'a> {
     /// Where they are appended, with the node's look.
@@ -39,7 +40,7 @@ pub(crate) struct NameStyle<'s, 'a> {
 }
 
 impl<'s, 'a> NameStyle<'s, 'a> {
-    /// How the names of the node stand in its own look, with its options over those around it.
+    /// How the names of the node are appended: in its own look, and with its options over those around it.
     pub(crate) fn new(
         setting: NameSetting<'s, 'a>,
         node: &NamesParts<'a>,

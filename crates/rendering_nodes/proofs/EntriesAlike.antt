@@ -2,6 +2,7 @@
 use Rattle.std.proofs.Common.{◌≡◌, ℕ, Bool, true, false, not, ◌&&◌, ◌||◌, List, [], ◌∷◌, ◌++◌, length, refl, ap, ◌∙◌, Option, Some, None, Contains, arith}
 use Rattle.std.specs.Prelude.{if◌then◌else◌}
 use Rattle.std.specs.Option.{option_map_or}
+use Rattle.laws.specs.Text.{is_filled}
 use Rattle.literature_values.specs.declared.date.Date.{Date}
 use Rattle.rendering_entries.specs.Answers.{Answers}
 use Rattle.rendering_locale.specs.Lookup.{term_text}
@@ -18,7 +19,7 @@ use Rattle.rendering_context.specs.Answering.{Answer, no_answer, pieces, address
 use Rattle.rendering_context.specs.Choosing.{asks_disambiguate}
 use Rattle.rendering_leaves.specs.NodeSettings.{SpecialForm, whole, author_only, without_author, first_date_only, suffix_only, NodeSetting, State, noted, append}
 use Rattle.rendering_leaves.specs.Values.{look_manner, text_manner, frame, quote_before, quote_after, answer_pieces, identified, label_suffix, source_pieces, text_pieces, label_term, date_inside, date_frame, date_suffix, day_pieces, suppressing, after_variable, append_leaf}
-use Rattle.rendering_nodes.specs.Admission.{Survey, Stage, nothing, both, containing, words_survey, variable_survey, allows_variable, allows_date, are_some, has_people, names_survey, leaf_survey, group_survey, survey, surveys, branch_survey}
+use Rattle.rendering_nodes.specs.Admission.{Survey, Stage, nothing, both, containing, words_survey, variable_survey, allows_variable, allows_date, has_people, names_survey, leaf_survey, group_survey, survey, surveys, branch_survey}
 use Rattle.rendering_nodes.specs.Content.{taken, disambiguated, append_names, stage, entered, left, inside_macro, inside_group, inside_names, delimited, tried, accepted, people_of, names_or_substitute, content, contents, chosen, first_substitute}
 use Rattle.rendering_nodes.specs.Named.{joined_named, variable_named, named_in_source, named_in_leaf, named_in_tests, named_in, named, named_in_branches, always_named, AreAlike}
 use Rattle.rendering_nodes.specs.Laws.{with_answers, AlikeEntriesPrintAlike}
@@ -153,7 +154,7 @@ mutual
   survey_same a b s (opened look xs) l h = ap (λ (inside : Survey). containing inside.is_admitted inside) (surveys_same a b s xs l h)
   survey_same a b s (names hd xs) l h =
       let here = names_named hd.variables in
-      let people = ap are_some (all_people_same a b s.context s.suppressed hd.variables (first_alike here (named xs) a b h)) in
+      let people = ap is_filled (all_people_same a b s.context s.suppressed hd.variables (first_alike here (named xs) a b h)) in
       let inside = surveys_same a b s xs l (others_alike here (named xs) a b h) in
       (λ i. names_survey (answering a s) hd (people i) (inside i)) ∙ names_survey_same a b s hd (has_people (answering b s) hd) (surveys (answering b s) xs)
   survey_same a b s (choose bs) l h = branches_same a b s bs l h

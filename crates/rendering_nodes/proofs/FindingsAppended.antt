@@ -11,7 +11,7 @@ use Rattle.rendering_style.specs.Views.{node_view, nodes_view}
 use Rattle.rendering_style.specs.Styles.{Macro}
 use Rattle.rendering_style.specs.declared.node.Node as declared
 use Rattle.rendering_taxonomy.specs.declared.variable.Variable.{Variable}
-use Rattle.rendering_nodes.specs.Admission.{Stage, has_people, shuts_out}
+use Rattle.rendering_nodes.specs.Admission.{Stage, has_people, excludes}
 use Rattle.rendering_nodes.specs.Content.{stage}
 use Rattle.rendering_nodes.specs.Findings.{AreAll, AreFound, AreFoundInside, Asked, IsFound, IsSurveyed, beside_people, found, node_asked, stage_then}
 use Rattle.rendering_nodes.specs.Taken.{taken}
@@ -38,7 +38,7 @@ never_all false f fs all e = e
 beside_all : (s : Stage) (h : NamesNode) (b : Bool) (fs all : List Finding) → AreAll fs (beside_people s h b all) → AreAll fs all
 beside_all s h b [] all e = tt
 beside_all s h true (f ∷ fs) all e = never_all true f fs all e
-beside_all s h false (f ∷ fs) all e = never_all (shuts_out s.form h) f fs all e
+beside_all s h false (f ∷ fs) all e = never_all (excludes s.form h) f fs all e
 
 -- of the substitute of names
 pub substitutes_as : (c : Context) (form : SpecialForm) (k : Findings) (h : NamesNode) (xs : Nodes) (y : Node) → y ≡ nodes.names h xs → AreFoundInside c form k y → AreFound c form k xs

@@ -8,7 +8,7 @@ use Rattle.rendering_style.specs.Nodes.{GroupNode, Leaf, NamesNode, Node, Nodes,
 use Rattle.rendering_style.specs.Opening.{each_node, each_branch}
 use Rattle.rendering_style.specs.Views.{node_view, nodes_view}
 use Rattle.rendering_style.specs.declared.node.Node as viewed
-use Rattle.rendering_nodes.specs.Admission.{Stage, Survey, both, containing, group_survey, has_people, leaf_survey, names_survey, nothing, shuts_out, survey, surveys, variable_survey}
+use Rattle.rendering_nodes.specs.Admission.{Stage, Survey, both, containing, group_survey, has_people, leaf_survey, names_survey, nothing, excludes, survey, surveys, variable_survey}
 use Rattle.rendering_nodes.specs.Findings.{Asked, all_asked, beside_people, branch_found, found, found_inside, next_asked, node_asked, with_finding}
 use Rattle.rendering_nodes.specs.Taken.{TakenNodes, taken, taken_after}
 use Rattle.rendering_nodes.specs.Views.{survey_view}
@@ -57,7 +57,7 @@ names_with_people s before v h xs b a is so e allowed =
 
 -- names that are shut out
 pub names_shut_out : (s : Stage) (before : List Finding) (v : Survey) (h : NamesNode) (xs : Nodes) (b out : Bool)
-    → b ≡ has_people s h → b ≡ false → out ≡ shuts_out s.form h → out ≡ true → v ≡ variable_survey false
+    → b ≡ has_people s h → b ≡ false → out ≡ excludes s.form h → out ≡ true → v ≡ variable_survey false
     → (v, before) ≡ node_asked s before (nodes.names h xs)
 names_shut_out s before v h xs b out is so shut out_is e =
     (λ i. (e i, sym (append-nil before) i))
@@ -66,7 +66,7 @@ names_shut_out s before v h xs b out is so shut out_is e =
 
 -- the substitute of names
 pub names_substituted : (s : Stage) (before after : List Finding) (v inside : Survey) (h : NamesNode) (xs : Nodes) (b out : Bool)
-    → b ≡ has_people s h → b ≡ false → out ≡ shuts_out s.form h → out ≡ false → v ≡ record inside { calls = true } → (inside, after) ≡ all_asked s before xs
+    → b ≡ has_people s h → b ≡ false → out ≡ excludes s.form h → out ≡ false → v ≡ record inside { calls = true } → (inside, after) ≡ all_asked s before xs
     → (v, after) ≡ node_asked s before (nodes.names h xs)
 names_substituted s before after v inside h xs b out is so shut clear e asked =
     (λ i. (e i, after))

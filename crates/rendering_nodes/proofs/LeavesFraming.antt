@@ -4,6 +4,7 @@ use Rattle.std.specs.Prelude.{if◌then◌else◌, ◌-◌, ◌&&◌, ◌||◌, 
 use Rattle.std.specs.List.{flat_map, enumerate_from}
 use Rattle.std.specs.Fmt.{decimal}
 use Rattle.std.specs.Option.{unwrap_or}
+use Rattle.laws.specs.Characters.{space}
 use Rattle.laws.specs.Text.{is_filled}
 use Rattle.literature_values.specs.declared.date.Date.{Date}
 use Rattle.literature_values.specs.declared.date.DateEnd.{DateEnd}
@@ -162,7 +163,7 @@ ends_day c s has_date d (Some day) =
 -- names
 ends_before_last : (m : Manner) (o : NameOptions) (n : ℕ) (cs : List ℕ) → EndAll (names.before_last_by m o n cs)
 ends_before_last m o n [] = ends_normal m (names.delimiter_by o)
-ends_before_last m o n (c ∷ cs) = ends_more _ _ (ends_normal m _) (ends_more _ _ (ends_normal m (c ∷ cs)) (ends_normal m (32 ∷ [])))
+ends_before_last m o n (c ∷ cs) = ends_more _ _ (ends_normal m _) (ends_more _ _ (ends_normal m (c ∷ cs)) (ends_normal m (space ∷ [])))
 
 ends_before_name : (ls : List Locale) (m : Manner) (o : NameOptions) (n i : ℕ) → EndAll (names.before_name ls m o n i)
 ends_before_name ls m o n i =
@@ -192,7 +193,7 @@ ends_et_al s shown (c ∷ cs) = ends_more _ _ (ends_normal s.manner _) (ends_nor
 
 ends_after_ellipsis : (s : NameStyle) (ps : List Piece) → EndAll ps → EndAll (names.after_ellipsis s ps)
 ends_after_ellipsis s ps h =
-    ends_more _ _ (ends_normal s.manner (names.delimiter_by s.options)) (ends_more _ _ (ends_normal s.manner names.ellipsis) (ends_more _ _ (ends_normal s.manner (32 ∷ [])) h))
+    ends_more _ _ (ends_normal s.manner (names.delimiter_by s.options)) (ends_more _ _ (ends_normal s.manner names.ellipsis) (ends_more _ _ (ends_normal s.manner (space ∷ [])) h))
 
 ends_rest : (s : NameStyle) (v : NameVariable) (n shown : ℕ) (ps : List IndexedPerson) → EndAll (names.rest_pieces s v n shown ps)
 ends_rest s v n shown ps =

@@ -1,45 +1,66 @@
 -- Names with people, and their substitute, from what each call appends.
-use Rattle.std.proofs.Common.{◌≡◌, ℕ, Bool, true, false, ◌&&◌, eqb, eqb-true, suc-ne-zero, List, [], ◌∷◌, length, sym, ap, ◌∙◌, if◌then◌else◌, Option, Some}
+use Rattle.std.proofs.Common.{◌≡◌, ℕ, Bool, true, false, ◌&&◌, ◌||◌, eqb, eqb-true, suc-ne-zero, List, [], ◌∷◌, length, refl, sym, ap, ◌∙◌, if◌then◌else◌, Option, None, Some, is_some}
+use Rattle.std.specs.Option.{option_or}
 use Rattle.std.proofs.lemmas.Bool.{false≢true}
 use Rattle.rendering_context.specs.Answering.{all_people}
 use Rattle.rendering_context.specs.Contexts.{Context}
 use Rattle.rendering_leaves.specs.NodeSettings.{NodeSetting, State}
-use Rattle.rendering_names.specs.Names.{names_frame}
+use Rattle.rendering_names.specs.Names.{completed, names_frame}
 use Rattle.rendering_people.specs.Views.{all_lent_answered_view}
 use Rattle.rendering_people.specs.declared.people.Answered.{Answered}
 use Rattle.rendering_page.specs.Pages.{prints}
 use Rattle.rendering_style.specs.Nodes as nodes
 use Rattle.rendering_style.specs.Nodes.{NamesNode, Nodes}
-use Rattle.rendering_taxonomy.specs.declared.variable.NameVariable.{NameVariable}
 use Rattle.rendering_taxonomy.specs.declared.variable.Variable.{Variable}
 use Rattle.rendering_tree.specs.Metas as metas
 use Rattle.rendering_nodes.specs.Content.{content, entered, first_substitute, inside_names, left, names_or_substitute, append_people, taken, tried}
 use Rattle.rendering_nodes.specs.Turns.{asked, attempt, is_next, settled, append_substitute, is_substitute, substituted}
 
 -- the people of a names node, by variables that are the same
-people_as : (c : Context) (h : NamesNode) (sup : List Variable) (vs : List NameVariable) (people : List metas.Answered) (st : State)
-    → sup ≡ st.suppressed → vs ≡ h.variables → people ≡ all_people c sup vs → people ≡ all_people c st.suppressed h.variables
-people_as c h sup vs people st e f is = is ∙ (λ k. all_people c (e k) (f k))
+people_as : (c : Context) (h : NamesNode) (sup : List Variable) (people : List metas.Answered) (st : State)
+    → sup ≡ st.suppressed → people ≡ all_people c sup h.variables → people ≡ all_people c st.suppressed h.variables
+people_as c h sup people st e is = is ∙ ap (λ vs. all_people c vs h.variables) e
 
 -- names without people
-pub names_without : (c : Context) (outer : Option NamesNode) (s : NodeSetting) (h g : NamesNode) (xs : Nodes) (sup : List Variable) (vs : List NameVariable) (people : List Answered) (n : ℕ) (b : Bool) (st new : State)
-    → sup ≡ st.suppressed → vs ≡ h.variables → all_lent_answered_view people ≡ all_people c sup vs → n ≡ length people → b ≡ eqb n 0 → b ≡ true → g ≡ taken outer h
-    → new ≡ substituted c s g xs st → new ≡ content c outer s (nodes.names h xs) st
-names_without c outer s h g xs sup vs [] n b st new e f is count test so same append =
-    append
-    ∙ ap (λ y. substituted c s y xs st) same
-    ∙ ap (λ ps. names_or_substitute c s (taken outer h) (first_substitute c (taken outer h) (inside_names s (taken outer h)) xs) ps st) (people_as c h sup vs (all_lent_answered_view []) st e f is)
-names_without c outer s h g xs sup vs (p ∷ ps) n b st new e f is count test so same append = absurd (suc-ne-zero (length ps) (sym count ∙ eqb-true n 0 (sym test ∙ so)))
+pub names_without : (c : Context) (s : NodeSetting) (h : NamesNode) (xs : Nodes) (sup : List Variable) (people : List Answered) (n : ℕ) (b : Bool) (st new : State)
+    → sup ≡ st.suppressed → all_lent_answered_view people ≡ all_people c sup h.variables → n ≡ length people → b ≡ eqb n 0 → b ≡ true
+    → new ≡ substituted c s h xs st → new ≡ content c None s (nodes.names h xs) st
+names_without c s h xs sup [] n b st new e is count test so append =
+    append ∙ ap (λ ps. names_or_substitute c s h (first_substitute c h (inside_names s h) xs) ps st) (people_as c h sup (all_lent_answered_view []) st e is)
+names_without c s h xs sup (p ∷ ps) n b st new e is count test so append = absurd (suc-ne-zero (length ps) (sym count ∙ eqb-true n 0 (sym test ∙ so)))
 
 -- names with people
-pub names_with : (c : Context) (outer : Option NamesNode) (s : NodeSetting) (h g : NamesNode) (xs : Nodes) (sup : List Variable) (vs : List NameVariable) (people shown : List Answered) (n : ℕ) (b : Bool) (st new : State)
-    → sup ≡ st.suppressed → vs ≡ h.variables → all_lent_answered_view people ≡ all_people c sup vs → n ≡ length people → b ≡ eqb n 0 → b ≡ false → g ≡ taken outer h → shown ≡ people
-    → new ≡ append_people c s g (all_lent_answered_view shown) st → new ≡ content c outer s (nodes.names h xs) st
-names_with c outer s h g xs sup vs [] shown n b st new e f is count test so same one append = absurd (false≢true (sym so ∙ (test ∙ ap (λ (m : ℕ). eqb m 0) count)))
-names_with c outer s h g xs sup vs (p ∷ ps) shown n b st new e f is count test so same one append =
+pub names_with : (c : Context) (s : NodeSetting) (h : NamesNode) (xs : Nodes) (sup : List Variable) (people shown : List Answered) (n : ℕ) (b : Bool) (st new : State)
+    → sup ≡ st.suppressed → all_lent_answered_view people ≡ all_people c sup h.variables → n ≡ length people → b ≡ eqb n 0 → b ≡ false → shown ≡ people
+    → new ≡ append_people c s h (all_lent_answered_view shown) st → new ≡ content c None s (nodes.names h xs) st
+names_with c s h xs sup [] shown n b st new e is count test so one append = absurd (false≢true (sym so ∙ (test ∙ ap (λ (m : ℕ). eqb m 0) count)))
+names_with c s h xs sup (p ∷ ps) shown n b st new e is count test so one append =
     append
-    ∙ (λ k. append_people c s (same k) (all_lent_answered_view (one k)) st)
-    ∙ ap (λ qs. names_or_substitute c s (taken outer h) (first_substitute c (taken outer h) (inside_names s (taken outer h)) xs) qs st) (people_as c h sup vs (all_lent_answered_view (p ∷ ps)) st e f is)
+    ∙ ap (λ qs. append_people c s h (all_lent_answered_view qs) st) one
+    ∙ ap (λ qs. names_or_substitute c s h (first_substitute c h (inside_names s h) xs) qs st) (people_as c h sup (all_lent_answered_view (p ∷ ps)) st e is)
+
+-- names that are completed are of the same variables
+completed_if : (b : Bool) (h g : NamesNode) → g.variables ≡ h.variables → (if b then h else g).variables ≡ h.variables
+completed_if true h g same = refl
+completed_if false h g same = same
+
+completed_variables : (outer h : NamesNode) → (completed outer h).variables ≡ h.variables
+completed_variables outer h =
+    completed_if (is_some h.name || is_some h.et_al) h
+    (record h { name = outer.name; et_al = outer.et_al; label = option_or h.label outer.label; label_is_first = if is_some h.label then h.label_is_first else outer.label_is_first })
+    refl
+
+-- names in a substitute are appended as those with what they take from the names around
+pub taken_content : (c : Context) (outer : Option NamesNode) (s : NodeSetting) (h : NamesNode) (xs : Nodes) (st : State)
+    → content c None s (nodes.names (taken outer h) xs) st ≡ content c outer s (nodes.names h xs) st
+taken_content c None s h xs st = refl
+taken_content c (Some o) s h xs st =
+    ap (λ vs. names_or_substitute c s (completed o h) (first_substitute c (completed o h) (inside_names s (completed o h)) xs) (all_people c st.suppressed vs) st) (completed_variables o h)
+
+-- names by their parts
+pub names_by : (c : Context) (outer : Option NamesNode) (s : NodeSetting) (h g : NamesNode) (xs : Nodes) (st new : State) → g ≡ taken outer h
+    → new ≡ content c None s (nodes.names g xs) st → new ≡ content c outer s (nodes.names h xs) st
+names_by c outer s h g xs st new same append = append ∙ ap (λ y. content c None s (nodes.names y xs) st) same ∙ taken_content c outer s h xs st
 
 -- the element of names with their substitute
 pub substituted_by : (c : Context) (s t : NodeSetting) (h : NamesNode) (xs : Nodes) (st begun middle new : State)

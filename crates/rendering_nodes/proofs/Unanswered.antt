@@ -3,6 +3,7 @@ use Rattle.std.proofs.Common.{◌≡◌, Bool, true, false, not, ◌&&◌, ◌||
 use Rattle.std.proofs.lemmas.List.Elements.{Contains-append_left, Contains-append_right, Contains-push}
 use Rattle.std.specs.List.{filter}
 use Rattle.std.specs.Option.{option_map_or}
+use Rattle.laws.specs.Text.{is_filled}
 use Rattle.literature_values.specs.PersonViews.{Named as Person}
 use Rattle.literature_values.specs.declared.date.Date.{Date}
 use Rattle.rendering_style.specs.Nodes.{TextSource, of_variable, of_term, of_value, NamesNode, GroupNode, Leaf, Node, Nodes, Branches, leaf, call, opened, names, choose, group, no_nodes, node, otherwise, branch}
@@ -11,7 +12,7 @@ use Rattle.rendering_context.specs.Contexts.{Context}
 use Rattle.rendering_leaves.specs.NodeSettings.{noted}
 use Rattle.rendering_context.specs.Answering.{no_answer, is_missing, answer_of, asked_for, exchanged_for, answer_to, people_answer, with_people, all_people}
 use Rattle.rendering_context.specs.Choosing.{is_met}
-use Rattle.rendering_nodes.specs.Admission.{Survey, Stage, variable_survey, allows_variable, allows_date, shuts_out, are_some, names_survey, leaf_survey, survey, surveys, branch_survey}
+use Rattle.rendering_nodes.specs.Admission.{Survey, Stage, variable_survey, allows_variable, allows_date, excludes, names_survey, leaf_survey, survey, surveys, branch_survey}
 use Rattle.rendering_nodes.specs.Content.{stage, content, delimited}
 use Rattle.rendering_nodes.specs.Named.{named_in_leaf, named_in_tests, named_in, named, named_in_branches, is_word_leaf, has_words_in, has_words, has_words_in_branches}
 use Rattle.rendering_nodes.specs.Laws.{HasNoAnswer, UnansweredGroupsAddNothing}
@@ -103,8 +104,8 @@ mutual
   out_of s (opened look xs) w h = all_out s xs w h
   out_of s (names hd xs) w h =
       let here = map (λ v. variables.Name v) hd.variables in
-      ap (λ b. (names_survey s hd b (surveys s xs)).is_admitted) (ap are_some (nobody s.context s.suppressed hd.variables (left_without s.context here (named xs).variables h)))
-      ∙ without_people (shuts_out s.form hd) (surveys s xs) (all_out s xs w (right_without s.context here (named xs).variables h))
+      ap (λ b. (names_survey s hd b (surveys s xs)).is_admitted) (ap is_filled (nobody s.context s.suppressed hd.variables (left_without s.context here (named xs).variables h)))
+      ∙ without_people (excludes s.form hd) (surveys s xs) (all_out s xs w (right_without s.context here (named xs).variables h))
   out_of s (choose bs) w h = branches_out s bs w h
   out_of s (group g xs) w h = ap (λ b. b && not ((surveys s xs).calls && not (surveys s xs).is_answered)) (all_out s xs w h)
 

@@ -1,10 +1,10 @@
--- Which nodes are admitted: those that have something to print and are not shut out.
-use Rattle.std.specs.Prelude.{Bool, true, false, not, ◌&&◌, ◌||◌, List, [], ◌∷◌, if◌then◌else◌}
+-- Which nodes are admitted: those that have something to print and are not excluded.
+use Rattle.std.specs.Prelude.{Bool, true, false, not, ◌&&◌, ◌||◌, List, if◌then◌else◌}
 use Rattle.std.specs.List.{list_any}
 use Rattle.std.specs.Option.{option_map_or}
+use Rattle.laws.specs.Text.{is_filled}
 use Rattle.rendering_taxonomy.specs.Variables.{is_variable, is_name_variable}
 use Rattle.rendering_locale.specs.Lookup.{term_text}
-use Rattle.rendering_page.specs.Pages.{is_filled}
 use Rattle.rendering_style.specs.Nodes.{TextSource, of_variable, of_term, of_value, TextLook, NumberNode, DateNode, NamesNode, Leaf, Node, Nodes, Branches, leaf, call, opened, names, choose, group, no_nodes, node, otherwise, branch}
 use Rattle.rendering_style.specs.Nodes as nodes
 use Rattle.rendering_context.specs.Contexts.{Context}
@@ -20,18 +20,18 @@ use Rattle.rendering_taxonomy.specs.declared.variable.Variable.{Variable}
 use Rattle.rendering_taxonomy.specs.declared.variable.Variable.TheVariants as variables
 
 -- What is asked of a node before it is printed: whether it is admitted; whether it calls a variable, and whether one that it calls has
--- an answer; and whether on the way it was asked if the cite is like others.
+-- an answer; and whether the test `disambiguate` was evaluated on the way.
 pub record Survey : Type 0 where
   pub is_admitted : Bool
   pub calls : Bool
   pub is_answered : Bool
   pub met : Bool
 
--- of no node
+-- what is asked where there is no node
 abbrev pub nothing : Survey
 nothing = record { is_admitted = false; calls = false; is_answered = false; met = false }
 
--- of two nodes
+-- what is asked of two nodes together
 abbrev pub both : Survey → Survey → Survey
 both a b = record {
   is_admitted = a.is_admitted || b.is_admitted;
@@ -40,15 +40,15 @@ both a b = record {
   met = a.met || b.met;
 }
 
--- a node that prints words of its own
+-- what is asked of a node that prints words of its own
 abbrev pub words_survey : Bool → Survey
 words_survey admitted = record { is_admitted = admitted; calls = false; is_answered = false; met = false }
 
--- a node that prints the answer to a variable
+-- what is asked of a node that prints the answer to a variable
 abbrev pub variable_survey : Bool → Survey
 variable_survey admitted = record { is_admitted = admitted; calls = true; is_answered = admitted; met = false }
 
--- a node that prints what others in it print; it is an answer to those around it
+-- what is asked of a node that prints what others in it print; to the nodes around it this is an answer
 abbrev pub containing : Bool → Survey → Survey
 containing admitted inside = record inside { is_admitted = admitted; is_answered = admitted }
 
@@ -64,7 +64,7 @@ is_suffix_variable v = is_variable v (variables.Standard standard.YearSuffix)
 abbrev pub is_with_suffix : Variable → Bool
 is_with_suffix v = is_locator_variable v || is_suffix_variable v
 
--- whether a form lets the node of a variable stand that is no date and no names
+-- whether a form allows the node of a variable that is no date and no names
 abbrev pub allows_variable : SpecialForm → Variable → Bool
 allows_variable whole v = true
 allows_variable (author_only a) v = false
@@ -72,7 +72,7 @@ allows_variable without_author v = true
 allows_variable first_date_only v = is_with_suffix v
 allows_variable suffix_only v = is_with_suffix v
 
--- whether it lets words stand
+-- whether a form allows words of the style
 abbrev pub allows_words : SpecialForm → Bool
 allows_words whole = true
 allows_words (author_only a) = false
@@ -80,8 +80,8 @@ allows_words without_author = true
 allows_words first_date_only = false
 allows_words suffix_only = false
 
--- Whether it lets a date stand: the first one, where the first alone is wanted; and where the year suffix alone is, the first one, whose
--- suffix these are if the style does not print them by themselves.
+-- Whether a form allows a date: the first one, where the first alone is wanted; and where the year suffix alone is, the first one, whose
+-- suffix it is if the style does not print it by itself.
 abbrev pub allows_date : Context → Bool → SpecialForm → Bool
 allows_date c has_date whole = true
 allows_date c has_date (author_only a) = false
@@ -101,7 +101,7 @@ asks_for_date suffix_only = true
 abbrev pub is_of : NameVariable → NamesNode → Bool
 is_of v h = list_any (is_name_variable v) h.variables
 
--- whether it lets names stand
+-- whether a form allows names
 abbrev pub allows_names : SpecialForm → NamesNode → Bool
 allows_names whole h = true
 allows_names (author_only v) h = is_of v h
@@ -109,10 +109,10 @@ allows_names without_author h = not (is_of name.Author h)
 allows_names first_date_only h = false
 allows_names suffix_only h = false
 
--- whether a form shuts names out with all of their substitute
-abbrev pub shuts_out : SpecialForm → NamesNode → Bool
-shuts_out without_author h = is_of name.Author h
-shuts_out form h = false
+-- whether a form excludes names with all of their substitute
+abbrev pub excludes : SpecialForm → NamesNode → Bool
+excludes without_author h = is_of name.Author h
+excludes form h = false
 
 -- How far a call has come: what it prints from and in which form, whether the first date was printed, and which variables are not printed again.
 pub record Stage : Type 0 where
@@ -125,39 +125,34 @@ pub record Stage : Type 0 where
 abbrev pub is_there : Stage → Variable → Bool
 is_there s v = not (is_missing (answer_to s.context s.suppressed lengths.Long v))
 
--- of a text: an answer, a term or words of the style
+-- what is asked of a text: an answer, a term or words of the style
 abbrev pub source_survey : Stage → TextSource → Survey
 source_survey s (of_variable v form) = variable_survey (not (is_missing (answer_to s.context s.suppressed form v)) && allows_variable s.form v)
 source_survey s (of_term name form plural) = words_survey (is_filled (term_text s.context.locales name form plural) && allows_words s.form)
 source_survey s (of_value cs) = words_survey (is_filled cs && allows_words s.form)
 
--- of a node that holds no others; a label calls no variable
+-- what is asked of a node that contains no others; a label calls no variable
 abbrev pub leaf_survey : Stage → Leaf → Survey
 leaf_survey s (nodes.text source look) = source_survey s source
 leaf_survey s (nodes.number n) = variable_survey (is_there s n.variable && allows_variable s.form n.variable)
 leaf_survey s (nodes.label v look) = words_survey (is_there s v && allows_variable s.form v)
 leaf_survey s (nodes.date d) = variable_survey (option_map_or (λ day. true) (date_answer s.context s.suppressed d.variable) false && allows_date s.context s.has_date s.form)
 
--- Of names: with people they are asked themselves, without people all of their substitute is.
+-- What is asked of names: of themselves where they have people, else of all of their substitute.
 abbrev pub names_survey : Stage → NamesNode → Bool → Survey → Survey
 names_survey s h true inside = variable_survey (allows_names s.form h)
-names_survey s h false inside = if shuts_out s.form h then variable_survey false else record inside { calls = true }
-
--- whether there is something in a list
-abbrev pub are_some : {X : Type 0} → List X → Bool
-are_some [] = false
-are_some (x ∷ xs) = true
+names_survey s h false inside = if excludes s.form h then variable_survey false else record inside { calls = true }
 
 -- whether one of their variables has people
 abbrev pub has_people : Stage → NamesNode → Bool
-has_people s h = are_some (all_people s.context s.suppressed h.variables)
+has_people s h = is_filled (all_people s.context s.suppressed h.variables)
 
 -- a group prints nothing where it calls variables and none has an answer
 abbrev pub group_survey : Survey → Survey
 group_survey inside = containing (inside.is_admitted && not (inside.calls && not inside.is_answered)) inside
 
 abbrev mutual
-  -- of a node
+  -- what is asked of a node
   pub survey : Stage → Node → Survey
   survey s (leaf l) = leaf_survey s l
   survey s (call name look) = nothing
@@ -166,12 +161,12 @@ abbrev mutual
   survey s (choose bs) = branch_survey s bs
   survey s (group g xs) = group_survey (surveys s xs)
 
-  -- of all of them together
+  -- what is asked of nodes together
   pub surveys : Stage → Nodes → Survey
   surveys s no_nodes = nothing
   surveys s (node x xs) = both (survey s x) (surveys s xs)
 
-  -- of the branch that is taken; what was asked of those before it is remembered
+  -- what is asked of the branch that is taken; whether `disambiguate` was evaluated for those before it is remembered
   pub branch_survey : Stage → Branches → Survey
   branch_survey s (otherwise xs) = surveys s xs
   branch_survey s (branch c xs bs) =

@@ -51,15 +51,15 @@ entered c f quote st = append c (begin f ∷ quote) st
 abbrev pub left : Context → Frame → List Piece → State → State
 left c f quote st = append c (quote ++ end f ∷ []) st
 
--- inside an opened macro: it has no delimiter from around, and quotes in quotes are of the other kind
+-- what is handed down inside an opened macro: no delimiter, and quotes of the other kind where the macro stands in quotes
 abbrev pub inside_macro : NodeSetting → TextLook → NodeSetting
 inside_macro s look = record s { manner = text_manner s.manner look; delimiter = None; inside_quotes = if look.quotes then not s.inside_quotes else s.inside_quotes }
 
--- inside a group
+-- what is handed down inside a group
 abbrev pub inside_group : NodeSetting → GroupNode → NodeSetting
 inside_group s g = record s { manner = look_manner s.manner g.look; delimiter = g.delimiter }
 
--- inside a names node with a substitute
+-- what is handed down inside a names node whose substitute is printed
 abbrev pub inside_names : NodeSetting → NamesNode → NodeSetting
 inside_names s h = record s { manner = names_manner s.manner h; in_substitute = true }
 
@@ -68,15 +68,15 @@ abbrev pub delimited : Context → NodeSetting → Bool → State → State
 delimited c s true st = st
 delimited c s false st = append c (option_map_or (λ d. normal s.manner d ∷ []) s.delimiter []) st
 
--- round the substitute of names: nothing but where it begins and ends
+-- the element round the substitute of names, without display, meta and affixes
 abbrev pub bare : NodeSetting → Frame
 bare s = record { display = None; meta = None; manner = s.manner; prefix = []; suffix = [] }
 
--- something begins that is undone if it prints nothing
+-- an element begins that is removed if it prints nothing
 abbrev pub tried : Context → NodeSetting → State → State
 tried c s st = append c (begin (bare s) ∷ []) st
 
--- it has printed something
+-- that element ends, once it has printed something
 abbrev pub accepted : Context → NodeSetting → State → State
 accepted c s st = append c (end (bare s) ∷ []) st
 
@@ -90,7 +90,7 @@ names_or_substitute c s h substitute [] st = left c (names_frame s.manner h []) 
 names_or_substitute c s h substitute (a ∷ people) st = append_people c s h (a ∷ people) st
 
 abbrev mutual
-  -- A node. It is told which names node it is directly a substitute of, what is handed down, and what was appended before it.
+  -- What a node appends, given the names node that it is directly a substitute of, what is handed down, and what was appended before it.
   pub content : Context → Option NamesNode → NodeSetting → Node → State → State
   content c outer s (leaf l) st = append_leaf c s l st
   content c outer s (call name look) st = st
@@ -120,8 +120,8 @@ abbrev mutual
       then contents c s true xs (noted (asks_disambiguate condition) st)
       else chosen c s bs (noted (asks_disambiguate condition) st)
 
-  -- The first node that prints something is the substitute. Of one that prints nothing nothing remains but that it was asked whether the
-  -- cite is like others.
+  -- The first node that prints something is the substitute. Of one that prints nothing only this remains: whether the test `disambiguate`
+  -- was evaluated.
   pub first_substitute : Context → NamesNode → NodeSetting → Nodes → State → State
   first_substitute c h s no_nodes st = st
   first_substitute c h s (node x xs) st =

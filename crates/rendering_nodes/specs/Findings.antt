@@ -5,10 +5,12 @@ use Rattle.rendering_context.specs.Contexts.{Context}
 use Rattle.rendering_context.specs.Choosing.{is_met}
 use Rattle.rendering_leaves.specs.NodeSettings.{SpecialForm, State}
 use Rattle.rendering_leaves.specs.NodeSettings as settings
-use Rattle.rendering_nodes.specs.Admission.{Survey, Stage, has_people, shuts_out, survey, surveys}
+use Rattle.rendering_nodes.specs.Admission.{Survey, Stage, has_people, excludes, survey, surveys}
 use Rattle.rendering_nodes.specs.Content.{stage}
 use Rattle.rendering_nodes.specs.declared.finding.Finding.{Finding}
 use Rattle.rendering_nodes.specs.declared.finding.Findings.{Findings}
+use Rattle.rendering_nodes.specs.declared.finding.Known.{Known}
+use Rattle.rendering_nodes.specs.declared.finding.Known.TheVariants.{Before, Now}
 use Rattle.rendering_nodes.specs.declared.finding.NodeFinding.{NodeFinding}
 use Rattle.rendering_nodes.specs.declared.finding.Surveyed.{Surveyed}
 
@@ -16,14 +18,14 @@ use Rattle.rendering_nodes.specs.declared.finding.Surveyed.{Surveyed}
 abbrev pub with_finding : Survey → List Finding → List Finding
 with_finding v inside = record { is_admitted = v.is_admitted; met = v.met; inside = length inside } ∷ inside
 
--- where a survey has not yet found anything of a node
+-- the finding of a node of which a survey has not yet found anything
 abbrev pub nothing_found : Finding
 nothing_found = record { is_admitted = false; met = false; inside = 0 }
 
--- nothing is asked of substitutes beside people, nor where names are shut out
+-- nothing is asked of a substitute where there are people, nor where names are excluded
 abbrev pub beside_people : Stage → NamesNode → Bool → List Finding → List Finding
 beside_people s h true substitutes = []
-beside_people s h false substitutes = if shuts_out s.form h then [] else substitutes
+beside_people s h false substitutes = if excludes s.form h then [] else substitutes
 
 abbrev mutual
   -- what is found of the nodes inside a node
@@ -35,12 +37,12 @@ abbrev mutual
   found_inside s (choose bs) = branch_found s bs
   found_inside s (group g xs) = found s xs
 
-  -- of each node of a list, and of those inside it
+  -- what is found of each node of a list, and of those inside it
   pub found : Stage → Nodes → List Finding
   found s no_nodes = []
   found s (node x xs) = with_finding (survey s x) (found_inside s x) ++ found s xs
 
-  -- of the branch that is taken
+  -- what is found of the branch that is taken
   pub branch_found : Stage → Branches → List Finding
   branch_found s (otherwise xs) = found s xs
   branch_found s (branch c xs bs) = if is_met s.context c then found s xs else branch_found s bs
@@ -74,7 +76,7 @@ stage_then c form k = record { context = c; form = form; has_date = k.has_date; 
 abbrev pub AreFound : Context → SpecialForm → Findings → Nodes → Type 0
 AreFound c form k xs = AreAll k.nodes.now (found (stage_then c form k) xs)
 
--- the same of the nodes inside a node
+-- what is known of the nodes inside a node is what was found then
 abbrev pub AreFoundInside : Context → SpecialForm → Findings → Node → Type 0
 AreFoundInside c form k x = AreAll k.nodes.now (found_inside (stage_then c form k) x)
 
@@ -91,3 +93,8 @@ pub record IsSurveyed (c : Context) (s : settings.NodeSetting) (st : State) (n :
   pub has_date : n.has_date ≡ st.has_date
   pub suppressed : n.suppressed.items ≡ st.suppressed
   pub inside : n.inside.items ≡ found_inside (stage c s st) x
+
+-- what is known of a node, before or just now, is what is found now
+abbrev pub IsKnown : Context → settings.NodeSetting → State → Known → Node → Type 0
+IsKnown c s st (Before n) x = IsFound c s st n x
+IsKnown c s st (Now n) x = IsSurveyed c s st n x

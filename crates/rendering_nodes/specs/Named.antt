@@ -29,7 +29,7 @@ variable_named v = record { variables = v ∷ []; kinds = [] }
 abbrev pub joined_named : Named → Named → Named
 joined_named a b = record { variables = a.variables ++ b.variables; kinds = a.kinds ++ b.kinds }
 
--- by a test
+-- what a test names
 abbrev pub named_in_test : Test → Named
 named_in_test (nodes.is_of_kind k) = record { variables = []; kinds = k ∷ [] }
 named_in_test (nodes.has_answer v) = variable_named v
@@ -37,18 +37,18 @@ named_in_test (nodes.is_numeric v) = variable_named v
 named_in_test (nodes.is_uncertain v) = variable_named (variables.Date v)
 named_in_test t = none_named
 
--- by all tests
+-- what tests name
 abbrev pub named_in_tests : List Test → Named
 named_in_tests [] = none_named
 named_in_tests (t ∷ ts) = joined_named (named_in_test t) (named_in_tests ts)
 
--- by a text
+-- what a text names
 abbrev pub named_in_source : TextSource → Named
 named_in_source (of_variable v form) = variable_named v
 named_in_source (of_term name form plural) = none_named
 named_in_source (of_value cs) = none_named
 
--- by a node without others
+-- what a node without others names
 abbrev pub named_in_leaf : Leaf → Named
 named_in_leaf (nodes.text source look) = named_in_source source
 named_in_leaf (nodes.number n) = variable_named n.variable
@@ -56,7 +56,7 @@ named_in_leaf (nodes.label v look) = variable_named v
 named_in_leaf (nodes.date d) = variable_named (variables.Date d.variable)
 
 abbrev mutual
-  -- by a node
+  -- what a node names
   pub named_in : Node → Named
   named_in (leaf l) = named_in_leaf l
   named_in (call name look) = none_named
@@ -65,12 +65,12 @@ abbrev mutual
   named_in (choose bs) = named_in_branches bs
   named_in (group g xs) = named xs
 
-  -- by a list of nodes
+  -- what a list of nodes names
   pub named : Nodes → Named
   named no_nodes = none_named
   named (node x xs) = joined_named (named_in x) (named xs)
 
-  -- by branches, those that are not taken too
+  -- what branches name, those that are not taken too
   pub named_in_branches : Branches → Named
   named_in_branches (otherwise xs) = named xs
   named_in_branches (branch c xs bs) = joined_named (named_in_tests c.tests) (joined_named (named xs) (named_in_branches bs))
@@ -114,12 +114,12 @@ abbrev mutual
   has_suffix_in (choose bs) = has_suffix_in_branches bs
   has_suffix_in (group g xs) = has_suffix xs
 
-  -- whether one of them does
+  -- whether one of the nodes holds such a leaf
   pub has_suffix : Nodes → Bool
   has_suffix no_nodes = false
   has_suffix (node x xs) = has_suffix_in x || has_suffix xs
 
-  -- whether one in some branch does
+  -- whether a node in one of the branches holds such a leaf
   pub has_suffix_in_branches : Branches → Bool
   has_suffix_in_branches (otherwise xs) = has_suffix xs
   has_suffix_in_branches (branch c xs bs) = has_suffix xs || has_suffix_in_branches bs
@@ -145,12 +145,12 @@ abbrev mutual
   has_words_in (choose bs) = has_words_in_branches bs
   has_words_in (group g xs) = has_words xs
 
-  -- whether one of them does
+  -- whether one of the nodes prints such words
   pub has_words : Nodes → Bool
   has_words no_nodes = false
   has_words (node x xs) = has_words_in x || has_words xs
 
-  -- whether one in some branch does
+  -- whether a node in one of the branches prints such words
   pub has_words_in_branches : Branches → Bool
   has_words_in_branches (otherwise xs) = has_words xs
   has_words_in_branches (branch c xs bs) = has_words xs || has_words_in_branches bs

@@ -4,11 +4,11 @@ use Rattle.rendering_style.specs.Nodes.{Nodes, Branches, otherwise, branch}
 use Rattle.rendering_context.specs.Contexts.{Context}
 use Rattle.rendering_context.specs.Choosing.{is_met, asks_disambiguate}
 
--- the nodes, and whether it was asked on the way if the cite is like others
+-- the nodes, and whether the test `disambiguate` was evaluated on the way
 abbrev pub TakenNodes : Type 0
 TakenNodes = Nodes × Bool
 
--- the nodes of the first branch that is met, or else the last; it was asked before, or not, if the cite is like others
+-- the nodes of the first branch whose condition is met, or else the last; the flag says whether `disambiguate` was evaluated before
 abbrev pub taken_after : Context → Bool → Branches → TakenNodes
 taken_after c met (otherwise xs) = (xs, met)
 taken_after c met (branch condition xs bs) =

@@ -12,7 +12,7 @@ use Rattle.rendering_nodes.specs.Content.{accepted, content, delimited, entered,
 abbrev pub is_next : Context → NodeSetting → Node → State → Bool
 is_next c s x st = (survey (stage c s st) x).is_admitted
 
--- after it was asked
+-- the state after a node was asked
 abbrev pub asked : Context → NodeSetting → Node → State → State
 asked c s x st = noted (survey (stage c s st) x).met st
 
@@ -32,7 +32,7 @@ attempt c h s x st = content c (Some h) s x (tried c s (asked c s x st))
 abbrev pub is_substitute : Context → NamesNode → NodeSetting → Node → State → Bool
 is_substitute c h s x st = is_next c s x st && prints 0 (attempt c h s x st).page.tokens
 
--- what was tried counts, or only whether it was asked if the cite is like others
+-- the state of what was tried, if it printed something, else only whether the test `disambiguate` was evaluated in it
 abbrev pub settled : Context → NodeSetting → State → State → State
 settled c s done st = if prints 0 done.page.tokens then accepted c s done else noted done.met_disambiguate st
 

@@ -30,6 +30,6 @@ macros_of w = (style_view w.style.now).macros
 abbrev pub stage_view : Answers → Stage → admission.Stage
 stage_view a s = record { context = context_view a s.walk.now.context; form = form_view s.form; has_date = s.has_date; suppressed = s.suppressed.now }
 
--- the nodes of the branch that is taken, and whether it was asked on the way if the cite is like others
+-- the nodes of the branch that is taken, and whether the test `disambiguate` was evaluated on the way
 abbrev pub taken_view : Taken → TakenNodes
 taken_view t = (nodes_view t.nodes.now, t.met)

@@ -1,4 +1,4 @@
-//! What is asked of nodes that contain others. A macro is opened where it is called, down to so many levels of nodes; nothing is
+//! Surveys of nodes that contain others. A macro is opened where it is called, down to so many levels of nodes; nothing is
 //! printed of what lies deeper.
 
 ghost use Rattle.std.specs.Prelude.{◌≡◌, suc, map, IfOk};
@@ -9,7 +9,7 @@ ghost use Rattle.rendering_style.specs.Opening.{each_branch, each_node, macro_na
 ghost use Rattle.rendering_style.specs.Views.{branch_view, branches_of, names_node_view, node_view, nodes_view, text_node_view, text_look_view};
 
 use crate::finding::{Finding, push_nothing_found, put_finding};
-use crate::form_admission::{allows_names, shuts_out};
+use crate::form_admission::{allows_names, excludes};
 use crate::leaf_surveys::Stage;
 use crate::survey::Survey;
 use rendering_entries::EntryLike;
@@ -17,7 +17,7 @@ use rendering_style::{ChooseBranch, Names, Node, Text, TextTarget};
 use std::alloc::AllocError;
 
 impl<'a> Stage<'_, '_, 'a> {
-    /// Of all nodes together. What is found of each is added to the findings.
+    /// Surveys all nodes together. What is found of each is appended to the findings.
     #[cycle(surveys)]
     pub(crate) fn survey_all<E: EntryLike>(
         &self,
@@ -38,7 +38,7 @@ impl<'a> Stage<'_, '_, 'a> {
         Ok(found)
     }
 
-    /// Of a node among several. What is found of it stands before what is found of those inside it.
+    /// Surveys a node among several. What is found of it is appended before what is found of the nodes inside it.
     #[cycle(surveys)]
     fn survey_next<E: EntryLike>(
         &self,
@@ -58,7 +58,7 @@ impl<'a> Stage<'_, '_, 'a> {
         Ok(survey)
     }
 
-    /// Of a node. What is found of those inside it is added to the findings.
+    /// Surveys a node. What is found of the nodes inside it is appended to the findings.
     #[cycle(surveys)]
     pub(crate) fn survey_node<E: EntryLike>(
         &self,
@@ -96,7 +96,6 @@ impl<'a> Stage<'_, '_, 'a> {
         }
     }
 
-    /// Of a text.
     #[cycle(surveys)]
     fn survey_text<E: EntryLike>(
         &self,
@@ -118,7 +117,7 @@ impl<'a> Stage<'_, '_, 'a> {
         }
     }
 
-    /// Of the macro of that name; where there is none, of no node.
+    /// Surveys the macro of that name, or no node where there is none.
     #[cycle(surveys)]
     fn survey_macro<E: EntryLike>(
         &self,
@@ -141,7 +140,7 @@ impl<'a> Stage<'_, '_, 'a> {
         }
     }
 
-    /// Of names: with people they are asked themselves, without people all of their substitute is.
+    /// Surveys names: themselves where they have people, else all of their substitute.
     #[cycle(surveys)]
     fn survey_names<E: EntryLike>(
         &self,
@@ -159,14 +158,14 @@ impl<'a> Stage<'_, '_, 'a> {
         if self.has_people(entry, names)? {
             return Ok(Survey::of_variable(allows_names(self.form, names)));
         }
-        if shuts_out(self.form, names) {
+        if excludes(self.form, names) {
             return Ok(Survey::of_variable(false));
         }
         let inside = self.survey_all(entry, levels, substitute, findings)?;
         Ok(inside.of_substitute())
     }
 
-    /// Of the branch that is taken.
+    /// Surveys the branch that is taken.
     #[cycle(surveys)]
     fn survey_choose<E: EntryLike>(
         &self,

@@ -15,7 +15,7 @@ use std::alloc::AllocError;
 #[derive(Clone, Copy)]
 pub(crate) struct Taken<'a> {
     pub(crate) nodes: &'a [Node],
-    /// Whether it was asked on the way if the cite is like others.
+    /// Whether the test `disambiguate` was evaluated on the way.
     pub(crate) met: bool,
 }
 

@@ -1,22 +1,22 @@
 //! What nodes add to a page. A macro is opened where it is called, down to so many levels of nodes; nothing is printed of what lies
 //! deeper.
 
-ghost use Rattle.std.specs.Prelude.{◌≡◌, suc, map, true, IfOk, IfSome, OnOk, Option, Some};
+ghost use Rattle.std.specs.Prelude.{◌≡◌, suc, map, true, IfOk, IfSome, OnOk, Option, None, Some};
 ghost use Rattle.std.specs.Option.{option_map};
 ghost use Rattle.rendering_entries.specs.Answers.{Answers};
 ghost use Rattle.rendering_leaves.specs.NodeSettings.{noted};
 ghost use Rattle.rendering_leaves.specs.Views.{setting_view};
 ghost use Rattle.rendering_names.specs.Views.{names_parts_view};
 ghost use Rattle.rendering_nodes.specs.Content.{accepted, content, contents, first_substitute, tried};
-ghost use Rattle.rendering_nodes.specs.Findings.{AreFound, AreFoundInside, IsFound, IsSurveyed};
+ghost use Rattle.rendering_nodes.specs.Findings.{AreFound, AreFoundInside, IsFound, IsKnown, IsSurveyed};
 ghost use Rattle.rendering_nodes.specs.Turns.{is_next, append_next, settled, append_substitute, is_substitute, substituted};
 ghost use Rattle.rendering_nodes.specs.Views.{macros_of, walk_context};
 ghost use Rattle.rendering_page.specs.Pages.{prints};
 ghost use Rattle.rendering_style.specs.Nodes as nodes;
 ghost use Rattle.rendering_style.specs.Opening.{each_branch, each_node, macro_named, open_node, part};
-ghost use Rattle.rendering_style.specs.Views.{branch_view, branches_of, group_node_view, names_node_view, node_view, nodes_view, text_node_view, text_look_view};
+ghost use Rattle.rendering_style.specs.Views.{branch_view, branches_of, group_node_view, node_view, nodes_view, text_node_view, text_look_view};
 
-use crate::finding::{Findings, NodeFinding, Surveyed};
+use crate::finding::{Findings, Known, NodeFinding, Surveyed};
 use crate::inner_settings::{inside_group, inside_macro, inside_names, taken};
 use crate::style_walk::Walk;
 use rendering_entries::EntryLike;
@@ -24,12 +24,12 @@ use rendering_leaves::{
     NodeSetting, State, push_date, push_label, push_number, push_term, push_value, push_variable,
 };
 use rendering_names::NamesParts;
-use rendering_style::{ChooseBranch, Group, Names, Node, Text, TextLook, TextTarget};
+use rendering_style::{ChooseBranch, Group, Node, Text, TextLook, TextTarget};
 use std::alloc::AllocError;
 use std::mem;
 
 impl<'a> Walk<'_, 'a> {
-    /// Prints nodes one after the other of which nothing is known, each that is admitted, with the delimiter of the group around
+    /// Prints nodes one after the other that were not surveyed, each that is admitted, with the delimiter of the group around
     /// between them.
     pub(crate) fn push_unsurveyed<E: EntryLike>(
         &self,
@@ -76,7 +76,7 @@ impl<'a> Walk<'_, 'a> {
         Ok(())
     }
 
-    /// Prints a node, if it is admitted, after the delimiter of the group around. It is asked where nothing is known of it. Returns
+    /// Prints a node, if it is admitted, after the delimiter of the group around. It is surveyed where nothing is known of it. Returns
     /// whether it is admitted.
     #[cycle(contents)]
     fn push_next<E: EntryLike>(
@@ -99,19 +99,12 @@ impl<'a> Walk<'_, 'a> {
             ≡ append_next (walk_context (E.answers entry.now) self.now) (setting_view setting.now)
             is_first (open_node levels (macros_of self.now) (node_view node.now)) state.old) }
     {
-        match finding {
-            Some(finding) => {
-                self.push_found(entry, setting, levels, is_first, node, finding, state)
-            }
-            None => {
-                let surveyed = self.surveyed(entry, setting, levels, node, state)?;
-                let finding = surveyed.finding();
-                self.push_found(entry, setting, levels, is_first, node, finding, state)
-            }
-        }
+        let known = self.survey_unless_known(entry, setting, levels, node, finding, state)?;
+        let finding = known.finding();
+        self.push_found(entry, setting, levels, is_first, node, finding, state)
     }
 
-    /// Prints a node of which that is known, if it is admitted, after the delimiter of the group around. Returns whether it is.
+    /// Prints a node that was surveyed, if it is admitted, after the delimiter of the group around. Returns whether it is.
     #[cycle(contents)]
     fn push_found<E: EntryLike>(
         &self,
@@ -138,6 +131,32 @@ impl<'a> Walk<'_, 'a> {
         self.push_delimiter(setting, is_first, state)?;
         self.push_node(entry, setting, levels, None, node, finding.inside, state)?;
         Ok(true)
+    }
+
+    /// What is known of a node, or else what a survey finds of it.
+    fn survey_unless_known<'t, E: EntryLike>(
+        &self,
+        entry: &'a E,
+        setting: &NodeSetting<'a>,
+        levels: usize,
+        node: &'a Node,
+        finding: Option<NodeFinding<'t>>,
+        state: &State<'a>,
+    ) -> Result<Known<'t>, AllocError>
+        requires { IfSome finding (λ n. IsFound (walk_context (E.answers entry.now) self.now)
+            (setting_view setting.now) state.now n
+            (open_node levels (macros_of self.now) (node_view node.now))) }
+        ensures { IfOk result (λ k. IsKnown (walk_context (E.answers entry.now) self.now)
+            (setting_view setting.now) state.now k
+            (open_node levels (macros_of self.now) (node_view node.now))) }
+    {
+        match finding {
+            Some(finding) => Ok(Known::Before(finding)),
+            None => {
+                let surveyed = self.surveyed(entry, setting, levels, node, state)?;
+                Ok(Known::Now(surveyed))
+            }
+        }
     }
 
     /// What a survey finds of a node.
@@ -193,12 +212,12 @@ impl<'a> Walk<'_, 'a> {
             Node::Label(label) => push_label(&self.context, entry, setting, label, state),
             Node::Date(date) => push_date(&self.context, entry, setting, date, state),
             Node::Names(names, substitute) => {
+                let parts = taken(outer, names);
                 self.push_names(
                     entry,
                     setting,
                     levels - 1,
-                    outer,
-                    names,
+                    &parts,
                     substitute,
                     findings,
                     state,
@@ -338,15 +357,15 @@ impl<'a> Walk<'_, 'a> {
         self.push_all(entry, setting, levels, taken.nodes, findings, state)
     }
 
-    /// Prints names with people, or their substitute.
+    /// Prints names with people, or their substitute. The parts are what the node says, with what it takes from the names whose substitute
+    /// it is.
     #[cycle(contents)]
     fn push_names<E: EntryLike>(
         &self,
         entry: &'a E,
         setting: &NodeSetting<'a>,
         levels: usize,
-        outer: Option<&NamesParts<'a>>,
-        names: &'a Names,
+        parts: &NamesParts<'a>,
         substitute: &'a [Node],
         findings: Findings<'_>,
         state: &mut State<'a>,
@@ -354,22 +373,18 @@ impl<'a> Walk<'_, 'a> {
         requires { AreFound (walk_context (E.answers entry.now) self.now)
             (setting_view setting.now).form findings
             (each_node (open_node levels (macros_of self.now)) (nodes_view substitute.now)) }
-        ensures { OnOk result (state.new ≡ content (walk_context (E.answers entry.now) self.now)
-            (option_map (λ n. names_parts_view n.now) outer.entry)
-            (setting_view setting.now) (nodes.names (names_node_view names.now) (each_node
+        ensures { OnOk result (state.new
+            ≡ content (walk_context (E.answers entry.now) self.now) None
+            (setting_view setting.now) (nodes.names (names_parts_view parts.now) (each_node
             (open_node levels (macros_of self.now)) (nodes_view substitute.now))) state.old) }
     {
-        let variables = names.variables.as_slice();
         let people = self
             .context
-            .people(entry, state.suppressed.as_slice(), variables)?;
-        let parts = taken(outer, names);
+            .people(entry, state.suppressed.as_slice(), parts.variables)?;
         if people.is_empty() {
-            return self.push_substitute(
-                entry, setting, levels, &parts, substitute, findings, state,
-            );
+            return self.push_substitute(entry, setting, levels, parts, substitute, findings, state);
         }
-        self.push_people(setting, &parts, people.as_slice(), state)
+        self.push_people(setting, parts, people.as_slice(), state)
     }
 
     /// Prints the element of names, with their substitute.
@@ -427,8 +442,8 @@ impl<'a> Walk<'_, 'a> {
         Ok(())
     }
 
-    /// Prints a node, if it prints something, and returns whether it does. It is asked where nothing is known of it. Of one that prints
-    /// nothing nothing remains but that it was asked if the cite is like others.
+    /// Prints a node, if it prints something, and returns whether it does. It is surveyed where nothing is known of it. Of a node
+    /// that prints nothing only this remains: whether the test `disambiguate` was evaluated.
     #[cycle(contents)]
     fn push_substitute_node<E: EntryLike>(
         &self,
@@ -452,19 +467,12 @@ impl<'a> Walk<'_, 'a> {
             (names_parts_view names.now) (setting_view setting.now)
             (open_node levels (macros_of self.now) (node_view node.now)) state.old) }
     {
-        match finding {
-            Some(finding) => {
-                self.push_tried(entry, setting, levels, names, node, finding, state)
-            }
-            None => {
-                let surveyed = self.surveyed(entry, setting, levels, node, state)?;
-                let finding = surveyed.finding();
-                self.push_tried(entry, setting, levels, names, node, finding, state)
-            }
-        }
+        let known = self.survey_unless_known(entry, setting, levels, node, finding, state)?;
+        let finding = known.finding();
+        self.push_tried(entry, setting, levels, names, node, finding, state)
     }
 
-    /// Prints a node of which that is known, if it prints something, and returns whether it does.
+    /// Prints a node that was surveyed, if it prints something, and returns whether it does.
     #[cycle(contents)]
     fn push_tried<E: EntryLike>(
         &self,
@@ -528,8 +536,8 @@ impl<'a> Walk<'_, 'a> {
         Ok(done)
     }
 
-    /// Goes on with what was tried, if that printed something, and returns whether it did; else it is only noted whether it was
-    /// asked there if the cite is like others.
+    /// Takes over the state of what was tried, if that printed something, and returns whether it did; else only notes whether the
+    /// test `disambiguate` was evaluated there.
     fn accept(
         &self,
         setting: &NodeSetting<'a>,
@@ -549,7 +557,7 @@ impl<'a> Walk<'_, 'a> {
         Ok(true)
     }
 
-    /// The element of what was tried ends.
+    /// Ends the element of what was tried.
     fn ended(&self, setting: &NodeSetting<'a>, done: State<'a>) -> Result<State<'a>, AllocError>
         ensures { (a : Answers) → IfOk result (λ s. s
             ≡ accepted (walk_context a self.now) (setting_view setting.now) done.entry) }
@@ -567,7 +575,7 @@ fn has_printed_in(state: &State<'_>) -> bool
     state.page.has_printed()
 }
 
-/// Notes whether it was asked elsewhere if the cite is like others.
+/// Notes whether the test `disambiguate` was evaluated in the other state.
 fn note_met(done: &State<'_>, state: &mut State<'_>)
     ensures { state.new ≡ noted done.now.met_disambiguate state.old }
 {

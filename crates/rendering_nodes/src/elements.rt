@@ -21,6 +21,7 @@ use rendering_page::Frame;
 use rendering_style::{Group, TextLook};
 use rendering_tree::ElemMeta;
 use std::alloc::AllocError;
+use texts::no_text;
 
 impl<'a> Walk<'_, 'a> {
     /// Appends what stands between the children of the group around, before all but the first.
@@ -150,7 +151,7 @@ impl<'a> Walk<'_, 'a> {
         state.page.end_element(self.context.quotes, &frame)
     }
 
-    /// Begins what is undone if it prints nothing.
+    /// Begins an element that is removed if it prints nothing.
     pub(crate) fn begin_bare(
         &self,
         setting: &NodeSetting<'a>,
@@ -162,7 +163,7 @@ impl<'a> Walk<'_, 'a> {
         state.page.begin(&bare(setting))
     }
 
-    /// Ends what has printed something.
+    /// Ends that element, which has printed something.
     pub(crate) fn end_bare(
         &self,
         setting: &NodeSetting<'a>,
@@ -175,8 +176,7 @@ impl<'a> Walk<'_, 'a> {
     }
 }
 
-/// An element of which there is nothing but where it begins and ends.
-#[tactic(auto, using(rendering_locale::proofs::LookupTexts::no_characters))]
+/// An element without display, meta and affixes.
 fn bare<'a>(setting: &NodeSetting<'a>) -> Frame<'a>
     ensures { frame_view result ≡ bare (setting_view setting.now) }
 {
@@ -184,7 +184,7 @@ fn bare<'a>(setting: &NodeSetting<'a>) -> Frame<'a>
         display: None,
         meta: None,
         manner: setting.manner,
-        prefix: "",
-        suffix: "",
+        prefix: no_text(),
+        suffix: no_text(),
     }
 }

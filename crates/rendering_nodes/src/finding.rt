@@ -6,7 +6,7 @@ ghost use Rattle.rendering_leaves.specs.NodeSettings as settings;
 ghost use Rattle.rendering_leaves.specs.Views.{form_view};
 ghost use Rattle.rendering_nodes.specs.Admission.{asks_for_date, survey};
 ghost use Rattle.rendering_nodes.specs.Content.{stage};
-ghost use Rattle.rendering_nodes.specs.Findings.{AreFound, IsFound, IsSurveyed, nothing_found, stage_then, with_finding};
+ghost use Rattle.rendering_nodes.specs.Findings.{AreFound, IsFound, IsKnown, IsSurveyed, nothing_found, stage_then, with_finding};
 ghost use Rattle.rendering_nodes.specs.Turns.{asked, is_next};
 ghost use Rattle.rendering_nodes.specs.Views.{survey_view};
 ghost use Rattle.rendering_style.specs.Nodes.{Node, Nodes, node};
@@ -20,7 +20,7 @@ use std::alloc::AllocError;
 #[derive(Clone, Copy)]
 pub(crate) struct Finding {
     pub(crate) is_admitted: bool,
-    /// Whether it was asked on the way if the cite is like others.
+    /// Whether the test `disambiguate` was evaluated on the way.
     pub(crate) met: bool,
     /// How many findings after this one are of nodes inside the node.
     pub(crate) inside: usize,
@@ -40,7 +40,7 @@ pub(crate) struct Findings<'t> {
 #[derive(Clone, Copy)]
 pub(crate) struct NodeFinding<'t> {
     pub(crate) is_admitted: bool,
-    /// Whether it is asked on the way if the cite is like others.
+    /// Whether the test `disambiguate` is evaluated on the way.
     pub(crate) met: bool,
     pub(crate) inside: Findings<'t>,
 }
@@ -49,7 +49,7 @@ pub(crate) struct NodeFinding<'t> {
 #[derive(Drop)]
 pub(crate) struct Surveyed {
     pub(crate) is_admitted: bool,
-    /// Whether it was asked on the way if the cite is like others.
+    /// Whether the test `disambiguate` was evaluated on the way.
     pub(crate) met: bool,
     /// Whether the first date was printed.
     pub(crate) has_date: bool,
@@ -77,8 +77,28 @@ impl Surveyed {
     }
 }
 
+/// What is known of a node: that was known before, or a survey found it just now.
+#[derive(Drop)]
+pub(crate) enum Known<'t> {
+    Before(NodeFinding<'t>),
+    Now(Surveyed),
+}
+
+impl Known<'_> {
+    /// What that is.
+    pub(crate) fn finding(&self) -> NodeFinding<'_>
+        ensures { (c : Context) (s : settings.NodeSetting) (st : settings.State) (x : Node)
+            → IsKnown c s st self.now x → IsFound c s st result x }
+    {
+        match self {
+            Known::Before(finding) => *finding,
+            Known::Now(surveyed) => surveyed.finding(),
+        }
+    }
+}
+
 impl NodeFinding<'_> {
-    /// Whether the node is admitted. It is noted whether it was asked on the way if the cite is like others.
+    /// Whether the node is admitted. Notes in the state whether the test `disambiguate` was evaluated on the way.
     pub(crate) fn admits(&self, state: &mut State<'_>) -> bool
         ensures admitted { (c : Context) (s : settings.NodeSetting) (x : Node)
             → IsFound c s state.old self.now x → result ≡ is_next c s x state.old }
@@ -91,7 +111,7 @@ impl NodeFinding<'_> {
 }
 
 impl<'t> Findings<'t> {
-    /// Nothing.
+    /// Findings of no node.
     pub(crate) fn nothing() -> Findings<'t>
         ensures { result.nodes.now ≡ [] }
     {
@@ -169,7 +189,7 @@ fn are_same(some: &[Variable], others: &[Variable]) -> bool
     }
 }
 
-/// The same where there are some. It stands apart, so that the code of most calls is small.
+/// Whether variables are the same, in the same order. It is a function of its own, so that the code of most calls is small.
 #[inline(never)]
 fn are_all_same(some: &[Variable], others: &[Variable]) -> bool
     ensures { result ≡ true → some.now ≡ others.now }

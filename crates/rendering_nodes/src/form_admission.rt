@@ -1,4 +1,4 @@
-//! Which nodes a form of a layout lets stand.
+//! Which nodes are printed in a form of a layout.
 
 ghost use Rattle.std.specs.Prelude.{◌≡◌};
 ghost use Rattle.rendering_leaves.specs.Views.{form_view};
@@ -10,7 +10,7 @@ use rendering_leaves::SpecialForm;
 use rendering_style::Names;
 use rendering_taxonomy::{NameVariable, NumberVariable, StandardVariable, Variable};
 
-/// Whether the form lets the node of a variable stand that is no date and no names.
+/// Whether the form allows the node of a variable that is no date and no names.
 pub(crate) fn allows_variable(form: SpecialForm, variable: Variable) -> bool
     ensures { result ≡ admission.allows_variable (form_view form) variable }
 {
@@ -28,7 +28,6 @@ fn is_with_suffix(variable: Variable) -> bool
     is_locator_variable(variable) || is_suffix_variable(variable)
 }
 
-/// Whether the variable is a locator.
 fn is_locator_variable(variable: Variable) -> bool
     ensures { result ≡ admission.is_locator_variable variable }
 {
@@ -48,7 +47,7 @@ pub(crate) fn is_suffix_variable(variable: Variable) -> bool
     }
 }
 
-/// Whether the form lets words stand.
+/// Whether the form allows words of the style.
 pub(crate) fn allows_words(form: SpecialForm) -> bool
     ensures { result ≡ admission.allows_words (form_view form) }
 {
@@ -58,7 +57,7 @@ pub(crate) fn allows_words(form: SpecialForm) -> bool
     }
 }
 
-/// Whether the form lets names stand.
+/// Whether the form allows names.
 pub(crate) fn allows_names(form: SpecialForm, names: &Names) -> bool
     ensures { result ≡ admission.allows_names (form_view form) (names_node_view names.now) }
 {
@@ -70,9 +69,9 @@ pub(crate) fn allows_names(form: SpecialForm, names: &Names) -> bool
     }
 }
 
-/// Whether the form shuts names out with all of their substitute.
-pub(crate) fn shuts_out(form: SpecialForm, names: &Names) -> bool
-    ensures { result ≡ admission.shuts_out (form_view form) (names_node_view names.now) }
+/// Whether the form excludes the names with all of their substitute.
+pub(crate) fn excludes(form: SpecialForm, names: &Names) -> bool
+    ensures { result ≡ admission.excludes (form_view form) (names_node_view names.now) }
 {
     match form {
         SpecialForm::WithoutAuthor => is_of(NameVariable::Author, names),

@@ -2,7 +2,6 @@
 
 ghost use Rattle.std.specs.Prelude.{◌≡◌, if◌then◌else◌, not};
 ghost use Rattle.std.specs.Option.{option_map};
-ghost use Rattle.laws.specs.Text.{characters, spelled};
 ghost use Rattle.rendering_leaves.specs.Views.{setting_view};
 ghost use Rattle.rendering_names.specs.Views.{names_parts_view};
 ghost use Rattle.rendering_nodes.specs.Content as content;
@@ -11,8 +10,10 @@ ghost use Rattle.rendering_style.specs.Views.{group_node_view, names_node_view, 
 use rendering_leaves::{NodeSetting, look_manner, text_manner};
 use rendering_names::NamesParts;
 use rendering_style::{Group, Names, TextLook};
+use texts::borrowed_text;
 
-/// Inside an opened macro: it has no delimiter from around, and quotes in quotes are of the other kind.
+/// What is handed down inside an opened macro: no delimiter, and inner quotes where the macro stands in outer ones, or outer quotes
+/// where it stands in inner ones.
 pub(crate) fn inside_macro<'a>(setting: &NodeSetting<'a>, look: &TextLook) -> NodeSetting<'a>
     ensures { setting_view result
         ≡ content.inside_macro (setting_view setting.now) (text_look_view look.now) }
@@ -36,29 +37,18 @@ fn quotes_are_inner(quotes: bool, inside_quotes: bool) -> bool
     }
 }
 
-/// Inside a group.
 pub(crate) fn inside_group<'a>(setting: &NodeSetting<'a>, group: &'a Group) -> NodeSetting<'a>
     ensures { setting_view result
         ≡ content.inside_group (setting_view setting.now) (group_node_view group.now) }
 {
     NodeSetting {
         manner: look_manner(setting.manner, &group.look),
-        delimiter: borrowed(&group.delimiter),
+        delimiter: borrowed_text(&group.delimiter),
         ..*setting
     }
 }
 
-/// A text, where there is one.
-fn borrowed(text: &Option<String>) -> Option<&str>
-    ensures { option_map spelled result ≡ option_map characters text.now }
-{
-    match text {
-        Some(text) => Some(text.as_str()),
-        None => None,
-    }
-}
-
-/// Inside names with a substitute.
+/// What is handed down inside names whose substitute is printed.
 pub(crate) fn inside_names<'a>(setting: &NodeSetting<'a>, names: &NamesParts<'a>) -> NodeSetting<'a>
     ensures { setting_view result
         ≡ content.inside_names (setting_view setting.now) (names_parts_view names.now) }
@@ -70,7 +60,7 @@ pub(crate) fn inside_names<'a>(setting: &NodeSetting<'a>, names: &NamesParts<'a>
     }
 }
 
-/// What a names node says of names, whether or not it is a substitute for another one.
+/// What a names node says of names, completed by the node for which it is a substitute, if it is one.
 pub(crate) fn taken<'a>(outer: Option<&NamesParts<'a>>, names: &'a Names) -> NamesParts<'a>
     ensures { names_parts_view result ≡ content.taken
         (option_map (λ n. names_parts_view n.now) outer.entry) (names_node_view names.now) }

@@ -1,4 +1,4 @@
-//! What is asked of nodes that contain no others.
+//! Surveys of nodes that contain no others.
 
 ghost use Rattle.std.specs.Prelude.{◌≡◌, ◌&&◌, IfOk, List, false, not, true};
 ghost use Rattle.std.specs.Option.{option_map_or};
@@ -36,7 +36,7 @@ pub(crate) struct Stage<'t, 's, 'a> {
 }
 
 impl<'a> Stage<'_, '_, 'a> {
-    /// Of a text of a variable.
+    /// Surveys a text node of a variable.
     pub(crate) fn survey_variable<E: EntryLike>(
         &self,
         entry: &'a E,
@@ -50,7 +50,7 @@ impl<'a> Stage<'_, '_, 'a> {
         Ok(Survey::of_variable(is_printed))
     }
 
-    /// Of a text of a term.
+    /// Surveys a text node of a term.
     pub(crate) fn survey_term(&self, term: Term, form: TermForm, plural: bool) -> Survey
         ensures { (a : Answers) → survey_view result
             ≡ source_survey (stage_view a self.now) (nodes.of_term term form plural) }
@@ -61,7 +61,7 @@ impl<'a> Stage<'_, '_, 'a> {
         Survey::of_words(has_text(text) && allows_words(self.form))
     }
 
-    /// Of a text of the style's own.
+    /// Surveys a text node of a text of the style's own.
     pub(crate) fn survey_value(&self, value: &str) -> Survey
         ensures { (a : Answers) → survey_view result
             ≡ source_survey (stage_view a self.now) (nodes.of_value (chars value.now)) }
@@ -69,7 +69,6 @@ impl<'a> Stage<'_, '_, 'a> {
         Survey::of_words(has_text(value) && allows_words(self.form))
     }
 
-    /// Of a number.
     pub(crate) fn survey_number<E: EntryLike>(
         &self,
         entry: &'a E,
@@ -82,7 +81,6 @@ impl<'a> Stage<'_, '_, 'a> {
         self.survey_variable(entry, number.variable, LongShortForm::Long)
     }
 
-    /// Of a label.
     pub(crate) fn survey_label<E: EntryLike>(
         &self,
         entry: &'a E,
@@ -96,7 +94,6 @@ impl<'a> Stage<'_, '_, 'a> {
         Ok(Survey::of_words(is_printed))
     }
 
-    /// Of a date.
     pub(crate) fn survey_date<E: EntryLike>(&self, entry: &'a E, date: &Date) -> Survey
         ensures { survey_view result ≡ leaf_survey (stage_view (E.answers entry.now) self.now)
             (nodes.date (date_node_view date.now)) }
@@ -123,7 +120,7 @@ impl<'a> Stage<'_, '_, 'a> {
             .has_people(entry, self.suppressed, variables)
     }
 
-    /// Whether the variable has something to print where the form lets it stand.
+    /// Whether the form allows the variable, and it has something to print.
     fn is_printed<E: EntryLike>(
         &self,
         entry: &'a E,
@@ -158,7 +155,7 @@ impl<'a> Stage<'_, '_, 'a> {
             .is_some()
     }
 
-    /// Whether the form lets a date stand.
+    /// Whether the form allows a date.
     fn allows_date(&self) -> bool
         ensures { (a : Answers) → result ≡ allows_date
             (stage_view a self.now).context self.now.has_date (stage_view a self.now).form }

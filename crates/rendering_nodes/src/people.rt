@@ -145,7 +145,7 @@ impl<'s, 'a> Walk<'s, 'a> {
     }
 }
 
-/// Remembers what is printed of names by their options, unless that of others is remembered.
+/// Remembers what is printed of these names by their options, unless it is remembered of earlier names.
 fn remember(own: NameDisambiguationProperties, state: &mut State<'_>)
     ensures { state.new ≡ record state.old { names = Some (unwrap_or state.old.names own) } }
 {
@@ -154,7 +154,7 @@ fn remember(own: NameDisambiguationProperties, state: &mut State<'_>)
     }
 }
 
-/// The variables of people are not printed again.
+/// Adds the variables of people to those that are not printed again.
 fn suppress_people(people: &[Answered<'_>], state: &mut State<'_>) -> Result<(), AllocError>
     ensures { OnOk result (state.new ≡ record state.old { suppressed = fold (λ vs (a : SomePeople). with_variable vs (Variable.Name a.1)) state.old.suppressed (all_lent_answered_view people.now) }) }
 {

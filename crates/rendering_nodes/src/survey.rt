@@ -13,12 +13,12 @@ pub struct Survey {
     pub calls: bool,
     /// Whether a variable that they call has an answer.
     pub is_answered: bool,
-    /// Whether it was asked on the way if the cite is like others.
+    /// Whether the test `disambiguate` was evaluated on the way.
     pub met: bool,
 }
 
 impl Survey {
-    /// Of no node.
+    /// What is asked where there is no node.
     pub(crate) fn nothing() -> Survey
         ensures { survey_view result ≡ nothing }
     {
@@ -30,7 +30,7 @@ impl Survey {
         }
     }
 
-    /// Of a node that prints words of its own.
+    /// What is asked of a node that prints words of its own.
     pub(crate) fn of_words(is_admitted: bool) -> Survey
         ensures { survey_view result ≡ words_survey is_admitted }
     {
@@ -42,7 +42,7 @@ impl Survey {
         }
     }
 
-    /// Of a node that prints the answer to a variable.
+    /// What is asked of a node that prints the answer to a variable.
     pub(crate) fn of_variable(is_admitted: bool) -> Survey
         ensures { survey_view result ≡ variable_survey is_admitted }
     {
@@ -54,7 +54,7 @@ impl Survey {
         }
     }
 
-    /// Of these nodes and of others.
+    /// What is asked of these nodes and of others together.
     pub(crate) fn with(self, others: Survey) -> Survey
         ensures { survey_view result ≡ both (survey_view self) (survey_view others) }
     {
@@ -66,7 +66,7 @@ impl Survey {
         }
     }
 
-    /// Of the macro that these nodes are of.
+    /// What is asked of the macro that consists of these nodes.
     pub(crate) fn of_macro(self) -> Survey
         ensures { survey_view result ≡ containing self.is_admitted (survey_view self) }
     {
@@ -76,7 +76,7 @@ impl Survey {
         }
     }
 
-    /// Of the group that these nodes are in: it prints nothing where they call variables and none has an answer.
+    /// What is asked of the group of these nodes: it prints nothing where they call variables and none of these has an answer.
     pub(crate) fn of_group(self) -> Survey
         ensures { survey_view result ≡ group_survey (survey_view self) }
     {
@@ -88,7 +88,7 @@ impl Survey {
         }
     }
 
-    /// Of the names whose substitute these nodes are.
+    /// What is asked of the names whose substitute these nodes are.
     pub(crate) fn of_substitute(self) -> Survey
         ensures { survey_view result ≡ record (survey_view self) { calls = true } }
     {
@@ -98,7 +98,7 @@ impl Survey {
         }
     }
 
-    /// Of these nodes in a branch, before which it was asked, or not, if the cite is like others.
+    /// What is asked of these nodes as a branch, on the way to which the test `disambiguate` was evaluated, or not.
     pub(crate) fn after_tests(self, met: bool) -> Survey
         ensures { survey_view result ≡ both (record nothing { met = met }) (survey_view self) }
     {

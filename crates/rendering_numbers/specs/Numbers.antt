@@ -3,6 +3,7 @@ use Rattle.std.specs.Prelude.{ℕ, ◌/◌, ◌%◌, ◌==◌, ◌&&◌, nat_le,
 use Rattle.std.specs.List.{flat_map}
 use Rattle.std.specs.Map.{lookup}
 use Rattle.std.specs.Fmt.{decimal, signed_decimal}
+use Rattle.laws.specs.Characters.{lower_c, lower_d, lower_i, lower_l, lower_m, lower_v, lower_x}
 use Rattle.literature_numbers.specs.Numerics.{Value, Number, Set, Numeral}
 use Rattle.literature_numbers.specs.NumericText.{separator_text, affix_text}
 use Rattle.literature_values.specs.TypedViews.{ValueOrText, Value as as_value, Text as as_text}
@@ -41,10 +42,10 @@ roman_digits one five ten =
 -- the letters are i v x, x l c, c d m
 abbrev pub roman_text : ℕ → List ℕ
 roman_text n =
-    replicate (n / 1000) 109
-    ++ slice_index_or (roman_digits 99 100 109) ((n / 100) % 10) []
-    ++ slice_index_or (roman_digits 120 108 99) ((n / 10) % 10) []
-    ++ slice_index_or (roman_digits 105 118 120) (n % 10) []
+    replicate (n / 1000) lower_m
+    ++ slice_index_or (roman_digits lower_c lower_d lower_m) ((n / 100) % 10) []
+    ++ slice_index_or (roman_digits lower_x lower_l lower_c) ((n / 10) % 10) []
+    ++ slice_index_or (roman_digits lower_i lower_v lower_x) (n % 10) []
 
 -- numbers from 1 to 3999 have a roman text, others stand in digits
 abbrev pub roman_or_digits : ℤ → List ℕ

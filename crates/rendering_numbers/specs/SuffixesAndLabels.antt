@@ -1,12 +1,13 @@
 -- Year suffixes, and the labels of entries.
 use Rattle.std.specs.Prelude.{ℕ, ◌+◌, ◌-◌, ◌/◌, ◌%◌, nat_lt, List, [], ◌∷◌, ◌++◌, take, if◌then◌else◌, Option, Some, None, ℤ, pos, negsuc}
 use Rattle.std.specs.List.{flat_map}
+use Rattle.laws.specs.Characters.{plus_sign, lower_a}
 use Rattle.literature_values.specs.PersonViews.{Named}
 use Rattle.date_parts.specs.Written.{padded}
 
 -- the letter at an index from zero
 abbrev pub letter_at : ℕ → ℕ
-letter_at n = 97 + n
+letter_at n = lower_a + n
 
 -- a to z, then two letters from aa on; past zz, the index 701, the first is no letter
 abbrev pub year_suffix_text : ℕ → List ℕ
@@ -21,7 +22,7 @@ initial_letters n p = take n p.name
 abbrev pub people_label : ℕ → List Named → List ℕ
 people_label n [] = []
 people_label n (p ∷ []) = initial_letters n p
-people_label n (p ∷ q ∷ r ∷ s ∷ ps) = initial_letters n p ++ 43 ∷ []
+people_label n (p ∷ q ∷ r ∷ s ∷ ps) = initial_letters n p ++ plus_sign ∷ []
 people_label n ps = flat_map (initial_letters 1) ps
 
 -- the authors, else the editors, else the title

@@ -57,7 +57,6 @@ pub fn push_numeral(
     push_affix(out, &numeral.suffix)
 }
 
-/// Appends the letters, where there are any.
 fn push_affix(out: &mut String, letters: &Option<String>) -> Result<(), AllocError>
     ensures { OnOk result (characters out.new
         ≡ characters out.old ++ affix_text (option_map characters letters.now)) }
@@ -117,7 +116,6 @@ fn push_linked(
     push_separator(out, linked.1)
 }
 
-/// Appends the separator, where there is one.
 fn push_separator(out: &mut String, delimiter: Option<NumericDelimiter>) -> Result<(), AllocError>
     ensures { OnOk result (characters out.new ≡ characters out.old ++ separator_text delimiter) }
 {
@@ -243,7 +241,6 @@ fn push_roman_digit(
     }
 }
 
-/// Appends letters.
 fn push_letters(out: &mut String, letters: &[char]) -> Result<(), AllocError>
     ensures { OnOk result (characters out.new ≡ characters out.old ++ letters.now) }
 {

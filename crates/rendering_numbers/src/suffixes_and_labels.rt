@@ -77,7 +77,6 @@ fn push_name_label(
     push_prefix(out, letters, title)
 }
 
-/// Appends the label of people.
 fn push_people_label(out: &mut String, letters: usize, people: &[Person]) -> Result<(), AllocError>
     ensures { OnOk result (characters out.new
         ≡ characters out.old ++ people_label letters (map person_view people.now)) }

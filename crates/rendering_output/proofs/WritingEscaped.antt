@@ -3,6 +3,7 @@ use Rattle.std.proofs.Common.{◌≡◌, ℕ, suc, ◌<◌, Bool, true, false, n
 use Rattle.std.specs.Char.{is_ascii}
 use Rattle.std.specs.List.{list_all}
 use Rattle.std.specs.Str.{chars, IsUtf8}
+use Rattle.laws.specs.Characters.{double_quote, ampersand, less_than_sign, greater_than_sign}
 use Rattle.laws.specs.Runs.{prefix_of, after, Bars}
 use Rattle.laws.proofs.Runs.{bars-after, length-after}
 use Rattle.rendering_output.specs.Writing.{escaped, escaped_character, has_name, stands_as_it_is, LeavesEscaped, WritesCharacters}
@@ -10,7 +11,7 @@ use Rattle.rendering_output.proofs.WritingCalls.{writes_ascii, writes_more, writ
 
 -- a character without a name is written as it is
 as_it_is : (c : ℕ) → stands_as_it_is c ≡ true → escaped_character c ≡ c ∷ []
-as_it_is c e = by_tests (c == 38) (c == 60) (c == 62) (c == 34) e
+as_it_is c e = by_tests (c == ampersand) (c == less_than_sign) (c == greater_than_sign) (c == double_quote) e
   where
     by_tests : (a b d f : Bool) → not (a || b || d || f) ≡ true
         → (if a then codes "&amp;" else (if b then codes "&lt;" else (if d then codes "&gt;" else (if f then codes "&quot;" else c ∷ [])))) ≡ c ∷ []
@@ -22,7 +23,7 @@ as_it_is c e = by_tests (c == 38) (c == 60) (c == 62) (c == 34) e
 
 -- a name is in ASCII
 name_ascii : (c : ℕ) → has_name c ≡ true → list_all is_ascii (escaped_character c) ≡ true
-name_ascii c e = by_tests (c == 38) (c == 60) (c == 62) (c == 34) e
+name_ascii c e = by_tests (c == ampersand) (c == less_than_sign) (c == greater_than_sign) (c == double_quote) e
   where
     by_tests : (a b d f : Bool) → (a || b || d || f) ≡ true
         → list_all is_ascii (if a then codes "&amp;" else (if b then codes "&lt;" else (if d then codes "&gt;" else (if f then codes "&quot;" else c ∷ [])))) ≡ true

@@ -19,7 +19,7 @@ module _ {W : Type 0} (took : W → List ℕ → W → Type 0) (format : BufWrit
   writes_more_tags w ts v us u p q =
       subst (λ (cs : List ℕ). WritesCharacters took w cs u) (sym (flat_map-append (tag_text format) ts us)) (writes_more took w (flat_map (tag_text format) ts) v (flat_map (tag_text format) us) u p q)
 
--- a text that does not look as texts do of themselves
+-- a text whose formatting is not the default
 pub spanned-looks : (f : Formatting) (cs : List ℕ) → looks_like f plain ≡ false → spanned f cs ≡ span f ∷ words cs ∷ end_span ∷ []
 spanned-looks f cs e = ap (λ (b : Bool). if b then words cs ∷ [] else span f ∷ words cs ∷ end_span ∷ []) e
 

@@ -1,4 +1,4 @@
--- What a text makes of a writer that was told to stop at its first error.
+-- How a text changes a writer that is to stop at its first error.
 use Rattle.std.specs.Prelude.{◌≡◌, ℕ, List, OnOk, IsOk}
 use Rattle.rendering_output.specs.declared.target.WriterTarget.{WriterTarget}
 

@@ -4,6 +4,7 @@ use Rattle.std.specs.Borrow.{Bor}
 use Rattle.std.specs.Fmt.{WritesInCalls}
 use Rattle.std.specs.List.{flat_map}
 use Rattle.std.specs.Str.{chars}
+use Rattle.laws.specs.Characters.{line_feed, space, double_quote, ampersand, less_than_sign, greater_than_sign}
 use Rattle.laws.specs.Text.{text}
 use Rattle.rendering_output.specs.declared.writing.BufWriteFormat.{BufWriteFormat}
 use Rattle.rendering_output.specs.declared.writing.BufWriteFormat.TheVariants as formats
@@ -32,7 +33,7 @@ pub data Tag : Type 0 where
   anchor : List ℕ → Tag
   end_anchor : Tag
 
--- a text, between tags where it does not look as texts do of themselves
+-- a text, between tags where its formatting is not the default
 abbrev pub spanned : Formatting → List ℕ → List Tag
 spanned f cs = if looks_like f plain then words cs ∷ [] else span f ∷ words cs ∷ end_span ∷ []
 
@@ -56,7 +57,7 @@ linked f cs url = anchor url ∷ spanned f cs ++ end_anchor ∷ []
 
 -- a line feed before and after a block
 abbrev pub line_break : Display → List ℕ
-line_break displays.Block = 10 ∷ []
+line_break displays.Block = line_feed ∷ []
 line_break d = []
 
 -- plain text has no tags
@@ -69,11 +70,11 @@ plain_tag t = []
 -- four characters are written by their names
 abbrev pub escaped_character : ℕ → List ℕ
 escaped_character c =
-    if c == 38 then codes "&amp;" else (if c == 60 then codes "&lt;" else (if c == 62 then codes "&gt;" else (if c == 34 then codes "&quot;" else c ∷ [])))
+    if c == ampersand then codes "&amp;" else (if c == less_than_sign then codes "&lt;" else (if c == greater_than_sign then codes "&gt;" else (if c == double_quote then codes "&quot;" else c ∷ [])))
 
 -- the characters that have such a name, and those that are written as they are
 abbrev pub has_name : ℕ → Bool
-has_name c = c == 38 || c == 60 || c == 62 || c == 34
+has_name c = c == ampersand || c == less_than_sign || c == greater_than_sign || c == double_quote
 
 abbrev pub stands_as_it_is : ℕ → Bool
 stands_as_it_is c = not (has_name c)
@@ -82,29 +83,29 @@ stands_as_it_is c = not (has_name c)
 abbrev pub escaped : List ℕ → List ℕ
 escaped cs = flat_map escaped_character cs
 
--- what is declared for each attribute that is not as it is of itself
+-- what is declared for the style of a font, where it is not the default
 abbrev pub style_declared : FontStyle → List (List ℕ)
 style_declared styles.Normal = []
 style_declared styles.Italic = codes "font-style: italic;" ∷ []
 style_declared styles.Oblique = codes "font-style: oblique;" ∷ []
 
--- of the variant
+-- what is declared for the variant
 abbrev pub variant_declared : FontVariant → List (List ℕ)
 variant_declared variants.Normal = []
 variant_declared variants.SmallCaps = codes "font-variant: small-caps;" ∷ []
 
--- of the weight
+-- what is declared for the weight
 abbrev pub weight_declared : FontWeight → List (List ℕ)
 weight_declared weights.Normal = []
 weight_declared weights.Bold = codes "font-weight: bold;" ∷ []
 weight_declared weights.Light = codes "font-weight: lighter;" ∷ []
 
--- of the decoration
+-- what is declared for the decoration
 abbrev pub decoration_declared : TextDecoration → List (List ℕ)
 decoration_declared decorations.None = []
 decoration_declared decorations.Underline = codes "text-decoration: underline;" ∷ []
 
--- of the position on the line
+-- what is declared for the position on the line
 abbrev pub align_declared : VerticalAlign → List (List ℕ)
 align_declared aligns.None = []
 align_declared aligns.Sup = codes "vertical-align: super;" ∷ []
@@ -123,7 +124,7 @@ declarations f =
 abbrev pub spaced : List (List ℕ) → List ℕ
 spaced [] = []
 spaced (d ∷ []) = d
-spaced (d ∷ e ∷ ds) = d ++ 32 ∷ spaced (e ∷ ds)
+spaced (d ∷ e ∷ ds) = d ++ space ∷ spaced (e ∷ ds)
 
 -- a declaration, where there is one
 abbrev pub declared : Option (Bor (List ℕ)) → List (List ℕ)
@@ -132,7 +133,7 @@ declared (Some d) = chars d.now ∷ []
 
 -- declarations after others or as the first, with one space between all
 abbrev pub spaced_after : Bool → List (List ℕ) → List ℕ
-spaced_after true ds = flat_map (λ d. 32 ∷ d) ds
+spaced_after true ds = flat_map (λ d. space ∷ d) ds
 spaced_after false ds = spaced ds
 
 -- texts and addresses are escaped
@@ -158,7 +159,7 @@ WritesCharacters took w cs v = WritesInCalls took w (text cs) v
 abbrev pub LeavesEscaped : {W : Type 0} → (W → List ℕ → W → Type 0) → W → List ℕ → W → List ℕ → Type 0
 LeavesEscaped took w cs v ds = (u : _) → WritesCharacters took v (escaped ds) u → WritesCharacters took w (escaped cs) u
 
--- the same of what the format makes of the tags
+-- some calls of `write_str` took the writer from w to v, and wrote what the format makes of the tags
 abbrev pub WritesTags : {W : Type 0} → (W → List ℕ → W → Type 0) → BufWriteFormat → W → List Tag → W → Type 0
 WritesTags took format w ts v = WritesCharacters took w (flat_map (tag_text format) ts) v
 

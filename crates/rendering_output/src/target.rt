@@ -1,13 +1,13 @@
-//! What texts are handed to, one after the other, and writers as such targets.
+//! The trait of targets that texts are handed to, one after the other, and writers as such targets.
 
 ghost use Rattle.std.specs.Prelude.{◌≡◌, ℕ, List, Ok};
 ghost use Rattle.rendering_output.specs.Targets.{TakesUntilError};
 
 use std::fmt;
 
-/// What takes texts, one after the other. It answers nothing: what goes wrong is its own to remember.
+/// A target that takes texts, one after the other. A call returns nothing: the target itself has to remember what went wrong.
 pub trait TextTarget {
-    /// What a text makes of it.
+    /// How it changes by a text that it takes.
     ghost takes: { Self → List ℕ → Self → Type 0 };
 
     /// Takes a text.
@@ -15,7 +15,7 @@ pub trait TextTarget {
         ensures { takes self.old text.now self.new };
 }
 
-/// A writer as a target, with the first error that it answered. What follows an error is not written.
+/// A writer as a target, with the first error that it returned. What follows an error is not written.
 #[derive(Drop)]
 pub struct WriterTarget<'w, W> {
     writer: &'w mut W,

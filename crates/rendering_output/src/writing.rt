@@ -2,6 +2,7 @@
 
 ghost use Rattle.std.specs.Prelude.{◌≡◌, ◌∷◌, [], ◌||◌, true, if◌then◌else◌};
 ghost use Rattle.std.specs.Str.{chars};
+ghost use Rattle.laws.specs.Characters.{space};
 ghost use Rattle.laws.specs.Runs.{after};
 ghost use Rattle.laws.specs.Text.{is_filled};
 ghost use Rattle.rendering_taxonomy.specs.Formats.{plain, looks_like};
@@ -212,7 +213,7 @@ fn name_of(c: char) -> &'static str
     }
 }
 
-/// Hands over what is declared for the attributes that are not as they are of themselves.
+/// Hands over what is declared for the attributes whose value is not the default.
 fn push_declarations<T: TextTarget>(target: &mut T, formatting: Formatting)
     ensures { WritesCharacters T.takes target.old (spaced (declarations formatting)) target.new }
 {
@@ -261,14 +262,13 @@ fn push_next<T: TextTarget>(target: &mut T, is_after: bool, text: &str)
 
 /// Hands over the space before a declaration that is not the first.
 fn push_space<T: TextTarget>(target: &mut T, is_after: bool)
-    ensures { WritesCharacters T.takes target.old (if is_after then 32 ∷ [] else []) target.new }
+    ensures { WritesCharacters T.takes target.old (if is_after then space ∷ [] else []) target.new }
 {
     if is_after {
         target.push_str(" ");
     }
 }
 
-/// What is declared for a style of a font.
 fn style_declared(style: FontStyle) -> Option<&'static str>
     ensures { declared result ≡ style_declared style }
 {
@@ -279,7 +279,6 @@ fn style_declared(style: FontStyle) -> Option<&'static str>
     }
 }
 
-/// What is declared for a variant of a font.
 fn variant_declared(variant: FontVariant) -> Option<&'static str>
     ensures { declared result ≡ variant_declared variant }
 {
@@ -289,7 +288,6 @@ fn variant_declared(variant: FontVariant) -> Option<&'static str>
     }
 }
 
-/// What is declared for a weight of a font.
 fn weight_declared(weight: FontWeight) -> Option<&'static str>
     ensures { declared result ≡ weight_declared weight }
 {
@@ -300,7 +298,6 @@ fn weight_declared(weight: FontWeight) -> Option<&'static str>
     }
 }
 
-/// What is declared for a decoration.
 fn decoration_declared(decoration: TextDecoration) -> Option<&'static str>
     ensures { declared result ≡ decoration_declared decoration }
 {

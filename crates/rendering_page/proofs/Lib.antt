@@ -9,6 +9,4 @@ pub mod TailEnds
 pub mod PagesMarks
 pub mod PagesAppending
 pub mod PageCharactersPages
-pub mod BuildingReading
-pub mod BuildingLevels
 pub mod CutsTexts

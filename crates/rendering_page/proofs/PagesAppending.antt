@@ -1,6 +1,7 @@
 -- What is appended after a close quote, and where a space is.
 use Rattle.std.proofs.Common.{◌≡◌, ◌&&◌, ◌||◌, ℕ, Bool, true, false, not, List, [], ◌∷◌, refl, sym, ap, ◌∙◌, Option, Some, None}
 use Rattle.std.specs.Prelude.{if◌then◌else◌}
+use Rattle.laws.specs.Characters.{space}
 use Rattle.rendering_taxonomy.specs.Formats.{plain}
 use Rattle.rendering_taxonomy.specs.declared.formatting.Display.{Display}
 use Rattle.rendering_tree.specs.Metas.{Meta}
@@ -34,10 +35,10 @@ append_punctuation quotes m cs ds c p ts is after mark e =
     ∙ ap (λ xs. append_normal quotes m xs p) (sym is)
 
 -- a space is appended where something was and the last text ends in none
-pub space_there : (p : Page) (cs : List ℕ) → cs ≡ 32 ∷ [] → is_begun p.tokens ≡ true → ends_spaced (last_backwards p.tokens) ≡ false → append_verbatim plain cs p ≡ append_space p
+pub space_there : (p : Page) (cs : List ℕ) → cs ≡ space ∷ [] → is_begun p.tokens ≡ true → ends_spaced (last_backwards p.tokens) ≡ false → append_verbatim plain cs p ≡ append_space p
 space_there p cs is begun none =
     let test : (not (is_begun p.tokens) || ends_spaced (last_backwards p.tokens)) ≡ false = λ i. not (begun i) || none i in
-    ap (λ xs. append_verbatim plain xs p) is ∙ sym (ap (λ b. if b then p else append_verbatim plain (32 ∷ []) p) test)
+    ap (λ xs. append_verbatim plain xs p) is ∙ sym (ap (λ b. if b then p else append_verbatim plain (space ∷ []) p) test)
 
 -- an element ends where the last text ends with its suffix
 pub suffix_there : (quotes : Quotes) (m : Manner) (cs : List ℕ) (is_element : Bool) (p q : Page) → ends_in cs (last_text p.tokens) ≡ true → q ≡ record p { tokens = end_token is_element ∷ unmark ∷ p.tokens } → q ≡ ended_as quotes m cs is_element p
@@ -69,7 +70,7 @@ ended_by quotes f is_element p q last printed is =
     ∙ ap (λ t. record inside { tokens = t ∷ inside.tokens }) last
     ∙ sym (ap (λ b. if b then closed_off f inside else record p { tokens = before_prefix (before_mark 0 p.tokens) }) printed)
 
--- where nothing was printed it goes
+-- where an element has printed nothing it is removed
 pub undone : (quotes : Quotes) (f : Frame) (p q : Page) → prints 0 p.tokens ≡ false → q ≡ record p { tokens = before_prefix (before_mark 0 p.tokens) } → q ≡ ended quotes f p
 undone quotes f p q none is =
     let inside = append_suffix quotes f.manner f.suffix (record p { tokens = unmark ∷ p.tokens }) in

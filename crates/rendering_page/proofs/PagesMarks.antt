@@ -1,5 +1,5 @@
 -- What pieces are to the marks of a page.
-use Rattle.std.proofs.Common.{◌≡◌, ◌+◌, ◌<◌, ◌≤◌, ℕ, zero, suc, Bool, true, false, not, ◌&&◌, ◌||◌, List, [], ◌∷◌, ◌++◌, length, take, get_or, refl, sym, ap, ◌∙◌, arith, Option, Some, None}
+use Rattle.std.proofs.Common.{◌≡◌, ◌+◌, ◌-◌, ◌<◌, ◌≤◌, ℕ, zero, suc, Bool, true, false, not, ◌&&◌, ◌||◌, List, [], ◌∷◌, ◌++◌, length, take, get_or, refl, sym, ap, ◌∙◌, arith, Option, Some, None}
 use Rattle.std.specs.List.{fold, list_any}
 use Rattle.std.specs.Char.{is_whitespace}
 use Rattle.std.specs.Prelude.{if◌then◌else◌}
@@ -257,8 +257,16 @@ cut_in ps qs p n part ts last low is known =
     ap (with_part (pieces_view ps)) is ∙ sym (before_opened p n (pieces_view ps) low) ∙ sym (taken_off (before_mark n) ps qs p last) ∙ known
 
 -- where it has not, the mark is looked for before it
-pub cut_before : (ps qs : List Piece) (p : Piece) (n k : ℕ) (ts : List Token) → qs ≡ ps ++ p ∷ [] → k + opens p ≡ n + closes p → before_mark n (pieces_view qs) ≡ ts → before_mark k (pieces_view ps) ≡ ts
+cut_before : (ps qs : List Piece) (p : Piece) (n k : ℕ) (ts : List Token) → qs ≡ ps ++ p ∷ [] → k + opens p ≡ n + closes p → before_mark n (pieces_view qs) ≡ ts → before_mark k (pieces_view ps) ≡ ts
 cut_before ps qs p n k ts last marks known = sym (taken_off (before_mark n) ps qs p last ∙ before_passed p n k (pieces_view ps) marks) ∙ known
+
+-- so it is with what the piece opens and closes, and there is one piece less
+pub cut_goes_on : (ps qs : List Piece) (p : Piece) (n o e m : ℕ) (ts : List Token) → qs ≡ ps ++ p ∷ [] → length ps + 1 ≡ length qs → o ≡ opens p → e ≡ closes p → e ≤ 2 → o ≤ n
+    → n + (length qs + length qs) ≤ m → before_mark n (pieces_view qs) ≡ ts
+    → (n - o + e + (length ps + length ps) ≤ m) × (before_mark (n - o + e) (pieces_view ps) ≡ ts)
+cut_goes_on ps qs p n o e m ts last long opened closed few low room known =
+    let marks : n - o + e + opens p ≡ n + closes p = omega (arith, opened, closed, low) in
+    (omega (arith, room, few, long, low), cut_before ps qs p n (n - o + e) ts last marks known)
 
 -- where an element begins with a piece, what of it stands before is left
 pub cut_first : (ps qs : List Piece) (p : Piece) (part : Option Piece) (ts : List Token) → qs ≡ ps ++ p ∷ [] → is_first p ≡ true → part ≡ first_part p → before_prefix (pieces_view qs) ≡ ts

@@ -6,4 +6,3 @@ pub mod Views
 pub mod Cuts
 pub mod Cursors
 pub mod Marks
-pub mod Building

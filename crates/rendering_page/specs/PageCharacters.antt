@@ -12,6 +12,6 @@ page_text (formula cs ∷ ts) = page_text ts ++ cs
 page_text (link f cs url ∷ ts) = page_text ts ++ cs
 page_text (t ∷ ts) = page_text ts
 
--- texts that look as texts do of themselves
-abbrev pub plainly : Manner
-plainly = record { formatting = plain; strips_periods = false }
+-- the manner of texts in the default formatting
+abbrev pub plain_manner : Manner
+plain_manner = record { formatting = plain; strips_periods = false }

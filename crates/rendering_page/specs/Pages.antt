@@ -1,7 +1,8 @@
 -- Pages: what was appended so far, and what appending the next thing makes of it.
 use Rattle.std.specs.Prelude.{ℕ, zero, suc, Bool, true, false, not, ◌==◌, ◌&&◌, ◌||◌, List, [], ◌∷◌, length, find, if◌then◌else◌, Option, Some, None}
 use Rattle.std.specs.Char.{is_whitespace}
-pub use Rattle.laws.specs.Text.{is_filled}
+use Rattle.laws.specs.Characters.{space, no_break_space}
+use Rattle.laws.specs.Text.{is_filled}
 use Rattle.rendering_taxonomy.specs.Formats.{plain}
 use Rattle.rendering_tree.specs.Metas.{Meta}
 use Rattle.rendering_tree.specs.Tokens.{Token, letter, formula, link, transparent, opening, closing, mark, unmark, with_letters, last_text, last_backwards, with_letter_before}
@@ -18,7 +19,7 @@ pub record Page : Type 0 where
 abbrev pub empty_page : Page
 empty_page = record { tokens = []; after_quote = false }
 
--- How the texts of a node are appended: how they look, and whether their full stops go.
+-- How the texts of a node are appended: how they look, and whether their full stops are left out.
 pub record Manner : Type 0 where
   pub formatting : Formatting
   pub strips_periods : Bool
@@ -150,8 +151,8 @@ is_begun (t ∷ ts) = true
 -- whether a text that is written from its last character on ends in a space, be it one that does not break
 abbrev pub ends_spaced : List ℕ → Bool
 ends_spaced [] = false
-ends_spaced (c ∷ cs) = c == 32 || c == 160
+ends_spaced (c ∷ cs) = c == space || c == no_break_space
 
 -- a space after all elements, unless nothing was appended or the last text ends in one
 abbrev pub append_space : Page → Page
-append_space p = if not (is_begun p.tokens) || ends_spaced (last_backwards p.tokens) then p else append_verbatim plain (32 ∷ []) p
+append_space p = if not (is_begun p.tokens) || ends_spaced (last_backwards p.tokens) then p else append_verbatim plain (space ∷ []) p

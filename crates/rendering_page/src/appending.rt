@@ -144,7 +144,7 @@ pub(crate) fn begin<'a>(pieces: &mut Vec<Piece<'a>>, frame: &Frame<'a>) -> Resul
     push_piece(pieces, first_pieces(frame))
 }
 
-/// The same of an element that stands for what was made on the way.
+/// Appends where an element begins that stands for `meta`, its prefix and a mark.
 pub(crate) fn begin_made<'a>(
     pieces: &mut Vec<Piece<'a>>,
     frame: &Frame<'a>,

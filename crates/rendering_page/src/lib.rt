@@ -2,7 +2,6 @@
 #![tactic(auto)]
 
 mod appending;
-mod builder;
 mod copies;
 mod cutting;
 mod manner;
@@ -16,4 +15,5 @@ mod tail;
 
 pub use manner::{Frame, Manner};
 pub use page::Page;
-pub use plain::plainly;
+pub use piece::{Link, Piece, Words, looks_like, no_words};
+pub use plain::plain_manner;

@@ -1,25 +1,23 @@
 //! Pages.
 
-ghost use Rattle.std.specs.Prelude.{◌≡◌, ◌++◌, true, false, List, ℕ, OnOk, IfOk, Some, map};
+ghost use Rattle.std.specs.Prelude.{◌≡◌, ◌++◌, true, false, List, ℕ, OnOk, Some, map};
 ghost use Rattle.std.specs.Str.{bytes_eq, chars};
 ghost use Rattle.laws.specs.Text.{characters, is_filled};
 ghost use Rattle.literature_values.specs.TextViews.{chunk_view as chunk_of, chunks_view as chunks_of};
 ghost use Rattle.rendering_tree.specs.Metas.{Meta};
 ghost use Rattle.rendering_tree.specs.Tokens.{formula, link, transparent};
-ghost use Rattle.rendering_tree.specs.Trees.{tree_of};
-ghost use Rattle.rendering_tree.specs.Views.{meta_view, tree_view};
+ghost use Rattle.rendering_tree.specs.Views.{meta_view};
 ghost use Rattle.rendering_page.specs.Marks.{begins_nothing};
 ghost use Rattle.rendering_page.specs.Pages.{Manner as Manners, Quotes, before_mark, before_prefix, begun, empty_page, ended, ended_as, append_normal, prints, append_quote, append_space, append_token, append_verbatim};
 ghost use Rattle.rendering_page.specs.Pieces.{append_pieces, chunk_by, chunk_piece, chunk_pieces, append_piece};
 ghost use Rattle.rendering_page.specs.PageCharacters.{page_text};
 ghost use Rattle.rendering_page.specs.Views as views;
-ghost use Rattle.rendering_page.specs.Views.{words_view, quotes_view};
+ghost use Rattle.rendering_page.specs.Views.{pieces_view, words_view, quotes_view};
 
 use crate::appending::{
     append, append_after_quote, append_words, begin, begin_made, is_element, last_piece,
     last_pieces, push_piece,
 };
-use crate::builder::build;
 use crate::copies::copied_pieces;
 use crate::manner::{Frame, Manner};
 use crate::marks::{cut_prefix, cut_to_mark, is_begun, is_known_by, prints};
@@ -29,7 +27,7 @@ use crate::piece::{Link, Piece, Words};
 use crate::tail::is_punctuation;
 use literature_values::{ChunkKind, ChunkedString, StringChunk};
 use rendering_taxonomy::Formatting;
-use rendering_tree::{ElemChildren, ElemMeta};
+use rendering_tree::ElemMeta;
 use std::alloc::{AllocError, Global};
 use std::marker::Model;
 use texts::{has_text, split_first};
@@ -240,7 +238,7 @@ impl<'a> Page<'a> {
         begin_made(&mut self.pieces, frame, meta)
     }
 
-    /// Ends the element that was begun last. Where it has printed nothing but white space, all of it goes, with its affixes.
+    /// Ends the element that was begun last. Where it has printed nothing but white space, it is removed with its affixes.
     ///
     /// # Errors
     /// Out of memory.
@@ -275,8 +273,8 @@ impl<'a> Page<'a> {
         self.end_as(quotes, frame.manner, frame.suffix, true)
     }
 
-    /// A space at the end, in characters as they look of themselves and after all elements. There is none where nothing was
-    /// appended, and none where the last text ends in a space, be it one that does not break.
+    /// Appends a space in the default formatting, after all elements. Nothing is appended where the page is empty, or where the last text
+    /// ends in a space, be it one that does not break.
     ///
     /// # Errors
     /// Out of memory.
@@ -352,22 +350,20 @@ impl<'a> Page<'a> {
         push_shown(output, &self.pieces)
     }
 
-    /// The tree of the page. Texts of one formatting that stand beside each other are joined.
-    ///
-    /// # Errors
-    /// Out of memory.
-    pub fn into_tree(self) -> Result<ElemChildren, AllocError>
-        ensures { IfOk result (λ t. tree_view t ≡ tree_of self.entry.tokens) }
+    /// What stands on the page, piece by piece, in the order of reading.
+    pub fn into_pieces(self) -> Vec<Piece<'a>>
+        ensures { pieces_view result.items ≡ self.entry.tokens }
     {
         let Page {
             pieces,
             after_quote: _,
             is_known_to_print: _,
         } = self;
-        build(pieces)
+        pieces
     }
 
-    /// The same. What is found is remembered, so that the pieces of what is inside are looked at once.
+    /// Whether what was begun last has printed anything but white space. What is found is remembered, so that the pieces of what is inside
+    /// are looked at once.
     fn finds_printed(&mut self) -> bool
         ensures printed { result ≡ prints 0 self.old.tokens }
         ensures page { self.new ≡ self.old }
@@ -536,7 +532,7 @@ impl<'a> Page<'a> {
         self.push_end(last_pieces(is_element))
     }
 
-    /// Takes the element off that was begun last, with its prefix.
+    /// Removes the element that was begun last, with its prefix.
     fn undo(&mut self) -> Result<(), AllocError>
         ensures { OnOk result (self.new
             ≡ record self.old { tokens = before_prefix (before_mark 0 self.old.tokens) }) }

@@ -103,7 +103,7 @@ pub(crate) fn ends_in(pieces: &[Piece<'_>], end: &str) -> bool
     ends_in_text(pieces, end)
 }
 
-/// The same of a text that is read from its end, piece by piece.
+/// Whether the last text, which is read from its end piece by piece, ends in that.
 fn ends_in_text(pieces: &[Piece<'_>], end: &str) -> bool
     ensures { result ≡ ends_in (chars end.now) (last_text (pieces_view pieces.now)) }
 {

@@ -13,22 +13,22 @@ use texts::{has_text, split_first};
 
 /// A text of the caller's, or one that was made.
 #[derive(Drop)]
-pub(crate) enum Words<'a> {
+pub enum Words<'a> {
     Borrowed(&'a str),
     Made(String),
 }
 
 /// A link from a text to an address.
 #[derive(Drop)]
-pub(crate) struct Link<'a> {
-    pub(crate) formatting: Formatting,
-    pub(crate) text: Words<'a>,
-    pub(crate) url: Words<'a>,
+pub struct Link<'a> {
+    pub formatting: Formatting,
+    pub text: Words<'a>,
+    pub url: Words<'a>,
 }
 
 /// A piece of a page. Most pieces are marks and short texts, so that links, which are rare and long, are in memory of their own.
 #[derive(Drop)]
-pub(crate) enum Piece<'a> {
+pub enum Piece<'a> {
     /// A text; it may be empty.
     Text {
         formatting: Formatting,
@@ -58,7 +58,7 @@ pub(crate) enum Piece<'a> {
         display: Option<Display>,
         meta: Option<&'a ElemMeta>,
     },
-    /// The same of an element that stands for what was made on the way.
+    /// Where such an element begins that stands for what was made on the way, and what it contains.
     MadeBegin {
         display: Option<Display>,
         meta: ElemMeta,
@@ -71,7 +71,7 @@ pub(crate) enum Piece<'a> {
     BareEnd,
     /// Where an element ends.
     Closing,
-    /// Where something begins that goes if it prints nothing.
+    /// Where something begins that is removed if it prints nothing.
     Mark,
     /// Where that ends.
     Unmark,
@@ -79,7 +79,7 @@ pub(crate) enum Piece<'a> {
 
 impl<'a> Words<'a> {
     /// The text.
-    pub(crate) fn as_str(&self) -> &str
+    pub fn as_str(&self) -> &str
         ensures { chars result.now ≡ words_view self.now }
     {
         match self {
@@ -135,7 +135,7 @@ impl<'a> Words<'a> {
 }
 
 /// No text.
-pub(crate) fn no_words<'a>() -> Words<'a>
+pub fn no_words<'a>() -> Words<'a>
     ensures { words_view result ≡ [] }
 {
     Words::Borrowed("")
@@ -217,7 +217,7 @@ fn trim_made(text: &mut String)
 }
 
 /// Whether two look alike.
-pub(crate) fn looks_like(one: Formatting, other: Formatting) -> bool
+pub fn looks_like(one: Formatting, other: Formatting) -> bool
     ensures { result ≡ looks_like one other }
 {
     one == other

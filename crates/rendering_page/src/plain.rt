@@ -1,7 +1,7 @@
-//! How texts look of themselves.
+//! The manner of texts for which nothing is specified.
 
 ghost use Rattle.std.specs.Prelude.{◌≡◌};
-ghost use Rattle.rendering_page.specs.PageCharacters.{plainly};
+ghost use Rattle.rendering_page.specs.PageCharacters.{plain_manner};
 ghost use Rattle.rendering_page.specs.Views.{manner_view};
 
 use crate::manner::Manner;
@@ -9,9 +9,9 @@ use rendering_taxonomy::{
     FontStyle, FontVariant, FontWeight, Formatting, TextDecoration, VerticalAlign,
 };
 
-/// How texts are appended that look as they do of themselves.
-pub fn plainly() -> Manner
-    ensures { manner_view result ≡ plainly }
+/// How texts are appended in the default formatting, with their full stops.
+pub fn plain_manner() -> Manner
+    ensures { manner_view result ≡ plain_manner }
 {
     Manner {
         formatting: Formatting {

@@ -14,7 +14,7 @@ use crate::piece::{Piece, trimmed};
 use std::alloc::{AllocError, Global};
 use texts::{empty_text, has_text, push_character, split_first};
 
-/// Cuts from the last text what goes before the next one.
+/// Cuts from the end of the last text what does not stand before the next one.
 pub(crate) fn make_room(pieces: &mut Vec<Piece<'_>>, next: &str)
     ensures { pieces_view pieces.new.items
         ≡ specs.remaining (chars next.now) (pieces_view pieces.old.items) }
@@ -43,7 +43,7 @@ fn drop_repeated(pieces: &mut Vec<Piece<'_>>, next: &str)
     }
 }
 
-/// Cuts that end of the last text, where it has it.
+/// Cuts this end of the last text, where the text ends so.
 #[tactic(auto, using(crate::proofs::CutsEnds::no_end))]
 fn drop_end(pieces: &mut Vec<Piece<'_>>, end: &str)
     ensures { pieces_view pieces.new.items

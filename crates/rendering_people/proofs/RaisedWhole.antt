@@ -9,7 +9,7 @@ use Rattle.std.proofs.lemmas.Option.{slice_get_past, slice_get-get_or}
 use Rattle.rendering_taxonomy.specs.Variables.{is_name_variable}
 use Rattle.rendering_people.specs.Properties.{is_of_same, at_least, greater_forms, raised_to}
 use Rattle.rendering_people.specs.Counts.{cut, all_people, is_within, IsWhole}
-use Rattle.rendering_people.specs.Raised.{is_same_count, raised_by, raised_count, forms_like, raised_run, greater_or}
+use Rattle.rendering_people.specs.Raised.{is_same_count, raised_by, raised_count, forms_like, raised_forms, greater_or}
 use Rattle.rendering_people.specs.declared.properties.PeopleCount.{PeopleCount}
 use Rattle.rendering_people.proofs.CountsWhole.{first_fits, min_within, of_count, others_fit}
 use Rattle.rendering_taxonomy.specs.declared.name.DisambiguatedNameForm.{DisambiguatedNameForm}
@@ -57,13 +57,13 @@ greater_all fs gs start old i past before =
 -- the forms of one more variable
 pub run_goes_on : (cs : List PeopleCount) (ds : List PeopleCount) (gs rest others own like old new all : Forms) (i : ℕ) (d : PeopleCount) → i < length cs
     → own ≡ take (get_or cs i d).people rest → others ≡ drop (get_or cs i d).people rest → like ≡ forms_like (get_or cs i d) ds gs
-    → old ++ raised_run (drop i cs) rest ds gs ≡ all → new ≡ old ++ greater_forms own like
-    → new ++ raised_run (drop (i + 1) cs) others ds gs ≡ all
+    → old ++ raised_forms (drop i cs) rest ds gs ≡ all → new ≡ old ++ greater_forms own like
+    → new ++ raised_forms (drop (i + 1) cs) others ds gs ≡ all
 run_goes_on cs ds gs rest others own like old new all i d low is_own is_others is_like before after =
     let c = get_or cs i d in
-    (λ k. (after ∙ (λ j. old ++ greater_forms (is_own j) (is_like j))) k ++ raised_run (drop (i + 1) cs) (is_others k) ds gs)
-    ∙ append_assoc old (greater_forms (take c.people rest) (forms_like c ds gs)) (raised_run (drop (i + 1) cs) (drop c.people rest) ds gs)
-    ∙ sym (at_drop_more (λ es. old ++ raised_run es rest ds gs) cs i d low)
+    (λ k. (after ∙ (λ j. old ++ greater_forms (is_own j) (is_like j))) k ++ raised_forms (drop (i + 1) cs) (is_others k) ds gs)
+    ∙ append_assoc old (greater_forms (take c.people rest) (forms_like c ds gs)) (raised_forms (drop (i + 1) cs) (drop c.people rest) ds gs)
+    ∙ sym (at_drop_more (λ es. old ++ raised_forms es rest ds gs) cs i d low)
     ∙ before
 
 -- the forms of the first that is alike are not those of one that is not
@@ -112,20 +112,20 @@ fits : (c : PeopleCount) (fs : Forms) (o : Option PeopleCount) (gs : Forms) (n :
 fits c fs o gs n all = length-greater (take c.people fs) gs ∙ first_fits c.people n fs all ∙ sym (people-raised c o)
 
 pub cut-raised : (cs : List PeopleCount) (fs : Forms) (ds : List PeopleCount) (gs : Forms) → length fs ≡ all_people cs → length gs ≡ all_people ds
-    → cut (map (raised_count ds) cs) (raised_run cs fs ds gs) ≡ raised_to (cut ds gs) (cut cs fs)
+    → cut (map (raised_count ds) cs) (raised_forms cs fs ds gs) ≡ raised_to (cut ds gs) (cut cs fs)
 cut-raised [] fs ds gs own all = refl
 cut-raised (c ∷ cs) fs ds gs own all =
     let first = greater_forms (take c.people fs) (forms_like c ds gs) in
-    let rest = raised_run cs (drop c.people fs) ds gs in
+    let rest = raised_forms cs (drop c.people fs) ds gs in
     let n = (raised_count ds c).people in
     let long : length first ≡ n = fits c fs (find (is_same_count c) ds) (forms_like c ds gs) (all_people cs) own in
     λ i. (ap (of_count (raised_count ds c)) (take_at first rest n long) ∙ sym (one-raised c (take c.people fs) ds gs (first_fits c.people (all_people cs) fs own) all)) i
     ∷ (ap (cut (map (raised_count ds) cs)) (drop_at first rest n long) ∙ cut-raised cs (drop c.people fs) ds gs (others_fit c.people (all_people cs) fs own) all) i
 
-length-run : (cs : List PeopleCount) (fs : Forms) (ds : List PeopleCount) (gs : Forms) → length fs ≡ all_people cs → length (raised_run cs fs ds gs) ≡ all_people (map (raised_count ds) cs)
+length-run : (cs : List PeopleCount) (fs : Forms) (ds : List PeopleCount) (gs : Forms) → length fs ≡ all_people cs → length (raised_forms cs fs ds gs) ≡ all_people (map (raised_count ds) cs)
 length-run [] fs ds gs own = refl
 length-run (c ∷ cs) fs ds gs own =
-    length-append (greater_forms (take c.people fs) (forms_like c ds gs)) (raised_run cs (drop c.people fs) ds gs)
+    length-append (greater_forms (take c.people fs) (forms_like c ds gs)) (raised_forms cs (drop c.people fs) ds gs)
     ∙ (λ i. fits c fs (find (is_same_count c) ds) (forms_like c ds gs) (all_people cs) own i + length-run cs (drop c.people fs) ds gs (others_fit c.people (all_people cs) fs own) i)
 
 all-within : (ds cs : List PeopleCount) → list_all is_within cs ≡ true → list_all is_within (map (raised_count ds) cs) ≡ true
@@ -143,5 +143,5 @@ all-within ds (c ∷ cs) all = λ i.
     second_true false b e = absurd cc
 
 -- it is whole still
-pub whole-raised : (cs : List PeopleCount) (fs : Forms) (ds : List PeopleCount) (gs : Forms) → IsWhole cs fs → IsWhole (map (raised_count ds) cs) (raised_run cs fs ds gs)
+pub whole-raised : (cs : List PeopleCount) (fs : Forms) (ds : List PeopleCount) (gs : Forms) → IsWhole cs fs → IsWhole (map (raised_count ds) cs) (raised_forms cs fs ds gs)
 whole-raised cs fs ds gs w = record { people = length-run cs fs ds gs w.people; shown = all-within ds cs w.shown }

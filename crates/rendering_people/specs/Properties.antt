@@ -6,13 +6,13 @@ use Rattle.rendering_taxonomy.specs.Variables.{is_name_variable}
 use Rattle.rendering_taxonomy.specs.declared.name.DisambiguatedNameForm.{DisambiguatedNameForm}
 use Rattle.rendering_taxonomy.specs.declared.variable.NameVariable.{NameVariable}
 
--- of the people of a variable: the form of each, and how many are shown
+-- What is printed of the people of a variable: the form of each, and how many are shown.
 pub record VariableProperties : Type 0 where
   pub variable : NameVariable
   pub forms : List DisambiguatedNameForm
   pub shown : ℕ
 
--- the same of each variable of a names node that has people
+-- what is printed of the people of each variable of a names node that has people
 abbrev pub Properties : Type 0
 Properties = List VariableProperties
 

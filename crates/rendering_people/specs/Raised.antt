@@ -15,7 +15,7 @@ abbrev pub raised_by : PeopleCount → Option PeopleCount → PeopleCount
 raised_by c None = c
 raised_by c (Some d) = record c { shown = min c.people (max c.shown d.shown) }
 
--- the same by the first of others that is of the same variable and of as many people
+-- so many people are shown as the first of others shows that is of the same variable and of as many people
 abbrev pub raised_count : List PeopleCount → PeopleCount → PeopleCount
 raised_count others c = raised_by c (find (is_same_count c) others)
 
@@ -25,9 +25,9 @@ forms_like c [] fs = []
 forms_like c (d ∷ ds) fs = if is_same_count c d then take d.people fs else forms_like c ds (drop d.people fs)
 
 -- the forms of all people, those of each variable raised
-abbrev pub raised_run : List PeopleCount → List DisambiguatedNameForm → List PeopleCount → List DisambiguatedNameForm → List DisambiguatedNameForm
-raised_run [] fs others gs = []
-raised_run (c ∷ cs) fs others gs = greater_forms (take c.people fs) (forms_like c others gs) ++ raised_run cs (drop c.people fs) others gs
+abbrev pub raised_forms : List PeopleCount → List DisambiguatedNameForm → List PeopleCount → List DisambiguatedNameForm → List DisambiguatedNameForm
+raised_forms [] fs others gs = []
+raised_forms (c ∷ cs) fs others gs = greater_forms (take c.people fs) (forms_like c others gs) ++ raised_forms cs (drop c.people fs) others gs
 
 -- the greater of two forms, or the first alone
 abbrev pub greater_or : DisambiguatedNameForm → Option DisambiguatedNameForm → DisambiguatedNameForm

@@ -1,15 +1,10 @@
 -- People as plain data.
 use Rattle.std.specs.Prelude.{List, map}
-use Rattle.std.specs.Cow.{cow_value}
 use Rattle.std.specs.declared.borrow.Cow.{Cow}
-use Rattle.literature_values.specs.PersonViews.{Named, person_view}
+use Rattle.literature_values.specs.PersonViews.{Named, lent_person_view}
 use Rattle.literature_values.specs.declared.person.Person.{Person}
 use Rattle.rendering_tree.specs.Metas as metas
 use Rattle.rendering_people.specs.declared.people.Answered.{Answered}
-
--- a person
-abbrev pub lent_person_view : Cow Person → Named
-lent_person_view p = person_view (cow_value p)
 
 -- people
 abbrev pub lent_people_view : List (Cow Person) → List Named

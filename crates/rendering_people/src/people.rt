@@ -30,7 +30,7 @@ pub fn borrowed_person<'p>(person: &'p Cow<'_, Person>) -> &'p Person
     }
 }
 
-/// What an element stands for that has the names of people in it.
+/// The meta of an element for the names of these people.
 ///
 /// # Errors
 /// Out of memory.

@@ -25,7 +25,7 @@ pub struct PeopleCount {
 /// person.
 #[derive(Debug, Drop)]
 pub struct NameDisambiguationProperties {
-    /// The numbers of each variable, in order.
+    /// For each variable, in order, how many people it has and how many are shown.
     pub(crate) counts: Vec<PeopleCount>,
     /// The forms of all people, those of one variable after those of another.
     pub(crate) forms: Vec<DisambiguatedNameForm>,
@@ -66,8 +66,8 @@ impl NameDisambiguationProperties {
         show_at_least(self.counts.as_mut_slice(), num)
     }
 
-    /// The one that prints more: more people, or as many in greater forms, by the first index where they differ, or else by
-    /// going on where the other ends. Where neither does, the other one.
+    /// The one that prints more: the one that shows more people; of as many people the one whose form is greater at the first index where
+    /// they differ, or else the one that has more forms. `other` where both print as much.
     pub fn max(self, other: Self) -> Self
         ensures { result ≡ greater self other }
     {
@@ -93,7 +93,7 @@ impl NameDisambiguationProperties {
         self.forms.as_slice()
     }
 
-    /// The numbers of each variable, in order.
+    /// For each variable, in order, how many people it has and how many are shown.
     pub fn counts(&self) -> &[PeopleCount]
         ensures { cut result.now (all_forms self.now) ≡ self.now }
     {
@@ -196,7 +196,7 @@ fn is_above(forms: &[DisambiguatedNameForm], others: &[DisambiguatedNameForm]) -
     false
 }
 
-/// The index of a form among all forms, from the least on.
+/// The rank of a form among all forms, from the least on.
 pub(crate) fn rank(form: DisambiguatedNameForm) -> u8
     ensures { result ≡ rank form }
 {

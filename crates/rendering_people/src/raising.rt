@@ -5,7 +5,7 @@ ghost use Rattle.std.specs.Option.{option_map};
 ghost use Rattle.rendering_taxonomy.specs.NameForms.{greater_form};
 ghost use Rattle.rendering_taxonomy.specs.Variables.{is_name_variable};
 ghost use Rattle.rendering_people.specs.Properties.{greater_forms, raised_to};
-ghost use Rattle.rendering_people.specs.Raised.{forms_like, greater_or, is_same_count, raised_count, raised_run};
+ghost use Rattle.rendering_people.specs.Raised.{forms_like, greater_or, is_same_count, raised_count, raised_forms};
 
 use crate::properties::{NameDisambiguationProperties, PeopleCount, rank, split_forms};
 use rendering_taxonomy::{DisambiguatedNameForm, NameVariable};
@@ -29,7 +29,7 @@ impl NameDisambiguationProperties {
         let other_counts = others.counts.as_slice();
         let other_forms = others.forms.as_slice();
         let raised = raised_counts(alloc, counts, other_counts)?;
-        let run = raised_run(alloc, counts, forms, other_counts, other_forms)?;
+        let run = raised_forms(alloc, counts, forms, other_counts, other_forms)?;
         Ok(NameDisambiguationProperties {
             counts: raised,
             forms: run,
@@ -92,7 +92,7 @@ fn is_same_variable(variable: NameVariable, other: NameVariable) -> bool
 }
 
 /// The forms of all people, raised to those of others.
-fn raised_run(
+fn raised_forms(
     alloc: Global,
     counts: &[PeopleCount],
     forms: &[DisambiguatedNameForm],
@@ -100,7 +100,7 @@ fn raised_run(
     other_forms: &[DisambiguatedNameForm],
 ) -> Result<Vec<DisambiguatedNameForm>, AllocError>
     ensures { IfOk result (λ raised. raised.items
-        ≡ raised_run counts.now forms.now others.now other_forms.now) }
+        ≡ raised_forms counts.now forms.now others.now other_forms.now) }
 {
     let mut raised = Vec::with_capacity(alloc, forms.len())?;
     let mut rest = forms;

@@ -17,7 +17,7 @@ abbrev mutual
   levels height no_nodes = 0
   levels height (node x xs) = max (suc (levels_below height x)) (levels height xs)
 
-  -- and of nodes in branches
+  -- the levels of nodes in branches
   pub branch_levels : (List ℕ → ℕ) → Branches → ℕ
   branch_levels height (otherwise xs) = levels height xs
   branch_levels height (branch c xs bs) = max (levels height xs) (branch_levels height bs)

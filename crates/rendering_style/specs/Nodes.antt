@@ -1,6 +1,6 @@
 -- The nodes of a style: what is printed, one after the other.
-use Rattle.std.specs.Prelude.{ℕ, Bool, List, [], ◌∷◌, Option}
-use Rattle.rendering_taxonomy.specs.Formats.{Changes}
+use Rattle.std.specs.Prelude.{ℕ, Bool, List, [], ◌∷◌, Option, None}
+use Rattle.rendering_taxonomy.specs.Formats.{Changes, unchanged}
 use Rattle.rendering_locale.specs.Locales.{DatePart}
 use Rattle.rendering_style.specs.Options.{NameOptions}
 use Rattle.rendering_taxonomy.specs.declared.choose.ChooseMatch.{ChooseMatch}
@@ -26,6 +26,10 @@ pub record Look : Type 0 where
   pub prefix : List ℕ
   pub suffix : List ℕ
   pub display : Option Display
+
+-- a look for which nothing is specified
+abbrev pub plain_look : Look
+plain_look = record { formatting = unchanged; prefix = []; suffix = []; display = None }
 
 -- a text node's look, whether what it prints stands in quotes, and whether its full stops go
 pub record TextLook : Type 0 where
@@ -90,7 +94,7 @@ pub record GroupNode : Type 0 where
   pub look : Look
 
 -- what may be asked: a kind, whether a variable has an answer, whether that is a number, whether a date is uncertain, the label of the
--- locator, the cite's position, whether the cite is like others
+-- locator, the cite's position, whether the cite is to be disambiguated
 pub data Test : Type 0 where
   is_of_kind : Kind → Test
   has_answer : Variable → Test

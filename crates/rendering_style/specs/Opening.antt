@@ -11,12 +11,12 @@ use Rattle.rendering_style.specs.Styles.{Layout, Macro, Style}
 abbrev pub macro_named : List Macro → List ℕ → Option Nodes
 macro_named ms name = option_map (λ m. nodes_of m.nodes) (find (λ m. bytes_eq m.name name) ms)
 
--- the same of each node of a list
+-- each node of a list changed
 abbrev pub each_node : (Node → Node) → Nodes → Nodes
 each_node f no_nodes = no_nodes
 each_node f (node x xs) = node (f x) (each_node f xs)
 
--- and of each node in branches
+-- each node in branches changed
 abbrev pub each_branch : (Node → Node) → Branches → Branches
 each_branch f (otherwise xs) = otherwise (each_node f xs)
 each_branch f (branch c xs bs) = branch c (each_node f xs) (each_branch f bs)
@@ -45,7 +45,7 @@ abbrev pub all_nodes : (Node → Bool) → Nodes → Bool
 all_nodes test no_nodes = true
 all_nodes test (node x xs) = test x && all_nodes test xs
 
--- and each node in branches
+-- whether each node in branches passes a test
 abbrev pub all_branches : (Node → Bool) → Branches → Bool
 all_branches test (otherwise xs) = all_nodes test xs
 all_branches test (branch c xs bs) = all_nodes test xs && all_branches test bs
@@ -82,12 +82,12 @@ abbrev mutual
   calls_in (choose bs) = calls_of_branches bs
   calls_in (group g xs) = calls xs
 
-  -- the same of a list
+  -- the names of the macros that nodes call
   pub calls : Nodes → List (List ℕ)
   calls no_nodes = []
   calls (node x xs) = calls_in x ++ calls xs
 
-  -- and of branches
+  -- the names of the macros that the nodes of branches call
   pub calls_of_branches : Branches → List (List ℕ)
   calls_of_branches (otherwise xs) = calls xs
   calls_of_branches (branch c xs bs) = calls xs ++ calls_of_branches bs

@@ -1,13 +1,14 @@
 -- Styles.
-use Rattle.std.specs.Prelude.{ℕ, Bool, List, Option, ℤ}
+use Rattle.std.specs.Prelude.{ℕ, Bool, false, List, Option, None, ℤ}
 use Rattle.rendering_taxonomy.specs.Formats.{Changes}
 use Rattle.rendering_locale.specs.Locales.{Locale}
-use Rattle.rendering_style.specs.Options.{NameOptions}
+use Rattle.rendering_style.specs.Options.{NameOptions, open_options}
 use Rattle.rendering_style.specs.Nodes.{Node}
 use Rattle.rendering_taxonomy.specs.declared.style.StyleClass.{StyleClass}
 use Rattle.rendering_taxonomy.specs.declared.style.StyleCategory.{StyleCategory}
 use Rattle.rendering_taxonomy.specs.declared.style.Collapse.{Collapse}
 use Rattle.rendering_taxonomy.specs.declared.style.DisambiguationRule.{DisambiguationRule}
+use Rattle.rendering_taxonomy.specs.declared.style.DisambiguationRule.TheVariants as given_names
 use Rattle.rendering_taxonomy.specs.declared.style.SubsequentAuthorSubstituteRule.{SubsequentAuthorSubstituteRule}
 use Rattle.rendering_taxonomy.specs.declared.style.SecondFieldAlign.{SecondFieldAlign}
 
@@ -38,6 +39,22 @@ pub record Citation : Type 0 where
   pub after_collapse_delimiter : Option (List ℕ)
   pub year_suffix_delimiter : Option (List ℕ)
   pub near_note_distance : ℕ
+
+-- cites that are not disambiguated, not gathered and not collapsed
+abbrev pub plain_citation : Layout → Citation
+plain_citation l = record {
+  layout = l;
+  name_options = open_options;
+  add_names = false;
+  add_givenname = false;
+  givenname_rule = given_names.ByCite;
+  add_year_suffix = false;
+  collapse = None;
+  cite_group_delimiter = None;
+  after_collapse_delimiter = None;
+  year_suffix_delimiter = None;
+  near_note_distance = 5;
+}
 
 -- how the items of a bibliography are printed
 pub record Bibliography : Type 0 where

@@ -5,7 +5,8 @@ use Rattle.std.specs.Option.{option_map}
 use Rattle.std.specs.Int.NonZero.{non_zero_i16_get}
 use Rattle.laws.specs.Text.{characters}
 use Rattle.rendering_locale.specs.CodeViews.{code_view}
-use Rattle.rendering_locale.specs.Views.{changes_view, part_view, locale_view}
+use Rattle.rendering_taxonomy.specs.Views.{changes_view}
+use Rattle.rendering_locale.specs.Views.{part_view, locale_view}
 use Rattle.rendering_style.specs.Options as options
 use Rattle.rendering_style.specs.Nodes as nodes
 use Rattle.rendering_style.specs.Styles as styles

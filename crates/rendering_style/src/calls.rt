@@ -29,7 +29,7 @@ pub(crate) fn table_of(
     Ok(table)
 }
 
-/// Lets a name mean an index, unless it means one.
+/// Binds a name to an index, unless it is bound already.
 fn bind(
     alloc: Global,
     table: &mut HashMap<String, usize>,
@@ -92,7 +92,7 @@ fn push_calls(
     Ok(())
 }
 
-/// The same of a node.
+/// Appends the indices of the macros that a node calls.
 #[cycle(calls)]
 fn push_calls_in(
     node: &Node,
@@ -114,7 +114,7 @@ fn push_calls_in(
     }
 }
 
-/// The same of branches.
+/// Appends the indices of the macros that the nodes of branches call.
 #[cycle(calls)]
 fn push_calls_of_branches(
     branches: &[ChooseBranch],
@@ -132,7 +132,7 @@ fn push_calls_of_branches(
     Ok(())
 }
 
-/// The same of what a text node prints.
+/// Appends the index of the macro that a text node calls, if it calls one.
 fn push_target(
     target: &TextTarget,
     table: &HashMap<String, usize>,
@@ -147,7 +147,6 @@ fn push_target(
     }
 }
 
-/// Appends an index where there is one.
 fn push_index(index: Option<usize>, found: &mut Vec<usize>) -> Result<(), AllocError>
     ensures { OnOk result (found.new.items ≡ found.old.items ++ option_to_list index) }
 {

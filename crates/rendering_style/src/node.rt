@@ -7,6 +7,8 @@ use rendering_taxonomy::{
     LabelPluralize, Locator, LongShortForm, NameVariable, NumberForm, Term, TermForm, TestPosition,
     Variable,
 };
+use std::alloc::Global;
+use texts::empty_text;
 
 /// How a node looks, what stands before and after what it prints, and where it stands.
 #[derive(Debug, PartialEq, Eq, Drop)]
@@ -15,6 +17,24 @@ pub struct Look {
     pub prefix: String,
     pub suffix: String,
     pub display: Option<Display>,
+}
+
+impl Look {
+    ghost use Rattle.std.specs.Prelude.{◌≡◌};
+    ghost use Rattle.rendering_style.specs.Nodes.{plain_look};
+    ghost use Rattle.rendering_style.specs.Views.{look_view};
+
+    /// A look for which nothing is specified.
+    pub fn plain(alloc: Global) -> Look
+        ensures { look_view result ≡ plain_look }
+    {
+        Look {
+            formatting: FormattingChanges::default(),
+            prefix: empty_text(alloc),
+            suffix: empty_text(alloc),
+            display: None,
+        }
+    }
 }
 
 /// How a text node looks.
@@ -139,9 +159,9 @@ pub enum ChooseTest {
     IsUncertainDate(DateVariable),
     /// Whether the locator has this label.
     Locator(Locator),
-    /// Whether the cite stands there.
+    /// Whether the cite is at the position.
     Position(TestPosition),
-    /// Whether the cite is like another's.
+    /// Whether the cite is to be disambiguated by this branch, as one that prints like another.
     Disambiguate,
 }
 

@@ -15,7 +15,7 @@ pub struct NameOptions {
     pub et_al_min: Option<u32>,
     /// How many are shown then.
     pub et_al_use_first: Option<u32>,
-    /// The same two in subsequent cites.
+    /// From how many names on not all are shown in subsequent cites, and how many are shown then.
     pub et_al_subsequent_min: Option<u32>,
     pub et_al_subsequent_use_first: Option<u32>,
     /// Whether the last name is shown after those left out.

@@ -9,7 +9,7 @@ use rendering_taxonomy::{
 };
 use std::num::NonZeroI16;
 
-/// Nodes, how they look and what stands round them. What is left open is not what is empty.
+/// Nodes, how they look and what stands round them. An affix or a delimiter that is left open is not the same as an empty one.
 #[derive(Debug, PartialEq, Eq, Drop)]
 pub struct Layout {
     pub nodes: Vec<Node>,
@@ -44,6 +44,31 @@ pub struct Citation {
     pub year_suffix_delimiter: Option<String>,
     /// Up to how many notes back a note is near.
     pub near_note_distance: u32,
+}
+
+impl Citation {
+    ghost use Rattle.std.specs.Prelude.{◌≡◌};
+    ghost use Rattle.rendering_style.specs.Styles.{plain_citation};
+    ghost use Rattle.rendering_style.specs.Views.{citation_layout_view, layout_view};
+
+    /// Cites in the layout that are not disambiguated, not gathered and not collapsed. A note is near up to 5 notes back.
+    pub fn new(layout: Layout) -> Citation
+        ensures { citation_layout_view result ≡ plain_citation (layout_view layout) }
+    {
+        Citation {
+            layout,
+            name_options: NameOptions::default(),
+            add_names: false,
+            add_givenname: false,
+            givenname_rule: DisambiguationRule::ByCite,
+            add_year_suffix: false,
+            collapse: None,
+            cite_group_delimiter: None,
+            after_collapse_delimiter: None,
+            year_suffix_delimiter: None,
+            near_note_distance: 5,
+        }
+    }
 }
 
 /// How the items of a bibliography are printed.

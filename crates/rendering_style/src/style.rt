@@ -68,7 +68,6 @@ impl Style {
     }
 }
 
-/// The nodes of the macro at the index.
 fn nodes_at(macros: &[Macro], index: usize) -> Option<&[Node]>
     ensures { option_map (λ xs. nodes_view xs.now) result
         ≡ option_map (λ m. nodes_of m.nodes) (slice_get (map macro_view macros.now) index) }

@@ -13,29 +13,29 @@ use Rattle.rendering_taxonomy.specs.declared.formatting.VerticalAlign.{VerticalA
 use Rattle.rendering_taxonomy.specs.declared.formatting.VerticalAlign.TheVariants as aligns
 use Rattle.rendering_taxonomy.specs.declared.formatting.Formatting.{Formatting}
 
--- the indices of the values of each attribute
+-- the indices of the values of the style
 abbrev pub style_index : FontStyle → ℕ
 style_index styles.Normal = 0
 style_index styles.Italic = 1
 style_index styles.Oblique = 2
 
--- of the variant
+-- the indices of the values of the variant
 abbrev pub variant_index : FontVariant → ℕ
 variant_index variants.Normal = 0
 variant_index variants.SmallCaps = 1
 
--- of the weight
+-- the indices of the values of the weight
 abbrev pub weight_index : FontWeight → ℕ
 weight_index weights.Normal = 0
 weight_index weights.Bold = 1
 weight_index weights.Light = 2
 
--- of the decoration
+-- the indices of the values of the decoration
 abbrev pub decoration_index : TextDecoration → ℕ
 decoration_index decorations.None = 0
 decoration_index decorations.Underline = 1
 
--- of the position on the line
+-- the indices of the values of the position on the line
 abbrev pub align_index : VerticalAlign → ℕ
 align_index aligns.None = 0
 align_index aligns.Sup = 1

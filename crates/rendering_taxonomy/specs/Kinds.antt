@@ -1,4 +1,4 @@
--- Which labels of locators are one.
+-- Which labels of locators are the same.
 use Rattle.std.specs.Prelude.{ℕ, Bool, ◌==◌}
 use Rattle.rendering_taxonomy.specs.declared.locator.Locator.{Locator}
 use Rattle.rendering_taxonomy.specs.declared.locator.Locator.TheVariants as locators

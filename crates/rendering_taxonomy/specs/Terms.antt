@@ -1,4 +1,4 @@
--- Which terms are one. A term is known by its word: the label `page` of a locator and the variable `page` have one term.
+-- Which terms are the same. A term is known by its word: the label `page` of a locator and the variable `page` have one term.
 use Rattle.std.specs.Prelude.{ℕ, ◌+◌, Bool, ◌==◌, List, [], ◌∷◌}
 use Rattle.rendering_taxonomy.specs.Variables.{variable_index}
 use Rattle.rendering_taxonomy.specs.Kinds.{locator_index}

@@ -1,4 +1,4 @@
--- Which variables are one. Each has an index of its own among all of them.
+-- Which variables are the same. Each has an index of its own among all of them.
 use Rattle.std.specs.Prelude.{ℕ, Bool, ◌==◌, List}
 use Rattle.std.specs.List.{list_any}
 use Rattle.rendering_taxonomy.specs.declared.variable.StandardVariable.{StandardVariable}
@@ -29,7 +29,7 @@ standard_index standard.TitleShort = 11
 standard_index standard.Url = 12
 standard_index standard.YearSuffix = 13
 
--- of those that are numbers
+-- the indices of the variables that are numbers
 abbrev pub number_index : NumberVariable → ℕ
 number_index number.ChapterNumber = 20
 number_index number.CitationNumber = 21
@@ -43,14 +43,14 @@ number_index number.NumberOfVolumes = 28
 number_index number.PageFirst = 29
 number_index number.Volume = 30
 
--- of those that are people
+-- the indices of the variables that are people
 abbrev pub name_index : NameVariable → ℕ
 name_index name.Author = 40
 name_index name.ContainerAuthor = 41
 name_index name.Editor = 42
 name_index name.Translator = 43
 
--- of those that are dates
+-- the indices of the variables that are dates
 abbrev pub date_index : DateVariable → ℕ
 date_index date.Accessed = 50
 date_index date.AvailableDate = 51
@@ -71,7 +71,7 @@ variable_index variables.Page = 60
 abbrev pub is_variable : Variable → Variable → Bool
 is_variable v w = variable_index v == variable_index w
 
--- the same of variables that are people
+-- whether two variables that are people are one
 abbrev pub is_name_variable : NameVariable → NameVariable → Bool
 is_name_variable v w = name_index v == name_index w
 

@@ -7,7 +7,7 @@ use Rattle.rendering_taxonomy.specs.Formats.{looks_like}
 use Rattle.rendering_taxonomy.specs.declared.formatting.Display.{Display}
 use Rattle.rendering_taxonomy.specs.declared.formatting.Formatting.{Formatting}
 use Rattle.rendering_taxonomy.proofs.Indices.{Decides-looks_like}
-use Rattle.rendering_tree.specs.Laws.{says_something, begins_alike, joins, is_normal_child, is_normal, Bracket, of_mark, of_element, are_nested, SimplifiedIsNormal, HandedOutIsNormal, OneNormalTree}
+use Rattle.rendering_tree.specs.Laws.{says_something, begins_alike, joins, is_normal_child, is_normal, Bracket, of_mark, of_element, are_nested, SimplifiedIsNormal, TreeOfNestedIsNormal, NormalTreesAreOne}
 use Rattle.rendering_tree.specs.Metas.{Meta}
 use Rattle.rendering_tree.specs.Tokens.{Token, letter, formula, link, transparent, opening, closing, mark, unmark}
 use Rattle.rendering_tree.specs.Trees.{Child, Children, Text, Elem, Markup, Link, Transparent, nothing, before, flat, Nest, before_text, element_read, take_token, tree_of, simplified}
@@ -96,7 +96,7 @@ normal-read (mark ∷ ts) [] n e h = absurd (true≢false (sym e))
 normal-read (mark ∷ ts) (of_mark ∷ bs) n e h = normal-read ts bs n e h
 normal-read (mark ∷ ts) (of_element ∷ bs) n e h = absurd (true≢false (sym e))
 
-pub handed_out : HandedOutIsNormal
+pub handed_out : TreeOfNestedIsNormal
 handed_out ts e = (normal-read ts [] (record { inside = nothing; around = [] }) e (record { inside = refl; around = tt })).inside
 
 one_before : (f : Formatting) (c : ℕ) (ys : Children) → begins_alike f ys ≡ false → before_text f c ys ≡ before (Text f (c ∷ [])) ys
@@ -134,7 +134,7 @@ mutual
   same_all nothing h = refl
   same_all (before x xs) h = let p = normals x xs h in ap (child_before x) (same_all xs p.others) ∙ same_child x xs p.first p.apart
 
-pub one_tree : OneNormalTree
+pub one_tree : NormalTreesAreOne
 one_tree xs ys h k e = sym (same_all xs h) ∙ sym (simplified_is xs) ∙ ap tree_of e ∙ simplified_is ys ∙ same_all ys k
 
 -- a tree in its normal form with the tokens of another one is that one, simplified

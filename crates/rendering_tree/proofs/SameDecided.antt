@@ -1,4 +1,4 @@
--- Trees are the same exactly where they are one.
+-- Trees are the same exactly where they are equal.
 use Rattle.std.proofs.Common.{◌≡◌, ℕ, Bool, true, false, zero, suc, ◌==◌, ◌&&◌, true≢false, refl, sym, ap, Option, Some, None}
 use Rattle.std.specs.Bool.{Decides}
 use Rattle.std.specs.Cmp.Lexicographic.{bytes_decides, pointwise, pointwise_decides}

@@ -1,4 +1,4 @@
--- Putting at the end of a list.
+-- Appending to a list.
 use Rattle.std.proofs.Common.{◌≡◌, ℕ, Bool, true, false, not, true≢false, List, [], ◌∷◌, ◌++◌, ◌==◌, length, map, rules, append-nil, append_assoc, refl, sym, ap, ◌∙◌, Option, Some, None, Result, Ok, Err, String}
 use Rattle.std.proofs.lemmas.Bool.{and_from}
 use Rattle.std.proofs.lemmas.List.{map-append}

@@ -1,4 +1,4 @@
--- Values of the code are equal exactly where the view of them is one.
+-- Values of the code are equal exactly where their views are.
 use Rattle.std.specs.Global.{Global}
 use Rattle.std.proofs.Common.{◌≡◌, ℕ, zero, suc, ◌+◌, ◌≤◌, Bool, true, false, ◌&&◌, ◌==◌, List, [], ◌∷◌, map, Vec, refl, sym, ap, ◌∙◌, string_eq, true≢false, arith, rules}
 use Rattle.std.specs.Bool.{Decides}

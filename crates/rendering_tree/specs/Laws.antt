@@ -32,7 +32,7 @@ abbrev mutual
   is_normal_child (Link f cs url) = true
   is_normal_child (Transparent f n) = true
 
-  -- the same of a list
+  -- whether children are in their normal form
   pub is_normal : Children → Bool
   is_normal nothing = true
   is_normal (before x xs) = is_normal_child x && not (joins x xs) && is_normal xs
@@ -42,12 +42,12 @@ pub data Bracket : Type 0 where
   of_mark : Bracket
   of_element : Bracket
 
--- whether a bracket is the innermost one, and the others go on well
+-- whether a mark is innermost in what is open, and the others go on well
 abbrev pub closes_mark : List Bracket → (List Bracket → Bool) → Bool
 closes_mark (of_mark ∷ bs) others = others bs
 closes_mark bs others = false
 
--- the same of an element
+-- whether an element is innermost in what is open, and the others go on well
 abbrev pub closes_element : List Bracket → (List Bracket → Bool) → Bool
 closes_element (of_element ∷ bs) others = others bs
 closes_element bs others = false
@@ -71,14 +71,14 @@ is_nested ts = are_nested ts []
 abbrev pub SimplifyingKeepsTokens : Type 0
 SimplifyingKeepsTokens = (xs : Children) → flat (simplified xs) ≡ flat xs
 
--- and ends in the normal form
+-- a simplified tree is in the normal form
 abbrev pub SimplifiedIsNormal : Type 0
 SimplifiedIsNormal = (xs : Children) → is_normal (simplified xs) ≡ true
 
--- What is handed out of a page is in the normal form.
-abbrev pub HandedOutIsNormal : Type 0
-HandedOutIsNormal = (ts : List Token) → is_nested ts ≡ true → is_normal (tree_of ts) ≡ true
+-- The tree of what is properly nested is in the normal form.
+abbrev pub TreeOfNestedIsNormal : Type 0
+TreeOfNestedIsNormal = (ts : List Token) → is_nested ts ≡ true → is_normal (tree_of ts) ≡ true
 
--- trees in normal form with the same tokens are one
-abbrev pub OneNormalTree : Type 0
-OneNormalTree = (xs ys : Children) → is_normal xs ≡ true → is_normal ys ≡ true → flat xs ≡ flat ys → xs ≡ ys
+-- trees in normal form with the same tokens are equal
+abbrev pub NormalTreesAreOne : Type 0
+NormalTreesAreOne = (xs ys : Children) → is_normal xs ≡ true → is_normal ys ≡ true → flat xs ≡ flat ys → xs ≡ ys

@@ -40,10 +40,10 @@ abbrev mutual
 abbrev pub is_element : Element → Element → Bool
 is_element e f = option_eq is_display e.display f.display && option_eq is_meta e.meta f.meta && are_children e.children f.children
 
--- Two trees are the same exactly where they are one.
+-- Two trees are the same exactly where they are equal.
 abbrev pub SameTreesAreOne : Type 0
 SameTreesAreOne = (xs ys : Children) → Decides (are_children xs ys) (xs ≡ ys)
 
--- The same of elements.
+-- Two elements are the same exactly where they are equal.
 abbrev pub SameElementsAreOne : Type 0
 SameElementsAreOne = (e f : Element) → Decides (is_element e f) (e ≡ f)

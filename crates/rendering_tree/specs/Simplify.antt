@@ -1,4 +1,4 @@
--- What is put at the end of a list.
+-- What is appended to a list.
 use Rattle.std.specs.Prelude.{◌≡◌, ℕ, Bool, true, false, List, ◌++◌, if◌then◌else◌}
 use Rattle.rendering_taxonomy.specs.Formats.{looks_like}
 use Rattle.rendering_taxonomy.specs.declared.formatting.Formatting.{Formatting}
@@ -16,7 +16,7 @@ abbrev pub text_after : Child → Formatting → List ℕ → Children
 text_after (Text g ds) f cs = if looks_like g f then before (Text g (ds ++ cs)) nothing else before (Text g ds) (before (Text f cs) nothing)
 text_after x f cs = before x (before (Text f cs) nothing)
 
--- Tokens were put after a list, so that a list in its normal form stays in it.
+-- Tokens were appended to a list, so that a list in its normal form stays in it.
 pub record Puts (ts : List Token) (old new : Children) : Type 0 where
   pub tokens : flat new ≡ ts ++ flat old
   pub normal : is_normal old ≡ true → is_normal new ≡ true

@@ -8,7 +8,7 @@ use Rattle.rendering_taxonomy.specs.declared.formatting.Formatting.{Formatting}
 
 -- A character that looks so; a formula; a link from a text that looks so to an address; a locator of the caller's own, by
 -- the index of its cite; where an element with a display or a meaning begins and ends. A mark and its end stand where
--- something begins and ends that is to be undone if it prints nothing; they are no part of what is printed.
+-- something begins and ends that is to be removed if it prints nothing; they are no part of what is printed.
 pub data Token : Type 0 where
   letter : Formatting → ℕ → Token
   formula : List ℕ → Token

@@ -103,7 +103,7 @@ abbrev mutual
   elements_in (Link f cs url) = []
   elements_in (Transparent f n) = []
 
-  -- the same of a list
+  -- the elements of children, each before those that it contains
   pub elements : Children → List Element
   elements nothing = []
   elements (before x xs) = elements_in x ++ elements xs
@@ -145,7 +145,7 @@ abbrev mutual
   parted_in (Elem d None xs) = rest_inside d (parted xs)
   parted_in x = None
 
-  -- the same of a list
+  -- the first element of children that stands for something, and the rest without it
   pub parted : Children → Parted
   parted nothing = None
   parted (before x xs) = rest_before x xs (parted_in x) (parted xs)

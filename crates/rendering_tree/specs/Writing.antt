@@ -13,24 +13,24 @@ abbrev mutual
   tags_in (Link f cs url) = linked f cs url
   tags_in (Transparent f n) = []
 
-  -- the same of a list, one after the other
+  -- the tags and texts of children, one after the other
   pub tags : Children → List Tag
   tags nothing = []
   tags (before x xs) = tags_in x ++ tags xs
 
--- in plain text
+-- children in plain text
 abbrev pub plain_text : Children → List ℕ
 plain_text xs = flat_map plain_tag (tags xs)
 
--- the same of a child
+-- a child in plain text
 abbrev pub plain_child_text : Child → List ℕ
 plain_child_text x = flat_map plain_tag (tags_in x)
 
--- and of an element
+-- an element in plain text
 abbrev pub plain_element_text : Element → List ℕ
 plain_element_text e = flat_map plain_tag (divided e.display (tags e.children))
 
--- in HTML
+-- children in HTML
 abbrev pub html_text : Children → List ℕ
 html_text xs = flat_map html_tag (tags xs)
 

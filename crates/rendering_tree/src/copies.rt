@@ -65,7 +65,6 @@ impl Clone for ElemChild {
     }
 }
 
-/// A copy of an element.
 #[cycle(copy)]
 fn copy_element(elem: &Elem) -> Result<Elem, AllocError>
     ensures { IfOk result (λ e. element_view e ≡ element_view elem.now) }
@@ -89,7 +88,6 @@ fn copy_children(parts: &ElemChildren) -> Result<ElemChildren, AllocError>
     Ok(ElemChildren(copies))
 }
 
-/// A copy of a child.
 #[cycle(copy)]
 fn copy_child(part: &ElemChild) -> Result<ElemChild, AllocError>
     ensures { IfOk result (λ x. child_view x ≡ child_view part.now) }
@@ -132,7 +130,6 @@ fn copy_names(
     Ok(copies)
 }
 
-/// A copy of people.
 fn copy_people(people: &Vec<Person>) -> Result<Vec<Person>, AllocError>
     ensures { IfOk result (λ v. map person_view v.items ≡ map person_view people.now.items) }
 {

@@ -1,5 +1,5 @@
-//! When trees are equal: `==` is true exactly where they are the same by the view of them, and so where the view of them
-//! is one.
+//! When trees are equal: `==` is true exactly where their views are the same by all that they contain, and so exactly where their views
+//! are equal.
 
 ghost use Rattle.std.specs.Prelude.{◌≡◌, ◌↔◌, IsTrue};
 ghost use Rattle.rendering_tree.specs.Same.{are_children, is_element};

@@ -57,7 +57,7 @@ impl ElemChildren {
 }
 
 impl ElemChild {
-    /// The same, of the child and what it contains.
+    /// The first element for which the closure is true, among the child and what it contains.
     #[cycle(find)]
     fn find_elem_by<F: Fn(&Elem) -> bool>(&self, f: &F) -> Option<&Elem>
         requires { F.IsAlwaysCallable f.now }

@@ -56,7 +56,6 @@ pub(crate) fn says_something(display: &Option<Display>, meta: &Option<ElemMeta>)
     display.is_some() || meta.is_some()
 }
 
-/// How a child looks, if it is a text.
 fn text_look(part: &ElemChild) -> Option<Formatting>
     ensures { result ≡ text_look (child_view part.now) }
 {

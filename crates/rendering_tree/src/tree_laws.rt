@@ -2,7 +2,7 @@
 
 ghost use Rattle.rendering_tree.specs.Same.{SameTreesAreOne, SameElementsAreOne};
 ghost use Rattle.rendering_tree.specs.Writing.{TagsAreNested};
-ghost use Rattle.rendering_tree.specs.Laws.{SimplifyingKeepsTokens, SimplifiedIsNormal, HandedOutIsNormal, OneNormalTree};
+ghost use Rattle.rendering_tree.specs.Laws.{SimplifyingKeepsTokens, SimplifiedIsNormal, TreeOfNestedIsNormal, NormalTreesAreOne};
 
 /// Simplifying keeps what is printed.
 #[tactic(auto, using(crate::proofs::TreesReading::keeps_tokens))]
@@ -19,22 +19,22 @@ pub fn simplified_is_normal()
 /// The tree of what is properly nested is in its normal form.
 #[tactic(auto, using(crate::proofs::LawsNormal::handed_out))]
 pub fn tree_of_nested_is_normal()
-    ensures { HandedOutIsNormal }
+    ensures { TreeOfNestedIsNormal }
 {}
 
-/// Trees in their normal form of which the same is printed are one.
+/// Two trees in their normal form that print the same are equal.
 #[tactic(auto, using(crate::proofs::LawsNormal::one_tree))]
 pub fn normal_trees_are_one()
-    ensures { OneNormalTree }
+    ensures { NormalTreesAreOne }
 {}
 
-/// Trees are the same by all that they contain exactly where they are one.
+/// Trees are the same by all that they contain exactly where they are equal.
 #[tactic(auto, using(crate::proofs::SameDecided::trees_are_one))]
 pub fn same_trees_are_one()
     ensures { SameTreesAreOne }
 {}
 
-/// The same of elements.
+/// Elements are the same by all that they contain exactly where they are equal.
 #[tactic(auto, using(crate::proofs::SameDecided::elements_are_one))]
 pub fn same_elements_are_one()
     ensures { SameElementsAreOne }

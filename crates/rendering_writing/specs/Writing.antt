@@ -1,9 +1,9 @@
--- What those who print by themselves may do to a page.
+-- What a caller who prints by itself may do to a page.
 use Rattle.std.specs.Prelude.{ℕ, true, false, List, [], ◌∷◌, None}
 use Rattle.literature_values.specs.TextViews.{Chunk}
 use Rattle.rendering_page.specs.Pages.{Page, append_space}
 use Rattle.rendering_page.specs.Pieces.{normal, linked, own_locator, chunk_pieces}
-use Rattle.rendering_page.specs.PageCharacters.{plainly}
+use Rattle.rendering_page.specs.PageCharacters.{plain_manner}
 use Rattle.rendering_style.specs.Options.{NameOptions, open_options, options_over}
 use Rattle.rendering_style.specs.Nodes.{Nodes}
 use Rattle.rendering_context.specs.Contexts.{Context}
@@ -20,7 +20,7 @@ pub record Writing : Type 0 where
 -- what is handed down where nothing was specified
 abbrev pub setting_begun : NodeSetting
 setting_begun = record {
-  manner = plainly;
+  manner = plain_manner;
   inside_quotes = false;
   delimiter = None;
   options = open_options;

@@ -23,7 +23,7 @@ pub struct Context<'w, 's, 'a, E> {
 }
 
 impl<'a, E: EntryLike> Context<'_, '_, 'a, E> {
-    /// A space at the end. There is none where nothing was appended, and none where the last text ends in a space.
+    /// Appends a space. Nothing is appended where the page is empty, or where the last text ends in a space.
     ///
     /// # Errors
     /// Out of memory.

@@ -1,5 +1,5 @@
-//! What those who print by themselves may do: a page with what is handed down to what is appended to it, texts and nodes of a style
-//! appended there, and what is asked of nodes before.
+//! For callers who print by themselves: a page with the setting that is handed down to what is appended to it, texts and nodes of a style
+//! that are appended there, and surveys of nodes before.
 #![tactic(auto)]
 
 mod context;

@@ -1,4 +1,4 @@
-//! What prints itself as nodes of a style.
+//! The trait of what is printed as nodes of a style.
 
 ghost use Rattle.std.specs.Prelude.{◌≡◌, IfOk, OnOk};
 ghost use Rattle.rendering_nodes.specs.Views.{macros_of, survey_view};
@@ -13,7 +13,7 @@ use rendering_style::{Layout, Node};
 use std::alloc::AllocError;
 use std::slice;
 
-/// What prints itself as nodes of a style: a node, a layout, or a type of the caller's that has nodes.
+/// What is printed as nodes of a style: a node, a layout, or a type of the caller's that has nodes.
 pub trait RenderCsl {
     ghost use Rattle.std.specs.Prelude.{List, map};
     ghost use Rattle.rendering_style.specs.Nodes as nodes;

@@ -20,11 +20,12 @@ ghost use Rattle.rendering_tree.specs.Views.{tree_view};
 ghost use Rattle.rendering_writing.specs.Writing.{nodes_asked, nodes_rendered, options_popped, options_pushed, setting_begun, space_ensured, with_page};
 
 use literature_values::ChunkedString;
+use rendering_building::into_tree;
 use rendering_entries::EntryLike;
 use rendering_leaves::{NodeSetting, SpecialForm, State};
 use rendering_names::ResolvedNameOptions;
 use rendering_nodes::{Survey, Walk};
-use rendering_page::plainly;
+use rendering_page::plain_manner;
 use rendering_style::{NameOptions, Node};
 use rendering_tree::ElemChildren;
 use std::alloc::{AllocError, Global};
@@ -50,7 +51,7 @@ impl<'a> Model for WritingContext<'a> {
 }
 
 impl<'a> WritingContext<'a> {
-    /// A page to which nothing was appended. Texts look as they do of themselves, and nothing is specified for names.
+    /// A page to which nothing was appended. Texts have the default formatting, and nothing is specified for names.
     pub fn new(alloc: Global) -> WritingContext<'a>
         ensures { result ≡ record { state = begun; setting = setting_begun; options_around = [] } }
     {
@@ -69,7 +70,7 @@ impl<'a> WritingContext<'a> {
         }
     }
 
-    /// From now on options for names count over those that did so far, until they are taken back.
+    /// Lets these options for names take precedence over those that are in force, until they are taken back.
     ///
     /// # Errors
     /// Out of memory.
@@ -82,7 +83,7 @@ impl<'a> WritingContext<'a> {
         Ok(())
     }
 
-    /// Takes the options for names back that were pushed last; where none were, nothing changes.
+    /// Takes back the options for names that were pushed last. Where none were pushed, nothing changes.
     pub fn pop_name_options(&mut self)
         ensures { self.new ≡ options_popped self.old }
     {
@@ -91,7 +92,7 @@ impl<'a> WritingContext<'a> {
         }
     }
 
-    /// A space at the end. There is none where nothing was appended, and none where the last text ends in a space.
+    /// Appends a space. Nothing is appended where the page is empty, or where the last text ends in a space.
     ///
     /// # Errors
     /// Out of memory.
@@ -170,7 +171,6 @@ impl<'a> WritingContext<'a> {
             .push_chunks(quotes, manner, text.0.as_slice())
     }
 
-    /// Appends a link.
     pub(crate) fn push_link(&mut self, text: &'a str, url: &'a str) -> Result<(), AllocError>
         ensures { OnOk result (self.new ≡ with_page
             (append_token (link self.old.setting.manner.formatting (chars text.now) (chars url.now))
@@ -195,7 +195,7 @@ impl<'a> WritingContext<'a> {
 fn tree_on(state: State<'_>) -> Result<ElemChildren, AllocError>
     ensures { IfOk result (λ t. tree_view t ≡ tree_of state.entry.page.tokens) }
 {
-    state.page.into_tree()
+    into_tree(state.page)
 }
 
 /// What is handed down where nothing was specified.
@@ -203,7 +203,7 @@ fn plain_setting<'a>() -> NodeSetting<'a>
     ensures { setting_view result ≡ setting_begun }
 {
     NodeSetting {
-        manner: plainly(),
+        manner: plain_manner(),
         inside_quotes: false,
         delimiter: None,
         options: open_options(),
@@ -212,7 +212,7 @@ fn plain_setting<'a>() -> NodeSetting<'a>
     }
 }
 
-/// Nothing is specified for names.
+/// Options by which nothing is specified for names.
 fn open_options<'a>() -> ResolvedNameOptions<'a>
     ensures { resolved_options_view result ≡ open_options }
 {

@@ -3,7 +3,8 @@ use Rattle.std.proofs.Common.{◌≡◌, ℕ, ◌<◌, ◌≤◌, ◌^◌, ◌-�
 use Rattle.std.proofs.lemmas.Bool.{cases_lt}
 use Rattle.std.specs.Io.KnownBytes.{Appends, Keeps}
 use Rattle.std.proofs.lemmas.List.{take-append-drop, append-nil}
-use Rattle.sinks.specs.Sinks.{AppendsPrefix, HasFailed, next_count}
+use Rattle.laws.specs.Counts.{next_count}
+use Rattle.sinks.specs.Sinks.{AppendsPrefix, HasFailed}
 
 -- a prefix of the bytes was taken, the rest is still to come, and no call has failed
 pub record Writing (old new : Option (List ℕ)) (was is : ℕ) (bytes rest : List ℕ) : Type 0 where

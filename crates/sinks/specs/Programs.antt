@@ -1,11 +1,11 @@
 -- What a program says of a fault, and what it leaves of its output.
-use Rattle.std.specs.Prelude.{◌≡◌, ℕ, List, [], ◌∷◌, ◌++◌, Option, ◌⊎◌, ⊤, codes}
+use Rattle.std.specs.Prelude.{◌≡◌, ℕ, List, ◌++◌, Option, ◌⊎◌, ⊤, codes}
 use Rattle.std.specs.Io.KnownBytes.{Appends}
 use Rattle.sinks.specs.Sinks.{HasFailed, AppendsPrefix}
 
 -- the program's name, what it says, a line feed
 abbrev pub line : List ℕ → List ℕ → List ℕ
-line program message = program ++ (codes ": " ++ (message ++ 10 ∷ []))
+line program message = program ++ (codes ": " ++ (message ++ codes "\n"))
 
 abbrev pub no_memory : List ℕ → List ℕ
 no_memory program = line program (codes "out of memory")

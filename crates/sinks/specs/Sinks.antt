@@ -1,12 +1,9 @@
 -- What a sink took, and how often it failed.
-use Rattle.std.specs.Prelude.{◌≡◌, ℕ, ◌+◌, ◌-◌, ◌^◌, ◌<◌, ◌⊎◌, ◌==◌, ◌&&◌, nat_lt, min, List, ◌++◌, length, Option, Some, None, Result, Ok, Err, MatchResult, MatchBool, if◌then◌else◌}
+use Rattle.std.specs.Prelude.{◌≡◌, ℕ, ◌+◌, ◌-◌, ◌^◌, ◌<◌, ◌⊎◌, ◌==◌, ◌&&◌, nat_lt, List, ◌++◌, length, Option, Some, None, Result, Ok, Err, MatchResult, MatchBool, if◌then◌else◌}
 use Rattle.std.specs.Io.KnownBytes.{Appends}
+use Rattle.laws.specs.Counts.{next_count}
 use Rattle.sinks.specs.declared.sink.SinkFault.{SinkFault}
 use Rattle.sinks.specs.declared.sink.SinkFault.TheVariants.{Failed, TookNothing}
-
--- the next count of failed calls, which stays at the greatest u64
-abbrev pub next_count : ℕ → ℕ
-next_count n = min (n + 1) (2 ^ 64 - 1)
 
 -- a call counts exactly where it failed, or took none of some bytes
 abbrev pub CountsFailure : {E : Type 0} → ℕ → ℕ → Result ℕ E → List ℕ → Type 0

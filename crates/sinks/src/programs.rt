@@ -2,6 +2,7 @@
 
 ghost use Rattle.std.specs.Prelude.{◌≡◌, ◌++◌, map, IfOk, string_bytes};
 ghost use Rattle.sinks.specs.Programs.{line, Says};
+ghost use Rattle.sinks.specs.declared.files.FileRead.{FileRead};
 
 use crate::files::{FileRead, ReadFault};
 use crate::sink::{Sink, write_all};
@@ -9,7 +10,7 @@ use std::alloc::{AllocError, Global};
 use std::io::ErrorKind;
 use std::{env, fs, io};
 
-/// The words that a program was started with, without its own name.
+/// The words that a program was started with, without its own name. What they are is known to no contract.
 pub fn words_given(rt: &HostRuntime) -> io::Result<Vec<String>> {
     let mut words = Vec::new(rt.alloc());
     for word in env::args(rt)?.skip(1) {
@@ -29,11 +30,10 @@ pub fn borrowed(alloc: Global, words: &[String]) -> Result<Vec<&str>, AllocError
     Ok(all)
 }
 
-/// Reads the files at the paths, each once.
-pub fn read_files<'p>(
-    rt: &HostRuntime,
-    paths: &[&'p str],
-) -> Result<Vec<FileRead<'p>>, AllocError> {
+/// Reads the files at the paths, each once. What a file has is known to no contract.
+pub fn read_files<'p>(rt: &HostRuntime, paths: &[&'p str]) -> Result<Vec<FileRead<'p>>, AllocError>
+    ensures { IfOk result (λ v. map (λ (f : FileRead). f.path) v.items ≡ paths.now) }
+{
     let mut files = Vec::new(rt.alloc());
     for path in paths {
         files.push(read_file(rt, path))?;
@@ -42,7 +42,9 @@ pub fn read_files<'p>(
 }
 
 /// Reads the file at the path.
-fn read_file<'p>(rt: &HostRuntime, path: &'p str) -> FileRead<'p> {
+fn read_file<'p>(rt: &HostRuntime, path: &'p str) -> FileRead<'p>
+    ensures { result.path ≡ path.entry }
+{
     FileRead {
         path,
         bytes: read(rt, path),

@@ -3,8 +3,9 @@
 ghost use Rattle.std.specs.Prelude.{◌≡◌, List, Option, None, Some, ℕ, length, OnOk, OnErr, IfErr};
 ghost use Rattle.std.specs.Io.{WritesAtMost};
 ghost use Rattle.std.specs.Io.KnownBytes.{Appends, WriteAppends};
+ghost use Rattle.laws.specs.Counts.{next_count};
 ghost use Rattle.sinks.specs.declared.sink.SinkFault.{SinkFault};
-ghost use Rattle.sinks.specs.Sinks.{next_count, fault_in, fault_after, CountsFailure, HasFailed, AppendsPrefix};
+ghost use Rattle.sinks.specs.Sinks.{fault_in, fault_after, CountsFailure, HasFailed, AppendsPrefix};
 
 use std::io;
 use std::io::Write;

@@ -14,7 +14,7 @@ pub chars-put : {A E : Type 0} (r : Result A E) (old more new : List ℕ) → Is
 chars-put (Ok x) old more new utf8 e = rw e (chars-append old more utf8)
 chars-put (Err x) old more new utf8 e = tt
 
--- a character after a text
+-- a text with a character after it has that character after its own
 pub chars-put_one : {A E : Type 0} (r : Result A E) (old new : List ℕ) (c : ℕ) → IsUtf8 old → IsScalar c → new ≡ (if is_ok r then old ++ encode_utf8 c else old) → OnOk r (chars new ≡ chars old ++ c ∷ [])
 chars-put_one (Ok x) old new c utf8 scalar e = rw e (chars-append old (encode_utf8 c) utf8 ∙ rw (chars-one c scalar) refl)
 chars-put_one (Err x) old new c utf8 scalar e = tt

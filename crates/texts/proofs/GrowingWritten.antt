@@ -23,7 +23,7 @@ text-number z fits =
     let small : mag z < 2 ^ 63 = omega (arith, ints) in
     text-ascii (signed_decimal z) (IsAscii-signed z small)
 
--- one more element is written
+-- what is written of one more element stands after what is written of those before it
 pub text-more : {X : Type 0} (f : X → List ℕ) (xs : List X) (i : ℕ) (d : X) → i < length xs → text (flat_map f (take i xs)) ++ text (f (get_or xs i d)) ≡ text (flat_map f (take (i + 1) xs))
 text-more {X} f xs i d below =
     sym (ap (λ (ys : List X). text (flat_map f ys)) (take_more xs i d below)
@@ -31,7 +31,7 @@ text-more {X} f xs i d below =
     ∙ ap (λ (t : List ℕ). text (flat_map f (take i xs) ++ t)) (append-nil (f (get_or xs i d)))
     ∙ text-append (flat_map f (take i xs)) (f (get_or xs i d)))
 
--- the texts of the view
+-- the texts of the views of elements are those of the elements under the view
 flat_map-view : {X Y : Type 0} (f : Y → List ℕ) (v : X → Y) (xs : List X) → flat_map (λ x. f (v x)) xs ≡ flat_map f (map v xs)
 flat_map-view f v [] = refl
 flat_map-view f v (x ∷ xs) = ap (λ (t : List ℕ). f (v x) ++ t) (flat_map-view f v xs)

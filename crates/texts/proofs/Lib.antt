@@ -1,4 +1,5 @@
 pub mod GrowingAppended
+pub mod OptionalTexts
 pub mod ReadingBounds
 pub mod ReadingDigits
 pub mod ReadingShorter

@@ -20,7 +20,7 @@ use Rattle.texts.specs.declared.reader.Unreadable.TheVariants.{NotThere}
 pub own : IsNumeralModel (λ ds. all_ascii_digits ds ≡ true) (digits_value 10)
 own = numerals_by_value _ tells_all_ascii_digits
 
--- a run of digits is one as std tells them
+-- a run of digits has only digits by std's test
 pub digits_all : (ds : List ℕ) → AllPassTest (passes Digit) ds → all_ascii_digits ds ≡ true
 unfolding passes
 digits_all [] all = refl

@@ -26,7 +26,7 @@ digits_pass (d ∷ ds) all =
     let b = and_parts (is_ascii_digit d) (all_ascii_digits ds) all in
     (b.0, digits_pass ds b.1)
 
--- the digits of a number
+-- the decimal digits of a number are digits
 pub decimal_digits : (n : ℕ) → n < 2 ^ 31 → AllPassTest (passes Digit) (decimal n)
 decimal_digits n small = digits_pass (decimal n) (digits_decimal own n (omega arith))
 

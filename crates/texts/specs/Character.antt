@@ -1,6 +1,7 @@
 -- Classes of characters. Characters are numbers.
 use Rattle.std.specs.Prelude.{ℕ, Bool, not, ◌==◌, ◌||◌}
 use Rattle.std.specs.Char.{is_ascii_alphabetic, is_ascii_digit, is_whitespace}
+use Rattle.laws.specs.Characters.{space, percent_sign, hyphen, question_mark, tilde, no_break_space, en_dash, em_dash}
 use Rattle.texts.specs.declared.character.Class.{Class}
 use Rattle.texts.specs.declared.character.Class.TheVariants.{Letter, Digit, Space, Dash, Mark, Blank, Apart, Name}
 
@@ -9,9 +10,9 @@ use Rattle.texts.specs.declared.character.Class.TheVariants.{Letter, Digit, Spac
 unfoldable pub passes : Class → ℕ → Bool
 passes Letter c = is_ascii_alphabetic c
 passes Digit c = is_ascii_digit c
-passes Space c = c == 32
-passes Dash c = c == 45 || c == 8211 || c == 8212
-passes Mark c = c == 63 || c == 126 || c == 37 || c == 160
+passes Space c = c == space
+passes Dash c = c == hyphen || c == en_dash || c == em_dash
+passes Mark c = c == question_mark || c == tilde || c == percent_sign || c == no_break_space
 passes Blank c = is_whitespace c
-passes Apart c = is_whitespace c || c == 45
-passes Name c = not (is_whitespace c || c == 45)
+passes Apart c = is_whitespace c || c == hyphen
+passes Name c = not (is_whitespace c || c == hyphen)

@@ -15,7 +15,7 @@ is_number digits = nat_lt 0 (length digits) && nat_lt (digits_value 10 digits) (
 abbrev pub number_at : List ℕ → Result (ℤ × List ℕ) Unreadable
 number_at cs = if is_number (prefix_of (passes Digit) cs) then Ok (pos (digits_value 10 (prefix_of (passes Digit) cs)), after (passes Digit) cs) else Err NotThere
 
--- a run of digits, so many at least and so many at most
+-- the number of a run of digits of which there are at least and at most so many
 abbrev pub digits_at : ℕ → ℕ → List ℕ → Result (ℕ × List ℕ) Unreadable
 digits_at least most cs =
     if nat_le least (length (prefix_of (passes Digit) cs)) && nat_le (length (prefix_of (passes Digit) cs)) most then Ok (digits_value 10 (prefix_of (passes Digit) cs), after (passes Digit) cs) else Err NotThere

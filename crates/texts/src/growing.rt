@@ -15,7 +15,7 @@ pub fn empty_text(alloc: Global) -> String
     String::new(alloc)
 }
 
-/// The same text, in memory of its own.
+/// A copy of the text.
 pub fn owned(alloc: Global, text: &str) -> Result<String, AllocError>
     ensures characters { IfOk result (λ s. characters s ≡ chars text.now) }
     ensures bytes { IfOk result (λ s. string_bytes s ≡ text.now) }

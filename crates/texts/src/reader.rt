@@ -40,7 +40,10 @@ impl<'s> Reader<'s> {
         prefix
     }
 
-    /// The number that stands here.
+    /// The number that the digits here spell.
+    ///
+    /// # Errors
+    /// `NotThere` where no digit stands here, or the number is above 2147483647.
     pub fn number(&mut self) -> Result<i32, Unreadable>
         ensures { Reads (λ n. n) result (left self.new) (number_at (left self.old)) }
     {
@@ -50,7 +53,10 @@ impl<'s> Reader<'s> {
         }
     }
 
-    /// The digits that stand here, so many at least and so many at most.
+    /// The number that the digits here spell, of which there are at least `least` and at most `most`.
+    ///
+    /// # Errors
+    /// `NotThere` where there are fewer or more.
     pub fn digits(&mut self, least: usize, most: usize) -> Result<u16, Unreadable>
         requires some { 0 < least }
         requires few { most ≤ 4 }
@@ -66,6 +72,9 @@ impl<'s> Reader<'s> {
     }
 
     /// Takes the character, which must stand here.
+    ///
+    /// # Errors
+    /// `NotThere` where another character or none stands here.
     pub fn expect(&mut self, wanted: char) -> Result<(), Unreadable>
         ensures { Passes result (left self.new) (token_at wanted (left self.old)) }
     {
@@ -78,7 +87,7 @@ impl<'s> Reader<'s> {
         }
     }
 
-    /// Takes the character where it stands here, and says whether it does.
+    /// Takes the character if it stands here, and says whether it does.
     pub fn take(&mut self, wanted: char) -> bool
         ensures { taken wanted (left self.old) ≡ (result, left self.new) }
     {
@@ -91,7 +100,7 @@ impl<'s> Reader<'s> {
         }
     }
 
-    /// Takes a mark where one stands here, and says whether one does.
+    /// Takes a mark of an uncertain or approximate date if one stands here, and says whether one does.
     pub fn take_mark(&mut self) -> bool
         ensures { mark_at (left self.old) ≡ (result, left self.new) }
     {
@@ -104,7 +113,10 @@ impl<'s> Reader<'s> {
         }
     }
 
-    /// The text must be at its end.
+    /// Checks that the text is at its end.
+    ///
+    /// # Errors
+    /// `NotThere` where a character is left.
     pub fn end(&mut self) -> Result<(), Unreadable>
         ensures { Passes result (left self.new) (end_at (left self.old)) }
     {
@@ -115,7 +127,6 @@ impl<'s> Reader<'s> {
     }
 }
 
-/// Whether a count is as wanted.
 fn is_within(least: usize, most: usize, count: usize) -> bool
     ensures { result ≡ nat_le least count && nat_le count most }
 {

@@ -3,6 +3,7 @@ use Rattle.std.specs.Str.{chars}
 use Rattle.std.specs.Str.Iter.{chars_rest}
 use Rattle.std.proofs.lemmas.Str.{chars-nil}
 use Rattle.std.proofs.lemmas.List.{nil_from_length}
+use Rattle.laws.specs.Characters.{backslash}
 use Rattle.laws.proofs.Text.{next_char}
 use Rattle.biblatex_content.specs.Verbatim.{is_brace, verbatim_text}
 use Rattle.biblatex_content.proofs.VerbatimLiteral.{literal_more}
@@ -14,7 +15,7 @@ loop-c-init c = rw (c.into_iter-c-iterator.ensures.into_iter_gives, c.chars-c-it
 pub loop-c-preserved : goal.loop-c-preserved
 loop-c-preserved c =
     let n = next_char _ _ c.in-Some.c c.loop-c.invariant.utf8 c.in-Some.ensures.steps.0 in
-    let literal : not (c.in-Some.c == 92 || is_brace c.in-Some.c) ≡ true = sym c.is_literal_character.ensures ∙ c.if-not-is_literal_character.false in
+    let literal : not (c.in-Some.c == backslash || is_brace c.in-Some.c) ≡ true = sym c.is_literal_character.ensures ∙ c.if-not-is_literal_character.false in
     record {
       same = λ e. c.loop-c.invariant.same (subst (λ (x : List ℕ). verbatim_text x ≡ x) (sym n.chars_are) (literal_more c.in-Some.c (chars (chars_rest c.next.new.self)) literal e));
       utf8 = n.utf8;

@@ -1,5 +1,6 @@
 use Rattle.std.proofs.Common.{refl, true, sym, ap, ◌∙◌, ◌++◌, List, ℕ}
 use Rattle.std.proofs.Output.{has_written_of_eq, has_written_append}
+use Rattle.laws.specs.Characters.{colon, upper_t}
 use Rattle.laws.specs.Text.{text}
 use Rattle.laws.proofs.Text.{text-append}
 use Rattle.biblatex_dates.specs.Written.{following, offset_text}
@@ -8,9 +9,9 @@ use Rattle.biblatex_dates.proofs.written.write_clock.Goals as goal
 pub returns : goal.returns
 returns g c = λ plain ok.
     let t = c.args.time in
-    let hour : List ℕ = following 84 t.hour in
-    let minute : List ℕ = following 58 t.minute in
-    let second : List ℕ = following 58 t.second in
+    let hour : List ℕ = following upper_t t.hour in
+    let minute : List ℕ = following colon t.minute in
+    let second : List ℕ = following colon t.second in
     let offset : List ℕ = offset_text t.offset in
     let a = c.in_ok-write_after.ensures plain (refl {a = true}) in
     let b = c.in_ok-write_after-2.ensures a.plain (refl {a = true}) in

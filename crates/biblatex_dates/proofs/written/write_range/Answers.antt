@@ -1,5 +1,6 @@
 use Rattle.std.proofs.Common.{refl, true, List, ℕ, ◌++◌, ◌∷◌, [], sym, ap, ◌∙◌}
 use Rattle.std.proofs.Output.{has_written_of_eq, has_written_append}
+use Rattle.laws.specs.Characters.{slash}
 use Rattle.laws.specs.Text.{text}
 use Rattle.laws.proofs.Text.{text-append}
 use Rattle.biblatex_dates.specs.Written.{datetime_text}
@@ -13,5 +14,5 @@ returns g c = λ plain ok.
     let a = c.in_ok-fmt.ensures.writes plain (refl {a = true}) in
     let b = c.in_ok-write_str.ensures.writes a.plain (refl {a = true}) in
     has_written_of_eq _ _ _ _ _
-    (sym (text-append start (47 ∷ end) ∙ ap (λ (x : List ℕ). text start ++ x) (text-append (47 ∷ []) end)))
+    (sym (text-append start (slash ∷ end) ∙ ap (λ (x : List ℕ). text start ++ x) (text-append (slash ∷ []) end)))
     (has_written_append _ _ _ _ _ _ a (has_written_append _ _ _ _ _ _ b (c.fmt-2.ensures.writes b.plain ok)))

@@ -1,5 +1,6 @@
 use Rattle.std.proofs.Common.{◌≡◌, ◌++◌, length}
-use Rattle.biblatex_lists.specs.Parts.{borrowed, parts}
+use Rattle.laws.specs.Borrowed.{borrowed}
+use Rattle.biblatex_lists.specs.Parts.{parts}
 use Rattle.biblatex_lists.proofs.parting.parts.Given as goal
 
 abbrev pub invariant-loop-part : goal.invariant-loop-part

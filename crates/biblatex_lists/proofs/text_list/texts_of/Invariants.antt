@@ -1,6 +1,6 @@
 use Rattle.std.proofs.Common.{◌≡◌, take, map}
 use Rattle.laws.specs.Text.{characters}
-use Rattle.biblatex_lists.specs.Parts.{borrowed}
+use Rattle.laws.specs.Borrowed.{borrowed}
 use Rattle.biblatex_lists.specs.TextList.{texts_of}
 use Rattle.biblatex_lists.proofs.text_list.texts_of.Given as goal
 

@@ -1,9 +1,12 @@
-use Rattle.std.proofs.Common.{Err, sym, ap, ◌∙◌}
+use Rattle.std.proofs.Common.{sym, ◌∙◌}
+use Rattle.std.specs.Global.{Global}
+use Rattle.std.specs.Prelude.{Vec}
+use Rattle.std.specs.Str.{chars}
 use Rattle.std.proofs.lemmas.Result.{err_from_is_err_and}
 use Rattle.biblatex_tex.specs.TokenViews.{left, token_view, tokens_view}
 use Rattle.std.proofs.lemmas.List.{map-append}
-use Rattle.biblatex_tex.specs.declared.error.Malformed.{Malformed}
-use Rattle.biblatex_tex.proofs.TokenPairing.{only_malformed}
+use Rattle.biblatex_tex.specs.declared.token.Token as code
+use Rattle.biblatex_tex.proofs.TokenPairing.{tokens_of-fails}
 use Rattle.biblatex_tex.proofs.TokenLexing.{tokens_shorten, gathered-some, gathered-end, gathered-err}
 use Rattle.biblatex_tex.proofs.token.written_tokens.Goals as goal
 
@@ -11,7 +14,8 @@ pub returns-in_err-token : goal.returns-in_err-token
 returns-in_err-token c =
     let p = err_from_is_err_and c.from_residual-in_err-token.result c.from_residual-in_err-token.ensures.1 in
     rw (p.1, p.2)
-    (sym c.loop-tokens.invariant ∙ (gathered-err (tokens_view c.loop-tokens.tokens.items) (left c.loop-tokens.lexer) c.in_err-token.field-0.0 c.in_err-token.ensures ∙ ap (λ (f : Malformed). Err f) (only_malformed c.in_err-token.field-0.0)))
+    (tokens_of-fails (λ (v : Vec code.Token Global). tokens_view v.items) c.in_err-token.field-0.0 (chars c.args.text.now)
+    (sym c.loop-tokens.invariant ∙ gathered-err (tokens_view c.loop-tokens.tokens.items) (left c.loop-tokens.lexer) c.in_err-token.field-0.0 c.in_err-token.ensures))
 
 pub loop-tokens-smaller : goal.loop-tokens-smaller
 loop-tokens-smaller c =

@@ -1,12 +1,12 @@
 use Rattle.std.proofs.Common.{◌≡◌, map, ap, ◌∙◌}
 use Rattle.std.specs.Option.{option_map}
+use Rattle.laws.specs.Borrowed.{borrowed}
 use Rattle.literature_entries.specs.contracts.entry.EntryPartialEq.TheImpl as entry
 use Rattle.rendering_locale.specs.CodeViews.{code_view}
 use Rattle.rendering_locale.specs.Views.{locale_view}
 use Rattle.rendering_style.specs.StyleViews.{style_view}
 use Rattle.driver.specs.RenderedViews.{rendered_view}
-use Rattle.driver.specs.Views.{bibliography_context_of}
-use Rattle.driver_requests.specs.Views.{lent}
+use Rattle.driver_rounds.specs.Views.{bibliography_context_of}
 use Rattle.cite.specs.Requests.{context_of}
 use Rattle.cite.proofs.Finishing.{gives, overflows}
 use Rattle.cite.proofs.engine.finish.Goals as goal
@@ -18,7 +18,7 @@ returns-in-Ok c =
       locale = (ap (option_map code_view) (c.with_order.ensures.locale ∙ c.new-request.ensures.locale) ∙ c.in_ok-language.ensures) i;
       locale_files = (ap (map locale_view) (c.with_order.ensures.files ∙ c.new-request.ensures.files ∙ c.from_ref.ensures.value)) i;
     } in
-    gives entry.ghosts.eq (context_of (style_view c.args.style.now) (locale_view c.args.locale.now)) c.from_citations-driver.result.citations.items c.args.requests.items c.from_citations-driver.result.offset c.with_order.result (lent c.args.chosen.now)
+    gives entry.ghosts.eq (context_of (style_view c.args.style.now) (locale_view c.args.locale.now)) c.from_citations-driver.result.citations.items c.args.requests.items c.from_citations-driver.result.offset c.with_order.result (borrowed c.args.chosen.now)
     c.from_citations-driver.ensures.requests c.from_citations-driver.ensures.offset context c.with_order.ensures.order (rendered_view c.in-Ok.rendered) c.in-Ok.ensures.rendered
 
 pub returns-in-Err-Overflow : goal.returns-in-Err-Overflow
@@ -28,5 +28,5 @@ returns-in-Err-Overflow c =
       locale = (ap (option_map code_view) (c.with_order.ensures.locale ∙ c.new-request.ensures.locale) ∙ c.in_ok-language.ensures) i;
       locale_files = (ap (map locale_view) (c.with_order.ensures.files ∙ c.new-request.ensures.files ∙ c.from_ref.ensures.value)) i;
     } in
-    overflows entry.ghosts.eq (context_of (style_view c.args.style.now) (locale_view c.args.locale.now)) c.from_citations-driver.result.citations.items c.args.requests.items c.from_citations-driver.result.offset c.with_order.result (lent c.args.chosen.now)
+    overflows entry.ghosts.eq (context_of (style_view c.args.style.now) (locale_view c.args.locale.now)) c.from_citations-driver.result.citations.items c.args.requests.items c.from_citations-driver.result.offset c.with_order.result (borrowed c.args.chosen.now)
     c.from_citations-driver.ensures.requests c.from_citations-driver.ensures.offset context c.with_order.ensures.order (rw c.in-Err-Overflow.field-0-is at c.in-Err-Overflow.ensures.rendered)

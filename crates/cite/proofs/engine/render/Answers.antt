@@ -3,17 +3,17 @@ use Rattle.laws.proofs.Results.{ok_is}
 use Rattle.laws.specs.Text.{spelled}
 use Rattle.literature.specs.Entries.{entries}
 use Rattle.std.specs.Borrow.{Bor}
+use Rattle.laws.specs.Borrowed.{borrowed}
 use Rattle.biblatex.specs.Bibliographies.{listed_view}
 use Rattle.interop.specs.Views.{library_view}
-use Rattle.literature_entries.specs.Wholes.{Whole, entry_view}
+use Rattle.literature_entries.specs.EntriesData.{EntryData, entry_view}
 use Rattle.literature_entries.specs.declared.entry.Entry.{Entry}
 use Rattle.driver.specs.Finish as finish
-use Rattle.literature_selectors.specs.Views.{selector_view}
+use Rattle.literature.specs.Views.{selector_view}
 use Rattle.rendering_locale.specs.Views.{locale_view}
 use Rattle.rendering_style.specs.StyleViews.{style_view}
 use Rattle.driver.specs.RenderedViews.{rendered_view}
 use Rattle.driver.specs.declared.rendered.Rendered.{Rendered}
-use Rattle.driver_requests.specs.Views.{lent}
 use Rattle.cite_markers.specs.Views.{document_view}
 use Rattle.cite.specs.Answers.{Gives}
 use Rattle.cite.specs.Asked.{asked_request_view}
@@ -67,9 +67,9 @@ returns-in_err-selectors c =
     (λ r h. sym same ∙ sections_stop (file_works_with c.args.bib_file c.in_ok-library.library) x sections pieces (map asked_request_view c.in_ok-requests.requests.items) r c.in_ok-requests.ensures h)
     c.in_err-selectors.ensures)
 
-lent_whole : (es : List (Bor Entry)) → map entry_view (lent es) ≡ lent_works_view es
+lent_whole : (es : List (Bor Entry)) → map entry_view (borrowed es) ≡ lent_works_view es
 lent_whole [] = refl
-lent_whole (e ∷ es) = ap (λ (ws : List Whole). entry_view e.now ∷ ws) (lent_whole es)
+lent_whole (e ∷ es) = ap (λ (ws : List EntryData). entry_view e.now ∷ ws) (lent_whole es)
 
 pub returns : goal.returns
 returns c =
@@ -81,8 +81,8 @@ returns c =
     let same = rendered_with file (library_view library) x sections pieces (ok_is {F = Refusal} (library_needed file sections pieces) (library_view library) c.in_ok-library.ensures) in
     let xs = map selector_view c.in_ok-selectors.selectors.items in
     let slice = c.deref-2.result.now in
-    let wanted : map entry_view (lent slice) ≡ chosen xs (library_view library) =
+    let wanted : map entry_view (borrowed slice) ≡ chosen xs (library_view library) =
     lent_whole slice ∙ ap lent_works_view c.deref-2.ensures.value ∙ c.in_ok-chosen.ensures ∙ (λ i. chosen (map selector_view (c.deref.ensures.value i)) (library_view library)) in
     subst (λ (r : Result finish.Rendered Refusal). Gives rendered_view c.finish.result r)
-    (finishes (file_works_with c.args.bib_file library) x sections pieces c.in_ok-requests.requests.items xs (lent slice) c.in_ok-requests.ensures c.in_ok-selectors.ensures wanted (works_listed (entries library) library.distinct) ∙ same)
+    (finishes (file_works_with c.args.bib_file library) x sections pieces c.in_ok-requests.requests.items xs (borrowed slice) c.in_ok-requests.ensures c.in_ok-selectors.ensures wanted (works_listed (entries library) library.distinct) ∙ same)
     c.finish.ensures

@@ -1,6 +1,7 @@
 use Rattle.std.proofs.Common.{◌+◌, List, [], ◌∷◌, drop, map, refl, sym, ap, arith}
 use Rattle.std.specs.List.{flat_map}
 use Rattle.std.proofs.lemmas.List.{drop_all}
+use Rattle.laws.specs.Characters.{line_feed}
 use Rattle.rendering_output.proofs.WritingCalls.{writes_ascii, writes_more}
 use Rattle.driver.specs.RenderedViews.{item_fields_view}
 use Rattle.driver.specs.declared.rendered.BibliographyItem.{BibliographyItem}
@@ -12,8 +13,8 @@ use Rattle.cite.proofs.output.push_items.Goals as goal
 pub loop-item-init : goal.loop-item-init
 loop-item-init g c = λ u written.
     let took = g.T.TextTarget.takes in
-    writes_more took c.args.target.now (10 ∷ []) c.push_str.new.self (flat_map (item_text c.args.format) (map item_fields_view c.args.items.now)) u
-    (writes_ascii took c.args.target.now (10 ∷ []) c.push_str.new.self refl c.push_str.ensures) written
+    writes_more took c.args.target.now (line_feed ∷ []) c.push_str.new.self (flat_map (item_text c.args.format) (map item_fields_view c.args.items.now)) u
+    (writes_ascii took c.args.target.now (line_feed ∷ []) c.push_str.new.self refl c.push_str.ensures) written
 
 pub loop-item-preserved : goal.loop-item-preserved
 loop-item-preserved g c = λ u written.

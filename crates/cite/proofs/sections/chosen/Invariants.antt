@@ -1,6 +1,6 @@
 use Rattle.std.proofs.Common.{◌≡◌, map, take}
 use Rattle.interop.specs.Views.{library_view}
-use Rattle.literature_selectors.specs.Views.{selector_view}
+use Rattle.literature.specs.Views.{selector_view}
 use Rattle.cite.specs.Sections.{chosen}
 use Rattle.cite.specs.Views.{lent_works_view}
 use Rattle.cite.proofs.sections.chosen.Given as goal

@@ -1,8 +1,8 @@
 use Rattle.std.proofs.Common.{◌≡◌, ◌++◌, filter, map}
-use Rattle.literature_entries.specs.Wholes.{entry_view}
+use Rattle.literature_entries.specs.EntriesData.{entry_view}
 use Rattle.literature.specs.Entries.{entries}
-use Rattle.literature_selectors.specs.Views.{selector_view}
-use Rattle.literature_selectors.specs.Holding.{holds_at}
+use Rattle.literature.specs.Views.{selector_view}
+use Rattle.literature.specs.Holding.{holds_at}
 use Rattle.cite.specs.Views.{lent_works_view}
 use Rattle.cite.proofs.sections.push_chosen.Given as goal
 

@@ -4,8 +4,8 @@ use Rattle.std.specs.Borrow.{Bor}
 use Rattle.std.specs.List.{enumerate_from}
 use Rattle.std.proofs.lemmas.List.{at_drop_more, drop_all, map_push}
 use Rattle.laws.specs.Text.{spelled}
-use Rattle.literature_selectors.specs.declared.selector.Selector.{Selector}
-use Rattle.literature_selectors.specs.Views.{selector_view}
+use Rattle.literature.specs.declared.selector.Selector.{Selector}
+use Rattle.literature.specs.Views.{selector_view}
 use Rattle.cite.specs.Answers.{Gives}
 use Rattle.cite.specs.Sections.{selector_in}
 use Rattle.cite.specs.Stages.{refused_as, section_refused, section_stage}

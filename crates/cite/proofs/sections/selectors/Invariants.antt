@@ -1,7 +1,7 @@
 use Rattle.std.proofs.Common.{◌≡◌, drop, map}
 use Rattle.std.specs.List.{enumerate_from}
 use Rattle.laws.specs.Text.{spelled}
-use Rattle.literature_selectors.specs.Views.{selector_view}
+use Rattle.literature.specs.Views.{selector_view}
 use Rattle.cite.specs.Sections.{selector_in}
 use Rattle.cite.specs.Stages.{refused_as, section_refused, section_stage}
 use Rattle.cite.specs.Steps.{all_ok_after}

@@ -4,15 +4,16 @@ use Rattle.std.specs.Option.{option_map}
 use Rattle.literature_entries.specs.contracts.entry.EntryPartialEq.TheImpl as entry
 use Rattle.literature_entries.specs.declared.entry.Entry.{Entry}
 use Rattle.laws.specs.Results.{Gives}
+use Rattle.laws.specs.Borrowed.{borrowed}
 use Rattle.rendering_locale.specs.CodeViews.{code_view}
 use Rattle.rendering_locale.specs.Views.{locale_view}
 use Rattle.rendering_style.specs.StyleViews.{style_view}
-use Rattle.driver.specs.Documents.{Document}
+use Rattle.driver_rounds.specs.Documents.{Document}
 use Rattle.driver.specs.Finish.{finish}
 use Rattle.driver.specs.RenderedViews.{rendered_view}
-use Rattle.driver.specs.Views.{bibliography_context_of}
+use Rattle.driver_rounds.specs.Views.{bibliography_context_of}
 use Rattle.driver_requests.specs.Errors.{overflow_of}
-use Rattle.driver_requests.specs.Views.{context_of, lent, parts_of}
+use Rattle.driver_requests.specs.Views.{context_of, parts_of}
 use Rattle.driver_requests.specs.declared.item.CitationItem.{CitationItem}
 use Rattle.driver_requests.specs.declared.request.CitationRequest.{CitationRequest}
 use Rattle.cite.specs.Requests.{OwnLocator, is_same_own}
@@ -37,5 +38,5 @@ returns c =
     let one : c.citation.new.self.citations.items ≡ c.from_items.result ∷ [] = c.in_ok-citation.ensures.ok ∙ ap (λ (rs : List (CitationRequest Entry OwnLocator)). rs ++ c.from_items.result ∷ []) c.new-driver.ensures.requests in
     let none : c.citation.new.self.offset ≡ 0 = c.in_ok-citation.ensures.offset ∙ c.new-driver.ensures.offset in
     let hidden = ap (λ (v : Vec (CitationItem Entry OwnLocator) Global). map parts_of v.items) c.from_items.ensures.items ∙ c.in_ok-items.ensures in
-    let document = asks entry.ghosts.eq style locale c.args.entries.now c.citation.new.self.citations.items c.citation.new.self.offset c.from_items.result c.new.result one none hidden context c.from_items.ensures.note listed (ap lent c.new.ensures.order) in
+    let document = asks entry.ghosts.eq style locale c.args.entries.now c.citation.new.self.citations.items c.citation.new.self.offset c.from_items.result c.new.result one none hidden context c.from_items.ensures.note listed (ap borrowed c.new.ensures.order) in
     subst (λ (d : Document OwnLocator). Gives overflow_of rendered_view c.finish.result (finish is_same_own d)) document c.finish.ensures.rendered

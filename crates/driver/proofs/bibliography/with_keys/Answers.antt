@@ -5,7 +5,7 @@ use Rattle.std.proofs.lemmas.List.{nil_from_length, length-append}
 use Rattle.driver_bibliography.specs.Views.{fields_view}
 use Rattle.driver.specs.Listing.{keys_of}
 use Rattle.driver.specs.RenderedViews.{item_fields_view, key_view}
-use Rattle.driver.proofs.ListsGrown.{made_goes_on, made_ends, read_goes_on, read_ends}
+use Rattle.driver_rounds.proofs.ListsGrown.{made_goes_on, made_ends, read_goes_on, read_ends}
 use Rattle.driver.proofs.bibliography.with_keys.Goals as goal
 
 pub loop-own-init : goal.loop-own-init

@@ -6,7 +6,7 @@ use Rattle.rendering_style.specs.Views.{bibliography_layout_view}
 use Rattle.rendering_tree.specs.Views.{tree_view}
 use Rattle.driver.specs.FinalPrints.{listed_view}
 use Rattle.driver.specs.Listing.{keys_of}
-use Rattle.driver.specs.Views.{bibliography_context_of}
+use Rattle.driver_rounds.specs.Views.{bibliography_context_of}
 use Rattle.driver.proofs.ListedSteps.{bibliography_in, keys_in_order}
 use Rattle.driver.proofs.bibliography_items.listed_in.Goals as goal
 

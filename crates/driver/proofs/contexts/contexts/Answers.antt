@@ -1,6 +1,6 @@
 use Rattle.rendering.specs.Views.{style_context_view}
 use Rattle.driver_requests.specs.Views.{context_of}
-use Rattle.driver.proofs.ListsGrown.{read_goes_on}
+use Rattle.driver_rounds.proofs.ListsGrown.{read_goes_on}
 use Rattle.driver.proofs.contexts.contexts.Goals as goal
 
 pub loop-request-preserved : goal.loop-request-preserved

@@ -2,19 +2,19 @@ use Rattle.std.proofs.Common.{◌≡◌, ℕ, length, map, option_map, subst, sy
 use Rattle.std.proofs.lemmas.List.{with_items_is}
 use Rattle.rendering_context.specs.Views.{state_view}
 use Rattle.driver_disambiguation.specs.SuffixesFound.{suffixes_by}
-use Rattle.driver_disambiguation.specs.Views.{given_states_view}
+use Rattle.driver_names.specs.Views.{given_states_view}
 use Rattle.driver_requests.specs.SuffixViews.{suffix_view}
-use Rattle.driver.specs.CitesInStep.{all_cites}
+use Rattle.driver_rounds.specs.CitesInStep.{all_cites}
 use Rattle.driver.specs.Printing.{document_citations, document_listed, entries_listed}
-use Rattle.driver.specs.Rounding.{AreWithin}
-use Rattle.driver.specs.Views.{printed_by_states}
+use Rattle.driver_rounds.specs.Rounding.{AreWithin}
+use Rattle.driver_rounds.specs.Views.{printed_by_states}
 use Rattle.driver.proofs.driver.final_citations.Goals as goal
 
 pub invariant_of-finals : goal.invariant_of-finals
 invariant_of-finals g c =
     let states = c.deref.ensures.value ∙ sym c.deref-3.ensures.value in
     let given = c.deref-2.ensures.value ∙ sym c.deref-4.ensures.value in
-    record { lettered = ap (map (option_map suffix_view)) c.deref-5.ensures.value ∙ c.in_ok-year_suffixes.ensures ∙ (λ j. suffixes_by (map state_view (states j)) (given_states_view (given j))) }
+    record { suffixed = ap (map (option_map suffix_view)) c.deref-5.ensures.value ∙ c.in_ok-year_suffixes.ensures ∙ (λ j. suffixes_by (map state_view (states j)) (given_states_view (given j))) }
 
 pub citations-requires-clause-printed : goal.citations-requires-clause-printed
 citations-requires-clause-printed g c =

@@ -12,10 +12,10 @@ use Rattle.driver.specs.FinalPrints.{finals_from, firsts}
 use Rattle.driver.specs.Finish.{effort_bound, finish, keys_in}
 use Rattle.driver.specs.Listing.{keys_first, rendered_of}
 use Rattle.driver.specs.RenderedViews.{keys_view, rendered_view}
-use Rattle.driver.specs.Rounding.{round_states_view}
-use Rattle.driver.specs.Stages.{flattened}
-use Rattle.driver.specs.Views.{document_view, all_numbered_cites_view}
-use Rattle.driver.specs.declared.cite.NumberedCite.{NumberedCite}
+use Rattle.driver_rounds.specs.Rounding.{round_states_view}
+use Rattle.driver_rounds.specs.FirstPrints.{flattened}
+use Rattle.driver_rounds.specs.Views.{document_view, all_numbered_cites_view}
+use Rattle.driver_rounds.specs.declared.cite.NumberedCite.{NumberedCite}
 use Rattle.driver.specs.declared.rendered.Rendered.{Rendered}
 use Rattle.driver.proofs.FinishRequests.{cites_known, cites_within, finish_known, keys_known, suffixes_fail, many_cited, order_within, prints_known}
 use Rattle.driver.proofs.FinishStages.{back_gives, effort_is, runs_many}

@@ -7,9 +7,9 @@ use Rattle.rendering_tree.specs.Trees.{Children}
 use Rattle.driver.specs.FinalPrints.{first_listed, listed_view}
 use Rattle.driver.specs.Listing.{bibliography_from, item_listed, key_printed}
 use Rattle.driver.specs.Printing.{document_finals, entries_listed}
-use Rattle.driver.specs.Rounding.{round_states_view}
-use Rattle.driver.specs.Stages.{flattened}
-use Rattle.driver.specs.Views.{bibliography_context_of}
+use Rattle.driver_rounds.specs.Rounding.{round_states_view}
+use Rattle.driver_rounds.specs.FirstPrints.{flattened}
+use Rattle.driver_rounds.specs.Views.{bibliography_context_of}
 use Rattle.driver.proofs.ListedSteps.{firsts_stand, made_are}
 use Rattle.driver.proofs.driver.render.Goals as goal
 

@@ -1,15 +1,16 @@
 use Rattle.std.proofs.Common.{◌≡◌, ◌+◌, [], ◌∷◌, length, map, drop, fold, option_map, None, refl, sym, ap, ◌∙◌, arith}
 use Rattle.std.proofs.lemmas.List.{map-append}
 use Rattle.rendering_context.specs.Views.{state_view}
-use Rattle.driver_disambiguation.specs.Views.{printed_view}
+use Rattle.driver_names.specs.Views.{printed_view}
 use Rattle.driver_requests.specs.Views.{request_view}
-use Rattle.driver.specs.CitesInStep.{request_cites}
+use Rattle.driver_rounds.specs.CitesInStep.{request_cites}
 use Rattle.driver.specs.FinalPrints.{cited_view, cited_with, finals_from, firsts, last_cite_view, listed_as, listed_view, listed_with}
 use Rattle.driver.specs.RenderedViews.{rendered_citation_view}
-use Rattle.driver.specs.Rounding.{final_marks_view}
-use Rattle.driver.specs.Stages.{first_print, flattened}
-use Rattle.driver.specs.Views.{printed_by_states, numbered_cites_view, all_numbered_cites_view, usage_of}
-use Rattle.driver.proofs.CitationsLoop.{enough_plain, enough_view, left_size, own_low, own_prints, plain_parts, view_parts}
+use Rattle.driver.specs.Printing.{final_states_view}
+use Rattle.driver_rounds.specs.FirstPrints.{first_print, flattened}
+use Rattle.driver_rounds.specs.Views.{printed_by_states, numbered_cites_view, all_numbered_cites_view, usage_of}
+use Rattle.driver_rounds.proofs.CitationsLoop.{enough_plain, enough_view, left_size, own_low, plain_parts, view_parts}
+use Rattle.driver.proofs.CitationsPrints.{own_prints}
 use Rattle.driver.proofs.FinalPrintsListed.{listed_all, none_view}
 use Rattle.driver.proofs.FinalPrintsRuns.{citations_are, listed_are}
 use Rattle.driver.proofs.FinalPrintsSteps.{cited_one, fold_ends, fold_more, prints_end, with_prints}
@@ -60,7 +61,7 @@ loop-index-preserved g c =
     let run = c.request-own.ensures.run in
     let r = own.request.now in
     let states = map state_view c.args.entry_states.states.now in
-    let t = final_marks_view c.args.entry_states in
+    let t = final_states_view c.args.entry_states in
     let view_of = map (option_map (listed_view answers states)) in
     let prints = map first_print (request_cites answers own) in
     let size = left_size answers cites own n in_step less request run in
@@ -81,14 +82,14 @@ loop-index-preserved g c =
 -- what all requests come to
 all_cited : (g : Over) (c : goal.After-drop-printed-2 g)
     → cited_view g.T.EntryLike.answers (map state_view c.args.entry_states.states.now) c.loop-index.citations.items c.loop-index.listed c.loop-index.last
-    ≡ fold (cited_with g.P.PartialEq.eq (final_marks_view c.args.entry_states)) (cited_view g.T.EntryLike.answers (map state_view c.args.entry_states.states.now) [] c.args.listed.now None) (with_prints g.T.EntryLike.answers c.args.cites.requests.now c.args.cites.runs.now)
+    ≡ fold (cited_with g.P.PartialEq.eq (final_states_view c.args.entry_states)) (cited_view g.T.EntryLike.answers (map state_view c.args.entry_states.states.now) [] c.args.listed.now None) (with_prints g.T.EntryLike.answers c.args.cites.requests.now c.args.cites.runs.now)
 all_cited g c =
     let answers = g.T.EntryLike.answers in
     let requests = c.args.cites.requests.now in
     let runs = c.args.cites.runs.now in
     let n = c.loop-index.index in
     let states = map state_view c.args.entry_states.states.now in
-    let t = final_marks_view c.args.entry_states in
+    let t = final_states_view c.args.entry_states in
     let whole = fold (cited_with g.P.PartialEq.eq t) (cited_view answers states [] c.args.listed.now None) (with_prints answers requests runs) in
     fold_ends (cited_with g.P.PartialEq.eq t) (cited_view answers states c.loop-index.citations.items c.loop-index.listed c.loop-index.last) whole (with_prints answers (drop n requests) (drop n runs)) (prints_end answers requests runs n c.loop-index-test.false) c.loop-index.invariant.same
 
@@ -97,7 +98,7 @@ returns-clause-citations g c =
     let answers = g.T.EntryLike.answers in
     let before = map (option_map (listed_view answers (map state_view c.args.entry_states.states.now))) c.args.listed.now in
     λ at.
-    ap (λ s. s.citations) (all_cited g c) ∙ citations_are g.P.PartialEq.eq answers (λ e. 0) at (final_marks_view c.args.entry_states) before c.args.cites.requests.now (firsts (all_numbered_cites_view answers c.args.cites.requests.now c.args.cites.runs.now))
+    ap (λ s. s.citations) (all_cited g c) ∙ citations_are g.P.PartialEq.eq answers (λ e. 0) at (final_states_view c.args.entry_states) before c.args.cites.requests.now (firsts (all_numbered_cites_view answers c.args.cites.requests.now c.args.cites.runs.now))
 
 pub returns-clause-listed : goal.returns-clause-listed
 returns-clause-listed g c =
@@ -106,7 +107,7 @@ returns-clause-listed g c =
     let prints = firsts (all_numbered_cites_view answers requests c.args.cites.runs.now) in
     let view_of = option_map (listed_view answers (map state_view c.args.entry_states.states.now)) in
     let count = length c.args.entry_states.states.now in
-    let t = final_marks_view c.args.entry_states in
+    let t = final_states_view c.args.entry_states in
     λ at.
     let fs = flattened (finals_from g.P.PartialEq.eq t (map (request_view at answers) requests) prints) in
     ap (λ s. s.listed) (all_cited g c)

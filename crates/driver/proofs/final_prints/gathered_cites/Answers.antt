@@ -2,7 +2,7 @@ use Rattle.std.proofs.Common.{◌≡◌, ◌<◌, length, map, get_or, option_ma
 use Rattle.std.proofs.lemmas.List.{get_or-map}
 use Rattle.rendering_tree.specs.Views.{tree_view}
 use Rattle.driver_blocks.specs.Views.{gathered_view}
-use Rattle.driver_disambiguation.specs.Views.{printed_view}
+use Rattle.driver_names.specs.Views.{printed_view}
 use Rattle.driver_requests.specs.SuffixViews.{suffix_view}
 use Rattle.driver.specs.FinalPrints.{all_gathered}
 use Rattle.driver.proofs.FinalPrintsSteps.{gathered_goes_on, no_cite}

@@ -1,6 +1,6 @@
 use Rattle.std.proofs.Common.{◌≡◌, ◌++◌, drop, map, option_map}
 use Rattle.driver_blocks.specs.Views.{gathered_view}
-use Rattle.driver_disambiguation.specs.Views.{printed_view}
+use Rattle.driver_names.specs.Views.{printed_view}
 use Rattle.driver_requests.specs.SuffixViews.{suffix_view}
 use Rattle.driver.specs.FinalPrints.{all_gathered}
 use Rattle.driver.proofs.final_prints.gathered_cites.Given as goal

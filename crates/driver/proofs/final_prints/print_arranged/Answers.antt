@@ -8,10 +8,11 @@ use Rattle.rendering_taxonomy.specs.declared.cite.IdentifierUsage.TheVariants as
 use Rattle.rendering_tree.specs.Views.{tree_view}
 use Rattle.driver_blocks.specs.Views.{arranged_view}
 use Rattle.driver.specs.FinalPrints.{arranged_in, placed_view, placed_with}
-use Rattle.driver.specs.Stages.{first_print}
-use Rattle.driver_disambiguation.specs.Views.{printed_view}
-use Rattle.driver.specs.Views.{printed_by_states, numbered_view, numbered_cites_view, usage_of}
-use Rattle.driver.proofs.FinalPrintsSteps.{element_plain, element_view, no_cite, placed_goes_on, print_at, prints_long, run_at, run_long}
+use Rattle.driver_rounds.specs.FirstPrints.{first_print}
+use Rattle.driver_names.specs.Views.{printed_view}
+use Rattle.driver_rounds.specs.Views.{printed_by_states, numbered_view, numbered_cites_view, usage_of}
+use Rattle.driver_rounds.proofs.RequestsFound.{element_plain, element_view, run_at, run_long}
+use Rattle.driver.proofs.FinalPrintsSteps.{no_cite, placed_goes_on, print_at, prints_long}
 use Rattle.driver.proofs.TakenTrees.{all_left, left_after, left_at, left_is, left_same}
 use Rattle.driver.proofs.final_prints.print_arranged.Goals as goal
 

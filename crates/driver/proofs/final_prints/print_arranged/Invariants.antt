@@ -4,8 +4,8 @@ use Rattle.rendering_context.specs.Views.{state_view}
 use Rattle.rendering_style.specs.Views.{citation_layout_view}
 use Rattle.driver_blocks.specs.Views.{arranged_view}
 use Rattle.driver.specs.FinalPrints.{arranged_in, placed_view, placed_with}
-use Rattle.driver.specs.Stages.{first_print}
-use Rattle.driver.specs.Views.{numbered_cites_view}
+use Rattle.driver_rounds.specs.FirstPrints.{first_print}
+use Rattle.driver_rounds.specs.Views.{numbered_cites_view}
 use Rattle.driver.proofs.TakenTrees.{AreLeft}
 use Rattle.driver.proofs.final_prints.print_arranged.Given as goal
 

@@ -5,15 +5,17 @@ use Rattle.rendering_context.specs.Views.{state_view}
 use Rattle.rendering_style.specs.Views.{citation_layout_view}
 use Rattle.driver_blocks.specs.Collapsing.{arranged}
 use Rattle.driver_blocks.specs.Views.{arranged_view}
-use Rattle.driver_disambiguation.specs.Views.{given_states_view, printed_view}
+use Rattle.driver_names.specs.Views.{given_states_view, printed_view}
 use Rattle.driver_requests.specs.SuffixViews.{suffix_view}
 use Rattle.driver_requests.specs.Views.{context_of, request_view}
-use Rattle.driver.specs.Citations.{citation_of}
+use Rattle.driver_citations.specs.Citations.{citation_of}
 use Rattle.driver.specs.FinalPrints.{all_gathered, arranged_in, nameless, placed_view, placed_with}
-use Rattle.driver.specs.Rounding.{final_marks_view}
-use Rattle.driver.specs.Stages.{arranged_for, first_print}
-use Rattle.driver.specs.Views.{printed_by_states, numbered_cites_view}
-use Rattle.driver.proofs.FinalPrintsSteps.{arranged_low, run_long}
+use Rattle.driver.specs.Printing.{final_states_view}
+use Rattle.driver.specs.Stages.{arranged_for}
+use Rattle.driver_rounds.specs.FirstPrints.{first_print}
+use Rattle.driver_rounds.specs.Views.{printed_by_states, numbered_cites_view}
+use Rattle.driver.proofs.FinalPrintsSteps.{arranged_low}
+use Rattle.driver_rounds.proofs.RequestsFound.{run_long}
 use Rattle.driver.proofs.RequestFinals.{low_states, placed_in, request_count, request_placed, request_within, suffixes_long}
 use Rattle.driver.proofs.TakenTrees.{nameless_low, placed_nameless}
 use Rattle.driver.proofs.final_prints.request_citation.Given.{Over}
@@ -33,7 +35,7 @@ arranged_cites-requires-clause-printed g c =
 pub arranged_cites-requires-clause-within : goal.arranged_cites-requires-clause-within
 arranged_cites-requires-clause-within g c =
     let states = map state_view c.args.printing.entry_states.states.now in
-    let long : length (map (option_map suffix_view) c.args.printing.entry_states.year_suffixes.now) ≡ length states = ap length c.args.printing.entry_states.lettered ∙ suffixes_long states (given_states_view c.args.printing.entry_states.given.now) in
+    let long : length (map (option_map suffix_view) c.args.printing.entry_states.year_suffixes.now) ≡ length states = ap length c.args.printing.entry_states.suffixed ∙ suffixes_long states (given_states_view c.args.printing.entry_states.given.now) in
     λ k d less.
     omega (arith, c.requires.printing.within k d less, long, length-map c.args.printing.entry_states.year_suffixes.now (option_map suffix_view), length-map c.args.printing.entry_states.states.now state_view)
 
@@ -55,14 +57,14 @@ print_arranged-requires-clause-indices g c =
     let view_of = arranged style c.has_purpose-some_purpose.result gathered in
     arranged_low style c.deref.result.now (map nameless view_of) (length (map first_print ns)) (length items) (ap (map (arranged_view style)) c.deref.ensures.value ∙ c.in_ok-arranged.ensures)
     (nameless_low (length (map first_print ns)) view_of
-    (request_within g.T.EntryLike.answers (final_marks_view c.args.printing.entry_states) r style c.has_purpose-some_purpose.result run year_suffixes printed gathered view_of (low_states c.args.printing.entry_states.states.now run c.requires.printing.within) c.args.printing.entry_states.lettered c.requires.printed refl refl))
+    (request_within g.T.EntryLike.answers (final_states_view c.args.printing.entry_states) r style c.has_purpose-some_purpose.result run year_suffixes printed gathered view_of (low_states c.args.printing.entry_states.states.now run c.requires.printing.within) c.args.printing.entry_states.suffixed c.requires.printed refl refl))
     (length-map ns first_print ∙ run_long g.T.EntryLike.answers (context_of r) items run c.requires.printing.in_step.run)
 
 -- the cites of the request, gathered, arranged and appended
 request_done : (g : Over) (c : goal.After-drop-arranged-2 g)
     → (placed_view g.T.EntryLike.answers (map state_view c.args.printing.entry_states.states.now) c.in_ok-shown.shown.items c.print_arranged.new.listed c.print_arranged.new.last
     ≡ placed_in g.P.PartialEq.eq (map state_view c.args.printing.entry_states.states.now) (placed_view g.T.EntryLike.answers (map state_view c.args.printing.entry_states.states.now) [] c.args.listed.now c.args.last.now)
-    (arranged_for (final_marks_view c.args.printing.entry_states) (request_view (λ e. 0) g.T.EntryLike.answers c.args.printing.cites.request.now, map first_print (numbered_cites_view g.T.EntryLike.answers (context_of c.args.printing.cites.request.now) c.args.printing.cites.request.now.items.items c.args.printing.cites.run.now))))
+    (arranged_for (final_states_view c.args.printing.entry_states) (request_view (λ e. 0) g.T.EntryLike.answers c.args.printing.cites.request.now, map first_print (numbered_cites_view g.T.EntryLike.answers (context_of c.args.printing.cites.request.now) c.args.printing.cites.request.now.items.items c.args.printing.cites.run.now))))
     × (length c.deref.result.now ≡ length c.args.printing.cites.request.now.items.items)
 request_done g c =
     let answers = g.T.EntryLike.answers in
@@ -71,7 +73,7 @@ request_done g c =
     let x = style_context_view c.args.printing.cites.context.now in
     let items = r.items.items in
     let run = c.args.printing.cites.run.now in
-    let t = final_marks_view c.args.printing.entry_states in
+    let t = final_states_view c.args.printing.entry_states in
     let ms = map state_view c.args.printing.entry_states.states.now in
     let style = citation_layout_view c.args.printing.style.now in
     let some_purpose = c.has_purpose-some_purpose.result in
@@ -85,10 +87,10 @@ request_done g c =
     let is_viewed : map (arranged_view style) c.deref.result.now ≡ map nameless view_of = ap (map (arranged_view style)) c.deref.ensures.value ∙ c.in_ok-arranged.ensures in
     let is_style : style ≡ (context_of r).style.citation = c.requires.printing.style in
     let placed = c.in_ok-shown.ensures.placed ∙ ap (λ xs. fold (placed_with same ms) first (arranged_in prints xs)) is_viewed ∙ placed_nameless same ms prints view_of first in (
-      request_placed answers t r style some_purpose run year_suffixes printed gathered view_of low c.args.printing.entry_states.lettered c.requires.printed refl refl x c.requires.printing.in_step.context is_style c.has_purpose-some_purpose.ensures same ms
+      request_placed answers t r style some_purpose run year_suffixes printed gathered view_of low c.args.printing.entry_states.suffixed c.requires.printed refl refl x c.requires.printing.in_step.context is_style c.has_purpose-some_purpose.ensures same ms
           refl (λ ks. placed_view answers ks c.in_ok-shown.shown.items c.print_arranged.new.listed c.print_arranged.new.last) (λ ks. placed_view answers ks [] c.args.listed.now c.args.last.now)
           placed,
-      sym (length-map c.deref.result.now (arranged_view style)) ∙ ap length is_viewed ∙ length-map view_of nameless ∙ request_count answers t r style some_purpose run year_suffixes printed gathered view_of low c.args.printing.entry_states.lettered c.requires.printed refl refl c.requires.printing.in_step.run,
+      sym (length-map c.deref.result.now (arranged_view style)) ∙ ap length is_viewed ∙ length-map view_of nameless ∙ request_count answers t r style some_purpose run year_suffixes printed gathered view_of low c.args.printing.entry_states.suffixed c.requires.printed refl refl c.requires.printing.in_step.run,
     )
 
 pub returns-clause-citation : goal.returns-clause-citation

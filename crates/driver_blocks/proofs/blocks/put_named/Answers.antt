@@ -49,6 +49,6 @@ returns-in_ok-put_alone-in-None-clause-table c =
     let last : c.len.result ≡ length (blocks_view items) = len ∙ sym (length-map items (λ (b : Vec Gathered Global). map gathered_view b.items)) in
     λ q.
     c.in_ok-add-in-None.ensures q
-    ∙ ap (λ ps. ps ++ cond (bytes_eq q (string_bytes c.args.text)) (c.len.result ∷ []) []) (c.requires.table q)
-    ∙ sym (indices_new x q (string_bytes c.args.text) c.len.result (blocks_view items) c.requires.text last)
+    ∙ ap (λ ps. ps ++ cond (bytes_eq q (string_bytes c.args.key)) (c.len.result ∷ []) []) (c.requires.table q)
+    ∙ sym (indices_new x q (string_bytes c.args.key) c.len.result (blocks_view items) c.requires.key last)
     ∙ ap (indices_of q 0) (sym c.in_ok-put_alone-in-None.ensures)

@@ -1,5 +1,5 @@
 use Rattle.std.proofs.Common.{refl}
-use Rattle.driver_disambiguation.specs.Views.{printed_view}
+use Rattle.driver_names.specs.Views.{printed_view}
 use Rattle.driver_disambiguation.proofs.Lists.{filter_step_at}
 use Rattle.driver_disambiguation.proofs.branches.asked.Goals as goal
 

@@ -1,5 +1,5 @@
 use Rattle.std.proofs.Common.{◌≡◌, take, filter}
-use Rattle.driver_disambiguation.specs.Views.{class_view}
+use Rattle.driver_names.specs.Views.{class_view}
 use Rattle.driver_disambiguation.proofs.branches.asked.Given as goal
 
 abbrev pub invariant-loop-cite : goal.invariant-loop-cite

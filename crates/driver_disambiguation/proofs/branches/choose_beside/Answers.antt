@@ -1,6 +1,6 @@
 use Rattle.driver_disambiguation.specs.Rounds.{choose_beside}
 use Rattle.driver_requests.specs.SuffixViews.{origin_view}
-use Rattle.driver_disambiguation.specs.Views.{printed_view}
+use Rattle.driver_names.specs.Views.{printed_view}
 use Rattle.driver_disambiguation.proofs.Lists.{flat_step_at}
 use Rattle.driver_disambiguation.proofs.branches.choose_beside.Goals as goal
 

@@ -1,7 +1,7 @@
 use Rattle.std.proofs.Common.{◌≡◌, ℕ, ◌<◌, length, get_or, refl, ◌∙◌, arith}
 use Rattle.std.specs.List.{zip}
 use Rattle.driver_disambiguation.specs.Grouping.{under}
-use Rattle.driver_disambiguation.specs.declared.printed.Printed.{Printed}
+use Rattle.driver_names.specs.declared.printed.Printed.{Printed}
 use Rattle.driver_disambiguation.proofs.Groups.{beside_at, beside_length, members_all, members_step, seconds_all, seconds_step}
 use Rattle.driver_disambiguation.proofs.classes.grouped.Goals as goal
 

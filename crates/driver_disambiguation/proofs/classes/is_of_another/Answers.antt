@@ -1,7 +1,7 @@
 use Rattle.std.proofs.Common.{not, nat_eq, ◌∙◌, rules, tests}
 use Rattle.std.proofs.lemmas.Iterator.{YieldsList-from_slice}
 use Rattle.std.proofs.lemmas.Iterator.Search.{any_from_yields_List}
-use Rattle.driver_disambiguation.specs.Views.{printed_view}
+use Rattle.driver_names.specs.Views.{printed_view}
 use Rattle.driver_disambiguation.proofs.Lists.{any-map}
 use Rattle.driver_disambiguation.proofs.classes.is_of_another.Goals as goal
 

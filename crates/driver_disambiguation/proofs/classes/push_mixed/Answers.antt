@@ -4,8 +4,8 @@ use Rattle.std.specs.Borrow.{Bor}
 use Rattle.std.proofs.lemmas.List.{map-append, map-id}
 use Rattle.std.proofs.lemmas.Slice.Zip.{AllZip-map}
 use Rattle.driver_disambiguation.specs.Classes.{is_mixed}
-use Rattle.driver_disambiguation.specs.Views.{class_view}
-use Rattle.driver_disambiguation.specs.declared.printed.Printed.{Printed}
+use Rattle.driver_names.specs.Views.{class_view}
+use Rattle.driver_names.specs.declared.printed.Printed.{Printed}
 use Rattle.driver_disambiguation.proofs.classes.push_mixed.Goals as goal
 
 pub returns-in_ok-push : goal.returns-in_ok-push

@@ -2,7 +2,7 @@ use Rattle.std.proofs.Common.{arith, refl}
 use Rattle.std.specs.Option.{option_map}
 use Rattle.rendering_context.specs.Views.{state_view}
 use Rattle.driver_requests.specs.SuffixViews.{suffix_view}
-use Rattle.driver_disambiguation.specs.Views.{given_view}
+use Rattle.driver_names.specs.Views.{given_view}
 use Rattle.driver_disambiguation.proofs.SuffixesFound.{found_set}
 use Rattle.driver_disambiguation.proofs.given_suffixes.find.Goals as goal
 

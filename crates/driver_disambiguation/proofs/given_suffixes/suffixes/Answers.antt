@@ -3,7 +3,7 @@ use Rattle.std.proofs.lemmas.List.{length-replicate}
 use Rattle.std.specs.Option.{option_map}
 use Rattle.rendering_context.specs.Views.{state_view}
 use Rattle.driver_requests.specs.SuffixViews.{suffix_view}
-use Rattle.driver_disambiguation.specs.Views.{given_view}
+use Rattle.driver_names.specs.Views.{given_view}
 use Rattle.driver_disambiguation.proofs.SuffixesFound.{finds_first, finds_more, finds_all}
 use Rattle.driver_disambiguation.proofs.given_suffixes.suffixes.Goals as goal
 

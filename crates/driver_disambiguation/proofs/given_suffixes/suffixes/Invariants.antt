@@ -2,7 +2,7 @@ use Rattle.std.proofs.Common.{◌≡◌, length, map, drop}
 use Rattle.std.specs.Option.{option_map}
 use Rattle.rendering_context.specs.Views.{state_view}
 use Rattle.driver_requests.specs.SuffixViews.{suffix_view}
-use Rattle.driver_disambiguation.specs.Views.{given_view}
+use Rattle.driver_names.specs.Views.{given_view}
 use Rattle.driver_disambiguation.proofs.SuffixesFound.{Finds}
 use Rattle.driver_disambiguation.proofs.given_suffixes.suffixes.Given as goal
 

@@ -1,6 +1,6 @@
 use Rattle.std.proofs.Common.{◌≡◌, ◌++◌}
 use Rattle.driver_disambiguation.specs.Gathered.{AreEntriesOf}
-use Rattle.driver_disambiguation.specs.Views.{given_states_view}
+use Rattle.driver_names.specs.Views.{given_states_view}
 use Rattle.driver_disambiguation.proofs.round.append.Given as goal
 
 abbrev pub invariant-loop-one : goal.invariant-loop-one

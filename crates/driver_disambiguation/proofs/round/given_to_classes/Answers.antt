@@ -7,8 +7,9 @@ use Rattle.laws.specs.Results.{EndsWith}
 use Rattle.driver_requests.specs.Errors.{overflow_of}
 use Rattle.driver_requests.specs.Suffixes.{Origin}
 use Rattle.driver_disambiguation.specs.Rounds as rounds
-use Rattle.driver_disambiguation.specs.Views.{class_view, given_states_view, unless_beyond}
-use Rattle.driver_disambiguation.specs.declared.printed.Printed.{Printed}
+use Rattle.driver_names.specs.Views.{class_view, given_states_view}
+use Rattle.driver_disambiguation.specs.Views.{unless_beyond}
+use Rattle.driver_names.specs.declared.printed.Printed.{Printed}
 use Rattle.driver_disambiguation.proofs.Gathering.{gathers_more, gathers_refused}
 use Rattle.driver_disambiguation.proofs.round.given_to_classes.Goals as goal
 

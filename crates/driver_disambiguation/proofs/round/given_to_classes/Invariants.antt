@@ -1,6 +1,6 @@
 use Rattle.std.proofs.Common.{map, drop}
 use Rattle.driver_disambiguation.specs.Gathered.{AreEntriesOf}
-use Rattle.driver_disambiguation.specs.Views.{class_view, given_states_view}
+use Rattle.driver_names.specs.Views.{class_view, given_states_view}
 use Rattle.driver_disambiguation.proofs.Gathering.{Gathers}
 use Rattle.driver_disambiguation.proofs.round.given_to_classes.Given as goal
 

@@ -1,7 +1,7 @@
 use Rattle.std.proofs.Common.{◌∙◌, ap, sym}
 use Rattle.std.specs.List.{list_any}
 use Rattle.driver_disambiguation.specs.States.{is_given_to}
-use Rattle.driver_disambiguation.specs.Views.{given_view, given_states_view}
+use Rattle.driver_names.specs.Views.{given_view, given_states_view}
 use Rattle.driver_disambiguation.proofs.Gathering.{entry_added, pushed_one}
 use Rattle.driver_disambiguation.proofs.round.push.Goals as goal
 

@@ -1,8 +1,8 @@
 use Rattle.std.proofs.Common.{◌∙◌, rules, tests}
 use Rattle.std.proofs.lemmas.Iterator.{YieldsList-from_slice}
 use Rattle.std.proofs.lemmas.Iterator.Search.{any_from_yields_List}
-use Rattle.driver_disambiguation.specs.Rounds.{prints_date}
-use Rattle.driver_disambiguation.specs.Views.{printed_view}
+use Rattle.driver_names.specs.Prints.{prints_date}
+use Rattle.driver_names.specs.Views.{printed_view}
 use Rattle.driver_disambiguation.proofs.Lists.{any-map}
 use Rattle.driver_disambiguation.proofs.round.some_prints_date.Goals as goal
 

@@ -1,6 +1,6 @@
 use Rattle.std.proofs.Common.{arith}
 use Rattle.rendering_context.specs.Views.{state_view}
-use Rattle.driver_disambiguation.specs.Views.{given_view}
+use Rattle.driver_names.specs.Views.{given_view}
 use Rattle.driver_disambiguation.proofs.JoiningStates.{ends, flags_end, goes_on}
 use Rattle.driver_disambiguation.proofs.states.update_states.Goals as goal
 

@@ -1,6 +1,6 @@
 use Rattle.std.proofs.Common.{map, drop}
 use Rattle.rendering_context.specs.Views.{state_view}
-use Rattle.driver_disambiguation.specs.Views.{given_view}
+use Rattle.driver_names.specs.Views.{given_view}
 use Rattle.driver_disambiguation.proofs.JoiningStates.{Joins}
 use Rattle.driver_disambiguation.proofs.states.update_states.Given as goal
 

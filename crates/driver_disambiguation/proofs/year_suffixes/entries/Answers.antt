@@ -1,4 +1,4 @@
-use Rattle.driver_disambiguation.specs.Views.{printed_view}
+use Rattle.driver_names.specs.Views.{printed_view}
 use Rattle.driver_disambiguation.proofs.SuffixesSteps.{once_step_at, view_step_at}
 use Rattle.driver_disambiguation.proofs.year_suffixes.entries.Goals as goal
 

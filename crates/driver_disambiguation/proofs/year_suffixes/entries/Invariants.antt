@@ -3,7 +3,7 @@ use Rattle.std.specs.Prelude.{nat_eq}
 use Rattle.std.specs.HashSet.{contains}
 use Rattle.std.specs.List.{list_any}
 use Rattle.driver_disambiguation.specs.Classes.{entries_of}
-use Rattle.driver_disambiguation.specs.Views.{class_view}
+use Rattle.driver_names.specs.Views.{class_view}
 use Rattle.driver_disambiguation.proofs.year_suffixes.entries.Given as goal
 
 abbrev pub invariant-loop-cite : goal.invariant-loop-cite

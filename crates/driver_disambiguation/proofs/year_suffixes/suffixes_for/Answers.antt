@@ -1,7 +1,7 @@
 use Rattle.std.proofs.Common.{arith, ap, ◌∙◌, ◌∷◌, []}
 use Rattle.std.proofs.lemmas.List.{map-append}
 use Rattle.driver_requests.specs.SuffixViews.{origin_view}
-use Rattle.driver_disambiguation.specs.Views.{given_view, given_states_view}
+use Rattle.driver_names.specs.Views.{given_view, given_states_view}
 use Rattle.driver_disambiguation.proofs.SuffixesSteps.{suffixes_step, given_all, refused_all}
 use Rattle.driver_disambiguation.proofs.year_suffixes.suffixes_for.Goals as goal
 

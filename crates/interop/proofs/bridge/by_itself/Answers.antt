@@ -1,7 +1,7 @@
 use Rattle.std.proofs.Common.{List, map, ap, ◌∙◌, codes}
 use Rattle.literature_values.specs.declared.entry_type.EntryType.TheVariants as works
 use Rattle.literature_entries.specs.Views.{key_view, fields_view}
-use Rattle.literature_entries.specs.Wholes.{entry_view}
+use Rattle.literature_entries.specs.EntriesData.{entry_view}
 use Rattle.literature_entries.specs.declared.entry.Entry.{Entry}
 use Rattle.interop_values.specs.Values.{values}
 use Rattle.interop.specs.Fields.{container_fields}

@@ -2,7 +2,7 @@ use Rattle.std.proofs.Common.{ℕ, List, ap, sym, subst, ◌∙◌, Ok, Err, Res
 use Rattle.std.proofs.lemmas.Result.{err_from_is_err_and}
 use Rattle.biblatex_entries.specs.Entries.{source_view}
 use Rattle.biblatex_entries.specs.TypeNames.{written_type}
-use Rattle.literature_entries.specs.Wholes.{Whole, entry_view}
+use Rattle.literature_entries.specs.EntriesData.{EntryData, entry_view}
 use Rattle.literature_entries.specs.declared.entry.Entry.{Entry}
 use Rattle.interop_values.specs.Values.{values}
 use Rattle.interop.specs.Bridge.{bridged, faults_of, work_of, unless_faulty}
@@ -37,4 +37,4 @@ returns c =
     let v = values e.fields in
     (accepted (faults_of e.key v) (dates_of v) c.in_ok-dates.dates (work_of e.key (written_type e.entry_type) v)
     (ap (λ (key : List ℕ). unless_faulty (faults_of key v) (dates_of v)) (sym c.as_str.ensures.value) ∙ c.in_ok-dates.ensures)).1
-    ∙ ap (λ (w : Whole). Ok w) (sym c.in_ok-work.ensures)
+    ∙ ap (λ (w : EntryData). Ok w) (sym c.in_ok-work.ensures)

@@ -3,7 +3,7 @@ use Rattle.std.specs.Option.{option_map}
 use Rattle.biblatex_content.specs.Views.{styled}
 use Rattle.literature_values.specs.declared.entry_type.EntryType.TheVariants as works
 use Rattle.literature_entries.specs.Fields.{nothing_but}
-use Rattle.literature_entries.specs.Wholes.{Whole, entry_view}
+use Rattle.literature_entries.specs.EntriesData.{EntryData, entry_view}
 use Rattle.literature_entries.specs.declared.entry.Entry.{Entry}
 use Rattle.literature_values.specs.TextViews.{format_view}
 use Rattle.interop_values.specs.Readings.{format_of}
@@ -27,4 +27,4 @@ returns c =
     (ap (λ (es : List Entry). map entry_view es) (c.set_date.ensures.2 ∙ (c.set_title.ensures.2 ∙ c.new-conference.ensures.parents))) in
     ap (λ (es : List Entry). map entry_view es) c.in_ok-push.ensures.items
     ∙ (last old e (parent fs []) made
-    ∙ ap (λ (ws : List Whole). map entry_view old ++ ws) (some_conference c.args.title date (cc)))
+    ∙ ap (λ (ws : List EntryData). map entry_view old ++ ws) (some_conference c.args.title date (cc)))

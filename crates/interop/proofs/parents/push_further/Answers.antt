@@ -4,7 +4,7 @@ use Rattle.std.proofs.lemmas.Result.{on_ok_weaker}
 use Rattle.biblatex_content.specs.Styled.{Member}
 use Rattle.biblatex_content.specs.Views.{styled}
 use Rattle.literature_values.specs.declared.entry_type.EntryType.TheVariants as works
-use Rattle.literature_entries.specs.Wholes.{Whole, entry_view}
+use Rattle.literature_entries.specs.EntriesData.{EntryData, entry_view}
 use Rattle.interop_values.specs.Values.{values}
 use Rattle.interop_values.specs.Readings.{date_under, date_if_read}
 use Rattle.interop.specs.Bridge.{titled, titled_under, conference_of, original_of}
@@ -29,7 +29,7 @@ returns c =
     (conference_of (v (codes "eventtitle")) event)
     (original_of (date_if_read (date_under (codes "origdate") v)))
     one two three four
-    (c.in_ok-push_titled.ensures ∙ ap (λ (ws : List Whole). before ++ ws) (view_title works.Book c.value.result (v (codes "maintitle")) c.value.ensures))
+    (c.in_ok-push_titled.ensures ∙ ap (λ (ws : List EntryData). before ++ ws) (view_title works.Book c.value.result (v (codes "maintitle")) c.value.ensures))
     c.in_ok-push_titled-2.ensures
     (c.in_ok-push_conference.ensures
     ∙ (ap (λ (d : Dates). two ++ conference_of (option_map (λ v. styled v.now) c.value-2.result) d.event) c.requires

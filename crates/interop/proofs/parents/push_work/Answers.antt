@@ -1,7 +1,7 @@
 use Rattle.std.proofs.Common.{◌≡◌, [], List, map, ap, ◌∙◌, Some}
 use Rattle.biblatex_content.specs.Views.{styled}
 use Rattle.literature_entries.specs.Fields.{nothing_but}
-use Rattle.literature_entries.specs.Wholes.{entry_view}
+use Rattle.literature_entries.specs.EntriesData.{entry_view}
 use Rattle.literature_entries.specs.declared.entry.Entry.{Entry}
 use Rattle.literature_values.specs.TextViews.{format_view}
 use Rattle.interop_values.specs.Readings.{format_of}

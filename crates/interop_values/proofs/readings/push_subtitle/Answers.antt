@@ -5,6 +5,7 @@ use Rattle.biblatex_content.specs.declared.chunk.Chunk.{Chunk}
 use Rattle.biblatex_text.specs.declared.spanned.Spanned.{Spanned}
 use Rattle.interop_values.specs.Readings.{with_subtitle}
 use Rattle.std.proofs.lemmas.Result.{on_ok_weaker}
+use Rattle.laws.specs.Characters as character
 use Rattle.biblatex_content.specs.declared.chunk.Kind.TheVariants.{Normal}
 use Rattle.biblatex_content.specs.Styled.{Member, letters}
 use Rattle.biblatex_content.specs.Views.{styled}
@@ -19,6 +20,6 @@ returns c =
     (λ e rest.
     e rest ∙ (c.in_ok-push_text.ensures (sub ++ rest)
     ∙ (ap (λ (cs : List ℕ). with_pieces c.args.pieces.now (letters Normal cs ++ (sub ++ rest))) colon
-    ∙ ap (λ (ms : List Member). with_pieces c.args.pieces.now ms) (sym (append_assoc (letters Normal (58 ∷ 32 ∷ [])) sub rest)
+    ∙ ap (λ (ms : List Member). with_pieces c.args.pieces.now ms) (sym (append_assoc (letters Normal (character.colon ∷ character.space ∷ [])) sub rest)
     ∙ ap (λ (x : Option (Bor (List (Spanned Chunk)))). with_subtitle [] (option_map (λ v. styled v.now) x) ++ rest) (sym c.in-Some.is)))))
     c.push_chunks.ensures

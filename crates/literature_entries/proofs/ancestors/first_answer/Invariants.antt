@@ -1,5 +1,6 @@
 use Rattle.std.proofs.Common.{drop}
-use Rattle.literature_entries.specs.Ancestors.{Asks, borrowed}
+use Rattle.laws.specs.Borrowed.{borrowed}
+use Rattle.literature_entries.specs.Ancestors.{Asks}
 use Rattle.literature_entries.proofs.ancestors.first_answer.Given as goal
 
 abbrev pub invariant-loop-entry : goal.invariant-loop-entry

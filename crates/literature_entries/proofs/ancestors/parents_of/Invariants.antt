@@ -1,6 +1,6 @@
 use Rattle.std.proofs.Common.{◌≡◌, take}
 use Rattle.std.specs.List.{flat_map}
-use Rattle.literature_entries.specs.Ancestors.{borrowed}
+use Rattle.laws.specs.Borrowed.{borrowed}
 use Rattle.literature_entries.specs.Views.{parents}
 use Rattle.literature_entries.proofs.ancestors.parents_of.Given as goal
 

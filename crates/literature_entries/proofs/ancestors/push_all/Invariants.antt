@@ -1,5 +1,5 @@
 use Rattle.std.proofs.Common.{◌≡◌, ◌++◌, take}
-use Rattle.literature_entries.specs.Ancestors.{borrowed}
+use Rattle.laws.specs.Borrowed.{borrowed}
 use Rattle.literature_entries.proofs.ancestors.push_all.Given as goal
 
 abbrev pub invariant-loop-entry : goal.invariant-loop-entry

@@ -1,5 +1,5 @@
 use Rattle.std.proofs.Common.{sym, ◌∙◌}
-use Rattle.literature_entries.proofs.WholesEquality.{Shows-Entry}
+use Rattle.literature_entries.proofs.EntriesDataEquality.{Shows-Entry}
 use Rattle.literature_entries.proofs.equal.are_equal_entries.Goals as goal
 
 pub returns : goal.returns

@@ -1,6 +1,7 @@
 use Rattle.std.proofs.Common.{rules, refl, w32, FitsSigned, true, List, ℕ, ◌++◌, ◌∷◌, [], sym, ap, ◌∙◌}
 use Rattle.std.proofs.lemmas.Int.{to_z-of_z}
 use Rattle.std.proofs.Output.{has_written_of_eq, has_written_append}
+use Rattle.laws.specs.Characters.{slash}
 use Rattle.laws.specs.Text.{text}
 use Rattle.laws.proofs.Text.{text-append}
 use Rattle.literature_values.specs.DateText.{side_text, mark_text}
@@ -15,6 +16,6 @@ returns g c = λ plain ok.
     let a = c.in_ok-write_str.ensures.writes plain (refl {a = true}) in
     let b = c.in_ok-write_side.ensures a.plain (refl {a = true}) in
     has_written_of_eq _ _ _ _ _
-    ((λ i. text (47 ∷ []) ++ (text (side_text (to_z-of_z w32 c.args.year f i) c.args.month c.args.day) ++ text mark))
-    ∙ sym (text-append (47 ∷ []) (side ++ mark) ∙ ap (λ (x : List ℕ). text (47 ∷ []) ++ x) (text-append side mark)))
+    ((λ i. text (slash ∷ []) ++ (text (side_text (to_z-of_z w32 c.args.year f i) c.args.month c.args.day) ++ text mark))
+    ∙ sym (text-append (slash ∷ []) (side ++ mark) ∙ ap (λ (x : List ℕ). text (slash ∷ []) ++ x) (text-append side mark)))
     (has_written_append _ _ _ _ _ _ a (has_written_append _ _ _ _ _ _ b (c.write_mark.ensures b.plain ok)))

@@ -2,6 +2,7 @@ use Rattle.std.proofs.Common.{◌≡◌, ◌-◌, ◌≤◌, List, length, rules
 use Rattle.std.proofs.lemmas.List.{length-set}
 use Rattle.std.proofs.lemmas.Result.{IfOk-weaker, on_ok_weaker}
 use Rattle.std.specs.Option.{option_map}
+use Rattle.laws.specs.Characters.{space}
 use Rattle.rendering_tree.specs.Tokens.{Token, with_letter_after}
 use Rattle.rendering_tree.specs.Trees.{Elem, flat, flat_child}
 use Rattle.rendering_tree.specs.Views.{meta_view, child_view, tree_view}
@@ -74,6 +75,6 @@ push_space_to-returns-in-Elem-clause-spaced t c =
     ∙ element_as e.display new.display (option_map meta_view e.meta) (option_map meta_view new.meta) (tree_view e.children) (tree_view new.children)
     (c.push_space_in.ensures.same.0 ∙ ap (λ (f : Code). f.display) c.in-Elem.elem-is)
     (ap (option_map meta_view) (c.push_space_in.ensures.same.1 ∙ ap (λ (f : Code). f.meta) c.in-Elem.elem-is))
-    (known ∙ ap (λ (f : Code). with_letter_after 32 (flat (tree_view f.children))) c.in-Elem.elem-is)
-    ∙ ap (λ x. with_letter_after 32 (flat_child x)) (sym (viewed t c))))
+    (known ∙ ap (λ (f : Code). with_letter_after space (flat (tree_view f.children))) c.in-Elem.elem-is)
+    ∙ ap (λ x. with_letter_after space (flat_child x)) (sym (viewed t c))))
     c.push_space_in.ensures.spaced

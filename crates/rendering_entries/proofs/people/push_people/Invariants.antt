@@ -1,6 +1,5 @@
 use Rattle.std.proofs.Common.{◌≡◌, ◌++◌, map, take}
-use Rattle.literature_values.specs.PersonViews.{person_view}
-use Rattle.rendering_entries.specs.Views.{lent_person_view}
+use Rattle.literature_values.specs.PersonViews.{person_view, lent_person_view}
 use Rattle.rendering_entries.proofs.people.push_people.Given as goal
 
 abbrev pub invariant-loop-person : goal.invariant-loop-person

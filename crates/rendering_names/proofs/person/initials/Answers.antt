@@ -1,19 +1,14 @@
-use Rattle.std.proofs.Common.{◌≡◌, ℕ, ◌++◌, List, [], Option, Some, None, String, true, refl, ap, ◌∙◌}
+use Rattle.std.proofs.Common.{◌≡◌, ℕ, ◌++◌, List, String, true, refl, ap, ◌∙◌}
 use Rattle.std.specs.Prelude.{string_bytes}
 use Rattle.std.specs.Global.{Global}
-use Rattle.std.specs.Option.{option_map, unwrap_or}
 use Rattle.std.specs.Str.{chars}
 use Rattle.std.proofs.lemmas.Fmt.{contents_after_writes}
 use Rattle.std.proofs.lemmas.Str.{IsUtf8-string_bytes}
-use Rattle.laws.specs.Text.{text, characters}
+use Rattle.laws.specs.Text.{text}
 use Rattle.laws.proofs.Text.{chars-text}
 use Rattle.literature_values.specs.Initials.{style, initials_of}
-use Rattle.literature_values.specs.PersonViews.{owned, given_name_view}
+use Rattle.literature_values.specs.PersonViews.{given_name_view}
 use Rattle.rendering_names.proofs.person.initials.Goals as goal
-
-owned_is : (o : Option (String Global)) → owned o ≡ unwrap_or (option_map characters o) []
-owned_is None = refl
-owned_is (Some s) = refl
 
 pub returns-in-Ok : goal.returns-in-Ok
 returns-in-Ok c =
@@ -21,4 +16,4 @@ returns-in-Ok c =
     let cs : List ℕ = initials_of (style (chars c.after_initials.result.now) true) (given_name_view c.args.person.now) in
     let wrote = contents_after_writes (λ (s : String Global) (bs : List ℕ) (t : String Global). string_bytes t ≡ string_bytes s ++ bs) string_bytes (λ s bs t e. e) _ _ _ (c.in-Ok.ensures refl) in
     chars-text (string_bytes new) cs (IsUtf8-string_bytes new) (wrote ∙ ap (λ (bs : List ℕ). bs ++ text cs) c.empty_text-out.ensures.bytes)
-    ∙ (λ i. initials_of (style (c.after_initials.ensures i) true) (owned_is c.args.person.now.given_name i))
+    ∙ (λ i. initials_of (style (c.after_initials.ensures i) true) (given_name_view c.args.person.now))

@@ -4,6 +4,7 @@ use Rattle.std.specs.Str.{chars}
 use Rattle.std.specs.Str.Iter.{chars_rest}
 use Rattle.std.proofs.lemmas.Str.{chars-nil}
 use Rattle.std.proofs.lemmas.List.{append-nil, nil_from_length}
+use Rattle.laws.specs.Characters.{backslash}
 use Rattle.laws.proofs.Text.{next_char}
 use Rattle.biblatex_content.specs.declared.chunk.Kind.TheVariants.{Verbatim}
 use Rattle.biblatex_content.specs.Styled.{letters}
@@ -33,7 +34,7 @@ pub returns : goal.returns
 returns c =
     let empty : chars_rest c.loop-c.c-iterator ≡ [] = nil_from_length _ c.in-None.ensures.steps.0.0 in
     let nothing : chars (chars_rest c.loop-c.c-iterator) ≡ [] = ap chars empty ∙ chars-nil in
-    let ends : joined c.loop-c.self ++ letters Verbatim (if c.loop-c.is_escaped then 92 ∷ [] else []) ≡ joined c.args.self ++ letters Verbatim (verbatim_text (chars c.args.piece.now)) =
+    let ends : joined c.loop-c.self ++ letters Verbatim (if c.loop-c.is_escaped then backslash ∷ [] else []) ≡ joined c.args.self ++ letters Verbatim (verbatim_text (chars c.args.piece.now)) =
     ap (λ (x : List ℕ). joined c.loop-c.self ++ letters Verbatim (verbatim_from c.loop-c.is_escaped x)) (sym nothing) ∙ c.loop-c.invariant.written in
     elim c.if-is_escaped.branch [
       | then-is_escaped+in_ok-push w ↦ rw w.self-is (w.in_ok-push.ensures.styled ∙ rw w.if-is_escaped.true at ends)

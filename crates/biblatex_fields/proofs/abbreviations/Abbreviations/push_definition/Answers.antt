@@ -1,7 +1,8 @@
 use Rattle.std.proofs.Common.{◌≡◌, ◌<◌, [], ◌∷◌, ◌++◌, List, map, Ok, Err, sym, ap, subst, ◌∙◌}
 use Rattle.std.specs.Str.{chars}
 use Rattle.biblatex_content.specs.Spans.{spanned_so_far}
-use Rattle.biblatex_fields.specs.Abbreviations.{Refusal, pieces_at}
+use Rattle.biblatex_fields.specs.Abbreviations.{pieces_at}
+use Rattle.biblatex_fields.specs.Refusals.{Refusal}
 use Rattle.biblatex_fields.specs.Openings.{Resolved, resolved_piece_view, resolved_read, resolved_sense}
 use Rattle.biblatex_fields.specs.Value.{text_read, in_order, read}
 use Rattle.biblatex_fields.specs.Views.{sense_view}

@@ -5,9 +5,11 @@ use Rattle.biblatex_text.specs.Raw.{At}
 use Rattle.biblatex_text.specs.Views.{piece_view}
 use Rattle.biblatex_content.specs.Spans.{spanned_so_far}
 use Rattle.biblatex_content.specs.Styled.{Member}
-use Rattle.biblatex_fields.specs.Abbreviations.{Refusal, spelled, defined, pieces_at, sense}
+use Rattle.biblatex_fields.specs.Abbreviations.{spelled, defined, pieces_at, sense}
+use Rattle.biblatex_fields.specs.Refusals.{Refusal}
 use Rattle.biblatex_fields.specs.Value.{read}
-use Rattle.biblatex_fields.specs.Views.{sense_view, refusal_of}
+use Rattle.biblatex_fields.specs.Errors.{refusal_of}
+use Rattle.biblatex_fields.specs.Views.{sense_view}
 use Rattle.laws.specs.Results.{Gives}
 use Rattle.biblatex_fields.proofs.ValueRefused.{refused}
 use Rattle.biblatex_fields.proofs.ValueStack.{read_sensed, read_refused}

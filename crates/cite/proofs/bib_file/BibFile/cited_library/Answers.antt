@@ -1,7 +1,7 @@
 use Rattle.std.proofs.Common.{◌≡◌, List, Result, refl, ap, subst, ◌∙◌}
 use Rattle.biblatex.specs.Bibliographies.{listed_view}
 use Rattle.biblatex.specs.Entries.{Source}
-use Rattle.literature_entries.specs.Wholes.{Whole}
+use Rattle.literature_entries.specs.EntriesData.{EntryData}
 use Rattle.interop.specs.Library.{library_of}
 use Rattle.interop.specs.Views.{lent_sources_view, library_view}
 use Rattle.interop.proofs.LibraryKeys.{no_fault_among}
@@ -19,6 +19,6 @@ returns c =
     let es = entries_with keys file.entries in
     let same : lent_sources_view c.deref.result.now ≡ es =
     ap lent_sources_view c.deref.ensures.value ∙ c.in_ok-cited.ensures keys c.in_ok-keys.ensures ∙ ap (entries_with keys) c.entries.ensures in
-    subst (λ (r : Result (List Whole) Refusal). Gives library_view c.library_of.result r)
+    subst (λ (r : Result (List EntryData) Refusal). Gives library_view c.library_of.result r)
     (ap (λ (xs : List Source). refused_as fields_refused (library_of xs)) same
     ∙ needed_is es (library_from es) (no_fault_among (λ e. is_among keys e.key) file.entries c.args.self.now.readable) refl) c.library_of.ensures

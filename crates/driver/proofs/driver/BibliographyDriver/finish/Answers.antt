@@ -6,7 +6,7 @@ use Rattle.driver_requests.specs.Errors.{overflow_of}
 use Rattle.driver_requests.specs.declared.request.CitationRequest.{CitationRequest}
 use Rattle.driver.specs.Finish.{finish, keys_in}
 use Rattle.driver.specs.RenderedViews.{keys_view, rendered_view}
-use Rattle.driver.specs.Views.{bibliography_context_of, document_view}
+use Rattle.driver_rounds.specs.Views.{bibliography_context_of, document_view}
 use Rattle.driver.specs.declared.rendered.Rendered.{Rendered}
 use Rattle.driver.proofs.driver.BibliographyDriver.finish.Goals as goal
 

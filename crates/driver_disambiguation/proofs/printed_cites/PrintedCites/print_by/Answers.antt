@@ -3,7 +3,7 @@ use Rattle.std.specs.HashMap.{get_by_text}
 use Rattle.std.proofs.lemmas.List.{length-map}
 use Rattle.rendering_context.specs.Views.{state_view}
 use Rattle.rendering_tree.specs.Views.{tree_view}
-use Rattle.driver_disambiguation.specs.Views.{printed_again, printed_view}
+use Rattle.driver_names.specs.Views.{printed_again, printed_view}
 use Rattle.driver_disambiguation.proofs.Numbering.{renumbered, view_set, still_numbered}
 use Rattle.driver_disambiguation.proofs.printed_cites.PrintedCites.print_by.Goals as goal
 

@@ -1,6 +1,6 @@
 use Rattle.std.proofs.Common.{ℕ, List, subst₂, sym}
 use Rattle.driver_disambiguation.specs.Numbered.{AreNumbered}
-use Rattle.driver_disambiguation.specs.declared.printed.Printed.{Printed}
+use Rattle.driver_names.specs.declared.printed.Printed.{Printed}
 use Rattle.driver_disambiguation.proofs.printed_cites.PrintedCites.round_given.Goals as goal
 
 pub classes-requires : goal.classes-requires

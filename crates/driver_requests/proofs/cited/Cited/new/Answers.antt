@@ -1,7 +1,8 @@
 use Rattle.std.proofs.Common.{◌≤◌, ℕ, length, arith, Vec}
 use Rattle.std.specs.Global.{Global}
+use Rattle.laws.specs.Borrowed.{borrowed}
 use Rattle.driver_requests.specs.Indices.{runs}
-use Rattle.driver_requests.specs.Views.{entries_of, entry_of_item, lent}
+use Rattle.driver_requests.specs.Views.{entries_of, entry_of_item}
 use Rattle.driver_requests.proofs.IndicesRead.{all_entries, all_entries_step, all_runs, entries_as, indices_within, run_as, runs_step}
 use Rattle.driver_requests.proofs.cited.Cited.new.Goals as goal
 
@@ -12,8 +13,8 @@ loop-request-preserved g c =
     let i = c.loop-request.request-index in
     let request = c.request-item.result in
     let items = request.items.items in
-    let old = lent c.loop-request.entries.items in
-    let new = lent c.run_of.new.entries.items in
+    let old = borrowed c.loop-request.entries.items in
+    let new = borrowed c.request_indices.new.entries.items in
     let one = entries_as eq entry_of_item c.as_slice.result.now items c.as_slice.ensures.value old new c.in_ok-run.ensures.entries in
     let run = run_as eq entry_of_item c.as_slice.result.now items c.as_slice.ensures.value new c.in_ok-run.run'.items c.in_ok-run.ensures.run in (
       c.in_ok-run.ensures.table,
@@ -25,12 +26,12 @@ loop-request-preserved g c =
 pub returns-clause-entries : goal.returns-clause-entries
 returns-clause-entries g c =
     let over : length c.args.requests.now ≤ c.loop-request.request-index = omega (arith, c.loop-request-test.false) in
-    all_entries g.met.T.Eq.laws entries_of c.args.requests.now c.loop-request.request-index over (lent c.loop-request.entries.items) c.loop-request.invariant.1
+    all_entries g.met.T.Eq.laws entries_of c.args.requests.now c.loop-request.request-index over (borrowed c.loop-request.entries.items) c.loop-request.invariant.1
 
 pub returns-clause-runs : goal.returns-clause-runs
 returns-clause-runs g c =
     let over : length c.args.requests.now ≤ c.loop-request.request-index = omega (arith, c.loop-request-test.false) in
-    all_runs g.met.T.Eq.laws entries_of c.args.requests.now c.loop-request.request-index over (lent c.loop-request.entries.items) c.loop-request.invariant.1 (runs c.loop-request.runs.items) c.loop-request.invariant.2
+    all_runs g.met.T.Eq.laws entries_of c.args.requests.now c.loop-request.request-index over (borrowed c.loop-request.entries.items) c.loop-request.invariant.1 (runs c.loop-request.runs.items) c.loop-request.invariant.2
 
 pub returns-clause-within : goal.returns-clause-within
 returns-clause-within g c =

@@ -1,5 +1,5 @@
 use Rattle.std.proofs.Common.{◌≡◌, ◌++◌, map}
-use Rattle.literature_selectors.specs.Views.{selector_view}
+use Rattle.literature.specs.Views.{selector_view}
 use Rattle.literature.specs.Answers.{answers, shown}
 use Rattle.literature.specs.Entries.{entries}
 use Rattle.literature.proofs.library.Library.selected.Given as goal

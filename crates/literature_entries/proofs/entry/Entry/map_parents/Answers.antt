@@ -1,6 +1,6 @@
 use Rattle.std.proofs.Common.{Some, ◌≡◌, ◌∙◌, ap, rules}
 use Rattle.std.specs.List.{flat_map}
-use Rattle.literature_entries.specs.Ancestors.{borrowed}
+use Rattle.laws.specs.Borrowed.{borrowed}
 use Rattle.literature_entries.specs.Views.{parents}
 use Rattle.literature_entries.proofs.AncestorsWalks.{levels_below, asks_none, asks_level_answered, asks_level_on}
 use Rattle.literature_entries.proofs.entry.Entry.map_parents.Goals as goal

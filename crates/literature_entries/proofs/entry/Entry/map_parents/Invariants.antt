@@ -1,4 +1,5 @@
-use Rattle.literature_entries.specs.Ancestors.{Asks, borrowed, ancestors, upwards, levels}
+use Rattle.laws.specs.Borrowed.{borrowed}
+use Rattle.literature_entries.specs.Ancestors.{Asks, ancestors, upwards, levels}
 use Rattle.literature_entries.proofs.entry.Entry.map_parents.Given as goal
 
 abbrev pub invariant-loop-alloc : goal.invariant-loop-alloc

@@ -4,7 +4,7 @@ use Rattle.reference_graph.specs.declared.search.Visit.TheVariants.{New}
 use Rattle.reference_graph.specs.Search.{State, search_view, visit_of}
 use Rattle.reference_graph.proofs.SearchEntering.{entered_first, IsEntered}
 use Rattle.reference_graph.proofs.SearchEnding.{path_empty}
-use Rattle.reference_graph.proofs.SearchWeighing.{new_told}
+use Rattle.reference_graph.proofs.SearchWeighing.{new_decided}
 use Rattle.reference_graph.proofs.search.Search.visit.Goals as goal
 
 pub loop-index-init : goal.loop-index-init
@@ -12,7 +12,7 @@ loop-index-init c =
     let R = lists c.args.references.now in
     let s = search_view c.args.self.now in
     let v = c.args.number in
-    let new : visit_of s v ≡ New = new_told (visit_of s v) (sym c.if-not-is_new.ensures) in
+    let new : visit_of s v ≡ New = new_decided (visit_of s v) (sym c.if-not-is_new.ensures) in
     let e = subst (λ (x : State). IsEntered R s x v) (sym c.in_ok-enter.ensures) (entered_first R s c.requires.holds v new c.requires.free) in
     record { holds = e.holds; met = e.met; itself = e.itself }
 

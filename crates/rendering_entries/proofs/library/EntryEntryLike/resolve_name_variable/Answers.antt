@@ -1,6 +1,6 @@
 use Rattle.std.proofs.Common.{◌≡◌, IfOk, map, subst}
+use Rattle.literature_values.specs.PersonViews.{lent_person_view}
 use Rattle.rendering_entries.specs.Answers.{Answers}
-use Rattle.rendering_entries.specs.Views.{lent_person_view}
 use Rattle.rendering_entries.proofs.LibraryAnswers.{answers_are}
 use Rattle.rendering_entries.proofs.library.EntryEntryLike.resolve_name_variable.Goals as goal
 

@@ -1,5 +1,6 @@
 use Rattle.std.proofs.Common.{◌≡◌, [], ◌∷◌, ap, ◌∙◌}
 use Rattle.std.proofs.lemmas.Result.{on_ok_weaker}
+use Rattle.laws.specs.Characters.{space}
 use Rattle.rendering_page.specs.Pages.{append_normal}
 use Rattle.rendering_page.specs.Pieces.{append_pieces}
 use Rattle.rendering_page.specs.Views.{quotes_view}
@@ -14,7 +15,7 @@ returns c =
     let quotes = quotes_view c.args.self.now.setting.quotes.now in
     let before : c.push_space.new.page ≡ append_pieces quotes (after_ellipsis s []) c.args.page.now =
     c.in_ok-push_space.ensures
-    ∙ ap (append_normal quotes s.manner (32 ∷ [])) (c.in_ok-push_text.ensures ∙ (λ i. append_normal quotes s.manner (c.ellipsis.ensures i) (c.in_ok-push_delimiter.ensures i))) in
+    ∙ ap (append_normal quotes s.manner (space ∷ [])) (c.in_ok-push_text.ensures ∙ (λ i. append_normal quotes s.manner (c.ellipsis.ensures i) (c.in_ok-push_delimiter.ensures i))) in
     on_ok_weaker c.push_name.result
     (λ e. last-append quotes s c.args.variable c.args.forms.now c.args.people.now c.args.last _ c.index-people-last.result
     c.args.page.now c.push_space.new.page c.push_name.new.page c.requires.forms c.requires.people c.index-people-last.is c.requires.all before e)

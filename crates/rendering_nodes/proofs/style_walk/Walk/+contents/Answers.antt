@@ -13,18 +13,25 @@ use Rattle.rendering_style.specs.declared.node.ChooseBranch.{ChooseBranch}
 use Rattle.rendering_style.specs.declared.node.Node.{Node}
 use Rattle.rendering_style.specs.declared.node.TextTarget.{TextTarget}
 use Rattle.rendering_nodes.proofs.ContentSteps.{and_else, and_then, choose_appended, contents_more, next_admitted, next_passed, substitute_more}
-use Rattle.rendering_nodes.proofs.FindingsAppended.{form_as, inside_as, known_more, macro_as, macro_some, some_found, substitutes_as, taken_as}
+use Rattle.rendering_nodes.proofs.FindingsAppended.{form_as, inside_as, known_more, macro_as, macro_some, substitutes_as, taken_as}
 use Rattle.rendering_nodes.proofs.OpenedSteps.{open_text, open_names, open_choose, open_group}
 use Rattle.rendering_nodes.proofs.OpenedAppended.{names_node_appended, choose_node_appended, group_node_appended, macro_appended, grouped_appended}
-use Rattle.rendering_nodes.proofs.SubstituteSteps.{names_without, names_with, substitute_passed, substitute_tried, is_substitute_passed, is_substitute_tried, substituted_by, tried_by}
+use Rattle.rendering_nodes.proofs.SubstituteSteps.{names_by, names_without, names_with, substitute_passed, substitute_tried, is_substitute_passed, is_substitute_tried, substituted_by, tried_by}
 use Rattle.rendering_nodes.proofs.style_walk.Walk.+contents.Goals.{push_all-then-is_first, push_all-else-is_first}
 use Rattle.rendering_nodes.proofs.style_walk.Walk.+contents.Goals as goal
 
 pub push_node-returns-in-Names : goal.push_node-returns-in-Names
 push_node-returns-in-Names g t c =
-    names_node_appended c.push_names.result (walk_context (g.E.EntryLike.answers c.args.entry.now) c.args.self.now) (option_map (λ n. names_parts_view n.now) c.args.outer) (setting_view c.args.setting.now)
-    c.args.state.now c.push_names.new.state c.args.levels (macros_of c.args.self.now) c.args.node.now c.in-Names.names c.in-Names.substitute c.deref.result.now
-    c.if-levels-eq0.false c.in-Names.is c.deref.ensures.value c.push_names.ensures
+    let k = walk_context (g.E.EntryLike.answers c.args.entry.now) c.args.self.now in
+    let outer = option_map (λ n. names_parts_view n.now) c.args.outer in
+    let s = setting_view c.args.setting.now in
+    let ms = macros_of c.args.self.now in
+    names_node_appended c.push_names.result k outer s c.args.state.now c.push_names.new.state c.args.levels ms c.args.node.now c.in-Names.names c.in-Names.substitute c.deref.result.now
+    c.if-levels-eq0.false c.in-Names.is c.deref.ensures.value
+    (on_ok_weaker c.push_names.result
+    (names_by k outer s (names_node_view c.in-Names.names) (names_parts_view c.taken-parts.result) (each_node (open_node (c.args.levels - 1) ms) (nodes_view c.deref.result.now))
+    c.args.state.now c.push_names.new.state c.taken-parts.ensures)
+    c.push_names.ensures)
 
 pub push_node-returns-in-Choose : goal.push_node-returns-in-Choose
 push_node-returns-in-Choose g t c =
@@ -65,22 +72,21 @@ push_choose-returns g t c = λ outer.
 
 pub push_names-returns-then-is_empty : goal.push_names-returns-then-is_empty
 push_names-returns-then-is_empty g t c =
-    let k = walk_context (g.E.EntryLike.answers c.args.entry.now) c.args.self.now in
     on_ok_weaker c.push_substitute.result
-    (names_without k (option_map (λ n. names_parts_view n.now) c.args.outer) (setting_view c.args.setting.now) (names_node_view c.args.names.now) (names_parts_view c.taken-parts.result)
-    (each_node (open_node c.args.levels (macros_of c.args.self.now)) (nodes_view c.args.substitute.now)) c.as_slice.result.now c.as_slice-variables.result.now c.in_ok-people.people.items c.in_ok-people.people.len c.is_empty.result
-    c.args.state.now c.push_substitute.new.state (c.as_slice.ensures.value ∙ ap (λ (st : State). st.suppressed) c.state.view_is) c.as_slice-variables.ensures.value
-    c.in_ok-people.ensures c.in_ok-people.people.ok.0 c.is_empty.ensures c.if-is_empty.true c.taken-parts.ensures)
+    (names_without (walk_context (g.E.EntryLike.answers c.args.entry.now) c.args.self.now) (setting_view c.args.setting.now) (names_parts_view c.args.parts.now)
+    (each_node (open_node c.args.levels (macros_of c.args.self.now)) (nodes_view c.args.substitute.now)) c.as_slice.result.now c.in_ok-people.people.items c.in_ok-people.people.len c.is_empty.result
+    c.args.state.now c.push_substitute.new.state (c.as_slice.ensures.value ∙ ap (λ (st : State). st.suppressed) c.state.view_is)
+    c.in_ok-people.ensures c.in_ok-people.people.ok.0 c.is_empty.ensures c.if-is_empty.true)
     c.push_substitute.ensures
 
 pub push_names-returns : goal.push_names-returns
 push_names-returns g t c =
     let a = g.E.EntryLike.answers c.args.entry.now in
     on_ok_weaker c.push_people.result
-    (names_with (walk_context a c.args.self.now) (option_map (λ n. names_parts_view n.now) c.args.outer) (setting_view c.args.setting.now) (names_node_view c.args.names.now) (names_parts_view c.taken-parts.result)
-    (each_node (open_node c.args.levels (macros_of c.args.self.now)) (nodes_view c.args.substitute.now)) c.as_slice.result.now c.as_slice-variables.result.now c.in_ok-people.people.items c.as_slice-2.result.now
-    c.in_ok-people.people.len c.is_empty.result c.args.state.now c.push_people.new.state (c.as_slice.ensures.value ∙ ap (λ (st : State). st.suppressed) c.state.view_is) c.as_slice-variables.ensures.value
-    c.in_ok-people.ensures c.in_ok-people.people.ok.0 c.is_empty.ensures c.if-is_empty.false c.taken-parts.ensures c.as_slice-2.ensures.value)
+    (names_with (walk_context a c.args.self.now) (setting_view c.args.setting.now) (names_parts_view c.args.parts.now)
+    (each_node (open_node c.args.levels (macros_of c.args.self.now)) (nodes_view c.args.substitute.now)) c.as_slice.result.now c.in_ok-people.people.items c.as_slice-2.result.now
+    c.in_ok-people.people.len c.is_empty.result c.args.state.now c.push_people.new.state (c.as_slice.ensures.value ∙ ap (λ (st : State). st.suppressed) c.state.view_is)
+    c.in_ok-people.ensures c.in_ok-people.people.ok.0 c.is_empty.ensures c.if-is_empty.false c.as_slice-2.ensures.value)
     (c.push_people.ensures a)
 
 pub push_substitute-returns : goal.push_substitute-returns
@@ -244,15 +250,7 @@ push_next-push_found-requires g t c =
     let k = walk_context (g.E.EntryLike.answers c.args.entry.now) c.args.self.now in
     let s = setting_view c.args.setting.now in
     let x = open_node c.args.levels (macros_of c.args.self.now) (node_view c.args.node.now) in
-    let known = some_found k s c.args.state.now c.args.finding c.in-Some.finding x c.in-Some.is c.requires in
-    search rules
-
-pub push_next-push_found-requires-in-None : goal.push_next-push_found-requires-in-None
-push_next-push_found-requires-in-None g t c =
-    let k = walk_context (g.E.EntryLike.answers c.args.entry.now) c.args.self.now in
-    let s = setting_view c.args.setting.now in
-    let x = open_node c.args.levels (macros_of c.args.self.now) (node_view c.args.node.now) in
-    let known = c.finding-finding.ensures k s c.args.state.now x c.in_ok-surveyed-in-None.ensures in
+    let known = c.finding-finding.ensures k s c.args.state.now x c.in_ok-known.ensures in
     search rules
 
 pub push_substitute_node-push_tried-requires : goal.push_substitute_node-push_tried-requires
@@ -260,15 +258,7 @@ push_substitute_node-push_tried-requires g t c =
     let k = walk_context (g.E.EntryLike.answers c.args.entry.now) c.args.self.now in
     let s = setting_view c.args.setting.now in
     let x = open_node c.args.levels (macros_of c.args.self.now) (node_view c.args.node.now) in
-    let known = some_found k s c.args.state.now c.args.finding c.in-Some.finding x c.in-Some.is c.requires in
-    search rules
-
-pub push_substitute_node-push_tried-requires-in-None : goal.push_substitute_node-push_tried-requires-in-None
-push_substitute_node-push_tried-requires-in-None g t c =
-    let k = walk_context (g.E.EntryLike.answers c.args.entry.now) c.args.self.now in
-    let s = setting_view c.args.setting.now in
-    let x = open_node c.args.levels (macros_of c.args.self.now) (node_view c.args.node.now) in
-    let known = c.finding-finding.ensures k s c.args.state.now x c.in_ok-surveyed-in-None.ensures in
+    let known = c.finding-finding.ensures k s c.args.state.now x c.in_ok-known.ensures in
     search rules
 
 pub push_found-returns-then-not-admits-clause-admitted : goal.push_found-returns-then-not-admits-clause-admitted

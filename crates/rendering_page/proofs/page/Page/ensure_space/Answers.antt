@@ -2,15 +2,16 @@ use Rattle.std.proofs.Common.{◌≡◌, true, false, [], ◌∷◌, codes, refl
 use Rattle.std.specs.Str.{chars}
 use Rattle.std.proofs.lemmas.Result.{on_ok_weaker}
 use Rattle.std.proofs.lemmas.Str.{chars-encodes}
+use Rattle.laws.specs.Characters.{space}
 use Rattle.rendering_tree.specs.Tokens.{last_backwards}
 use Rattle.rendering_page.specs.Pages.{Page, ends_spaced, is_begun, append_verbatim}
 use Rattle.rendering_page.specs.Views.{pieces_view}
 use Rattle.rendering_page.proofs.PagesAppending.{space_there}
 use Rattle.rendering_page.proofs.page.Page.ensure_space.Goals as goal
 
-space : chars (codes " ") ≡ 32 ∷ []
+space_characters : chars (codes " ") ≡ space ∷ []
 unfolding lib.Utf8.encode
-space = chars-encodes (codes " ") refl
+space_characters = chars-encodes (codes " ") refl
 
 pub returns : goal.returns
 returns c =
@@ -23,4 +24,4 @@ returns c =
     ∙ ap (λ ps. ends_spaced (last_backwards (pieces_view ps))) (sym c.deref-else-not-is_begun.ensures.value)
     ∙ sym c.ends_spaced.ensures
     ∙ c.if-ends_spaced.false in
-    on_ok_weaker c.push_verbatim.result (λ e. e ∙ ap (λ f. append_verbatim f (chars (codes " ")) page) c.plain.ensures ∙ space_there page (chars (codes " ")) space begun none) c.push_verbatim.ensures
+    on_ok_weaker c.push_verbatim.result (λ e. e ∙ ap (λ f. append_verbatim f (chars (codes " ")) page) c.plain.ensures ∙ space_there page (chars (codes " ")) space_characters begun none) c.push_verbatim.ensures

@@ -1,8 +1,0 @@
-use Rattle.std.proofs.Common.{◌≡◌, drop}
-use Rattle.std.specs.List.{list_all}
-use Rattle.biblatex_lists.specs.Parts.{borrowed}
-use Rattle.biblatex_people.specs.Reading.{is_some, pair}
-use Rattle.biblatex_people.proofs.pairs.are_pairs.Given as goal
-
-abbrev pub invariant-loop-i : goal.invariant-loop-i
-invariant-loop-i l = list_all (λ p. is_some (pair p)) (borrowed l.parts) ≡ list_all (λ p. is_some (pair p)) (borrowed (drop l.i l.parts))

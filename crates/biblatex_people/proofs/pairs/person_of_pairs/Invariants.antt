@@ -1,8 +1,0 @@
-use Rattle.std.proofs.Common.{◌≡◌, drop}
-use Rattle.biblatex_lists.specs.Parts.{borrowed}
-use Rattle.biblatex_people.specs.Reading.{with_pairs, nobody}
-use Rattle.biblatex_people.specs.Views.{named_view}
-use Rattle.biblatex_people.proofs.pairs.person_of_pairs.Given as goal
-
-abbrev pub invariant-loop-part : goal.invariant-loop-part
-invariant-loop-part l = with_pairs (borrowed (drop l.part-index l.parts)) (named_view l.person) ≡ with_pairs (borrowed l.parts) nobody

@@ -1,7 +1,0 @@
-use Rattle.std.proofs.Common.{◌≡◌, take}
-use Rattle.biblatex_lists.specs.Parts.{borrowed}
-use Rattle.biblatex_people.specs.Words.{lead_count}
-use Rattle.biblatex_people.proofs.words.lead_count.Given as goal
-
-abbrev pub invariant-loop-i : goal.invariant-loop-i
-invariant-loop-i l = lead_count (borrowed l.words) ≡ lead_count (borrowed (take l.i l.words))

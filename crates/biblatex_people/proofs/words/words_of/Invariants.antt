@@ -1,8 +1,0 @@
-use Rattle.std.proofs.Common.{◌≡◌, take}
-use Rattle.std.specs.List.{flat_map}
-use Rattle.biblatex_lists.specs.Parts.{borrowed}
-use Rattle.biblatex_people.specs.Words.{words}
-use Rattle.biblatex_people.proofs.words.words_of.Given as goal
-
-abbrev pub invariant-loop-text : goal.invariant-loop-text
-invariant-loop-text l = borrowed l.words.items ≡ flat_map words (borrowed (take l.text-index l.texts))

@@ -1,5 +1,0 @@
-pub mod Words
-pub mod Reading
-pub mod Views
-pub mod Writing
-pub mod Laws

@@ -1,5 +1,0 @@
-use Rattle.driver.proofs.EntriesInStates.{entries_in_states}
-use Rattle.driver.proofs.driver_laws.entries_have_one_number_and_state.Goals as goal
-
-pub returns : goal.returns
-returns g c = entries_in_states _

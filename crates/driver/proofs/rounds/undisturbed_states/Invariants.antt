@@ -1,7 +1,0 @@
-use Rattle.std.proofs.Common.{◌≡◌, map}
-use Rattle.rendering_context.specs.Views.{state_view}
-use Rattle.driver_disambiguation.specs.States.{undisturbed_states}
-use Rattle.driver.proofs.rounds.undisturbed_states.Given as goal
-
-abbrev pub invariant-loop-entry : goal.invariant-loop-entry
-invariant-loop-entry l = map state_view l.states.items ≡ undisturbed_states l._entry

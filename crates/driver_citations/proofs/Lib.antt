@@ -1,0 +1,5 @@
+pub mod CitationsCases
+pub mod ContentsTokens
+pub mod EndingTexts
+pub mod JoiningSteps
+pub mod StandaloneSteps

@@ -1,0 +1,4 @@
+pub mod Citations
+pub mod Standalone
+pub mod Joining
+pub mod Contents

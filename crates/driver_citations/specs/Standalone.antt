@@ -1,0 +1,76 @@
+-- A citation outside of any document.
+use Rattle.std.specs.Prelude.{ℕ, Bool, false, not, List, [], ◌∷◌, map, filter, if◌then◌else◌, None}
+use Rattle.std.specs.Option.{option_map, unwrap_or}
+use Rattle.rendering_page.specs.Pages.{prints}
+use Rattle.rendering_taxonomy.specs.declared.formatting.Formatting.{Formatting}
+use Rattle.rendering_tree.specs.Trees.{Children, Text, nothing, before, flat, followed_by, simplified}
+use Rattle.rendering_style.specs.Styles.{Layout}
+use Rattle.rendering_names.specs.Persons.{comma_and_space}
+use Rattle.rendering_context.specs.Cites.{CiteProperties, undisambiguated}
+use Rattle.rendering_context.specs.Contexts.{StyleContext}
+use Rattle.rendering.specs.Purposes.{citation}
+use Rattle.driver_requests.specs.Requests.{Item, Request, plain_locator}
+use Rattle.driver_citations.specs.Citations.{citation_look, affixed}
+use Rattle.rendering_taxonomy.specs.declared.cite.IbidState.TheVariants as ibids
+use Rattle.rendering_taxonomy.specs.declared.cite.IdentifierUsage.TheVariants as usages
+
+-- what is known of an item of such a citation; it is not the first cite of its entry
+abbrev pub properties_alone : {P : Type 0} → Item P → CiteProperties
+properties_alone i = record {
+  note_number = None;
+  first_note_number = None;
+  is_near_note = false;
+  is_first = false;
+  initial_idx = 0;
+  locator = option_map plain_locator i.locator;
+  citation_number = 0;
+  ibid = ibids.Different;
+  disambiguation = undisambiguated;
+  identifier_usage = usages.None;
+}
+
+-- what an item of such a citation prints
+abbrev pub printed_alone : {P : Type 0} → StyleContext → Item P → Children
+printed_alone x i = (citation x i.entry.answers (properties_alone i) None i.purpose None).tree
+
+-- whether a tree is more than white space
+abbrev pub has_content : Children → Bool
+has_content tree = prints 0 (flat tree)
+
+-- trees one after the other, each after a text
+abbrev pub after_tree : Formatting → List ℕ → List Children → Children
+after_tree f between [] = nothing
+after_tree f between (t ∷ ts) = before (Text f between) (followed_by t (after_tree f between ts))
+
+-- trees one after the other, with the delimiter of the layout between them
+abbrev pub delimited : Layout → Children → List Children → Children
+delimited l t ts = followed_by t (after_tree (citation_look l) (unwrap_or l.delimiter comma_and_space) ts)
+
+-- what items print, in the affixes of the layout; where there is none, nothing
+abbrev pub joined_alone : Layout → List Children → Children
+joined_alone l [] = nothing
+joined_alone l (t ∷ ts) = simplified (affixed l (delimited l t ts))
+
+-- the items of a request that are not hidden
+abbrev pub shown_items : {P : Type 0} → Request P → List (Item P)
+shown_items r = filter (λ i. not i.is_hidden) r.items
+
+-- what these print, but for what is white space alone
+abbrev pub trees_alone : {P : Type 0} → Request P → List Children
+trees_alone r = filter has_content (map (printed_alone r.context) (shown_items r))
+
+-- A citation outside of any document.
+abbrev pub standalone_citation : {P : Type 0} → Request P → Children
+standalone_citation r = joined_alone r.context.style.citation.layout (trees_alone r)
+
+-- what items of a citation outside of any document print, but hidden ones and what is white space alone
+abbrev pub all_alone : {P : Type 0} → StyleContext → List (Item P) → List Children
+all_alone x is = filter has_content (map (printed_alone x) (filter (λ i. not i.is_hidden) is))
+
+-- a tree, but not if it is white space alone
+abbrev pub with_content : Children → List Children
+with_content t = if has_content t then t ∷ [] else []
+
+-- what an item of a citation outside of any document prints, but nothing of a hidden one
+abbrev pub alone : {P : Type 0} → StyleContext → Item P → List Children
+alone x i = if i.is_hidden then [] else with_content (printed_alone x i)

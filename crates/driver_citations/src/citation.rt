@@ -1,0 +1,159 @@
+//! Citations from what their cites print.
+
+ghost use Rattle.std.specs.Prelude.{◌≡◌, map, IfOk, OnOk};
+ghost use Rattle.std.specs.Option.{option_map};
+ghost use Rattle.std.specs.Str.{chars};
+ghost use Rattle.laws.specs.Text.{spelled};
+ghost use Rattle.rendering_style.specs.Views.{layout_view};
+ghost use Rattle.rendering_tree.specs.Trees.{followed_by, simplified};
+ghost use Rattle.rendering_tree.specs.Views.{tree_view};
+ghost use Rattle.driver_citations.specs.Citations.{affixed, citation_of};
+ghost use Rattle.driver_citations.specs.Joining.{delimited_after, finished, put_cite, put_cites, shown_view, suffix_put};
+
+use crate::ending_text::{end_of, ends_in};
+use crate::layout_texts::{citation_look, push_own};
+use rendering_style::Layout;
+use rendering_taxonomy::Formatting;
+use rendering_tree::{Elem, ElemChild, ElemChildren, ElemMeta, simplify_children};
+use std::alloc::{AllocError, Global};
+use texts::{or_empty, text_or_empty};
+
+/// A cite that is shown: the delimiter before it if it is not the first, its index in its request, and what it prints.
+#[derive(Drop)]
+pub struct ShownCite<'s> {
+    pub delimiter: Option<&'s str>,
+    pub index: usize,
+    pub tree: ElemChildren,
+}
+
+/// A citation: its cites in the affixes of the layout, or without these where one has a purpose; where none is shown, nothing.
+pub fn citation_of(
+    alloc: Global,
+    layout: &Layout,
+    some_purpose: bool,
+    cites: Vec<ShownCite<'_>>,
+) -> Result<ElemChildren, AllocError>
+    ensures { IfOk result (λ t. tree_view t
+        ≡ citation_of (layout_view layout.now) some_purpose (map shown_view cites.entry.items)) }
+{
+    let joined = joined_cites(alloc, citation_look(layout), cites)?;
+    finished(alloc, layout, some_purpose, joined)
+}
+
+/// Cites one after the other.
+fn joined_cites(
+    alloc: Global,
+    look: Formatting,
+    cites: Vec<ShownCite<'_>>,
+) -> Result<ElemChildren, AllocError>
+    ensures { IfOk result (λ t. tree_view t ≡ put_cites look (map shown_view cites.entry.items)) }
+{
+    let mut joined = ElemChildren::new(alloc);
+    for cite in cites {
+        push_cite(alloc, look, cite, &mut joined)?;
+    }
+    Ok(joined)
+}
+
+fn push_cite(
+    alloc: Global,
+    look: Formatting,
+    cite: ShownCite<'_>,
+    joined: &mut ElemChildren,
+) -> Result<(), AllocError>
+    ensures { OnOk result (tree_view joined.new
+        ≡ put_cite look (tree_view joined.old) (shown_view cite.entry)) }
+{
+    let ShownCite {
+        delimiter,
+        index,
+        tree,
+    } = cite;
+    push_delimiter(alloc, look, delimiter, joined)?;
+    joined.push(ElemChild::Elem(Elem {
+        children: tree,
+        display: None,
+        meta: Some(ElemMeta::Entry(index)),
+    }))
+}
+
+/// Appends a delimiter, if anything stands before it.
+fn push_delimiter(
+    alloc: Global,
+    look: Formatting,
+    delimiter: Option<&str>,
+    joined: &mut ElemChildren,
+) -> Result<(), AllocError>
+    ensures { OnOk result (tree_view joined.new
+        ≡ delimited_after look (tree_view joined.old) (option_map spelled delimiter.entry)) }
+{
+    if joined.is_empty() {
+        return Ok(());
+    }
+    push_own(alloc, look, or_empty(delimiter), joined)
+}
+
+/// What is printed in the affixes of the layout, or without these where a cite has a purpose, if anything is printed.
+fn finished(
+    alloc: Global,
+    layout: &Layout,
+    some_purpose: bool,
+    joined: ElemChildren,
+) -> Result<ElemChildren, AllocError>
+    ensures { IfOk result (λ t. tree_view t
+        ≡ finished (layout_view layout.now) some_purpose (tree_view joined)) }
+{
+    if joined.is_empty() {
+        return Ok(joined);
+    }
+    if some_purpose {
+        simplify_children(joined)
+    } else {
+        affixed(alloc, layout, joined)
+    }
+}
+
+/// What is printed in the affixes of the layout.
+pub(crate) fn affixed(
+    alloc: Global,
+    layout: &Layout,
+    inside: ElemChildren,
+) -> Result<ElemChildren, AllocError>
+    ensures { IfOk result (λ t. tree_view t
+        ≡ simplified (affixed (layout_view layout.now) (tree_view inside))) }
+{
+    let look = citation_look(layout);
+    let mut parts = ElemChildren::new(alloc);
+    push_own(alloc, look, text_or_empty(&layout.prefix), &mut parts)?;
+    append(inside, &mut parts)?;
+    let simple = simplify_children(parts)?;
+    put_suffix(alloc, look, text_or_empty(&layout.suffix), simple)
+}
+
+/// A tree in its normal form with a suffix that it does not end in.
+fn put_suffix(
+    alloc: Global,
+    look: Formatting,
+    suffix: &str,
+    simple: ElemChildren,
+) -> Result<ElemChildren, AllocError>
+    ensures { IfOk result (λ t. tree_view t
+        ≡ suffix_put look (chars suffix.now) (tree_view simple)) }
+{
+    if ends_in(suffix, end_of(&simple)) {
+        return Ok(simple);
+    }
+    let mut parts = simple;
+    push_own(alloc, look, suffix, &mut parts)?;
+    simplify_children(parts)
+}
+
+pub(crate) fn append(more: ElemChildren, parts: &mut ElemChildren) -> Result<(), AllocError>
+    ensures { OnOk result (tree_view parts.new
+        ≡ followed_by (tree_view parts.old) (tree_view more)) }
+{
+    for part in more.0 {
+        parts.push(part)?;
+    }
+    Ok(())
+}

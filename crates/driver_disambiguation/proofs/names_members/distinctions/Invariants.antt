@@ -1,6 +1,0 @@
-use Rattle.std.proofs.Common.{◌≡◌, map, take}
-use Rattle.driver_disambiguation.specs.NamesViews.{distinction, members_view}
-use Rattle.driver_disambiguation.proofs.names_members.distinctions.Given as goal
-
-abbrev pub invariant-loop-at : goal.invariant-loop-at
-invariant-loop-at l = l.distinctions.items ≡ map (distinction (members_view l.members) l.nth) (members_view (take l.at l.members))

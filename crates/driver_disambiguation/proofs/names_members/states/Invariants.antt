@@ -1,9 +1,0 @@
-use Rattle.std.proofs.Common.{◌≡◌}
-use Rattle.std.specs.List.{flat_map}
-use Rattle.driver_requests.specs.SuffixViews.{origin_view}
-use Rattle.driver_disambiguation.specs.NamesViews.{state_of_member, members_view}
-use Rattle.driver_disambiguation.specs.Views.{given_states_view}
-use Rattle.driver_disambiguation.proofs.names_members.states.Given as goal
-
-abbrev pub invariant-loop-member : goal.invariant-loop-member
-invariant-loop-member l = given_states_view l.given.items ≡ flat_map (state_of_member (origin_view l.origin)) (members_view l.yielded)

@@ -1,7 +1,0 @@
-use Rattle.driver_disambiguation.specs.declared.namesakes.NamePart.TheVariants as parts
-use Rattle.driver_disambiguation.proofs.NamesakesCounted.{part_counted}
-use Rattle.driver_disambiguation.proofs.namesakes.NameCounts.same_people.Goals as goal
-
-pub returns : goal.returns
-returns c = λ all says.
-    part_counted parts.Whole c.args.self.now.whole all c.part.result c.args.person.now c.count.result says.2 c.part.ensures c.count.ensures

@@ -1,0 +1,17 @@
+use Rattle.std.proofs.Common.{◌≡◌, ℕ, ◌++◌, List, [], String, false, refl, ap, ◌∙◌}
+use Rattle.std.specs.Prelude.{string_bytes}
+use Rattle.std.specs.Global.{Global}
+use Rattle.std.proofs.lemmas.Fmt.{contents_after_writes}
+use Rattle.std.proofs.lemmas.Str.{IsUtf8-string_bytes}
+use Rattle.laws.specs.Text.{text}
+use Rattle.laws.proofs.Text.{chars-text}
+use Rattle.literature_values.specs.Initials.{style, initials_of}
+use Rattle.literature_values.specs.PersonViews.{given_name_view}
+use Rattle.driver_names.proofs.names_people.initials.Goals as goal
+
+pub returns-in-Ok : goal.returns-in-Ok
+returns-in-Ok c =
+    let new = c.initials.new.writer in
+    let cs : List ℕ = initials_of (style [] false) (given_name_view c.args.person.now) in
+    let wrote = contents_after_writes (λ (s : String Global) (bs : List ℕ) (t : String Global). string_bytes t ≡ string_bytes s ++ bs) string_bytes (λ s bs t e. e) _ _ _ (c.in-Ok.ensures refl) in
+    chars-text (string_bytes new) cs (IsUtf8-string_bytes new) (wrote ∙ ap (λ (bs : List ℕ). bs ++ text cs) c.empty_text-out.ensures.bytes)

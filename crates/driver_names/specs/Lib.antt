@@ -1,0 +1,7 @@
+pub mod Prints
+pub mod Views
+pub mod Names
+pub mod NamesViews
+pub mod Keys
+pub mod Shared
+pub mod Namesakes

@@ -1,0 +1,67 @@
+-- Cites as they print by a state of disambiguation, and states that are given to their entries.
+use Rattle.std.specs.Prelude.{ℕ, Bool, ◌&&◌, ◌||◌, List, is_some, if◌then◌else◌, Option, Some, None}
+use Rattle.rendering_tree.specs.Metas as metas
+use Rattle.rendering_tree.specs.Trees.{Children, element_with}
+use Rattle.rendering_tree.specs.Writing.{plain_text}
+use Rattle.rendering_style.specs.Styles.{Citation}
+use Rattle.rendering_people.specs.Properties.{Properties}
+use Rattle.rendering_context.specs.Cites.{DisambiguateState}
+use Rattle.driver_requests.specs.Suffixes.{Origin}
+use Rattle.rendering_taxonomy.specs.declared.style.DisambiguationRule.{DisambiguationRule}
+
+-- A cite that is to be disambiguated: its entry by its index, whether that has a date, and its style. `printed` is what it prints by a
+-- state, without its locator. Of what it prints undisambiguated: whether the test `disambiguate` was evaluated, and how much of its
+-- first names element it printed.
+pub record Candidate : Type 0 where
+  pub entry : ℕ
+  pub has_date : Bool
+  pub style : Citation
+  pub printed : DisambiguateState → Children
+  pub met_disambiguate : Bool
+  pub names : Option Properties
+
+-- the rule by which given names are compared, where a style adds them
+abbrev pub rule_of : Citation → Option DisambiguationRule
+rule_of c = if c.add_givenname then Some c.givenname_rule else None
+
+-- A cite at the start of a round. Of its candidate: the entry, whether that has a date, the rule by which its style compares given
+-- names, whether the style adds year suffixes, and what is known of its print undisambiguated. `tree` and `text` are what it prints by its
+-- state.
+pub record Printed : Type 0 where
+  pub entry : ℕ
+  pub has_date : Bool
+  pub rule : Option DisambiguationRule
+  pub adds_suffix : Bool
+  pub met_disambiguate : Bool
+  pub names : Option Properties
+  pub state : DisambiguateState
+  pub tree : Children
+  pub text : List ℕ
+
+-- a cite that prints a tree by its state
+abbrev pub printed_as : Candidate → DisambiguateState → Children → Printed
+printed_as c state tree = record {
+  entry = c.entry;
+  has_date = c.has_date;
+  rule = rule_of c.style;
+  adds_suffix = c.style.add_year_suffix;
+  met_disambiguate = c.met_disambiguate;
+  names = c.names;
+  state = state;
+  tree = tree;
+  text = plain_text tree;
+}
+
+-- whether a cite prints a date, or a label while its entry has a date
+abbrev pub prints_date : Printed → Bool
+prints_date s = is_some (element_with metas.Date s.tree) || (is_some (element_with metas.CitationLabel s.tree) && s.has_date)
+
+-- A state that a class gives to an entry, with the round and the class.
+pub record GivenState : Type 0 where
+  pub entry : ℕ
+  pub state : DisambiguateState
+  pub origin : Origin
+
+-- a state that is given to the entry at an index
+abbrev pub given_to : ℕ → DisambiguateState → Origin → GivenState
+given_to entry state origin = record { entry = entry; state = state; origin = origin }

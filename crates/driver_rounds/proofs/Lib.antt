@@ -1,0 +1,12 @@
+pub mod AgainSteps
+pub mod CitationsLoop
+pub mod FirstPrintsSteps
+pub mod KnownCites
+pub mod KnownIndices
+pub mod ListsGrown
+pub mod NumberedSteps
+pub mod RequestsFound
+pub mod RoundSteps
+pub mod RoundsCases
+pub mod RoundsNames
+pub mod RunsSteps

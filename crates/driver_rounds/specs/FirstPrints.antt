@@ -1,0 +1,88 @@
+-- Cites from their numbers to their states of disambiguation.
+use Rattle.std.specs.Prelude.{ℕ, Bool, false, List, [], ◌∷◌, map, length, is_some, Option, Some, None}
+use Rattle.std.specs.List.{list_any, flat_map}
+use Rattle.std.specs.Option.{option_map}
+use Rattle.rendering_entries.specs.Answers.{Answers}
+use Rattle.rendering_context.specs.Cites.{DisambiguateState, undisambiguated}
+use Rattle.rendering.specs.Purposes.{citation}
+use Rattle.rendering.specs.Purposes as purposes
+use Rattle.driver_requests.specs.Requests.{Request}
+use Rattle.driver_requests.specs.Cites.{Cite, Numbered, cites_of, entry_of, properties_of}
+use Rattle.driver_requests.specs.Positions.{ibid_after, counts_at_first, with_previous}
+use Rattle.driver_requests.specs.Order.{cited}
+use Rattle.driver_names.specs.Prints as prints
+use Rattle.driver_disambiguation.specs.Rounds.{Disambiguation, disambiguated}
+use Rattle.driver_rounds.specs.Documents.{Document, number_of}
+use Rattle.rendering_taxonomy.specs.declared.cite.CitePurpose.{CitePurpose}
+use Rattle.rendering_taxonomy.specs.declared.cite.CitePurpose.TheVariants as cite_purposes
+use Rattle.rendering_taxonomy.specs.declared.variable.DateVariable.{DateVariable}
+use Rattle.rendering_taxonomy.specs.declared.variable.DateVariable.TheVariants as date
+
+-- all of some lists one after the other
+abbrev pub flattened : {X : Type 0} → List (List X) → List X
+flattened xss = flat_map (λ xs. xs) xss
+
+-- the purpose for which a cite is printed until states are final: a cite for its year is printed whole
+abbrev pub purpose_at_first : Option CitePurpose → Option CitePurpose
+purpose_at_first None = None
+purpose_at_first (Some cite_purposes.Author) = Some cite_purposes.Author
+purpose_at_first (Some cite_purposes.Year) = None
+purpose_at_first (Some cite_purposes.Full) = Some cite_purposes.Full
+purpose_at_first (Some cite_purposes.Prose) = Some cite_purposes.Prose
+
+-- what a cite prints by a state, without its locator
+abbrev pub printed_by : {P : Type 0} → Numbered P → DisambiguateState → purposes.Rendered
+printed_by p state = citation p.cite.context p.cite.item.entry.answers (properties_of p state) None (purpose_at_first p.cite.item.purpose) None
+
+-- A cite, and what it prints undisambiguated.
+pub record FirstPrint (P : Type 0) : Type 0 where
+  pub numbered : Numbered P
+  pub rendered : purposes.Rendered
+
+-- a cite with its number, and its ibid state after the one before it as written
+abbrev pub numbered_after : {P : Type 0} → (P → P → Bool) → Document P → Option (Cite P) × Cite P → Numbered P
+numbered_after same d (last, c) = record {
+  cite = c;
+  number = number_of d (entry_of c);
+  ibid = ibid_after same counts_at_first (option_map (λ l. l.item) last) c.item;
+}
+
+-- the first print of a cite
+abbrev pub first_print : {P : Type 0} → Numbered P → FirstPrint P
+first_print p = record { numbered = p; rendered = printed_by p undisambiguated }
+
+-- the first prints of the cites of each request
+abbrev pub first_prints_in : {P : Type 0} → (P → P → Bool) → Document P → List (List (FirstPrint P))
+first_prints_in same d = map (map (λ pair. first_print (numbered_after same d pair))) (with_previous None (cites_of d.requests))
+
+-- the index of the entry that a cite is of
+abbrev pub entry_of_first : {P : Type 0} → FirstPrint P → ℕ
+entry_of_first b = entry_of b.numbered.cite
+
+-- the dates that make year suffixes possible
+abbrev pub suffix_dates : List DateVariable
+suffix_dates = date.Issued ∷ date.Accessed ∷ date.AvailableDate ∷ date.EventDate ∷ date.Submitted ∷ date.OriginalDate ∷ []
+
+-- whether an entry has one of them
+abbrev pub has_suffix_date : Answers → Bool
+has_suffix_date a = list_any (λ v. is_some (a.date v)) suffix_dates
+
+-- a cite as it is to be disambiguated
+abbrev pub candidate : {P : Type 0} → FirstPrint P → prints.Candidate
+candidate b = record {
+  entry = entry_of_first b;
+  has_date = has_suffix_date b.numbered.cite.item.entry.answers;
+  style = b.numbered.cite.context.style.citation;
+  printed = λ state. (printed_by b.numbered state).tree;
+  met_disambiguate = b.rendered.met_disambiguate;
+  names = b.rendered.names;
+}
+
+-- whether the style of the first request adds names; without requests none does
+abbrev pub adds_names : {P : Type 0} → List (Request P) → Bool
+adds_names [] = false
+adds_names (r ∷ rs) = r.context.style.citation.add_names
+
+-- the states of the cited entries, from all cites after their first print
+abbrev pub disambiguated_in : {P : Type 0} → Document P → List (List (FirstPrint P)) → Disambiguation
+disambiguated_in d bs = disambiguated (adds_names d.requests) (length (cited d.requests)) (map candidate (flattened bs))

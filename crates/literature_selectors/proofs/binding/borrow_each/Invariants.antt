@@ -1,6 +1,0 @@
-use Rattle.std.proofs.Common.{◌≡◌, take}
-use Rattle.literature_selectors.specs.Found.{borrowed}
-use Rattle.literature_selectors.proofs.binding.borrow_each.Given as goal
-
-abbrev pub invariant-loop-entry : goal.invariant-loop-entry
-invariant-loop-entry l = borrowed l.all.items ≡ take l.entry-index l.entries

@@ -1,0 +1,2 @@
+pub mod BuildingLevels
+pub mod BuildingReading

@@ -1,8 +1,0 @@
-use Rattle.std.proofs.Common.{refl}
-use Rattle.std.specs.Str.{chars}
-use Rattle.rendering_english.specs.Dates.{numeric_parts}
-use Rattle.rendering_english.proofs.dates.numeric_parts.Goals as goal
-
-pub returns : goal.returns
-unfolding chars numeric_parts
-returns c = refl

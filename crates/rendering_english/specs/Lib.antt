@@ -1,3 +1,0 @@
-pub mod English
-pub mod Dates
-pub mod Rows
