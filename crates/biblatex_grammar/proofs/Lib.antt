@@ -1,0 +1,14 @@
+pub mod Classes
+pub mod States
+pub mod Runs
+pub mod Gaps
+pub mod Trees
+pub mod Words
+pub mod Numbers
+pub mod Offsets
+pub mod Steps
+pub mod ValuesAgain
+pub mod ValuesTakes
+pub mod Fields
+pub mod Items
+pub mod Laws

@@ -1,0 +1,6 @@
+pub mod Characters
+pub mod Gaps
+pub mod Balanced
+pub mod Values
+pub mod Items
+pub mod Laws
