@@ -11,4 +11,12 @@ pub mod ValuesAgain
 pub mod ValuesTakes
 pub mod Fields
 pub mod Items
+pub mod Machine
+pub mod Passing
+pub mod SameValues
+pub mod SameItems
+pub mod Reached
+pub mod Completion
+pub mod Stuck
+pub mod Refused
 pub mod Laws
