@@ -1,0 +1,10 @@
+pub mod Gathering
+pub mod Endings
+pub mod Shorter
+pub mod Words
+pub mod EachSpelled
+pub mod GrammarAgain
+pub mod GrammarTakes
+pub mod GrammarOutcome
+pub mod Numbers
+pub mod GrammarProlog

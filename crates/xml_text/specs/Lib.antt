@@ -1,0 +1,9 @@
+pub mod Character
+pub mod Tokens
+pub mod Reading
+pub mod Tags
+pub mod Markup
+pub mod Grammar
+pub mod Prolog
+pub mod Values
+pub mod Views
