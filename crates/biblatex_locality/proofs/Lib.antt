@@ -1,0 +1,6 @@
+pub mod TextsResolved
+pub mod ReachedAlike
+pub mod LoadedKeys
+pub mod ValuesAlike
+pub mod FieldsAlike
+pub mod OneMore

@@ -1,0 +1,4 @@
+pub mod Reached
+pub mod Files
+pub mod Opened
+pub mod Differing

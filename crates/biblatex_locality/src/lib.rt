@@ -1,0 +1,18 @@
+//! Laws of bibliographies: what a name means once references are resolved is decided by the entries that it reaches. The functions do
+//! nothing, and carry the laws as their contracts.
+#![tactic(auto)]
+
+ghost use Rattle.biblatex_locality.specs.Differing.{OneMoreEntryChangesNothing};
+ghost use Rattle.biblatex_locality.specs.Reached.{ReachedNamesMeanTheSame};
+
+/// In two files that say the same of all that names reach by references, each of these means entries that say the same once references are
+/// resolved.
+pub fn reached_names_mean_the_same()
+    ensures { ReachedNamesMeanTheSame }
+{}
+
+/// A file says the same of all that names reach after one more entry was put into it, wherever that stands, if each name that is reached still
+/// means an entry of the same key, and no abbreviation changes that a field of a reached entry opens.
+pub fn one_more_entry_changes_nothing()
+    ensures { OneMoreEntryChangesNothing }
+{}

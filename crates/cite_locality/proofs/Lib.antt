@@ -1,0 +1,2 @@
+pub mod WorksMeant
+pub mod ReachedDecide
