@@ -1,0 +1,4 @@
+pub mod Sides
+pub mod Calendar
+pub mod Meaning
+pub mod Laws
