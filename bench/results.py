@@ -57,6 +57,14 @@ gathers the cites of the same names: each cite is a block by itself. The books a
 by nobody and of N titles, or of one title in which other letters are formulas.
 """
 
+COLLISIONS = """## Names that collide
+
+    bench/collisions.py
+
+`cite` on files of N entries whose names are of 32 bytes: names that all have one value under the hash of the kit's maps, and others of the same
+length. They are the keys of entries, further names of entries, or the names of abbreviations.
+"""
+
 TABLES = {
     "books": ("Plain books", """`cite` on books of five lines of 130 to 150 bytes in all, and a document with a marker for each 60 bytes, keys drawn evenly."""),
     "reader": ("The reader", """`bib_show` on the file of mixed entries."""),
@@ -244,7 +252,33 @@ def blocks_table(found):
     ])
 
 
-PARTS = {"filter": filter_table, "one_marker": one_table, "few_markers": few_table, "alike": alike_table, "blocks": blocks_table}
+def collisions_table(found):
+    """The part of the page about names that collide."""
+    rows = []
+    for name, run in found["runs"].items():
+        for row in run:
+            others, colliding = row["others"], row["colliding"]
+            rows.append(f"| {name} | {number(row['N'])} | {number(others['bytes'])} | {number(others['instructions'])} | {others['seconds']} "
+                        f"| {number(colliding['instructions'])} | {colliding['seconds']} | {row['times']:.2f} |")
+    return "\n".join([
+        COLLISIONS,
+        "| names | N | bytes of input | instructions of others | seconds | instructions of those that collide | seconds | times |",
+        "|---|---|---|---|---|---|---|---|",
+        *rows,
+        "",
+        f"Wanted: at most {found['wanted']} times those of others. {measured(found)}",
+        "",
+    ])
+
+
+PARTS = {
+    "filter": filter_table,
+    "one_marker": one_table,
+    "few_markers": few_table,
+    "alike": alike_table,
+    "blocks": blocks_table,
+    "collisions": collisions_table,
+}
 
 
 def deep_table(found):

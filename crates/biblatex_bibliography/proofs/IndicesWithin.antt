@@ -1,13 +1,14 @@
 -- Names mean indices of entries that there are, whatever changes.
 use Rattle.std.proofs.Common.{◌≡◌, ℕ, suc, ◌+◌, ◌-◌, ◌<◌, ◌++◌, Bool, true, false, cond, eqb, ltb, List, [], ◌∷◌, length, Option, Some, None, Result, Ok, Err, Vec, Global, map, take, drop, refl, sym, ap, subst, ◌∙◌, arith}
-use Rattle.std.specs.Prelude.{IfSome, option_and_then, OnOk, remove, filter_map}
+use Rattle.std.specs.Prelude.{IfSome, option_and_then, OnOk, OnErr, remove, filter_map}
 use Rattle.std.specs.List.{list_any}
 use Rattle.std.specs.Str.{bytes_eq}
 use Rattle.std.proofs.lemmas.Bool.Decides.{nat_tests}
 use Rattle.std.proofs.lemmas.List.{take-map, drop-map, map-append}
 use Rattle.biblatex_entries.specs.declared.entry.Entry.{Entry}
 use Rattle.biblatex_entries.specs.Entries.{source_view, sources_view, parents_of}
-use Rattle.biblatex_bibliography.specs.Indices.{Meaning, AreWithin, bound, index_without, without_index}
+use Rattle.biblatex_bibliography.specs.declared.indices.NamedIndex.{NamedIndex}
+use Rattle.biblatex_bibliography.specs.Indices.{Meaning, meaning_in, names_in, AreWithin, bound, index_without, without_index}
 use Rattle.biblatex_bibliography.specs.Bibliographies.{references}
 
 -- names are bound to an index below a count that is no less
@@ -18,6 +19,12 @@ bound_within names index n k m f e lt le within = subst (λ (g : Meaning). AreWi
     by_test true o w = lt
     by_test false None w = tt
     by_test false (Some i) w = omega (arith, w, le)
+
+-- names are bound to an index below a count, or there was no memory for it
+pub bound_or_same : {A E : Type 0} (r : Result A E) (names : List (List ℕ)) (index count : ℕ) (ns ms : List NamedIndex) → OnOk r (meaning_in (names_in ms) ≡ bound names index (meaning_in (names_in ns))) → OnErr r (ms ≡ ns) → index < count
+    → AreWithin (meaning_in (names_in ns)) count → AreWithin (meaning_in (names_in ms)) count
+bound_or_same (Ok a) names index count ns ms ok err lt within = bound_within names index count count (meaning_in (names_in ns)) (meaning_in (names_in ms)) ok lt (omega arith) within
+bound_or_same (Err e) names index count ns ms ok err lt within = subst (λ (xs : List NamedIndex). AreWithin (meaning_in (names_in xs)) count) (sym err) within
 
 -- what a name that means something means
 pub known : (meaning : Option ℕ) (index count : ℕ) → Some index ≡ meaning → IfSome meaning (λ i. i < count) → index < count

@@ -1,9 +1,17 @@
+pub mod IndicesOrder
+pub mod IndicesPlaces
+pub mod IndicesChanges
 pub mod IndicesBinding
 pub mod IndicesWithin
 pub mod IndicesNames
+pub mod NamingEqual
+pub mod NamingOrder
+pub mod NamingSources
+pub mod NamingOnce
 pub mod LendingBorrowed
 pub mod ResolvedEntries
 pub mod ReadingLoaded
+pub mod ReadingOnce
 pub mod ReadingJoined
 pub mod ResolvedUnique
 pub mod Lines

@@ -1,11 +1,9 @@
 -- Entries that are read one after the other.
-use Rattle.std.proofs.Common.{◌≡◌, ℕ, suc, ◌+◌, ◌<◌, Bool, true, false, List, [], ◌∷◌, ◌++◌, length, map, slice_get, Option, Some, None, Result, Ok, Err, Bor, refl, sym, ap, subst, ◌∙◌, arith}
+use Rattle.std.proofs.Common.{◌≡◌, ℕ, suc, ◌+◌, ◌<◌, Bool, true, false, List, [], ◌∷◌, ◌++◌, length, Option, Some, None, Result, Ok, Err, refl, sym, ap, subst, arith}
 use Rattle.std.specs.Prelude.{is_some, IfSome}
 use Rattle.laws.specs.Results.{◌>>=◌}
 use Rattle.laws.specs.Text.{text}
 use Rattle.biblatex_text.specs.Raw.{At, Entry, Raw}
-use Rattle.biblatex_text.specs.Views.{spanned_text_view}
-use Rattle.biblatex_text.specs.declared.spanned.Spanned.{Spanned}
 use Rattle.biblatex_fields.specs.Abbreviations.{Glossary, AreFlags}
 use Rattle.biblatex_fields.specs.Fields.{Named, fields_of}
 use Rattle.biblatex_entries.specs.Entries.{Source}
@@ -13,10 +11,9 @@ use Rattle.biblatex_inheritance.specs.Solution.{IsRefusedAs}
 use Rattle.biblatex_inheritance.specs.declared.error.ResolveError.{ResolveError}
 use Rattle.biblatex_inheritance.specs.declared.error.ResolveError.TheVariants as errors
 use Rattle.biblatex_inheritance.proofs.SolutionAlong.{fault_within}
-use Rattle.biblatex_bibliography.specs.Bibliographies.{Listed, Indexed, listed_view, nothing, pushed, IsAsRead, references}
-use Rattle.biblatex_bibliography.specs.Reading.{Refusal, Loaded, nothing_loaded, refused_at, duplicate_key, source_of, unless_known, entry_after, entries_after, loaded}
+use Rattle.biblatex_bibliography.specs.Bibliographies.{Listed, pushed, IsAsRead, references}
+use Rattle.biblatex_bibliography.specs.Reading.{Refusal, Loaded, nothing_loaded, source_of, unless_known, entry_after, entries_after, loaded}
 use Rattle.biblatex_bibliography.specs.Resolved.{number_of, unresolved_at, ComesTo, Means, IsMeaningOf}
-use Rattle.biblatex_bibliography.specs.Errors.{loaded_with_keys}
 use Rattle.biblatex_bibliography.proofs.IndicesWithin.{length_last}
 use Rattle.biblatex_bibliography.proofs.IndicesNames.{pushed-read}
 
@@ -30,32 +27,6 @@ Same a b = a ≡ b
 -- equal answers have equal values
 ok_same : (l m : Loaded) → Same (Ok l) (Ok m) → l ≡ m
 ok_same l m e = ap (inner l) e
-
--- an entry whose key has a meaning already is refused
-pub entry_known : (g : Glossary) (l : Loaded) (e : Entry) (fs : List Named) (key : List ℕ) → fields_of g e.fields ≡ Ok fs → key ≡ text e.key.v → is_some (l.listed.index key) ≡ true
-    → entry_after g l e ≡ Err (refused_at e.key (duplicate_key key))
-entry_known g l e fs key read is known = rw (read, ← is, known) refl
-
--- an entry whose key has no meaning yet is appended
-pub entry_fresh : (g : Glossary) (l : Loaded) (e : Entry) (fs : List Named) (key : List ℕ) → fields_of g e.fields ≡ Ok fs → key ≡ text e.key.v → is_some (l.listed.index key) ≡ false
-    → entry_after g l e ≡ Ok (record { listed = pushed (source_of e fs) l.listed; keys = l.keys ++ e.key ∷ [] })
-entry_fresh g l e fs key read is fresh = rw (read, ← is, fresh) refl
-
--- before the first entry nothing was read
-pub begins : (b : Indexed) (keys : List (Spanned (Bor (List ℕ)))) → listed_view b ≡ nothing → keys ≡ [] → loaded_with_keys b keys ≡ nothing_loaded
-begins b keys e k = ap (λ (l : Listed). loaded_with l (map spanned_text_view keys)) e ∙ ap (λ (ks : List (Spanned (Bor (List ℕ)))). loaded_with nothing (map spanned_text_view ks)) k
-  where
-    loaded_with : Listed → List (At (List ℕ)) → Loaded
-    loaded_with l ks = record { listed = l; keys = ks }
-
--- an entry that was read goes after those before it
-pub goes_on : (g : Glossary) (l m : Loaded) (e : At Entry) (es : List (At Entry)) (total : Result Loaded Refusal) → entry_after g l e.v ≡ Ok m → entries_after g l (e ∷ es) ≡ total → entries_after g m es ≡ total
-goes_on g l m e es total step is = sym (ap (λ (r : Result Loaded Refusal). r >>= λ more. entries_after g more es) step) ∙ is
-
--- the refusal of an entry is that of all that is read
-pub fails : (g : Glossary) (l : Loaded) (e : At Entry) (es : List (At Entry)) (total : Result Loaded Refusal) (o : Option Refusal) → IfSome o (λ r. entry_after g l e.v ≡ Err r) → entries_after g l (e ∷ es) ≡ total → IfSome o (λ r. total ≡ Err r)
-fails g l e es total None step is = tt
-fails g l e es total (Some r) step is = sym is ∙ ap (λ (x : Result Loaded Refusal). x >>= λ more. entries_after g more es) step
 
 -- one reading has n entries and n keys more than another
 pub record More (l m : Loaded) (n : ℕ) : Type 0 where

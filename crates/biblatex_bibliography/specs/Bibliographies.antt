@@ -1,11 +1,10 @@
 -- Entries in file order, and what names mean.
-use Rattle.std.specs.Global.{Global}
-use Rattle.std.specs.Prelude.{◌≡◌, ℕ, suc, Bool, List, [], ◌∷◌, ◌++◌, map, length, remove, slice_set, slice_get, filter_map, Option, Some, None, String, option_and_then, if◌then◌else◌}
-use Rattle.std.specs.HashMap.{HashMap}
+use Rattle.std.specs.Prelude.{◌≡◌, ℕ, suc, Bool, List, [], ◌∷◌, ◌++◌, map, length, remove, slice_set, slice_get, filter_map, Option, Some, None, option_and_then, if◌then◌else◌}
 use Rattle.std.specs.List.{list_any}
 use Rattle.std.specs.Str.{bytes_eq}
 use Rattle.biblatex_entries.specs.Entries.{Source, sources_view, names_of, parents_of}
 use Rattle.biblatex_entries.specs.declared.entry.Entry.{Entry}
+use Rattle.biblatex_bibliography.specs.declared.indices.NamedIndex.{NamedIndex}
 use Rattle.biblatex_bibliography.specs.Indices.{Names, Meaning, meaning_in, names_in, AreWithin, bound, without_index}
 
 -- entries, and what names mean
@@ -13,7 +12,7 @@ pub record Listed : Type 0 where
   pub entries : List Source
   pub index : Meaning
 
--- entries, and names in any order
+-- entries, and names
 pub record Indexed : Type 0 where
   pub entries : List Source
   pub names : Names
@@ -22,9 +21,9 @@ pub record Indexed : Type 0 where
 abbrev pub listed_view : Indexed → Listed
 listed_view b = record { entries = b.entries; index = meaning_in b.names }
 
--- entries in memory and the map of their names
-abbrev pub indexed : {S : Type 0} → List Entry → HashMap (String Global) ℕ S → Indexed
-indexed entries indices = record { entries = sources_view entries; names = names_in indices }
+-- entries in memory and their names
+abbrev pub indexed : List Entry → List NamedIndex → Indexed
+indexed entries names = record { entries = sources_view entries; names = names_in names }
 
 -- each name means the index of an entry that there is
 abbrev pub IsWithin : Indexed → Type 0

@@ -1,5 +1,6 @@
 pub mod Indices
 pub mod Bibliographies
+pub mod Naming
 pub mod Lending
 pub mod Keys
 pub mod Reading

@@ -6,38 +6,41 @@ ghost use Rattle.std.specs.Borrow.{sem};
 ghost use Rattle.std.specs.Slice.Iter.{iter_rest, iter_mut_rest, iter_mut_name};
 ghost use Rattle.std.specs.Iterator.Adapters.{IterMutYieldsInOrder};
 ghost use Rattle.biblatex_inheritance.specs.Solution.{IsRefusedAs};
+ghost use Rattle.biblatex_bibliography.specs.Indices.{AreInOrder};
 ghost use Rattle.biblatex_bibliography.specs.Keys.{keys_left};
 ghost use Rattle.biblatex_bibliography.specs.Resolved.{IsResolved};
 ghost use Rattle.biblatex_bibliography.specs.Lending.{LendsEntry, LendsEntries};
 ghost use Rattle.biblatex_entries.specs.declared.entry.Entry.{Entry};
 ghost use Rattle.biblatex_entries.specs.Entries.{source_view, sources_view, HaveJoinedFields};
-ghost use Rattle.biblatex_bibliography.specs.Bibliographies.{listed_view, IsAsRead, nothing, entry_named, pushed, inserted, removed, aliased, references};
+ghost use Rattle.biblatex_bibliography.specs.Bibliographies.{indexed, listed_view, IsWithin, IsAsRead, nothing, entry_named, pushed, inserted, removed, aliased, references};
 
 use crate::indexed::{key_alone, put_last, replace, take};
-use crate::indices::{bind, index_in, indices_meant};
+use crate::indices::{NamedIndex, bind, index_in, indices_meant};
 use crate::keys::Keys;
 use biblatex_entries::Entry;
 use biblatex_inheritance::{Resolution, ResolveError, resolve};
 use std::alloc::{AllocError, Global};
-use std::collections::HashMap;
 use std::marker::Model;
 use std::slice::{Iter, IterMut};
 
-/// Entries in file order, found by their names. A name means the entry that it was last given to.
+/// Entries in file order, found by their names, which are kept in the order of their bytes. A name means the entry that it was last
+/// given to.
 #[derive(Drop)]
 pub struct Bibliography {
     entries: Vec<Entry>,
-    indices: HashMap<String, usize>,
+    names: Vec<NamedIndex>,
 }
 
 impl Model for Bibliography {
+    ghost use Rattle.biblatex_bibliography.specs.Indices.{AreInOrder};
     ghost use Rattle.biblatex_bibliography.specs.Bibliographies.{Indexed, indexed, IsWithin};
 
     ghost Value = { Indexed };
 
-    ghost view = { λ b. indexed b.entries.items b.indices };
+    ghost view = { λ b. indexed b.entries.items b.names.items };
 
-    ghost invariant = { λ b. IsWithin (indexed b.entries.items b.indices) };
+    ghost invariant = { λ b. IsWithin (indexed b.entries.items b.names.items)
+        × AreInOrder b.names.items };
 }
 
 impl Bibliography {
@@ -48,8 +51,17 @@ impl Bibliography {
     {
         Bibliography {
             entries: Vec::new(alloc),
-            indices: HashMap::new(alloc),
+            names: Vec::new(alloc),
         }
+    }
+
+    /// Entries under names in their order, of which each means one of the entries.
+    pub(crate) fn of(entries: Vec<Entry>, names: Vec<NamedIndex>) -> Bibliography
+        requires within { IsWithin (indexed entries.items names.items) }
+        requires order { AreInOrder names.items }
+        ensures { result ≡ indexed entries.items names.items }
+    {
+        Bibliography { entries, names }
     }
 
     /// How many entries there are.
@@ -101,7 +113,7 @@ impl Bibliography {
         ensures value { result ≡ (listed_view self.now).index name.now }
         ensures within { IfSome result (λ i. i < length self.now.entries) }
     {
-        index_in(&self.indices, name)
+        index_in(self.names.as_slice(), name)
     }
 
     /// The entry that the name means.
@@ -109,7 +121,7 @@ impl Bibliography {
         ensures { option_map (λ e. source_view e.now) result
             ≡ entry_named name.now (listed_view self.now) }
     {
-        let index = index_in(&self.indices, name)?;
+        let index = index_in(self.names.as_slice(), name)?;
         self.entries.get(index)
     }
 
@@ -120,7 +132,7 @@ impl Bibliography {
         ensures value { option_map (λ e. source_view e.now) result
             ≡ entry_named name.now (listed_view self.old) }
     {
-        let meant = index_in(&self.indices, name)?;
+        let meant = index_in(self.names.as_slice(), name)?;
         self.entries.get_mut(meant)
     }
 
@@ -143,7 +155,7 @@ impl Bibliography {
         ensures err { OnErr result (self.new ≡ self.old) }
     {
         let names = entry.names(*self.entries.allocator())?;
-        put_last(&mut self.entries, &mut self.indices, names, entry)
+        put_last(&mut self.entries, &mut self.names, names, entry)
     }
 
     /// Replaces the entry that the key of the new one means, and returns it; the new one has all of its names. Where
@@ -156,11 +168,11 @@ impl Bibliography {
             ≡ entry_named (string_bytes entry.key) (listed_view self.old)) }
         ensures err { OnErr result (self.new ≡ self.old) }
     {
-        if let Some(index) = index_in(&self.indices, entry.key.as_str()) {
+        if let Some(index) = index_in(self.names.as_slice(), entry.key.as_str()) {
             return Ok(Some(replace(&mut self.entries, index, entry)));
         }
         let names = key_alone(*self.entries.allocator(), &entry)?;
-        put_last(&mut self.entries, &mut self.indices, names, entry)?;
+        put_last(&mut self.entries, &mut self.names, names, entry)?;
         Ok(None)
     }
 
@@ -171,8 +183,8 @@ impl Bibliography {
         ensures value { option_map source_view result
             ≡ entry_named name.now (listed_view self.old) }
     {
-        let index = index_in(&self.indices, name)?;
-        Some(take(&mut self.entries, &mut self.indices, index))
+        let index = index_in(self.names.as_slice(), name)?;
+        Some(take(&mut self.entries, &mut self.names, index))
     }
 
     /// Lets the alias mean the entry that the name means, also where it meant another one; does nothing where the name
@@ -182,11 +194,11 @@ impl Bibliography {
             ≡ aliased name.now alias.now (listed_view self.old)) }
         ensures err { OnErr result (self.new ≡ self.old) }
     {
-        let Some(index) = index_in(&self.indices, name) else {
+        let Some(index) = index_in(self.names.as_slice(), name) else {
             return Ok(());
         };
         let alias = String::from_str(*self.entries.allocator(), alias)?;
-        bind(&mut self.indices, alias, index)
+        bind(&mut self.names, alias, index)
     }
 
     /// Of each entry, in order, the indices of the entries that its `crossref` and then its `xdata` name; names that mean
@@ -198,7 +210,8 @@ impl Bibliography {
         let mut references = Vec::with_capacity(alloc, self.entries.len())?;
         let mut rest = self.entries.as_slice();
         while let Some((entry, others)) = rest.split_first() {
-            references.push(indices_meant(alloc, &self.indices, entry.parents(alloc)?)?)?;
+            let parents = entry.parents(alloc)?;
+            references.push(indices_meant(alloc, self.names.as_slice(), parents)?)?;
             rest = others;
         }
         Ok(references)
@@ -217,7 +230,7 @@ impl Bibliography {
         Ok((
             Bibliography {
                 entries,
-                indices: self.indices,
+                names: self.names,
             },
             count,
         ))

@@ -1,13 +1,13 @@
-//! Entries, and the indices that names mean among them, changed together.
+//! Entries, and their names, changed together.
 
 ghost use Rattle.std.specs.Prelude.{◌≡◌, ◌<◌, ◌∷◌, [], Some, map, length, slice_get, slice_set, string_bytes, IfOk, OnOk, OnErr};
 ghost use Rattle.biblatex_entries.specs.Entries.{source_view, sources_view};
+ghost use Rattle.biblatex_bibliography.specs.Indices.{AreInOrder};
 ghost use Rattle.biblatex_bibliography.specs.Bibliographies as specs;
 
-use crate::indices::{bind_all, take_out};
+use crate::indices::{NamedIndex, bind_all, take_out};
 use biblatex_entries::Entry;
 use std::alloc::{AllocError, Global};
-use std::collections::HashMap;
 use std::mem;
 
 /// The key of an entry, as its only name.
@@ -22,21 +22,23 @@ pub(crate) fn key_alone(alloc: Global, entry: &Entry) -> Result<Vec<String>, All
 /// Appends an entry, which these names mean from now on. Unchanged where there is no memory for it.
 pub(crate) fn put_last(
     entries: &mut Vec<Entry>,
-    indices: &mut HashMap<String, usize>,
-    names: Vec<String>,
+    names: &mut Vec<NamedIndex>,
+    more: Vec<String>,
     entry: Entry,
 ) -> Result<(), AllocError>
-    ensures ok { OnOk result (specs.listed_view (specs.indexed entries.new.items indices.new)
-        ≡ specs.put_last (map string_bytes names.items) (source_view entry)
-        (specs.listed_view (specs.indexed entries.old.items indices.old))) }
-    ensures within { specs.IsWithin (specs.indexed entries.old.items indices.old)
-        → specs.IsWithin (specs.indexed entries.new.items indices.new) }
-    ensures err { OnErr result (specs.indexed entries.new.items indices.new
-        ≡ specs.indexed entries.old.items indices.old) }
+    requires { AreInOrder names.old.items }
+    ensures ok { OnOk result (specs.listed_view (specs.indexed entries.new.items names.new.items)
+        ≡ specs.put_last (map string_bytes more.items) (source_view entry)
+        (specs.listed_view (specs.indexed entries.old.items names.old.items))) }
+    ensures within { specs.IsWithin (specs.indexed entries.old.items names.old.items)
+        → specs.IsWithin (specs.indexed entries.new.items names.new.items) }
+    ensures order { AreInOrder names.new.items }
+    ensures err { OnErr result (specs.indexed entries.new.items names.new.items
+        ≡ specs.indexed entries.old.items names.old.items) }
 {
     let index = entries.len();
     entries.reserve(1)?;
-    bind_all(indices, names, index)?;
+    bind_all(names, more, index)?;
     entries.push(entry).unwrap();
     Ok(())
 }
@@ -52,19 +54,17 @@ pub(crate) fn replace(entries: &mut Vec<Entry>, index: usize, entry: Entry) -> E
 }
 
 /// Removes the entry at an index, with all its names, and returns it. The indices of the entries after it are one less.
-pub(crate) fn take(
-    entries: &mut Vec<Entry>,
-    indices: &mut HashMap<String, usize>,
-    index: usize,
-) -> Entry
-    requires { index < length (sources_view entries.old.items) }
-    ensures rest { specs.listed_view (specs.indexed entries.new.items indices.new)
+pub(crate) fn take(entries: &mut Vec<Entry>, names: &mut Vec<NamedIndex>, index: usize) -> Entry
+    requires index { index < length (sources_view entries.old.items) }
+    requires order { AreInOrder names.old.items }
+    ensures rest { specs.listed_view (specs.indexed entries.new.items names.new.items)
         ≡ specs.removed_at (Some index)
-        (specs.listed_view (specs.indexed entries.old.items indices.old)) }
-    ensures within { specs.IsWithin (specs.indexed entries.old.items indices.old)
-        → specs.IsWithin (specs.indexed entries.new.items indices.new) }
+        (specs.listed_view (specs.indexed entries.old.items names.old.items)) }
+    ensures within { specs.IsWithin (specs.indexed entries.old.items names.old.items)
+        → specs.IsWithin (specs.indexed entries.new.items names.new.items) }
+    ensures order { AreInOrder names.new.items }
     ensures value { slice_get (sources_view entries.old.items) index ≡ Some (source_view result) }
 {
-    take_out(indices, index);
+    take_out(names, index);
     entries.remove(index)
 }

@@ -1,74 +1,141 @@
 //! The indices of entries by their names.
 
-ghost use Rattle.std.specs.Prelude.{◌≡◌, ◌<◌, ◌∷◌, ℕ, ◌++◌, [], map, filter_map, option_to_list, string_bytes, IfOk, OnOk, OnErr};
-ghost use Rattle.biblatex_bibliography.specs.Indices.{meaning_in, names_in, bound, without_index, AreWithin};
+ghost use Rattle.std.specs.Prelude.{◌≡◌, ◌<◌, ◌≤◌, ◌+◌, ◌-◌, ◌∷◌, ◌++◌, [], map, length, filter_map, option_to_list, slice_get, string_bytes, vec_len, vec_capacity, nat_lt, if◌then◌else◌, IfOk, IsOk, OnOk, OnErr};
+ghost use Rattle.biblatex_bibliography.specs.Indices.{meaning_in, names_in, named_down, bound, without_index, has_name, is_less, AreSorted, AreInOrder, IsPlace};
 
 use std::alloc::{AllocError, Global};
-use std::collections::HashMap;
+
+/// A name, and the index of the entry that it means.
+#[derive(Drop)]
+pub(crate) struct NamedIndex {
+    pub(crate) name: String,
+    pub(crate) index: usize,
+}
+
+/// How many names are less than this one, by their bytes.
+fn place_of(names: &[NamedIndex], name: &str) -> usize
+    requires { AreSorted names.now }
+    ensures bound { result ≤ length names.now }
+    ensures place { IsPlace names.now name.now result }
+{
+    names.partition_point(
+        |named: &NamedIndex| -> bool
+            ensures { result ≡ is_less name.entry.now named.now }
+        { named.name.as_str().cmp(name).is_lt() },
+    )
+}
+
+/// Whether the name stands at the place.
+fn stands_at(names: &[NamedIndex], place: usize, name: &str) -> bool
+    ensures { result ≡ has_name name.now (slice_get names.now place) }
+{
+    match names.get(place) {
+        Some(named) => named.name.as_str() == name,
+        None => false,
+    }
+}
+
+/// The index at the first of the names that is equal to this one.
+pub(crate) fn first_index_in(names: &[NamedIndex], name: &str) -> Option<usize>
+    requires { AreSorted names.now }
+    ensures { result ≡ meaning_in (names_in names.now) name.now }
+{
+    let place = place_of(names, name);
+    if stands_at(names, place, name) {
+        Some(names[place].index)
+    } else {
+        None
+    }
+}
 
 /// The index that the name means.
-pub(crate) fn index_in(indices: &HashMap<String, usize>, name: &str) -> Option<usize>
-    ensures { result ≡ meaning_in (names_in indices.now) name.now }
+pub(crate) fn index_in(names: &[NamedIndex], name: &str) -> Option<usize>
+    requires { AreInOrder names.now }
+    ensures { result ≡ meaning_in (names_in names.now) name.now }
 {
-    indices.get(name).copied()
+    first_index_in(names, name)
 }
 
 /// Lets a name mean an index. Unchanged where there is no memory for it.
 pub(crate) fn bind(
-    indices: &mut HashMap<String, usize>,
+    names: &mut Vec<NamedIndex>,
     name: String,
     index: usize,
 ) -> Result<(), AllocError>
-    ensures ok { OnOk result (meaning_in (names_in indices.new)
-        ≡ bound (string_bytes name ∷ []) index (meaning_in (names_in indices.old))) }
-    ensures within { (count : ℕ) → index < count
-        → AreWithin (meaning_in (names_in indices.old)) count
-        → AreWithin (meaning_in (names_in indices.new)) count }
-    ensures err { OnErr result (names_in indices.new ≡ names_in indices.old) }
+    requires { AreInOrder names.old.items }
+    ensures ok { OnOk result (meaning_in (names_in names.new.items)
+        ≡ bound (string_bytes name ∷ []) index (meaning_in (names_in names.old.items))) }
+    ensures order { AreInOrder names.new.items }
+    ensures len { vec_len names.new ≤ vec_len names.old + 1 }
+    ensures capacity { vec_capacity names.old ≤ vec_capacity names.new }
+    ensures succeeds { vec_len names.old < vec_capacity names.old → IsOk result }
+    ensures err { OnErr result (names.new.items ≡ names.old.items) }
 {
-    indices.insert(name, index)?;
+    let place = place_of(names.as_slice(), name.as_str());
+    if stands_at(names.as_slice(), place, name.as_str()) {
+        names[place].index = index;
+        return Ok(());
+    }
+    names.insert(place, NamedIndex { name, index })?;
     Ok(())
 }
 
 /// Lets names mean an index. Unchanged where there is no memory for them.
 pub(crate) fn bind_all(
-    indices: &mut HashMap<String, usize>,
-    names: Vec<String>,
+    names: &mut Vec<NamedIndex>,
+    more: Vec<String>,
     index: usize,
 ) -> Result<(), AllocError>
-    ensures ok { OnOk result (meaning_in (names_in indices.new)
-        ≡ bound (map string_bytes names.items) index (meaning_in (names_in indices.old))) }
-    ensures err { OnErr result (names_in indices.new ≡ names_in indices.old) }
+    requires { AreInOrder names.old.items }
+    ensures ok { OnOk result (meaning_in (names_in names.new.items)
+        ≡ bound (map string_bytes more.items) index (meaning_in (names_in names.old.items))) }
+    ensures order { AreInOrder names.new.items }
+    ensures err { OnErr result (names.new.items ≡ names.old.items) }
 {
-    let mut rest = names;
-    indices.reserve(rest.len())?;
+    let mut rest = more;
+    names.reserve(rest.len())?;
     while let Some(name) = rest.pop() {
-        let bound: Result<_, _> = indices.insert(name, index);
+        let bound: Result<_, _> = bind(names, name, index);
         bound.unwrap();
     }
     Ok(())
 }
 
-/// Removes the names that mean an index; the indices after it are one less.
-pub(crate) fn take_out(indices: &mut HashMap<String, usize>, out: usize)
-    ensures { meaning_in (names_in indices.new)
-        ≡ without_index out (meaning_in (names_in indices.old)) }
+/// An index once another one is taken out: those after it are one less.
+fn index_down(out: usize, index: usize) -> usize
+    ensures { result ≡ (if nat_lt out index then index - 1 else index) }
 {
-    indices.retain(|_, index| *index != out);
-    indices.retain(|_, index| {
-        if out < *index {
-            *index -= 1;
-        }
-        true
-    });
+    if out < index { index - 1 } else { index }
+}
+
+/// Lets each name mean its index once another one is taken out.
+fn move_down(names: &mut Vec<NamedIndex>, out: usize)
+    ensures { names.new.items ≡ map (named_down out) names.old.items }
+{
+    for place in 0..names.len() {
+        let named = &mut names[place];
+        named.index = index_down(out, named.index);
+    }
+}
+
+/// Removes the names that mean an index; the indices after it are one less.
+pub(crate) fn take_out(names: &mut Vec<NamedIndex>, out: usize)
+    requires { AreInOrder names.old.items }
+    ensures meaning { meaning_in (names_in names.new.items)
+        ≡ without_index out (meaning_in (names_in names.old.items)) }
+    ensures order { AreInOrder names.new.items }
+{
+    names.retain(|named| named.index != out);
+    move_down(names, out);
 }
 
 /// The indices that the names mean, in their order; names that mean none are passed over.
 pub(crate) fn indices_meant(
     alloc: Global,
-    indices: &HashMap<String, usize>,
+    indices: &[NamedIndex],
     names: Vec<String>,
 ) -> Result<Vec<usize>, AllocError>
+    requires { AreInOrder indices.now }
     ensures { IfOk result (λ v. v.items
         ≡ filter_map (meaning_in (names_in indices.now)) (map string_bytes names.items)) }
 {

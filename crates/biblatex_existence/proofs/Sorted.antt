@@ -28,7 +28,7 @@ below_put m (f ∷ fs) name v less all = by (slice_cmp nat_cmp name f.0) (below_
     by Equal more = all
     by Greater more = (all.0, more)
 
-put_sorted : (fs : List Named) (name : List ℕ) (v : Value) → AreInOrder fs → AreInOrder (with_field fs name v)
+pub put_sorted : (fs : List Named) (name : List ℕ) (v : Value) → AreInOrder fs → AreInOrder (with_field fs name v)
 unfolding IsStrictlySortedBy
 put_sorted [] name v sorted = (tt, tt)
 put_sorted (f ∷ fs) name v sorted = by (slice_cmp nat_cmp name f.0) refl (put_sorted fs name v sorted.1)

@@ -1,7 +1,7 @@
 -- What the code holds and gives, without where it lies in memory.
 use Rattle.std.specs.Global.{Global}
 use Rattle.std.specs.Prelude.{◌≡◌, ℕ, List, map, String}
-use Rattle.std.specs.HashMap.{HashMap, get_by_text}
+use Rattle.std.specs.BTreeMap.{BTreeMap, get_by_text}
 use Rattle.std.specs.Str.{chars}
 use Rattle.std.specs.Borrow.{Bor}
 use Rattle.biblatex_text.specs.Raw.{Field}
@@ -19,6 +19,6 @@ sense_view ds (senses.Defined index) = defined (pieces_at ds index)
 abbrev pub definitions_view : Bor (List Pair) → List Field
 definitions_view ps = map field_view ps.now
 
--- an index from each name to the index of its last definition
-abbrev pub IsIndex : {S : Type 0} → HashMap (String Global) ℕ S → List Field → Type 0
+-- a map from each name to the index of its last definition
+abbrev pub IsIndex : BTreeMap (String Global) ℕ → List Field → Type 0
 IsIndex table ds = (name : List ℕ) → get_by_text table name ≡ index_of name ds

@@ -15,7 +15,7 @@ use crate::error::{ParseError, ParseErrorKind};
 use crate::month::month;
 use biblatex_text::{Pair, RawChunk, Spanned};
 use std::alloc::{AllocError, Global};
-use std::collections::HashMap;
+use std::collections::BTreeMap;
 use std::marker::Model;
 use texts::owned;
 
@@ -25,7 +25,7 @@ use texts::owned;
 #[derive(Drop)]
 pub(crate) struct Glossary<'r, 's> {
     pub definitions: &'r [Pair<'s>],
-    pub indices: HashMap<String, usize>,
+    pub indices: BTreeMap<String, usize>,
     pub circular: Vec<bool>,
 }
 
@@ -59,10 +59,10 @@ pub(crate) fn lowered(alloc: Global, text: &str) -> Result<String, AllocError>
 pub(crate) fn indices_of(
     alloc: Global,
     definitions: &[Pair],
-) -> Result<HashMap<String, usize>, AllocError>
+) -> Result<BTreeMap<String, usize>, AllocError>
     ensures { IfOk result (λ table. IsIndex table (map field_view definitions.now)) }
 {
-    let mut indices = HashMap::new(alloc);
+    let mut indices = BTreeMap::new(alloc);
     for index in 0..definitions.len() {
         let name = lowered(alloc, definitions[index].key.v)?;
         indices.insert(name, index)?;

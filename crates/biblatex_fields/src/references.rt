@@ -11,12 +11,12 @@ use crate::glossary::lowered;
 use biblatex_text::{Pair, RawChunk, Spanned};
 use reference_graph::{ReferenceOrder, reference_order};
 use std::alloc::{AllocError, Global};
-use std::collections::HashMap;
+use std::collections::BTreeMap;
 
 /// The index of the definition that the piece names, if there is one.
 fn named(
     alloc: Global,
-    table: &HashMap<String, usize>,
+    table: &BTreeMap<String, usize>,
     raw: RawChunk,
 ) -> Result<Option<usize>, AllocError>
     ensures { (ds : List Field) → IsIndex table.now ds
@@ -34,7 +34,7 @@ fn named(
 /// The indices of the definitions that the pieces name.
 fn references_of(
     alloc: Global,
-    table: &HashMap<String, usize>,
+    table: &BTreeMap<String, usize>,
     raws: &[Spanned<RawChunk>],
 ) -> Result<Vec<usize>, AllocError>
     ensures { (ds : List Field) → IsIndex table.now ds
@@ -52,7 +52,7 @@ fn references_of(
 /// Of each definition, the indices of the definitions that its pieces name.
 pub(crate) fn references(
     alloc: Global,
-    table: &HashMap<String, usize>,
+    table: &BTreeMap<String, usize>,
     definitions: &[Pair],
 ) -> Result<Vec<Vec<usize>>, AllocError>
     ensures { IsIndex table.now (map field_view definitions.now)
@@ -83,7 +83,7 @@ pub(crate) fn circular_in(
 /// Which definitions reach themselves through the names in their pieces, and an order of all.
 pub(crate) fn order_of(
     alloc: Global,
-    table: &HashMap<String, usize>,
+    table: &BTreeMap<String, usize>,
     definitions: &[Pair],
 ) -> Result<ReferenceOrder, AllocError>
     ensures { IsIndex table.now (map field_view definitions.now)

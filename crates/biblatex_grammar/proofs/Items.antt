@@ -254,7 +254,7 @@ body-takes n kind cs p within e = by_comment (is_named kind.v (codes "comment"))
 
 -- ---- items
 
-item-again : (n : ℕ) (cs a rest : List ℕ) (i : At Item) → IsOutside cs a → IsItem n a i rest → next_item_at n cs ≡ Ok (Some i, rest)
+pub item-again : (n : ℕ) (cs a rest : List ℕ) (i : At Item) → IsOutside cs a → IsItem n a i rest → next_item_at n cs ≡ Ok (Some i, rest)
 unfolding next_item_at item_at
 item-again n cs a rest i skipped (b, c, d, e, kind, sign, gap, name, gap_after, body, at) =
     let name_is : identifier_at n (after_blanks b) ≡ Ok (kind, d) = ap (identifier_at n) (gap-again b c gap) ∙ identifier-again n c d kind name in
@@ -262,6 +262,11 @@ item-again n cs a rest i skipped (b, c, d, e, kind, sign, gap, name, gap_after, 
     let item_is : item_at n b ≡ Ok (i.v, rest) = rw name_is body_is in
     ap (item_or_end_at n) (outside-again cs a skipped ∙ sign)
     ∙ rw item_is (λ j. Ok (Some (record { v = i.v; start = (ap (offset n) (sym sign) ∙ offset-again n i.start a at.0) j; end = offset-again n i.end rest at.1 j }), rest))
+
+-- texts that skipped text leads to one place are read on from there
+pub next-same : (n : ℕ) (cs ds rest : List ℕ) → IsOutside cs rest → IsOutside ds rest → next_item_at n cs ≡ next_item_at n ds
+unfolding next_item_at
+next-same n cs ds rest skipped too = ap (item_or_end_at n) (outside-again cs rest skipped ∙ sym (outside-again ds rest too))
 
 end-again : (n : ℕ) (cs : List ℕ) → IsOutside cs [] → next_item_at n cs ≡ Ok (None, [])
 unfolding next_item_at

@@ -27,7 +27,7 @@ accepted-whole cs (is, are) =
     let n : ℕ = length (text_of cs) in
     items-same n cs ∙ ap (λ (r : Result (List (At Item) × List ℕ) Refusal). r >>= λ p. whole) (items-again n is cs are)
 
-whole-accepted : (cs : List ℕ) → verdict start cs ≡ whole → IsAccepted cs
+pub whole-accepted : (cs : List ℕ) → verdict start cs ≡ whole → IsAccepted cs
 whole-accepted cs e =
     let n : ℕ = length (text_of cs) in
     let read = bind_ok (each (next_item_at n) cs) (λ p. whole) tt (sym (items-same n cs) ∙ e) in

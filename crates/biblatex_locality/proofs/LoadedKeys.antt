@@ -90,7 +90,7 @@ pub loaded_apart : (g : Glossary) (es : List (At Entry)) (m : Loaded) → loaded
 loaded_apart g es m is = (all_distinctly g nothing_loaded m es is (record { known = tt; apart = tt })).apart
 
 -- entries with the same keys are apart alike
-heads_other : (k l : List ℕ) (es ds : List Source) → map head es ≡ map head ds → k ≡ l → AllByRecursion (λ d. bytes_eq k d.key ≡ false) es → AllByRecursion (λ d. bytes_eq l d.key ≡ false) ds
+pub heads_other : (k l : List ℕ) (es ds : List Source) → map head es ≡ map head ds → k ≡ l → AllByRecursion (λ d. bytes_eq k d.key ≡ false) es → AllByRecursion (λ d. bytes_eq l d.key ≡ false) ds
 heads_other k l es [] heads same h = tt
 heads_other k l [] (d ∷ ds) heads same h = absurd (let e : 0 ≡ suc (length (map head ds)) = ap length heads in omega (arith, e))
 heads_other k l (e ∷ es) (d ∷ ds) heads same h = (

@@ -18,7 +18,7 @@ use Rattle.biblatex_locality.proofs.FieldsAlike.{IsReadOf, entry_same, read_each
 use Rattle.biblatex_locality.proofs.LoadedKeys.{AreApart, loaded_apart}
 
 -- what stands at an index of two lists that go together
-zip_first : {A B : Type 0} (R : A → B → Type 0) (xs : List A) (ys : List B) → AllZip R xs ys → (i : ℕ) (y : B) → slice_get ys i ≡ Some y → (x : A) × (slice_get xs i ≡ Some x) × R x y
+pub zip_first : {A B : Type 0} (R : A → B → Type 0) (xs : List A) (ys : List B) → AllZip R xs ys → (i : ℕ) (y : B) → slice_get ys i ≡ Some y → (x : A) × (slice_get xs i ≡ Some x) × R x y
 zip_first R [] [] h i y is = absurd cc
 zip_first R [] (z ∷ ys) h i y is = absurd h
 zip_first R (x ∷ xs) [] h i y is = absurd h
@@ -38,7 +38,7 @@ still_there [] after extra i x is = (suc i, is)
 still_there (b ∷ before) after extra zero x is = (zero, is)
 still_there (b ∷ before) after extra (suc i) x is = let there = still_there before after extra i x is in (suc there.0, there.1)
 
-mapped : {X Y : Type 0} (f : X → Y) (o : Option X) (y : Y) → option_map f o ≡ Some y → (x : X) × (o ≡ Some x) × (f x ≡ y)
+pub mapped : {X Y : Type 0} (f : X → Y) (o : Option X) (y : Y) → option_map f o ≡ Some y → (x : X) × (o ≡ Some x) × (f x ≡ y)
 mapped f None y is = absurd cc
 mapped f (Some x) y is = (x, refl, same_Some (f x) y is)
 

@@ -23,7 +23,7 @@ at_some : {X : Type 0} (P : X → Type 0) (o : Option X) (x : X) → o ≡ Some 
 at_some P o x is h = let g : IfSome (Some x) P = subst (λ p. IfSome p P) is h in g
 
 -- entries that say the same refer to the same names
-parents_same : (e f : Source) → SaysTheSame e f → parents_of e.fields ≡ parents_of f.fields
+pub parents_same : (e f : Source) → SaysTheSame e f → parents_of e.fields ≡ parents_of f.fields
 parents_same e f h = λ i. trimmed (text_in (h.texts (codes "crossref") i)) ++ listed (text_in (h.texts (codes "xdata") i))
 
 -- the references of an entry

@@ -25,6 +25,7 @@ fn is_answered(session: &mut Session, kind: &str, case: &Value<'_>) -> bool {
     cases::answer_texts(session, kind, case)
         || cases_values::answer(session, kind, case)
         || cases_entries::answer(session, kind, case)
+        || cases_xml::answer(session, kind, case)
         || cases_literature::answer(session, kind, case)
         || cases_styles::answer(session, kind, case)
         || cases_rendering::answer(session, kind, case)

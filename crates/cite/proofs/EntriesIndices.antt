@@ -45,11 +45,12 @@ module _ (library : List EntryData) where
   abbrev pub IsListed : EntryData → Type 0
   IsListed w = with_key key_of (key_of w) library ≡ Some w
 
-  -- what is found under a key is listed
+  -- what is found under a key has that key, and is listed
+  pub found_key : (k : List ℕ) (w : EntryData) → with_key key_of k library ≡ Some w → k ≡ key_of w
+  found_key k w found = (bytes_eq-Decides k (key_of w)).0 (found_passes (λ x. bytes_eq k (key_of x)) library w found)
+
   pub found_listed : (k : List ℕ) (w : EntryData) → with_key key_of k library ≡ Some w → IsListed w
-  found_listed k w found =
-      let same : k ≡ key_of w = (bytes_eq-Decides k (key_of w)).0 (found_passes (λ x. bytes_eq k (key_of x)) library w found) in
-      subst (λ (n : List ℕ). with_key key_of n library ≡ Some w) same found
+  found_listed k w found = subst (λ (n : List ℕ). with_key key_of n library ≡ Some w) (found_key k w found) found
 
   same_key : (v w : EntryData) → IsListed v → IsListed w → key_of v ≡ key_of w → v ≡ w
   same_key v w hv hw k = ap (λ o. unwrap_or o v) (sym hv ∙ ap (λ (n : List ℕ). with_key key_of n library) k ∙ hw)

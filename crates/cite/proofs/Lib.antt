@@ -1,3 +1,4 @@
+pub mod AlikeAnswers
 pub mod AnswersWeaker
 pub mod AskedIndices
 pub mod Bridged
@@ -7,6 +8,7 @@ pub mod CitedWorks
 pub mod DocumentAsked
 pub mod EntriesIndices
 pub mod Finishing
+pub mod KeyLists
 pub mod MarkersPlain
 pub mod OneLine
 pub mod OutputPieces
@@ -15,11 +17,16 @@ pub mod ProgramLines
 pub mod ProgramServed
 pub mod ProgramWords
 pub mod RenderedStages
+pub mod RequestsAlike
 pub mod RequestsNamed
 pub mod RequestsSteps
+pub mod SameMarkers
+pub mod SectionsAlike
 pub mod SelectorsPlain
-pub mod SinkingCalls
 pub mod StepsAfter
 pub mod StepsRefused
 pub mod VerdictStages
+pub mod VerdictsAlike
+pub mod VerdictsUnique
 pub mod WorksKeys
+pub mod WorksListed

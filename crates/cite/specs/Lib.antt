@@ -7,9 +7,9 @@ pub mod Requests
 pub mod Asked
 pub mod Output
 pub mod Pieces
-pub mod Sinking
 pub mod Stages
 pub mod Verdict
+pub mod Alike
 pub mod Replaced
 pub mod Refusals
 pub mod Finished

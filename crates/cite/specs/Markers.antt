@@ -1,5 +1,6 @@
 -- The markers of a document, and the works that their cites cite.
-use Rattle.std.specs.Prelude.{ℕ, List, filter_map, Option, Some, None, Result, Ok, Err}
+use Rattle.std.specs.Prelude.{ℕ, List, map, filter_map, Option, Some, None, Result, Ok, Err}
+use Rattle.std.specs.List.{flat_map}
 use Rattle.laws.specs.Text.{text}
 use Rattle.literature_entries.specs.EntriesData.{EntryData}
 use Rattle.cite_markers.specs.Document.{Piece, Text, Marker}
@@ -20,6 +21,10 @@ marker_in (Marker cites) = Some cites
 -- the cites of each marker of a document
 abbrev pub markers_of : List Piece → List (List Cite)
 markers_of pieces = filter_map marker_in pieces
+
+-- the names in the cites of a document
+abbrev pub names_cited : List Piece → List (List ℕ)
+names_cited pieces = flat_map (map (λ c. text c.name)) (markers_of pieces)
 
 -- a cite with its work; where it has none, its name, in bytes
 abbrev pub with_work : Cite → Option EntryData → Result CitedWork (List ℕ)

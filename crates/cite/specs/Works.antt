@@ -1,5 +1,5 @@
 -- The entries of a file and the works that they are, and what the names of a document mean.
-use Rattle.std.specs.Prelude.{ℕ, Bool, List, Option, None, if◌then◌else◌, option_and_then}
+use Rattle.std.specs.Prelude.{◌≡◌, ℕ, Bool, List, Option, None, if◌then◌else◌, option_and_then}
 use Rattle.std.specs.Str.{bytes_eq}
 use Rattle.biblatex.specs.Bibliographies.{Listed, entry_named}
 use Rattle.biblatex.specs.Entries.{Source}
@@ -20,6 +20,10 @@ work_of library e = if is_xdata (written_type e.entry_type) then None else with_
 -- the work that a name means
 abbrev pub meaning : List ℕ → Works → Option EntryData
 meaning name works = option_and_then (work_of works.library) (entry_named name works.file)
+
+-- a name means the same work in both, or none in either
+abbrev pub MeansOneWork : Works → Works → List ℕ → Type 0
+MeansOneWork v w name = meaning name v ≡ meaning name w
 
 -- keys distinguish the works of a library
 abbrev pub is_same : EntryData → EntryData → Bool

@@ -113,8 +113,8 @@ fn library_of(alloc: Global, entries: &[&SourceEntry]) -> Result<Library, CiteEr
     Ok(from_entries(alloc, entries)?)
 }
 
-/// The work that an entry of the file is.
-fn work_of<'l>(library: &'l Library, entry: &SourceEntry) -> Option<&'l Entry>
+/// The work that an entry of a file is, in the library of the file. Entries of type `xdata`, which only lend their fields, are no works.
+pub fn work_of<'l>(library: &'l Library, entry: &SourceEntry) -> Option<&'l Entry>
     ensures { option_map (λ e. entry_view e.now) result
         ≡ work_of (library_view library.now) (source_view entry.now) }
 {

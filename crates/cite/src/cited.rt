@@ -17,7 +17,10 @@ use std::alloc::{AllocError, Global};
 use std::collections::HashSet;
 
 /// The keys of the entries that the markers of a document cite.
-pub(crate) fn cited_keys<'f>(
+///
+/// # Errors
+/// Out of memory.
+pub fn cited_keys<'f>(
     alloc: Global,
     file: &'f Bibliography,
     document: &Document<'_>,

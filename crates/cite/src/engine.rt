@@ -14,6 +14,7 @@ ghost use Rattle.cite_markers.specs.Views.{document_view};
 ghost use Rattle.driver.specs.RenderedViews.{rendered_view};
 ghost use Rattle.cite.specs.Stages.{document_stage};
 ghost use Rattle.cite.specs.Verdict.{IsVerdict, rendered_stage};
+ghost use Rattle.cite.specs.Alike.{ForAlike};
 ghost use Rattle.cite.specs.Pieces.{output_of};
 ghost use Rattle.cite.specs.Views.{task_of, file_works};
 ghost use Rattle.cite.specs.Answers.{Answers, Gives, Writes, IsRefusalUnlessWrite, UnlessWrite, OnWrite, IsLastFault};
@@ -140,8 +141,12 @@ pub fn cite_to_string(
     format: BufWriteFormat,
 ) -> Result<String, CiteError>
     // The text is exactly the output; an error is the first refusal, with its fault.
-    ensures { Answers (λ s. string_bytes s) result
+    ensures text { Answers (λ s. string_bytes s) result
         (IsVerdict bib.now (task_of document.now style.now locale.now sections.now format)) }
+    // So it is for each bib text that is alike to this one.
+    ensures alike { ForAlike bib.now (task_of document.now style.now locale.now sections.now format)
+        (λ other. Answers (λ s. string_bytes s) result
+        (IsVerdict other (task_of document.now style.now locale.now sections.now format))) }
 {
     let output = compose(alloc, bib, document, style, locale, sections, format)?;
     Ok(output.to_text(alloc)?)
@@ -167,6 +172,12 @@ pub fn cite<W: Sink>(
     ensures written { OnOk result
         (Writes (IsVerdict bib.now (task_of document.now style.now locale.now sections.now format))
         (λ output. Appends (W.contents sink.old) (W.contents sink.new) output)) }
+    // What it has taken is the output of each bib text that is alike to this one.
+    ensures alike { OnOk result
+        (ForAlike bib.now (task_of document.now style.now locale.now sections.now format)
+        (λ other. Writes
+        (IsVerdict other (task_of document.now style.now locale.now sections.now format))
+        (λ output. Appends (W.contents sink.old) (W.contents sink.new) output))) }
     // A refusal is the first one, with its fault.
     ensures refused { IfErr result (λ e. IsRefusalUnlessWrite e
         (IsVerdict bib.now (task_of document.now style.now locale.now sections.now format))) }

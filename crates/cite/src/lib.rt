@@ -10,19 +10,23 @@ mod error;
 mod one_line;
 mod output;
 mod output_laws;
+mod printed;
 mod program;
 mod requests;
 mod sections;
-mod sink_target;
 
+pub use bib_file::work_of;
 pub use cite_markers::{Cite, CiteLocator, Document, DocumentError, Piece};
 pub use cite_styles::{author_date, english, note, numeric};
+pub use cited::cited_keys;
 pub use engine::{cite, cite_to_string};
 pub use error::{BibTextError, CiteError, DocumentTextError};
 pub use interop::{DateField, FieldFault};
 pub use literature::SelectorError;
 pub use one_line::refusals_have_line_messages;
-pub use output_laws::{citations_depend_on_markers_alone, texts_come_out_unchanged};
+pub use output_laws::{
+    alike_texts_have_one_verdict, citations_depend_on_markers_alone, texts_come_out_unchanged,
+};
 pub use program::{paths, run};
 pub use rendering_locale::Locale;
 pub use rendering_output::BufWriteFormat;

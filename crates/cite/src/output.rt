@@ -16,12 +16,12 @@ ghost use Rattle.driver.specs.RenderedViews.{rendered_bibliography_view, rendere
 ghost use Rattle.cite.specs.Output.{bibliography_text, document_text, field_text, item_text, item_opening, item_end, output_text};
 ghost use Rattle.cite.specs.Pieces.{citations_after, output_of, piece_text};
 
-use crate::sink_target::SinkTarget;
+use crate::printed::Printed;
 use cite_markers::{Document, Piece};
 use driver::{BibliographyItem, Rendered, RenderedBibliography, RenderedCitation};
 use rendering_output::{BufWriteFormat, TextTarget, WriterTarget};
 use rendering_tree::ElemChild;
-use sinks::{Sink, SinkFault};
+use sinks::{Sink, SinkFault, SinkTarget};
 use std::alloc::{AllocError, Global};
 use std::fmt;
 
@@ -58,9 +58,11 @@ impl Output<'_> {
         ensures once { OnErr result (W.failures sink.new ≡ next_count (W.failures sink.old)) }
         ensures fault { IfErr result (λ e. W.last_fault sink.new ≡ Some e) }
     {
-        let mut target = SinkTarget::new(sink);
-        self.push_to(&mut target);
-        target.result()
+        let mut printed = Printed {
+            target: SinkTarget::new(sink),
+        };
+        self.push_to(&mut printed);
+        printed.target.result()
     }
 
     /// Writes the pieces in order to any writer.

@@ -1,5 +1,6 @@
 //! What holds of the outputs of all documents.
 
+ghost use Rattle.cite.specs.Alike.{AlikeTextsHaveOneVerdict};
 ghost use Rattle.cite.specs.Replaced.{CitationsDependOnMarkersAlone, TextsComeOutUnchanged};
 
 /// An output is the document with a citation instead of each marker, and a bibliography after it: each text of the document comes out
@@ -11,4 +12,9 @@ pub fn texts_come_out_unchanged()
 /// Citations and bibliography depend on the markers of the document alone, not on the texts around them.
 pub fn citations_depend_on_markers_alone()
     ensures { CitationsDependOnMarkersAlone }
+{}
+
+/// Bib texts that are alike for a document, style, locale, sections and format have one output.
+pub fn alike_texts_have_one_verdict()
+    ensures { AlikeTextsHaveOneVerdict }
 {}

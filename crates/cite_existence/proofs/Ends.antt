@@ -5,8 +5,9 @@ use Rattle.sinks.specs.declared.files.ReadFault.TheVariants.{Memory, Unreadable}
 use Rattle.cite.specs.Program.{Reads, Job, job_of, line, refusal_message, path_text, task_in, ServesBytes, IsBytesFault, ServesJob, IsJobFault}
 use Rattle.cite.specs.Stages.{Refusal}
 use Rattle.cite.specs.Verdict.{IsVerdict}
+use Rattle.cite.proofs.VerdictsUnique.{one_verdict}
 use Rattle.cite_existence.specs.Ends.{End, output, message, IsEndOf, HasMemory, HasOneEnd, EachRunHasOneEnd}
-use Rattle.cite_existence.proofs.Verdicts.{one_verdict, one_verdict_there}
+use Rattle.cite_existence.proofs.Verdicts.{one_verdict_there}
 
 -- a value is no fault, and values or faults that make equal results are equal
 apart : {F X : Type 0} (x : X) (f : F) (P : Type 0) → Ok x ≡ Err f → P

@@ -1,2 +1,5 @@
 pub mod WorksMeant
 pub mod ReachedDecide
+pub mod OrderKept
+pub mod OneUnreached
+pub mod Uncited

@@ -17,7 +17,8 @@ use Rattle.biblatex.specs.Entries.{Source}
 use Rattle.biblatex.specs.TypeNames.{written_type}
 use Rattle.biblatex_locality.specs.Reached.{SaysTheSame, SayTheSame}
 use Rattle.biblatex_locality.proofs.LoadedKeys.{AreApart}
-use Rattle.interop_values.specs.Values.{Values, filled, is_never_written, other_names, values}
+use Rattle.biblatex_writing.specs.FieldNames.{is_never_written, other_names}
+use Rattle.interop_values.specs.Values.{Values, filled, values}
 use Rattle.literature_values.specs.declared.entry_type.EntryType.{EntryType}
 use Rattle.literature_entries.specs.EntriesData.{EntryData}
 use Rattle.literature.specs.Keys.{put, with_key}
@@ -27,7 +28,7 @@ use Rattle.interop.specs.Kinds.{row_of}
 use Rattle.interop.specs.Library.{all_faults, all_works, is_xdata, key_of, library_of, put_after}
 use Rattle.cite.specs.Stages.{Refusal, AreWorksOf, library_stage, works_from}
 use Rattle.cite.specs.Works.{Works, meaning, work_of}
-use Rattle.cite_alike.proofs.KeyLists.{key_is}
+use Rattle.cite.proofs.KeyLists.{key_is}
 
 same_itself : (k : List ℕ) → bytes_eq k k ≡ true
 same_itself k = (bytes_eq-Decides k k).1 refl
@@ -56,20 +57,20 @@ put_keeps k w differ (v ∷ ws) = by (put_keeps k w differ ws) (bytes_eq (key_of
 abbrev pub work : Source → EntryData
 work e = bridge.work_of e.key (written_type e.entry_type) (values e.fields)
 
-abbrev is_work : Source → Bool
+abbrev pub is_work : Source → Bool
 is_work e = not (is_xdata (written_type e.entry_type))
 
 entry_key : (key : List ℕ) (v : Values) (t : EntryType) (o : Option (EntryType × List Member)) → key_of (entry_in key v t o) ≡ key
 entry_key key v t None = refl
 entry_key key v t (Some outer) = refl
 
-work_key : (e : Source) → key_of (work e) ≡ e.key
+pub work_key : (e : Source) → key_of (work e) ≡ e.key
 work_key e =
     let row = row_of (written_type e.entry_type) in
     entry_key e.key (values e.fields) row.entry_type (container_of row.container (values e.fields))
 
 -- entries of other keys change nothing under a key
-others_keep : (k : List ℕ) (es : List Source) (ws : List EntryData) → AllByRecursion (λ d. bytes_eq k d.key ≡ false) es → with_key key_of k (put_after ws (all_works es)) ≡ with_key key_of k ws
+pub others_keep : (k : List ℕ) (es : List Source) (ws : List EntryData) → AllByRecursion (λ d. bytes_eq k d.key ≡ false) es → with_key key_of k (put_after ws (all_works es)) ≡ with_key key_of k ws
 others_keep k [] ws h = refl
 others_keep k (e ∷ es) ws h = by (λ vs. others_keep k es vs h.1) (is_work e)
   where
@@ -116,7 +117,7 @@ read_is (Err r) works e = absurd cc
 
 -- what a name means, where the keys of the entries are apart
 module _ (bib : List ℕ) (works : Works) (are : AreWorksOf bib (Ok works)) (apart : AreApart works.file.entries) where
-  works_are : works.library ≡ put_after [] (all_works works.file.entries)
+  pub works_are : works.library ≡ put_after [] (all_works works.file.entries)
   works_are = read_is are.0 works are.2
 
   found : (i : ℕ) (e : Source) → slice_get works.file.entries i ≡ Some e → work_of works.library e ≡ as_work e

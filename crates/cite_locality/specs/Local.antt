@@ -1,19 +1,13 @@
 -- What is not cited changes nothing: of a bib text a document sees the entries that its names reach by references, and no others.
-use Rattle.std.specs.Prelude.{◌≡◌, ℕ, List, map}
-use Rattle.std.specs.List.{flat_map}
+use Rattle.std.specs.Prelude.{◌≡◌, ℕ, List}
 use Rattle.std.specs.Str.{chars}
-use Rattle.laws.specs.Text.{text}
 use Rattle.biblatex.specs.Bibliographies.{Listed}
+use Rattle.biblatex_locality.specs.Differing.{BareEntry, HasOneMore, MeansOneKey, NoAbbreviationChanges}
 use Rattle.biblatex_locality.specs.Files.{IsFileOf}
-use Rattle.biblatex_locality.specs.Reached.{SayTheSameOf}
-use Rattle.cite_markers.specs.Document.{Piece}
-use Rattle.cite.specs.Markers.{markers_of}
+use Rattle.biblatex_locality.specs.Reached.{IsReached, SayTheSameOf}
+use Rattle.cite.specs.Markers.{names_cited}
 use Rattle.cite.specs.Verdict.{Task}
-use Rattle.cite_alike.specs.Alike.{IsTaskRead, IsBibRead, AreAlikeFor, keys_in_order}
-
--- the names in the cites of a document
-abbrev pub names_cited : List Piece → List (List ℕ)
-names_cited pieces = flat_map (map (λ c. text c.name)) (markers_of pieces)
+use Rattle.cite.specs.Alike.{IsTaskRead, IsBibRead, AreAlikeFor, keys_in_order}
 
 -- two bib texts that no stage refuses, with their entries before references are resolved
 pub record AreRead (bib other : List ℕ) (task : Task) : Type 0 where
@@ -32,3 +26,15 @@ ReachedEntriesDecide =
     (bib other : List ℕ) (task : Task) (r : AreRead bib other task)
     → SayTheSameOf (names_cited r.asked.pieces) r.file r.other_file → keys_in_order r.first ≡ keys_in_order r.second
     → AreAlikeFor bib other task
+
+-- Of two bib texts that are read the second has one raw entry more, which the document does not reach: each name that it reaches means
+-- entries of one key in both. No abbreviation changes that a field of a reached entry opens.
+pub record DifferByOne (bib other : List ℕ) (task : Task) (r : AreRead bib other task) : Type 0 where
+  pub extra : BareEntry
+  pub one_more : HasOneMore r.loaded.raw r.other_loaded.raw extra
+  pub names : (name : List ℕ) → IsReached r.file (names_cited r.asked.pieces) name → MeansOneKey r.file r.other_file name
+  pub abbreviations : NoAbbreviationChanges (names_cited r.asked.pieces) r.file r.loaded.raw r.other_loaded.raw
+
+-- Such bib texts are alike.
+abbrev pub OneUnreachedEntryChangesNothing : Type 0
+OneUnreachedEntryChangesNothing = (bib other : List ℕ) (task : Task) (r : AreRead bib other task) → DifferByOne bib other task r → AreAlikeFor bib other task

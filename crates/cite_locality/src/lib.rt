@@ -1,10 +1,23 @@
-//! A law of `cite`: what a document sees of a bib text are the entries that its names reach by references. The function does nothing, and
-//! carries the law as its contract.
+//! Laws of `cite`: what a document sees of a bib text are the entries that its names reach by references. The functions do nothing, and
+//! carry the laws as their contracts.
 #![tactic(auto)]
 
-ghost use Rattle.cite_locality.specs.Local.{ReachedEntriesDecide};
+ghost use Rattle.cite_locality.specs.Local.{OneUnreachedEntryChangesNothing, ReachedEntriesDecide};
+ghost use Rattle.cite_locality.specs.Uncited.{UncitedEntriesChangeNothing};
 
 /// Bib texts that say the same of all that the names of a document reach, with the cited entries in one order, are alike for it.
 pub fn reached_entries_decide()
     ensures { ReachedEntriesDecide }
+{}
+
+/// Bib texts of which one has one entry more are alike for a document that does not reach it, if no abbreviation changes that a field of a
+/// reached entry opens.
+pub fn one_unreached_entry_changes_nothing()
+    ensures { OneUnreachedEntryChangesNothing }
+{}
+
+/// A bib text with more entries, put before, between or after others, has the same output for a document that reaches none of them, if no
+/// stage refuses the text with them or without them.
+pub fn uncited_entries_change_nothing()
+    ensures { UncitedEntriesChangeNothing }
 {}

@@ -13,8 +13,10 @@ use Rattle.std.proofs.lemmas.Slice.Eq.{bytes_eq-Decides}
 use Rattle.biblatex_content.specs.Styled.{Member}
 use Rattle.biblatex_fields.specs.Fields.{Named, value_named, text_named}
 use Rattle.biblatex_fields.specs.Value.{Value}
-use Rattle.interop_values.specs.Values.{filled, other_names, is_never_written, values}
-use Rattle.interop_values.specs.Written.{Written, written_name, written_fields, AreWrittenApart, AreWrittenAlike}
+use Rattle.biblatex_writing.specs.FieldNames.{other_names, is_never_written, written_name}
+use Rattle.biblatex_writing.proofs.NamesWritten.{own_name}
+use Rattle.interop_values.specs.Values.{filled, values}
+use Rattle.interop_values.specs.Written.{Written, written_fields, AreWrittenApart, AreWrittenAlike}
 
 -- a row of the names: fields of the first name are written under it, and those of the other under the first
 record IsRow (names : List ℕ × List ℕ) : Type 0 where
@@ -55,14 +57,6 @@ none_any test (x ∷ xs) h = by_test (test x) h (none_any test xs)
     by_test true is more = absurd (none-some x (sym is))
     by_test false is more = more is
 
-any_none : {X : Type 0} (test : X → Bool) (xs : List X) → list_any test xs ≡ false → find test xs ≡ None
-any_none test [] h = refl
-any_none test (x ∷ xs) h = by_test (test x) h (any_none test xs)
-  where
-    by_test : (b : Bool) → (b || list_any test xs) ≡ false → (list_any test xs ≡ false → find test xs ≡ None) → cond b (Some x) (find test xs) ≡ None
-    by_test true is more = absurd (true≢false is)
-    by_test false is more = more is
-
 -- what stands under each name that is read
 abbrev Read : Type 0
 Read = List ℕ → Option (List Member)
@@ -85,7 +79,7 @@ some_read look n ms h = by_test (is_never_written n) refl h
 
     by_own : is_never_written n ≡ false → (o : Option (List Member)) → look n ≡ o → option_or o (option_and_then look (lookup (bytes_eq n) other_names)) ≡ Some ms → IsRead look n ms
     by_own may None e is = by_other (lookup (bytes_eq n) other_names) refl is
-    by_own may (Some v) e is = (n, ap (λ (found : Option (List ℕ × List ℕ)). unwrap_or (option_map (λ names. names.0) found) n) (any_none (λ names. bytes_eq n names.1) other_names may), e ∙ is)
+    by_own may (Some v) e is = (n, own_name n may, e ∙ is)
 
     by_test : (b : Bool) → is_never_written n ≡ b → (if b then None else option_or (look n) (option_and_then look (lookup (bytes_eq n) other_names))) ≡ Some ms → IsRead look n ms
     by_test true e is = absurd (none-some ms is)

@@ -1,12 +1,12 @@
 -- The contents of an entry's fields, by the names under which the fields are written.
-use Rattle.std.specs.Prelude.{ℕ, Bool, List, [], ◌∷◌, if◌then◌else◌, Option, Some, None, option_and_then, codes}
-use Rattle.std.specs.List.{list_any}
+use Rattle.std.specs.Prelude.{ℕ, List, [], ◌∷◌, if◌then◌else◌, Option, Some, None, option_and_then}
 use Rattle.std.specs.Map.{lookup}
 use Rattle.std.specs.Str.{bytes_eq}
 use Rattle.std.specs.Option.{option_or}
 use Rattle.biblatex_content.specs.Styled.{Member}
 use Rattle.biblatex_fields.specs.Fields.{Named, text_named}
 use Rattle.biblatex_entries.specs.Typed.{characters_of}
+use Rattle.biblatex_writing.specs.FieldNames.{other_names, is_never_written}
 
 -- what stands under each written name
 abbrev pub Values : Type 0
@@ -17,22 +17,6 @@ abbrev pub filled : Option (List Member) → Option (List Member)
 filled None = None
 filled (Some []) = None
 filled (Some (m ∷ ms)) = Some (m ∷ ms)
-
--- the fields that are written under another name than they may be read under: that name, and the other one
-abbrev pub other_names : List (List ℕ × List ℕ)
-other_names =
-    (codes "journaltitle", codes "journal") ∷
-    (codes "location", codes "address") ∷
-    (codes "institution", codes "school") ∷
-    (codes "annotation", codes "annote") ∷
-    (codes "eprinttype", codes "archiveprefix") ∷
-    (codes "eprintclass", codes "primaryclass") ∷
-    (codes "sortkey", codes "key") ∷
-    (codes "file", codes "pdf") ∷ []
-
--- whether no field is written under a name
-abbrev pub is_never_written : List ℕ → Bool
-is_never_written name = list_any (λ names. bytes_eq name names.1) other_names
 
 -- the content of a field by its other name, where it has one
 abbrev pub by_other_name : List ℕ → List Named → Option (List Member)

@@ -1,15 +1,12 @@
 -- What the fields of an entry say, under the names that they are written under.
-use Rattle.std.specs.Prelude.{◌↔◌, ℕ, List, Contains, find, Option, option_map, option_to_list, unwrap_or}
+use Rattle.std.specs.Prelude.{◌↔◌, ℕ, List, Contains, Option, option_map, option_to_list}
 use Rattle.std.specs.List.{flat_map, IsDistinct}
 use Rattle.std.specs.Map.{keys_of}
 use Rattle.std.specs.Str.{bytes_eq}
 use Rattle.biblatex_content.specs.Styled.{Member}
 use Rattle.biblatex_fields.specs.Fields.{Named, text_named}
-use Rattle.interop_values.specs.Values.{filled, other_names}
-
--- the name under which a field is written: `journaltitle` for `journal`, and so on; most fields are written under their own
-abbrev pub written_name : List ℕ → List ℕ
-written_name name = unwrap_or (option_map (λ names. names.0) (find (λ names. bytes_eq name names.1) other_names)) name
+use Rattle.biblatex_writing.specs.FieldNames.{written_name}
+use Rattle.interop_values.specs.Values.{filled}
 
 -- a written name and what is written under it
 abbrev pub Written : Type 0

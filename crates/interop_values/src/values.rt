@@ -2,17 +2,16 @@
 
 ghost use Rattle.std.specs.Prelude.{◌≡◌, [], List, IfOk};
 ghost use Rattle.std.specs.Option.{option_map, option_or};
-ghost use Rattle.std.specs.Map.{lookup};
-ghost use Rattle.std.specs.Str.{bytes_eq};
 ghost use Rattle.laws.specs.Text.{text as text_of, characters, is_filled};
 ghost use Rattle.biblatex_content.specs.Views.{styled, members};
 ghost use Rattle.biblatex_fields.specs.Fields.{text_named};
 ghost use Rattle.biblatex_fields.specs.Value.{field_value_view};
-ghost use Rattle.interop_values.specs.Values.{filled, is_never_written, other_names, by_other_name, values, text_under};
+ghost use Rattle.interop_values.specs.Values.{filled, by_other_name, values, text_under};
 
 use biblatex_content::{Chunk, Chunks, Spanned};
 use biblatex_fields::Fields;
 use biblatex_values::plain_text;
+use biblatex_writing::{is_never_written, other_name};
 use std::alloc::{AllocError, Global};
 use texts::{empty_text, has_text};
 
@@ -101,40 +100,4 @@ fn is_filled(chunk: &Chunk) -> bool
         Chunk::Normal(text) | Chunk::Verbatim(text) => has_text(text.as_str()),
         Chunk::Math(_) => true,
     }
-}
-
-/// The other name under which a field may be read that is written under a name.
-#[inline(always)]
-fn other_name(name: &str) -> Option<&'static str>
-    ensures { option_map (λ s. s.now) result ≡ lookup (bytes_eq name.now) other_names }
-{
-    match name {
-        "journaltitle" => Some("journal"),
-        "location" => Some("address"),
-        "institution" => Some("school"),
-        "annotation" => Some("annote"),
-        "eprinttype" => Some("archiveprefix"),
-        "eprintclass" => Some("primaryclass"),
-        "sortkey" => Some("key"),
-        "file" => Some("pdf"),
-        _ => None,
-    }
-}
-
-/// Whether no field is written under a name.
-#[inline(always)]
-fn is_never_written(name: &str) -> bool
-    ensures { result ≡ is_never_written name.now }
-{
-    matches!(
-        name,
-        "journal"
-            | "address"
-            | "school"
-            | "annote"
-            | "archiveprefix"
-            | "primaryclass"
-            | "key"
-            | "pdf"
-    )
 }

@@ -1,1 +1,2 @@
 pub mod SinksWriting
+pub mod TargetsTaken

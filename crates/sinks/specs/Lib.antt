@@ -1,3 +1,4 @@
 pub mod Sinks
+pub mod Targets
 pub mod Files
 pub mod Programs

@@ -8,7 +8,7 @@ ghost use Rattle.xml_text.specs.Views.{placed_view, name_view, piece_view, piece
 ghost use Rattle.laws.specs.Steps.{each};
 
 use crate::character::{Class, Quote};
-use crate::fault::{Fault, Stop};
+use crate::fault::{Fault, XmlError};
 use crate::name::{take_name, take_reference};
 use crate::reading::{begins, byte_len, run, skip_space, take_character};
 use crate::token::{Attribute, Name, Piece, Placed, Tag};
@@ -66,7 +66,7 @@ fn take_quoted<'s>(
     alloc: Global,
     reader: &mut Reader<'s>,
     quote: Quote,
-) -> Result<Vec<Piece<'s>>, Stop>
+) -> Result<Vec<Piece<'s>>, XmlError>
     ensures { Gives pieces_view result (left reader.new) (quoted_at quote (left reader.old)) }
 {
     let pieces = take_pieces(alloc, reader, quote)?;
@@ -79,7 +79,7 @@ fn take_pieces<'s>(
     alloc: Global,
     reader: &mut Reader<'s>,
     quote: Quote,
-) -> Result<Vec<Piece<'s>>, Stop>
+) -> Result<Vec<Piece<'s>>, XmlError>
     ensures { Gives pieces_view result (left reader.new)
         (each (piece_at quote) (left reader.old)) }
 {
@@ -91,11 +91,11 @@ fn take_pieces<'s>(
 }
 
 /// The value that stands here in quotes.
-fn take_value<'s>(alloc: Global, reader: &mut Reader<'s>) -> Result<Vec<Piece<'s>>, Stop>
+fn take_value<'s>(alloc: Global, reader: &mut Reader<'s>) -> Result<Vec<Piece<'s>>, XmlError>
     ensures { Gives pieces_view result (left reader.new) (value_at (left reader.old)) }
 {
     match split_first(reader.rest) {
-        None => Err(Stop::Fault(Fault::Unclosed)),
+        None => Err(XmlError::Fault(Fault::Unclosed)),
         Some(('"', rest)) => {
             reader.rest = rest;
             take_quoted(alloc, reader, Quote::Double)
@@ -104,13 +104,16 @@ fn take_value<'s>(alloc: Global, reader: &mut Reader<'s>) -> Result<Vec<Piece<'s
             reader.rest = rest;
             take_quoted(alloc, reader, Quote::Single)
         }
-        Some(_) => Err(Stop::Fault(Fault::Unexpected)),
+        Some(_) => Err(XmlError::Fault(Fault::Unexpected)),
     }
 }
 
 /// The attribute that stands here.
 #[tactic(auto, unfolding(crate::specs::Tags::attribute_at))]
-fn take_attribute<'s>(alloc: Global, reader: &mut Reader<'s>) -> Result<Placed<Attribute<'s>>, Stop>
+fn take_attribute<'s>(
+    alloc: Global,
+    reader: &mut Reader<'s>,
+) -> Result<Placed<Attribute<'s>>, XmlError>
     ensures { Gives (placed_view attribute_view) result (left reader.new)
         (attribute_at (left reader.old)) }
 {
@@ -131,14 +134,14 @@ fn attribute_after<'s>(
     alloc: Global,
     reader: &mut Reader<'s>,
     spaced: bool,
-) -> Result<Option<Placed<Attribute<'s>>>, Stop>
+) -> Result<Option<Placed<Attribute<'s>>>, XmlError>
     ensures { Gives (option_map (placed_view attribute_view)) result (left reader.new)
         (attribute_after spaced (left reader.old)) }
 {
     match split_first(reader.rest) {
         Some((c, _)) if Class::NameStart.contains(c) => {
             if !spaced {
-                return Err(Stop::Fault(Fault::Unexpected));
+                return Err(XmlError::Fault(Fault::Unexpected));
             }
             Ok(Some(take_attribute(alloc, reader)?))
         }
@@ -151,7 +154,7 @@ fn attribute_after<'s>(
 fn next_attribute<'s>(
     alloc: Global,
     reader: &mut Reader<'s>,
-) -> Result<Option<Placed<Attribute<'s>>>, Stop>
+) -> Result<Option<Placed<Attribute<'s>>>, XmlError>
     ensures { Gives (option_map (placed_view attribute_view)) result (left reader.new)
         (next_attribute_at (left reader.old)) }
 {
@@ -164,7 +167,7 @@ fn next_attribute<'s>(
 pub(crate) fn take_attributes<'s>(
     alloc: Global,
     reader: &mut Reader<'s>,
-) -> Result<Vec<Placed<Attribute<'s>>>, Stop>
+) -> Result<Vec<Placed<Attribute<'s>>>, XmlError>
     ensures { Gives attributes_view result (left reader.new)
         (each next_attribute_at (left reader.old)) }
 {
@@ -196,7 +199,10 @@ fn take_tag_end(reader: &mut Reader<'_>) -> Result<bool, Fault>
 
 /// A start-tag whose angle bracket was taken.
 #[tactic(auto, unfolding(crate::specs::Tags::start_tag_at))]
-pub(crate) fn take_start_tag<'s>(alloc: Global, reader: &mut Reader<'s>) -> Result<Tag<'s>, Stop>
+pub(crate) fn take_start_tag<'s>(
+    alloc: Global,
+    reader: &mut Reader<'s>,
+) -> Result<Tag<'s>, XmlError>
     ensures { Gives tag_view result (left reader.new) (start_tag_at (left reader.old)) }
 {
     let name = take_name(reader)?;

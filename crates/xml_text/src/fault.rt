@@ -1,7 +1,7 @@
 //! Why a text is no XML.
 
 ghost use Rattle.std.specs.Prelude.{◌≡◌};
-ghost use Rattle.xml_text.specs.declared.fault.Stop.TheVariants as stops;
+ghost use Rattle.xml_text.specs.declared.fault.XmlError.TheVariants as stops;
 
 use std::alloc::{AllocError, AllocFailed};
 use thiserror::Error;
@@ -67,7 +67,7 @@ pub enum Fault {
 
 /// Why reading stopped.
 #[derive(Clone, Copy, Debug, PartialEq, Eq, Error)]
-pub enum Stop {
+pub enum XmlError {
     /// A request for memory was refused.
     #[error("out of memory")]
     Memory,
@@ -76,26 +76,26 @@ pub enum Stop {
     Fault(Fault),
 }
 
-impl From<AllocError> for Stop {
+impl From<AllocError> for XmlError {
     ghost from_gives = { λ _ e. e ≡ stops.Memory };
 
-    fn from(_error: AllocError) -> Stop {
-        Stop::Memory
+    fn from(_error: AllocError) -> XmlError {
+        XmlError::Memory
     }
 }
 
-impl<T: Drop> From<AllocFailed<T>> for Stop {
+impl<T: Drop> From<AllocFailed<T>> for XmlError {
     ghost from_gives = { λ _ e. e ≡ stops.Memory };
 
-    fn from(_error: AllocFailed<T>) -> Stop {
-        Stop::Memory
+    fn from(_error: AllocFailed<T>) -> XmlError {
+        XmlError::Memory
     }
 }
 
-impl From<Fault> for Stop {
+impl From<Fault> for XmlError {
     ghost from_gives = { λ fault e. e ≡ stops.Fault fault };
 
-    fn from(fault: Fault) -> Stop {
-        Stop::Fault(fault)
+    fn from(fault: Fault) -> XmlError {
+        XmlError::Fault(fault)
     }
 }

@@ -13,7 +13,7 @@ mod reading;
 mod token;
 mod value;
 
-pub use fault::{Fault, Stop};
+pub use fault::{Fault, XmlError};
 pub use markup::next_token;
 pub use prolog::take_prolog;
 pub use token::{Attribute, Name, Piece, Placed, Reference, Tag, Token};

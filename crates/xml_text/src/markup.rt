@@ -14,7 +14,7 @@ ghost use Rattle.xml_text.specs.Views.{placed_view, token_view, Reads, Gives, Gi
 use crate::attribute::{take_end_tag, take_start_tag};
 use crate::character::Class;
 use crate::ending::{Ending, take_text};
-use crate::fault::{Fault, Stop};
+use crate::fault::{Fault, XmlError};
 use crate::name::{take_plain_name, take_reference};
 use crate::reading::{begins, byte_len, is_word_in_any_case, stands, take_character, take_word};
 use crate::token::{Placed, Token};
@@ -108,12 +108,12 @@ fn take_markup<'s>(
     alloc: Global,
     reader: &mut Reader<'s>,
     start: &'s str,
-) -> Result<Token<'s>, Stop>
+) -> Result<Token<'s>, XmlError>
     ensures { Gives token_view result (left reader.new)
         (markup_at (spelled start.entry) (left reader.old)) }
 {
     match split_first(reader.rest) {
-        None => Err(Stop::Fault(Fault::Unclosed)),
+        None => Err(XmlError::Fault(Fault::Unclosed)),
         Some(('/', rest)) => {
             reader.rest = rest;
             Ok(Token::End(take_end_tag(reader)?))
@@ -158,7 +158,7 @@ fn take_token<'s>(
     reader: &mut Reader<'s>,
     c: char,
     rest: &'s str,
-) -> Result<Token<'s>, Stop>
+) -> Result<Token<'s>, XmlError>
     requires { left reader.old ≡ c ∷ chars rest.now }
     ensures { Gives token_view result (left reader.new) (token_from c (chars rest.entry.now)) }
 {
@@ -184,7 +184,7 @@ fn take_token<'s>(
 pub fn next_token<'s>(
     alloc: Global,
     reader: &mut Reader<'s>,
-) -> Result<Option<Placed<Token<'s>>>, Stop>
+) -> Result<Option<Placed<Token<'s>>>, XmlError>
     // What is read the text spells.
     ensures found { IfOk result (λ o. IsNext (left reader.old)
         (option_map (placed_view token_view) o) (left reader.new)) }
@@ -199,7 +199,10 @@ pub fn next_token<'s>(
 }
 
 /// The next token, or nothing at the end of the text.
-fn read_token<'s>(alloc: Global, reader: &mut Reader<'s>) -> Result<Option<Placed<Token<'s>>>, Stop>
+fn read_token<'s>(
+    alloc: Global,
+    reader: &mut Reader<'s>,
+) -> Result<Option<Placed<Token<'s>>>, XmlError>
     ensures { Gives (option_map (placed_view token_view)) result (left reader.new)
         (token_at (left reader.old)) }
 {
@@ -214,9 +217,9 @@ fn read_token<'s>(alloc: Global, reader: &mut Reader<'s>) -> Result<Option<Place
             v: token,
             left: here,
         })),
-        Err(Stop::Fault(Fault::Unclosed)) => {
+        Err(XmlError::Fault(Fault::Unclosed)) => {
             reader.rest = start;
-            Err(Stop::Fault(Fault::Unclosed))
+            Err(XmlError::Fault(Fault::Unclosed))
         }
         Err(stop) => Err(stop),
     }

@@ -9,7 +9,7 @@ ghost use Rattle.xml_text.specs.Views.{placed_view, name_view, piece_view, attri
 
 use crate::attribute::take_attributes;
 use crate::character::Class;
-use crate::fault::{Fault, Stop};
+use crate::fault::{Fault, XmlError};
 use crate::reading::{begins, is_word, is_word_in_any_case, take_run, take_word};
 use crate::token::{Attribute, Name, Piece, Placed};
 use std::alloc::Global;
@@ -144,7 +144,11 @@ fn declaration_fault(attributes: &[Placed<Attribute<'_>>]) -> Option<Fault>
 
 /// A declaration whose first word was taken. The text from it on is given.
 #[tactic(auto, unfolding(crate::specs::Prolog::declaration_at))]
-fn take_declaration<'s>(alloc: Global, reader: &mut Reader<'s>, start: &'s str) -> Result<(), Stop>
+fn take_declaration<'s>(
+    alloc: Global,
+    reader: &mut Reader<'s>,
+    start: &'s str,
+) -> Result<(), XmlError>
     ensures { GivesRest result (left reader.new)
         (declaration_at (spelled start.entry) (left reader.old)) }
 {
@@ -154,7 +158,7 @@ fn take_declaration<'s>(alloc: Global, reader: &mut Reader<'s>, start: &'s str) 
         None => Ok(()),
         Some(fault) => {
             reader.rest = start;
-            Err(Stop::Fault(fault))
+            Err(XmlError::Fault(fault))
         }
     }
 }
@@ -172,7 +176,7 @@ fn skip_mark(reader: &mut Reader<'_>)
 ///
 /// # Errors
 /// `Fault` where the declaration is malformed or names another encoding than UTF-8. `Memory` where a request for memory was refused.
-pub fn take_prolog<'s>(alloc: Global, reader: &mut Reader<'s>) -> Result<(), Stop>
+pub fn take_prolog<'s>(alloc: Global, reader: &mut Reader<'s>) -> Result<(), XmlError>
     // What was taken is a prolog of the text.
     ensures found { IfOk result (λ _. IsProlog (left reader.old) (left reader.new)) }
     // A prolog of the text is taken, unless memory runs out.
@@ -185,7 +189,7 @@ pub fn take_prolog<'s>(alloc: Global, reader: &mut Reader<'s>) -> Result<(), Sto
 }
 
 /// Takes a byte order mark and an XML declaration, where they stand.
-fn read_prolog<'s>(alloc: Global, reader: &mut Reader<'s>) -> Result<(), Stop>
+fn read_prolog<'s>(alloc: Global, reader: &mut Reader<'s>) -> Result<(), XmlError>
     ensures { GivesRest result (left reader.new) (prolog_at (left reader.old)) }
 {
     skip_mark(reader);
@@ -198,9 +202,9 @@ fn read_prolog<'s>(alloc: Global, reader: &mut Reader<'s>) -> Result<(), Stop>
     }
     match take_declaration(alloc, reader, start) {
         Ok(()) => Ok(()),
-        Err(Stop::Fault(Fault::Unclosed)) => {
+        Err(XmlError::Fault(Fault::Unclosed)) => {
             reader.rest = start;
-            Err(Stop::Fault(Fault::Unclosed))
+            Err(XmlError::Fault(Fault::Unclosed))
         }
         Err(stop) => Err(stop),
     }

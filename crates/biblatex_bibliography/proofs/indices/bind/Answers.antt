@@ -1,16 +1,56 @@
-use Rattle.std.proofs.Common.{string_bytes, [], ◌∷◌, List, ℕ, String, Global, map, sym, subst, arith}
-use Rattle.biblatex_bibliography.proofs.IndicesBinding.{bound_one}
-use Rattle.biblatex_bibliography.proofs.IndicesWithin.{bound_within}
-use Rattle.biblatex_bibliography.specs.Indices.{meaning_in, named_index, AreWithin}
+use Rattle.std.proofs.Common.{◌≡◌, List, ℕ, true, false, length, slice_get, get_or, string_bytes, sym, ap, subst, ◌∙◌, arith}
+use Rattle.std.proofs.lemmas.Slice.Eq.{bytes_eq-Decides}
+use Rattle.biblatex_bibliography.specs.declared.indices.NamedIndex.{NamedIndex}
+use Rattle.biblatex_bibliography.specs.Indices.{name_of, names_in, meaning_in, has_name, AreSorted, AreInOrder, IsPlace}
+use Rattle.biblatex_bibliography.proofs.IndicesOrder.{in_order_sorted, is_Less}
+use Rattle.biblatex_bibliography.proofs.IndicesPlaces.{there, at_place, before_apart, after_place}
+use Rattle.biblatex_bibliography.proofs.IndicesChanges.{rebound, put_in, order_rebound, order_put_in}
 use Rattle.biblatex_bibliography.proofs.indices.bind.Goals as goal
 
+pub place_of-place-requires : goal.place_of-place-requires
+place_of-place-requires c = subst AreSorted (sym c.as_slice.ensures.value) (in_order_sorted c.args.names.now.items c.requires)
+
+pub index_mut-requires : goal.index_mut-requires
+index_mut-requires c =
+    let low = there c.as_slice-2.result.now c.place_of-place.result c.as_str-2.result.now (sym c.stands_at.ensures ∙ c.if-stands_at.true) in
+    omega (arith, low, ap length c.as_slice-2.ensures.value, c.args.names.now.ok.0)
+
+pub returns-then-stands_at-clause-ok : goal.returns-then-stands_at-clause-ok
+returns-then-stands_at-clause-ok c =
+    let ns = c.args.names.now.items in
+    let name = string_bytes c.args.name in
+    let place = c.place_of-place.result in
+    let n = c.index_mut.result.now in
+    let sliced = subst (λ (xs : List NamedIndex). IsPlace xs c.as_str.result.now place) c.as_slice.ensures.value c.place_of-place.ensures.place in
+    let is = subst (λ (x : List ℕ). IsPlace ns x place) c.as_str.ensures.value sliced in
+    let asked : c.stands_at.result ≡ has_name name (slice_get ns place) = c.stands_at.ensures ∙ (λ i. has_name (c.as_str-2.ensures.value i) (slice_get (c.as_slice-2.ensures.value i) place)) in
+    let here : has_name name (slice_get ns place) ≡ true = sym asked ∙ c.if-stands_at.true in
+    let low = there ns place name here in
+    let same : name ≡ name_of n = (bytes_eq-Decides name (name_of (get_or ns place n))).0 (sym (at_place ns place name n low) ∙ here) ∙ ap name_of (sym c.index_mut.ensures.value) in
+    rebound ns name c.args.index place n low c.index_mut.ensures.value (before_apart ns name place is) same
+
+pub returns-then-stands_at-clause-order : goal.returns-then-stands_at-clause-order
+returns-then-stands_at-clause-order c = order_rebound c.args.names.now.items c.args.index c.place_of-place.result c.index_mut.result.now c.index_mut.ensures.value c.requires
+
 pub returns-clause-ok : goal.returns-clause-ok
-returns-clause-ok c = bound_one (string_bytes c.args.name) c.args.index c.args.indices.now c.insert.new.self c.in_ok-insert.ensures.updates
+returns-clause-ok c =
+    let ns = c.args.names.now.items in
+    let name = string_bytes c.args.name in
+    let place = c.place_of-place.result in
+    let n : NamedIndex = record { name = c.args.name; index = c.args.index } in
+    let sliced = subst (λ (xs : List NamedIndex). IsPlace xs c.as_str.result.now place) c.as_slice.ensures.value c.place_of-place.ensures.place in
+    let is = subst (λ (x : List ℕ). IsPlace ns x place) c.as_str.ensures.value sliced in
+    ap (λ (xs : List NamedIndex). meaning_in (names_in xs)) c.in_ok-insert.ensures.items ∙ put_in ns n place (before_apart ns name place is)
 
-pub returns-clause-within : goal.returns-clause-within
-returns-clause-within c = λ count lt within.
-    bound_within (string_bytes c.args.name ∷ []) c.args.index count count _ _ (bound_one (string_bytes c.args.name) c.args.index c.args.indices.now c.insert.new.self c.in_ok-insert.ensures.updates) lt (omega arith) within
-
-pub returns-in_err-insert-clause-within : goal.returns-in_err-insert-clause-within
-returns-in_err-insert-clause-within c = λ count lt within.
-    subst (λ (es : List (String Global × ℕ)). AreWithin (meaning_in (map named_index es)) count) (sym c.in_err-insert.ensures.err) within
+pub returns-clause-order : goal.returns-clause-order
+returns-clause-order c =
+    let ns = c.args.names.now.items in
+    let name = string_bytes c.args.name in
+    let place = c.place_of-place.result in
+    let n : NamedIndex = record { name = c.args.name; index = c.args.index } in
+    let sliced = subst (λ (xs : List NamedIndex). IsPlace xs c.as_str.result.now place) c.as_slice.ensures.value c.place_of-place.ensures.place in
+    let is = subst (λ (x : List ℕ). IsPlace ns x place) c.as_str.ensures.value sliced in
+    let asked : c.stands_at.result ≡ has_name name (slice_get ns place) = c.stands_at.ensures ∙ (λ i. has_name (c.as_str-2.ensures.value i) (slice_get (c.as_slice-2.ensures.value i) place)) in
+    let differs : has_name name (slice_get ns place) ≡ false = sym asked ∙ c.if-stands_at.false in
+    subst AreInOrder (sym c.in_ok-insert.ensures.items)
+    (order_put_in ns n place c.requires (λ k d low within. is_Less (name_of (get_or ns k d)) name (is.0 k d (omega arith) low)) (after_place ns name place (in_order_sorted ns c.requires) is differs))

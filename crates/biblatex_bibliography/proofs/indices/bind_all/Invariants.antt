@@ -1,12 +1,12 @@
-use Rattle.std.proofs.Common.{◌≡◌, ◌≤◌, map, length, string_bytes}
-use Rattle.std.specs.HashMap.{spare}
-use Rattle.biblatex_bibliography.specs.Indices.{bound, meaning_in, names_in}
+use Rattle.std.proofs.Common.{◌≡◌, ◌≤◌, ◌+◌, map, length, string_bytes, vec_len, vec_capacity}
+use Rattle.biblatex_bibliography.specs.Indices.{bound, meaning_in, names_in, AreInOrder}
 use Rattle.biblatex_bibliography.proofs.indices.bind_all.Given as goal
 
 abbrev pub invariant-loop-name : goal.invariant-loop-name
 invariant-loop-name l =
-    (bound (map string_bytes l.rest.items) l.index (meaning_in (names_in l.indices)) ≡ bound (map string_bytes l.fn.names.items) l.index (meaning_in (names_in l.fn.indices)))
-    × (length l.rest.items ≤ spare l.indices)
+    (bound (map string_bytes l.rest.items) l.index (meaning_in (names_in l.names.items)) ≡ bound (map string_bytes l.fn.more.items) l.index (meaning_in (names_in l.fn.names.items)))
+    × AreInOrder l.names.items
+    × (vec_len l.names + length l.rest.items ≤ vec_capacity l.names)
 
 abbrev pub decreases-loop-name : goal.decreases-loop-name
 decreases-loop-name l = length l.rest.items

@@ -1,9 +1,5 @@
-use Rattle.std.proofs.Common.{◌≡◌, sym, ◌∙◌, rules}
-use Rattle.std.specs.HashMap.{get_by_text}
-use Rattle.biblatex_bibliography.proofs.IndicesBinding.{by_bytes}
+use Rattle.biblatex_bibliography.proofs.IndicesOrder.{in_order_sorted}
 use Rattle.biblatex_bibliography.proofs.indices.index_in.Goals as goal
 
-pub returns : goal.returns
-returns c =
-    let found : c.copied.result ≡ get_by_text c.args.indices.now c.args.name.now = search rules in
-    found ∙ sym (by_bytes c.args.indices.now.entries c.args.name.now)
+pub first_index_in-requires : goal.first_index_in-requires
+first_index_in-requires c = in_order_sorted c.args.names.now c.requires

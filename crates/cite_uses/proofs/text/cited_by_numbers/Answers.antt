@@ -15,4 +15,4 @@ returns c =
       sections = [];
       format = Plain;
     } in
-    subst (λ (t : Task). Answers (λ s. string_bytes s) c.cite_to_string.result (IsVerdict c.args.bib.now t)) task c.cite_to_string.ensures
+    subst (λ (t : Task). Answers (λ s. string_bytes s) c.cite_to_string.result (IsVerdict c.args.bib.now t)) task c.cite_to_string.ensures.text

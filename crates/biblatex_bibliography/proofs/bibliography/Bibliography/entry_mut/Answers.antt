@@ -14,16 +14,19 @@ pub invariant_of-self-lent : goal.invariant_of-self-lent
 invariant_of-self-lent c =
     let items = c.self.inside.entries.items in
     λ o. (
-      (λ w. subst (λ (n : ℕ). AreWithin (meaning_in (names_in c.self.inside.indices)) n)
-          (sym (length-map (slice_set items c.args.index w) source_view ∙ (length-set items c.args.index w ∙ sym (length-map items source_view))))
-          c.self.invariant),
+      (λ w. (
+        subst (λ (n : ℕ). AreWithin (meaning_in (names_in c.self.inside.names.items)) n)
+            (sym (length-map (slice_set items c.args.index w) source_view ∙ (length-set items c.args.index w ∙ sym (length-map items source_view))))
+            c.self.invariant.0,
+        c.self.invariant.1,
+      )),
       c.self.invariant,
     )
 
 pub returns : goal.returns
 returns c =
     let items = c.self.inside.entries.items in (
-      (λ i. read_of (ghost_name_of c.get_mut.result) (λ w. written_at items c.self.inside.indices c.args.index c.args.self.now c.self.view_is w i) (c.self.view_is i)),
+      (λ i. read_of (ghost_name_of c.get_mut.result) (λ w. written_at items c.self.inside.names.items c.args.index c.args.self.now c.self.view_is w i) (c.self.view_is i)),
       record {
         writes_back = tt;
         value = item items c.args.index c.get_mut.result c.get_mut.ensures.item ∙ (sym (slice_get-map source_view items c.args.index)

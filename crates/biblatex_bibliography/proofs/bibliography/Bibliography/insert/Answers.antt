@@ -5,7 +5,9 @@ use Rattle.biblatex_bibliography.specs.Indices.{meaning_in, names_in, AreWithin}
 use Rattle.biblatex_bibliography.proofs.bibliography.Bibliography.insert.Goals as goal
 
 pub invariant_of-self : goal.invariant_of-self
-invariant_of-self c =
-    subst (λ (n : ℕ). AreWithin (meaning_in (names_in c.self.inside.indices)) n)
-    (sym (ap length c.replace.ensures.items ∙ length-set (sources_view c.self.inside.entries.items) c.in-Some.index (source_view c.args.entry)))
-    c.self.invariant
+invariant_of-self c = (
+  subst (λ (n : ℕ). AreWithin (meaning_in (names_in c.self.inside.names.items)) n)
+      (sym (ap length c.replace.ensures.items ∙ length-set (sources_view c.self.inside.entries.items) c.in-Some.index (source_view c.args.entry)))
+      c.self.invariant.0,
+  c.self.invariant.1,
+)

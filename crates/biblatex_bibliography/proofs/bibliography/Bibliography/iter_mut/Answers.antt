@@ -10,14 +10,17 @@ use Rattle.biblatex_bibliography.proofs.bibliography.Bibliography.iter_mut.Goals
 pub invariant_of-self-lent : goal.invariant_of-self-lent
 invariant_of-self-lent c =
     let v = c.self.inside.entries in
-    λ w. subst (λ (n : ℕ). AreWithin (meaning_in (names_in c.self.inside.indices)) n)
-    (length-map v.items source_view ∙ (sym v.ok.0 ∙ (length_refill v.len v.items w v.ok.0 ∙ sym (length-map (refill v.len v.items w) source_view))))
-    c.self.invariant
+    λ w. (
+      subst (λ (n : ℕ). AreWithin (meaning_in (names_in c.self.inside.names.items)) n)
+          (length-map v.items source_view ∙ (sym v.ok.0 ∙ (length_refill v.len v.items w v.ok.0 ∙ sym (length-map (refill v.len v.items w) source_view))))
+          c.self.invariant.0,
+      c.self.invariant.1,
+    )
 
 pub returns : goal.returns
 returns c =
     let v = c.self.inside.entries in (
-      (search rules, λ w. rewritten v.len v.items c.self.inside.indices c.args.self.now v.ok.0 c.self.view_is w),
+      (search rules, λ w. rewritten v.len v.items c.self.inside.names.items c.args.self.now v.ok.0 c.self.view_is w),
       record {
         writes_back = tt;
         value = ap sources_view (c.iter_mut.ensures.rest ∙ c.as_mut_slice.ensures.value) ∙ ap (λ (h : Indexed). h.entries) c.self.view_is;

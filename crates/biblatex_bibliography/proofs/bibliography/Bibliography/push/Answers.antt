@@ -8,7 +8,7 @@ use Rattle.biblatex_bibliography.proofs.bibliography.Bibliography.push.Goals as 
 pub returns-clause-read : goal.returns-clause-read
 returns-clause-read c = λ is.
     let e = source_view c.args.entry in
-    let before = listed_view (indexed c.self.inside.entries.items c.self.inside.indices) in
+    let before = listed_view (indexed c.self.inside.entries.items c.self.inside.names.items) in
     let was = subst (λ (b : Indexed). IsAsRead (listed_view b)) (sym c.self.view_is) is in
     then_ok c.put_last.result _ _ c.put_last.ensures.ok (λ p.
     subst IsAsRead (sym (p ∙ ap (λ (names : List (List ℕ)). put_last names e before) c.in_ok-names.ensures)) (pushed-read e before was))

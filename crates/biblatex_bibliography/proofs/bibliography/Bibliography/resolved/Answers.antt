@@ -19,14 +19,14 @@ returns-in_err-entries-clause-err c =
 
 pub invariant_of-result : goal.invariant_of-result
 invariant_of-result c =
-    subst (λ (n : ℕ). AreWithin (meaning_in (names_in c.self.inside.indices)) n) (sym (same_length c.self.inside.entries.items c.in_ok-entries.field-0.entries.items c.in_ok-entries.ensures.heads)) c.self.invariant
+    (subst (λ (n : ℕ). AreWithin (meaning_in (names_in c.self.inside.names.items)) n) (sym (same_length c.self.inside.entries.items c.in_ok-entries.field-0.entries.items c.in_ok-entries.ensures.heads)) c.self.invariant.0, c.self.invariant.1)
 
 pub returns-clause-ok : goal.returns-clause-ok
 returns-clause-ok c =
     let e = c.in_ok-entries.ensures in
-    let is : listed_view (indexed c.self.inside.entries.items c.self.inside.indices) ≡ listed_view c.args.self = ap listed_view c.self.view_is in
-    subst (λ (l : Listed). IsResolved l (record { entries = sources_view c.in_ok-entries.field-0.entries.items; index = meaning_in (names_in c.self.inside.indices) })) is
-    (resolved_is (listed_view (indexed c.self.inside.entries.items c.self.inside.indices)) c.self.inside.entries.items c.in_ok-entries.field-0.entries.items (lists c.deref.result.now)
+    let is : listed_view (indexed c.self.inside.entries.items c.self.inside.names.items) ≡ listed_view c.args.self = ap listed_view c.self.view_is in
+    subst (λ (l : Listed). IsResolved l (record { entries = sources_view c.in_ok-entries.field-0.entries.items; index = meaning_in (names_in c.self.inside.names.items) })) is
+    (resolved_is (listed_view (indexed c.self.inside.entries.items c.self.inside.names.items)) c.self.inside.entries.items c.in_ok-entries.field-0.entries.items (lists c.deref.result.now)
     refl (ap lists c.deref.ensures.value ∙ (c.in_ok-references.ensures ∙ ap references (sym is))) e.heads e.equation e.only e.acyclic e.readable e.ordered)
 
 pub returns-clause-joined : goal.returns-clause-joined

@@ -1,0 +1,37 @@
+-- The names of entries in the order of a file, and what they mean.
+use Rattle.std.specs.Prelude.{ℕ, suc, Bool, false, List, [], ◌∷◌, ◌++◌, map, filter, Option, Some, None, nat_lt, if◌then◌else◌}
+use Rattle.std.specs.Str.{bytes_eq}
+use Rattle.biblatex_entries.specs.Entries.{Source, names_of}
+use Rattle.biblatex_bibliography.specs.Indices.{Names, Meaning, meaning_in, bound}
+
+-- names of the entry at an index
+abbrev pub with_index : ℕ → List ℕ → List ℕ × ℕ
+with_index index name = (name, index)
+
+abbrev pub numbered : List (List ℕ) → ℕ → Names
+numbered names index = map (with_index index) names
+
+-- the names of all entries, of which the first has this index
+abbrev pub names_from : ℕ → List Source → Names
+names_from index [] = []
+names_from index (e ∷ es) = numbered (names_of e) index ++ names_from (suc index) es
+
+-- those of the names that are equal to one, in their order
+abbrev pub equal_names : List ℕ → Names → Names
+equal_names name ns = filter (λ n. bytes_eq name n.0) ns
+
+-- what names mean once each of these was bound, one after the other: of equal names the last counts
+abbrev pub bound_each : Names → Meaning → Meaning
+bound_each [] meaning = meaning
+bound_each (n ∷ ns) meaning = bound_each ns (bound (n.0 ∷ []) n.1 meaning)
+
+-- whether there is an index, and it is below a number
+abbrev pub is_below : ℕ → Option ℕ → Bool
+is_below number None = false
+is_below number (Some index) = nat_lt index number
+
+-- the number of the first entry whose key is a name of one before it, among entries of which the first has this number; of equal names
+-- the first of the file counts
+abbrev pub first_repeated : Names → ℕ → List Source → Option ℕ
+first_repeated names number [] = None
+first_repeated names number (e ∷ es) = if is_below number (meaning_in names e.key) then Some number else first_repeated names (suc number) es

@@ -1,0 +1,4 @@
+pub mod Moved
+pub mod Joined
+pub mod Found
+pub mod Between

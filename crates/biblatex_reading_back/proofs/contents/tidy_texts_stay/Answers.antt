@@ -1,0 +1,5 @@
+use Rattle.biblatex_reading_back.proofs.TidySame.{tidied_same}
+use Rattle.biblatex_reading_back.proofs.contents.tidy_texts_stay.Goals as goal
+
+pub returns : goal.returns
+returns c = tidied_same

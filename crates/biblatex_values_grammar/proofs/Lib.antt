@@ -1,0 +1,4 @@
+pub mod Integers
+pub mod Marks
+pub mod Pages
+pub mod Answers

@@ -1,0 +1,4 @@
+pub mod Integers
+pub mod Pages
+pub mod Answers
+pub mod Laws

@@ -1,0 +1,12 @@
+pub mod Calls
+pub mod StringsTaken
+pub mod ContentRuns
+pub mod ContentMembers
+pub mod NamesWritten
+pub mod OrderNames
+pub mod OrderRows
+pub mod OrderMerged
+pub mod OrderFields
+pub mod EntriesWritten
+pub mod SettledParts
+pub mod MathRoom

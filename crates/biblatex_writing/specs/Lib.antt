@@ -1,0 +1,12 @@
+pub mod ContentPieces
+pub mod FieldNames
+pub mod FieldPieces
+pub mod Flat
+pub mod MovedFields
+pub mod Order
+pub mod Rules
+pub mod Settled
+pub mod SettledContent
+pub mod SettledNames
+pub mod Targets
+pub mod Written

@@ -1,0 +1,16 @@
+//! Cases of texts of XML.
+#![tactic(auto)]
+
+mod faults;
+mod tokens;
+
+use cases::{Session, Value};
+
+/// Writes the members of the answer to a case of this kind; false where the kind is none of these.
+pub fn answer(session: &mut Session, kind: &str, case: &Value<'_>) -> bool {
+    match kind {
+        "xml_tokens" => tokens::answer(session, case),
+        _ => return false,
+    }
+    true
+}

@@ -1,5 +1,0 @@
-pub mod KeyLists
-pub mod WorksListed
-pub mod SectionsAlike
-pub mod RequestsAlike
-pub mod VerdictsAlike

@@ -1,0 +1,4 @@
+pub mod Rising
+pub mod Parted
+pub mod Found
+pub mod Laws

@@ -1,0 +1,5 @@
+pub mod Runs
+pub mod NumbersAgain
+pub mod NumbersTakes
+pub mod Pages
+pub mod Answers

@@ -1,0 +1,4 @@
+pub mod Numbers
+pub mod Pages
+pub mod Answers
+pub mod Laws

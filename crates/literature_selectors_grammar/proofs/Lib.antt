@@ -1,0 +1,9 @@
+pub mod Texts
+pub mod Machine
+pub mod Same
+pub mod Unknown
+pub mod Again
+pub mod Takes
+pub mod Reached
+pub mod Below
+pub mod Refused
