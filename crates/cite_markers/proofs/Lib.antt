@@ -1,4 +1,3 @@
-pub mod Gathering
 pub mod Leaving
 pub mod MarkerLeaving
 pub mod DocumentLeaving

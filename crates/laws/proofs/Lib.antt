@@ -5,3 +5,4 @@ pub mod Steps
 pub mod Cut
 pub mod Text
 pub mod Throughout
+pub mod Gathering

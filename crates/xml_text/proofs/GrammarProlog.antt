@@ -14,7 +14,7 @@ use Rattle.xml_text.specs.Views.{GivesRest, LeavesOnly}
 use Rattle.xml_text.specs.declared.character.Class.TheVariants.{Space}
 use Rattle.xml_text.specs.declared.fault.Fault.{Fault}
 use Rattle.xml_text.specs.declared.fault.XmlError.{XmlError}
-use Rattle.xml_text.specs.declared.fault.XmlError.TheVariants as stops
+use Rattle.xml_text.specs.declared.fault.XmlError.TheVariants as errors
 use Rattle.xml_text.proofs.GrammarAgain.{attributes-again}
 use Rattle.xml_text.proofs.GrammarTakes.{word-takes, attributes-takes, begun_ok}
 
@@ -102,11 +102,11 @@ prolog-again cs rest (a, mark, is) = ap from_mark (mark-again cs a mark) ∙ fro
 
 pub prolog_is : {X : Type 0} (r : Result X XmlError) (cs rest : List ℕ) → GivesRest r rest (prolog_at cs) → IfOk r (λ _. IsProlog cs rest)
 prolog_is (Ok x) cs rest e = prolog-takes cs rest e
-prolog_is (Err stop) cs rest e = tt
+prolog_is (Err error) cs rest e = tt
 
 pub only_this_prolog : {X : Type 0} (r : Result X XmlError) (cs rest more : List ℕ) → GivesRest r rest (prolog_at cs) → IsProlog cs more → LeavesOnly r rest more
 only_this_prolog (Ok x) cs rest more e is = ok_is {F = Refusal} rest more (sym e ∙ prolog-again cs more is)
-only_this_prolog (Err stops.Memory) cs rest more e is = refl
-only_this_prolog (Err (stops.Fault fault)) cs rest more e is =
+only_this_prolog (Err errors.Memory) cs rest more e is = refl
+only_this_prolog (Err (errors.Fault fault)) cs rest more e is =
     let never = sym e ∙ prolog-again cs more is in
     absurd cc

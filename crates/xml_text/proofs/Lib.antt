@@ -1,4 +1,3 @@
-pub mod Gathering
 pub mod Endings
 pub mod Shorter
 pub mod Words
@@ -8,3 +7,5 @@ pub mod GrammarTakes
 pub mod GrammarOutcome
 pub mod Numbers
 pub mod GrammarProlog
+pub mod ShorterTokens
+pub mod Blank

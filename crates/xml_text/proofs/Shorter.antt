@@ -19,24 +19,24 @@ use Rattle.xml_text.specs.declared.character.Quote.TheVariants.{Double, Single}
 use Rattle.xml_text.specs.declared.fault.Fault.TheVariants.{Unexpected}
 
 -- at most n characters are left, and fewer
-abbrev AtMost : ℕ → List ℕ → Type 0
+abbrev pub AtMost : ℕ → List ℕ → Type 0
 AtMost n cs = length cs ≤ n
 
-abbrev Below : ℕ → List ℕ → Type 0
+abbrev pub Below : ℕ → List ℕ → Type 0
 Below n cs = length cs < n
 
-abbrev LeavesAtMost : {X : Type 0} → ℕ → X × List ℕ → Type 0
+abbrev pub LeavesAtMost : {X : Type 0} → ℕ → X × List ℕ → Type 0
 LeavesAtMost n p = length p.1 ≤ n
 
-abbrev LeavesBelow : {X : Type 0} → ℕ → X × List ℕ → Type 0
+abbrev pub LeavesBelow : {X : Type 0} → ℕ → X × List ℕ → Type 0
 LeavesBelow n p = length p.1 < n
 
 -- a step leaves at most n characters, and fewer where it gives something
-record Leaves {X : Type 0} (n : ℕ) (p : Option X × List ℕ) : Type 0 where
+pub record Leaves {X : Type 0} (n : ℕ) (p : Option X × List ℕ) : Type 0 where
   pub most : length p.1 ≤ n
   pub fewer : IfSome p.0 (λ _. length p.1 < n)
 
-either_if_ok : {A : Type 0} (Q : A → Type 0) (b : Bool) (x y : Result A Refusal) → IfOk x Q → IfOk y Q → IfOk (cond b x y) Q
+pub either_if_ok : {A : Type 0} (Q : A → Type 0) (b : Bool) (x y : Result A Refusal) → IfOk x Q → IfOk y Q → IfOk (cond b x y) Q
 either_if_ok Q true x y p q = p
 either_if_ok Q false x y p q = q
 
@@ -46,7 +46,7 @@ gives-leaves n (Ok p) less = record { most = omega arith; fewer = less }
 gives-leaves n (Err f) less = tt
 
 -- steps that leave at most what there was
-each-most : {X : Type 0} (step : Step Refusal X) → ((n : ℕ) (cs : List ℕ) → length cs ≤ n → IfOk (step cs) (Leaves n)) → (n : ℕ) (cs : List ℕ) → length cs ≤ n → IfOk (each step cs) (LeavesAtMost n)
+pub each-most : {X : Type 0} (step : Step Refusal X) → ((n : ℕ) (cs : List ℕ) → length cs ≤ n → IfOk (step cs) (Leaves n)) → (n : ℕ) (cs : List ℕ) → length cs ≤ n → IfOk (each step cs) (LeavesAtMost n)
 each-most {X} step leaves n cs le =
     IfOk-weaker (each step cs) (LeavesAtMost (length cs)) (LeavesAtMost n) (λ p fewer. omega arith)
     (each-leaves step (λ ds. IfOk-weaker (step ds) (Leaves (length ds)) (LeavesAtMost (length ds)) (λ p l. l.most) (leaves (length ds) ds (omega arith))) cs)
@@ -56,14 +56,14 @@ shortens step leaves cs rest x is = (if_ok_at (Leaves (length cs)) (step cs) (So
 
 -- ---- characters, runs and names
 
-character-below : (n wanted : ℕ) (cs : List ℕ) → length cs ≤ n → IfOk (character_at wanted cs) (Below n)
+pub character-below : (n wanted : ℕ) (cs : List ℕ) → length cs ≤ n → IfOk (character_at wanted cs) (Below n)
 character-below n wanted [] le = tt
 character-below n wanted (c ∷ cs) le = test_if_ok (Below n) (eqb c wanted) (Ok cs) (Unexpected, c ∷ cs) (omega arith)
 
-after-most : (n : ℕ) (class : Class) (cs : List ℕ) → length cs ≤ n → length (after (passes class) cs) ≤ n
+pub after-most : (n : ℕ) (class : Class) (cs : List ℕ) → length cs ≤ n → length (after (passes class) cs) ≤ n
 after-most n class cs le = omega (arith, length-after (passes class) cs)
 
-run-most : (n : ℕ) (first class : Class) (cs : List ℕ) → length cs ≤ n → IfOk (run_at first class cs) (LeavesAtMost n)
+pub run-most : (n : ℕ) (first class : Class) (cs : List ℕ) → length cs ≤ n → IfOk (run_at first class cs) (LeavesAtMost n)
 run-most n first class [] le = tt
 run-most n first class (c ∷ cs) le =
     test_if_ok (LeavesAtMost n) (passes first c) (Ok (prefix_of (passes class) (c ∷ cs), after (passes class) (c ∷ cs))) (Unexpected, c ∷ cs) (after-most n class (c ∷ cs) le)
@@ -73,7 +73,7 @@ local-most n first [] le = le
 local-most n first (c ∷ cs) le =
     either_if_ok (LeavesAtMost n) (eqb c 58) _ _ (bind_if_ok (LeavesAtMost n) (LeavesAtMost n) (plain_name_at cs) _ (run-most n NameStart NameCharacter cs (omega arith)) (λ local less. less)) le
 
-name-most : (n : ℕ) (cs : List ℕ) → length cs ≤ n → IfOk (name_at cs) (LeavesAtMost n)
+pub name-most : (n : ℕ) (cs : List ℕ) → length cs ≤ n → IfOk (name_at cs) (LeavesAtMost n)
 unfolding name_at
 name-most n cs le =
     bind_if_ok (LeavesAtMost n) (LeavesAtMost n) (plain_name_at cs) _ (run-most n NameStart NameCharacter cs le) (λ first less. local-most n first.0 first.1 less)
@@ -159,7 +159,7 @@ attribute_after-leaves n spaced (c ∷ cs) le =
     (test_if_ok (Leaves n) spaced _ (Unexpected, c ∷ cs) (gives-leaves n (attribute_at (c ∷ cs)) (attribute-below n (c ∷ cs) le)))
     (record { most = le; fewer = tt })
 
-next_attribute-leaves : (n : ℕ) (cs : List ℕ) → length cs ≤ n → IfOk (next_attribute_at cs) (Leaves n)
+pub next_attribute-leaves : (n : ℕ) (cs : List ℕ) → length cs ≤ n → IfOk (next_attribute_at cs) (Leaves n)
 unfolding next_attribute_at
 next_attribute-leaves n cs le = attribute_after-leaves n (begins Space cs) (after_space cs) (after-most n Space cs le)
 

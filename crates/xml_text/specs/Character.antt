@@ -25,11 +25,15 @@ name_start_ranges =
 abbrev pub name_more_ranges : List (ℕ × ℕ)
 name_more_ranges = (0x2D, 0x2E) ∷ (0x30, 0x39) ∷ (0xB7, 0xB7) ∷ (0x300, 0x36F) ∷ (0x203F, 0x2040) ∷ []
 
+-- S
+abbrev pub is_space : ℕ → Bool
+is_space c = c == 32 || c == 9 || c == 10 || c == 13
+
 -- Whether a character is of a class: Char; S; what a name may begin with and have in it, but for the colon; a digit; a hexadecimal digit;
 -- what an attribute's value may have in it between either quotes, but for references.
 unfoldable pub passes : Class → ℕ → Bool
 passes Legal c = lies_in_one legal_ranges c
-passes Space c = c == 32 || c == 9 || c == 10 || c == 13
+passes Space c = is_space c
 passes NameStart c = lies_in_one name_start_ranges c
 passes NameCharacter c = lies_in_one name_start_ranges c || lies_in_one name_more_ranges c
 passes Digit c = lies_in c (0x30, 0x39)

@@ -8,7 +8,7 @@ use Rattle.xml_text.specs.Tokens as tokens
 use Rattle.xml_text.specs.Reading.{Refusal, Reading}
 use Rattle.xml_text.specs.declared.fault.Fault.{Fault}
 use Rattle.xml_text.specs.declared.fault.XmlError.{XmlError}
-use Rattle.xml_text.specs.declared.fault.XmlError.TheVariants as stops
+use Rattle.xml_text.specs.declared.fault.XmlError.TheVariants as errors
 use Rattle.xml_text.specs.declared.token.Placed.{Placed}
 use Rattle.xml_text.specs.declared.token.Name.{Name}
 use Rattle.xml_text.specs.declared.token.Reference.{Reference}
@@ -69,24 +69,24 @@ Passes (Err fault) rest read = read ≡ Err (fault, rest)
 
 -- A fault stands where the text from there on is left; memory may run out at any time.
 abbrev pub StopsAt : {Y : Type 0} → XmlError → List ℕ → Result Y Refusal → Type 0
-StopsAt stops.Memory rest read = Unit {0}
-StopsAt (stops.Fault fault) rest read = read ≡ Err (fault, rest)
+StopsAt errors.Memory rest read = Unit {0}
+StopsAt (errors.Fault fault) rest read = read ≡ Err (fault, rest)
 
 -- the same of functions that take memory
 abbrev pub Gives : {X Y : Type 0} → (X → Y) → Result X XmlError → List ℕ → Reading Y → Type 0
 Gives view (Ok x) rest read = read ≡ Ok (view x, rest)
-Gives view (Err stop) rest read = StopsAt stop rest read
+Gives view (Err error) rest read = StopsAt error rest read
 
 abbrev pub GivesRest : {X : Type 0} → Result X XmlError → List ℕ → Result (List ℕ) Refusal → Type 0
 GivesRest (Ok x) rest read = read ≡ Ok rest
-GivesRest (Err stop) rest read = StopsAt stop rest read
+GivesRest (Err error) rest read = StopsAt error rest read
 
 -- the next token is that one and what follows is that; or memory ran out
 abbrev pub GivesOnly : Result (Option (Placed Token)) XmlError → List ℕ → At tokens.Token → List ℕ → Type 0
 GivesOnly (Ok found) left x rest = (option_map (placed_view token_view) found ≡ Some x) × (left ≡ rest)
-GivesOnly (Err stop) left x rest = stop ≡ stops.Memory
+GivesOnly (Err error) left x rest = error ≡ errors.Memory
 
 -- what follows is that; or memory ran out
 abbrev pub LeavesOnly : {X : Type 0} → Result X XmlError → List ℕ → List ℕ → Type 0
 LeavesOnly (Ok x) left rest = left ≡ rest
-LeavesOnly (Err stop) left rest = stop ≡ stops.Memory
+LeavesOnly (Err error) left rest = error ≡ errors.Memory

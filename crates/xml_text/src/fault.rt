@@ -1,7 +1,7 @@
 //! Why a text is no XML.
 
 ghost use Rattle.std.specs.Prelude.{◌≡◌};
-ghost use Rattle.xml_text.specs.declared.fault.XmlError.TheVariants as stops;
+ghost use Rattle.xml_text.specs.declared.fault.XmlError.TheVariants as errors;
 
 use std::alloc::{AllocError, AllocFailed};
 use thiserror::Error;
@@ -77,7 +77,7 @@ pub enum XmlError {
 }
 
 impl From<AllocError> for XmlError {
-    ghost from_gives = { λ _ e. e ≡ stops.Memory };
+    ghost from_gives = { λ _ e. e ≡ errors.Memory };
 
     fn from(_error: AllocError) -> XmlError {
         XmlError::Memory
@@ -85,7 +85,7 @@ impl From<AllocError> for XmlError {
 }
 
 impl<T: Drop> From<AllocFailed<T>> for XmlError {
-    ghost from_gives = { λ _ e. e ≡ stops.Memory };
+    ghost from_gives = { λ _ e. e ≡ errors.Memory };
 
     fn from(_error: AllocFailed<T>) -> XmlError {
         XmlError::Memory
@@ -93,7 +93,7 @@ impl<T: Drop> From<AllocFailed<T>> for XmlError {
 }
 
 impl From<Fault> for XmlError {
-    ghost from_gives = { λ fault e. e ≡ stops.Fault fault };
+    ghost from_gives = { λ fault e. e ≡ errors.Fault fault };
 
     fn from(fault: Fault) -> XmlError {
         XmlError::Fault(fault)

@@ -16,4 +16,5 @@ mod value;
 pub use fault::{Fault, XmlError};
 pub use markup::next_token;
 pub use prolog::take_prolog;
+pub use reading::{byte_len, skip_space};
 pub use token::{Attribute, Name, Piece, Placed, Reference, Tag, Token};

@@ -221,6 +221,6 @@ fn read_token<'s>(
             reader.rest = start;
             Err(XmlError::Fault(Fault::Unclosed))
         }
-        Err(stop) => Err(stop),
+        Err(error) => Err(error),
     }
 }

@@ -206,6 +206,6 @@ fn read_prolog<'s>(alloc: Global, reader: &mut Reader<'s>) -> Result<(), XmlErro
             reader.rest = start;
             Err(XmlError::Fault(Fault::Unclosed))
         }
-        Err(stop) => Err(stop),
+        Err(error) => Err(error),
     }
 }

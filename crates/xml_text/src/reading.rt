@@ -15,7 +15,7 @@ use crate::fault::Fault;
 use texts::{CharacterClass, Reader, split_first, split_run};
 
 /// How many bytes the text has.
-pub(crate) fn byte_len(text: &str) -> usize
+pub fn byte_len(text: &str) -> usize
     ensures { result ≡ left_of (chars text.now) }
 {
     text.len()
@@ -88,7 +88,7 @@ pub(crate) fn run<'s>(reader: &mut Reader<'s>, class: Class) -> &'s str
 }
 
 /// Takes white space, if there is any.
-pub(crate) fn skip_space(reader: &mut Reader<'_>)
+pub fn skip_space(reader: &mut Reader<'_>)
     ensures { left reader.new ≡ after_space (left reader.old) }
 {
     run(reader, Class::Space);

@@ -3,7 +3,7 @@ use Rattle.std.proofs.lemmas.List.{map_push}
 use Rattle.texts.specs.Views.{left}
 use Rattle.cite_markers.specs.Marker.{Cite, cite_at, next_cite_at, cites_at}
 use Rattle.cite_markers.specs.Views.{cite_view, cites_view}
-use Rattle.cite_markers.proofs.Gathering.{Gathers, goes_on, ends, fails}
+use Rattle.laws.proofs.Gathering.{Gathers, goes_on, ends, fails}
 use Rattle.cite_markers.proofs.MarkerLeaving.{cites_shorten}
 use Rattle.cite_markers.proofs.marker.read_cites.Goals as goal
 

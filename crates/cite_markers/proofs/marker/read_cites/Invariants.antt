@@ -2,7 +2,7 @@ use Rattle.std.proofs.Common.{length}
 use Rattle.texts.specs.Views.{left}
 use Rattle.cite_markers.specs.Marker.{next_cite_at, cites_at}
 use Rattle.cite_markers.specs.Views.{cites_view}
-use Rattle.cite_markers.proofs.Gathering.{Gathers}
+use Rattle.laws.proofs.Gathering.{Gathers}
 use Rattle.cite_markers.proofs.marker.read_cites.Given as goal
 
 abbrev pub invariant-loop-cites : goal.invariant-loop-cites

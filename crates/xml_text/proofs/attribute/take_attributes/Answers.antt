@@ -5,7 +5,7 @@ use Rattle.laws.specs.Steps.{each}
 use Rattle.texts.specs.Views.{left}
 use Rattle.xml_text.specs.Tags.{next_attribute_at}
 use Rattle.xml_text.specs.Views.{placed_view, attribute_view, attributes_view}
-use Rattle.xml_text.proofs.Gathering.{goes_on, ends}
+use Rattle.laws.proofs.Gathering.{goes_on, ends}
 use Rattle.xml_text.proofs.Shorter.{attributes_shorten}
 use Rattle.xml_text.proofs.Words.{stops-gathered}
 use Rattle.xml_text.proofs.attribute.take_attributes.Goals as goal

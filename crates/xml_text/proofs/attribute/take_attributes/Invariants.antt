@@ -3,7 +3,7 @@ use Rattle.laws.specs.Steps.{each}
 use Rattle.texts.specs.Views.{left}
 use Rattle.xml_text.specs.Tags.{next_attribute_at}
 use Rattle.xml_text.specs.Views.{attributes_view}
-use Rattle.xml_text.proofs.Gathering.{Gathers}
+use Rattle.laws.proofs.Gathering.{Gathers}
 use Rattle.xml_text.proofs.attribute.take_attributes.Given as goal
 
 abbrev pub invariant-loop-attributes : goal.invariant-loop-attributes

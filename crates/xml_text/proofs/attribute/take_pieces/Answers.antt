@@ -4,7 +4,7 @@ use Rattle.laws.specs.Steps.{each}
 use Rattle.texts.specs.Views.{left}
 use Rattle.xml_text.specs.Tags.{piece_at}
 use Rattle.xml_text.specs.Views.{piece_view, pieces_view}
-use Rattle.xml_text.proofs.Gathering.{goes_on, ends, fails}
+use Rattle.laws.proofs.Gathering.{goes_on, ends, fails}
 use Rattle.xml_text.proofs.Shorter.{pieces_shorten}
 use Rattle.xml_text.proofs.attribute.take_pieces.Goals as goal
 

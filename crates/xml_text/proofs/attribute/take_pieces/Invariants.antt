@@ -3,7 +3,7 @@ use Rattle.laws.specs.Steps.{each}
 use Rattle.texts.specs.Views.{left}
 use Rattle.xml_text.specs.Tags.{piece_at}
 use Rattle.xml_text.specs.Views.{pieces_view}
-use Rattle.xml_text.proofs.Gathering.{Gathers}
+use Rattle.laws.proofs.Gathering.{Gathers}
 use Rattle.xml_text.proofs.attribute.take_pieces.Given as goal
 
 abbrev pub invariant-loop-pieces : goal.invariant-loop-pieces

@@ -5,7 +5,7 @@ use Rattle.laws.specs.Steps.{each}
 use Rattle.texts.specs.Views.{left}
 use Rattle.cite_markers.specs.Document.{piece_at, or_offset, document_of}
 use Rattle.cite_markers.specs.Views.{piece_view}
-use Rattle.cite_markers.proofs.Gathering.{begins, goes_on, ends, fails}
+use Rattle.laws.proofs.Gathering.{begins, goes_on, ends, fails}
 use Rattle.cite_markers.proofs.Leaving.{leaves_all, leaves_more, end_bytes}
 use Rattle.cite_markers.proofs.DocumentLeaving.{pieces_shorten, piece_leaves, fault_leaves}
 use Rattle.cite_markers.proofs.document.Document.parse.Goals as goal

@@ -4,7 +4,7 @@ use Rattle.laws.specs.Steps.{each}
 use Rattle.texts.specs.Views.{left}
 use Rattle.cite_markers.specs.Document.{piece_at}
 use Rattle.cite_markers.specs.Views.{piece_view}
-use Rattle.cite_markers.proofs.Gathering.{Gathers}
+use Rattle.laws.proofs.Gathering.{Gathers}
 use Rattle.cite_markers.proofs.Leaving.{Leaves}
 use Rattle.cite_markers.proofs.document.Document.parse.Given as goal
 
