@@ -8,7 +8,9 @@ pub mod NamingEqual
 pub mod NamingOrder
 pub mod NamingSources
 pub mod NamingOnce
+pub mod NamingOwn
 pub mod LendingBorrowed
+pub mod LendingFlat
 pub mod ResolvedEntries
 pub mod ReadingLoaded
 pub mod ReadingOnce

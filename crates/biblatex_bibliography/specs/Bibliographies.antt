@@ -4,6 +4,7 @@ use Rattle.std.specs.List.{list_any}
 use Rattle.std.specs.Str.{bytes_eq}
 use Rattle.biblatex_entries.specs.Entries.{Source, sources_view, names_of, parents_of}
 use Rattle.biblatex_entries.specs.declared.entry.Entry.{Entry}
+use Rattle.biblatex_writing.specs.Flat.{flat}
 use Rattle.biblatex_bibliography.specs.declared.indices.NamedIndex.{NamedIndex}
 use Rattle.biblatex_bibliography.specs.Indices.{Names, Meaning, meaning_in, names_in, AreWithin, bound, without_index}
 
@@ -68,6 +69,10 @@ aliased_at (Some i) alias b = record { entries = b.entries; index = bound (alias
 
 abbrev pub aliased : List ℕ → List ℕ → Listed → Listed
 aliased name alias b = aliased_at (b.index name) alias b
+
+-- each entry without `crossref`, under the same names
+abbrev pub flattened : Indexed → Indexed
+flattened b = record { entries = flat b.entries; names = b.names }
 
 -- of each entry the indices of those that it refers to; names that mean nothing are passed over
 abbrev pub references : Listed → List (List ℕ)

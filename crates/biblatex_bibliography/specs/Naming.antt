@@ -1,5 +1,5 @@
 -- The names of entries in the order of a file, and what they mean.
-use Rattle.std.specs.Prelude.{ℕ, suc, Bool, false, List, [], ◌∷◌, ◌++◌, map, filter, Option, Some, None, nat_lt, if◌then◌else◌}
+use Rattle.std.specs.Prelude.{ℕ, suc, Bool, true, false, ◌&&◌, ◌==◌, List, [], ◌∷◌, ◌++◌, map, filter, Option, Some, None, nat_lt, if◌then◌else◌}
 use Rattle.std.specs.Str.{bytes_eq}
 use Rattle.biblatex_entries.specs.Entries.{Source, names_of}
 use Rattle.biblatex_bibliography.specs.Indices.{Names, Meaning, meaning_in, bound}
@@ -35,3 +35,13 @@ is_below number (Some index) = nat_lt index number
 abbrev pub first_repeated : Names → ℕ → List Source → Option ℕ
 first_repeated names number [] = None
 first_repeated names number (e ∷ es) = if is_below number (meaning_in names e.key) then Some number else first_repeated names (suc number) es
+
+-- whether there is an index, and it is this one
+abbrev pub is_index : ℕ → Option ℕ → Bool
+is_index number None = false
+is_index number (Some index) = index == number
+
+-- whether the key of each entry means the index of that entry, among entries of which the first has this number
+abbrev pub have_own_indices : Meaning → ℕ → List Source → Bool
+have_own_indices meaning number [] = true
+have_own_indices meaning number (e ∷ es) = is_index number (meaning e.key) && have_own_indices meaning (suc number) es

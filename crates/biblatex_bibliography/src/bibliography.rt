@@ -3,8 +3,13 @@
 ghost use Rattle.std.specs.Prelude.{◌≡◌, ◌==◌, ◌<◌, length, map, string_bytes, IfOk, IfErr, IfSome, OnOk, OnErr, Some, slice_get};
 ghost use Rattle.std.specs.Option.{option_map};
 ghost use Rattle.std.specs.Borrow.{sem};
+ghost use Rattle.std.specs.Io.KnownBytes.{Appends};
 ghost use Rattle.std.specs.Slice.Iter.{iter_rest, iter_mut_rest, iter_mut_name};
 ghost use Rattle.std.specs.Iterator.Adapters.{IterMutYieldsInOrder};
+ghost use Rattle.laws.specs.Counts.{next_count};
+ghost use Rattle.sinks.specs.Sinks.{AppendsPrefix, HasFailed};
+ghost use Rattle.biblatex_writing.specs.Settled.{have_distinct_keys, is_settled};
+ghost use Rattle.biblatex_writing.specs.Written.{written_file};
 ghost use Rattle.biblatex_inheritance.specs.Solution.{IsRefusedAs};
 ghost use Rattle.biblatex_bibliography.specs.Indices.{AreInOrder};
 ghost use Rattle.biblatex_bibliography.specs.Keys.{keys_left};
@@ -12,13 +17,18 @@ ghost use Rattle.biblatex_bibliography.specs.Resolved.{IsResolved};
 ghost use Rattle.biblatex_bibliography.specs.Lending.{LendsEntry, LendsEntries};
 ghost use Rattle.biblatex_entries.specs.declared.entry.Entry.{Entry};
 ghost use Rattle.biblatex_entries.specs.Entries.{source_view, sources_view, HaveJoinedFields};
-ghost use Rattle.biblatex_bibliography.specs.Bibliographies.{indexed, listed_view, IsWithin, IsAsRead, nothing, entry_named, pushed, inserted, removed, aliased, references};
+ghost use Rattle.biblatex_bibliography.specs.Bibliographies.{indexed, listed_view, IsWithin, IsAsRead, nothing, entry_named, pushed, inserted, removed, aliased, references, flattened};
 
 use crate::indexed::{key_alone, put_last, replace, take};
 use crate::indices::{NamedIndex, bind, index_in, indices_meant};
 use crate::keys::Keys;
+use crate::naming::have_own_indices;
 use biblatex_entries::Entry;
 use biblatex_inheritance::{Resolution, ResolveError, resolve};
+use biblatex_writing::{
+    are_each_settled, entries_text, flatten_entries, have_distinct_keys, write_entries,
+};
+use sinks::{Sink, SinkFault};
 use std::alloc::{AllocError, Global};
 use std::marker::Model;
 use std::slice::{Iter, IterMut};
@@ -234,6 +244,50 @@ impl Bibliography {
             },
             count,
         ))
+    }
+
+    /// Writes the entries as a BibLaTeX file. Takes no memory. After an error the sink has taken a prefix of the file.
+    pub fn write_biblatex<W: Sink>(&self, sink: &mut W) -> Result<(), SinkFault>
+        ensures ok { OnOk result (Appends (W.contents sink.old) (W.contents sink.new)
+            (written_file self.now.entries)) }
+        ensures err { OnErr result (AppendsPrefix (W.contents sink.old) (W.contents sink.new)
+            (written_file self.now.entries)) }
+        ensures cause { OnErr result (HasFailed (W.failures sink.old) (W.failures sink.new)) }
+        // No call failed; or the last one did, and none was tried after it.
+        ensures quiet { OnOk result (W.failures sink.new ≡ W.failures sink.old) }
+        ensures once { OnErr result (W.failures sink.new ≡ next_count (W.failures sink.old)) }
+        ensures fault { IfErr result (λ e. W.last_fault sink.new ≡ Some e) }
+    {
+        write_entries(self.entries.as_slice(), sink)
+    }
+
+    /// The entries as a BibLaTeX file.
+    pub fn to_biblatex_string(&self, alloc: Global) -> Result<String, AllocError>
+        ensures { IfOk result (λ s. string_bytes s ≡ written_file self.now.entries) }
+    {
+        entries_text(alloc, self.entries.as_slice())
+    }
+
+    /// Whether what is written reads back as the same entries. Takes no memory.
+    pub fn is_settled(&self) -> bool
+        ensures { result ≡ is_settled self.now.entries }
+    {
+        self.has_distinct_keys() && are_each_settled(self.entries.as_slice())
+    }
+
+    /// Whether no two entries have one key: each key means its own entry, or all pairs are compared.
+    fn has_distinct_keys(&self) -> bool
+        ensures { result ≡ have_distinct_keys self.now.entries }
+    {
+        let entries = self.entries.as_slice();
+        have_own_indices(entries, self.names.as_slice()) || have_distinct_keys(entries)
+    }
+
+    /// Takes `crossref` out of every entry. Takes no memory.
+    pub fn flatten(&mut self)
+        ensures { self.new ≡ flattened self.old }
+    {
+        flatten_entries(self.entries.as_mut_slice());
     }
 
     /// The entries in their order.

@@ -7,9 +7,9 @@ ghost use Rattle.std.specs.Ordering.{nat_cmp};
 ghost use Rattle.biblatex_entries.specs.Entries.{sources_view};
 ghost use Rattle.biblatex_bibliography.specs.Indices.{meaning_in, names_in, name_of, AreSorted, AreInOrder};
 ghost use Rattle.biblatex_bibliography.specs.Naming as specs;
-ghost use Rattle.biblatex_bibliography.specs.Naming.{numbered, names_from, equal_names, bound_each, is_below};
+ghost use Rattle.biblatex_bibliography.specs.Naming.{numbered, names_from, equal_names, bound_each, is_below, is_index, have_own_indices};
 
-use crate::indices::{NamedIndex, bind, first_index_in};
+use crate::indices::{NamedIndex, bind, first_index_in, index_in};
 use biblatex_entries::Entry;
 use std::alloc::{AllocError, Global};
 use std::cmp::Ordering;
@@ -98,6 +98,31 @@ pub(crate) fn first_repeated(entries: &[Entry], names: &[NamedIndex]) -> Option<
         }
     }
     None
+}
+
+/// Whether the key means the index.
+fn is_index_of(names: &[NamedIndex], key: &str, index: usize) -> bool
+    requires { AreInOrder names.now }
+    ensures { result ≡ is_index index (meaning_in (names_in names.now) key.now) }
+{
+    match index_in(names, key) {
+        Some(meant) => meant == index,
+        None => false,
+    }
+}
+
+/// Whether the key of each entry means the index of that entry.
+pub(crate) fn have_own_indices(entries: &[Entry], names: &[NamedIndex]) -> bool
+    requires { AreInOrder names.now }
+    ensures { result ≡ have_own_indices (meaning_in (names_in names.now)) 0
+        (sources_view entries.now) }
+{
+    for index in 0..entries.len() {
+        if !is_index_of(names, entries[index].key.as_str(), index) {
+            return false;
+        }
+    }
+    true
 }
 
 /// Of equal names the last one: what each name means once all are bound, one after the other.
