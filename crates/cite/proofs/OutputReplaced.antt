@@ -38,7 +38,7 @@ module _ (works : Works) (x : StyleContext) (sections : List (List ℕ)) where
       citations_count is_same_own (driver_document x wanted markers) r (given (λ _. overflow) (finish is_same_own (driver_document x wanted markers)) r is)
       ∙ length-map (enumerate_from 1 markers) (request_of x (works_in markers)) ∙ length-enumerate_from 1 markers
 
-  rendered_count : (pieces : List Piece) (r : Rendered) → rendered_stage works x sections pieces ≡ Ok r → length r.citations ≡ length (markers_of pieces)
+  pub rendered_count : (pieces : List Piece) (r : Rendered) → rendered_stage works x sections pieces ≡ Ok r → length r.citations ≡ length (markers_of pieces)
   unfolding rendered_stage
   rendered_count pieces r is =
       let names = bind_ok (name_stage works pieces) _ r is in
@@ -75,13 +75,13 @@ read_whole document pieces is =
     }
 
 -- citations and bibliography as a format writes them
-abbrev citations_in : BufWriteFormat → Rendered → List (List ℕ)
+abbrev pub citations_in : BufWriteFormat → Rendered → List (List ℕ)
 citations_in format r = map (λ c. tree_text format c.tree) r.citations
 
-abbrev bibliography_in : BufWriteFormat → Rendered → List ℕ
+abbrev pub bibliography_in : BufWriteFormat → Rendered → List ℕ
 bibliography_in format r = option_map_or (bibliography_text format) r.bibliography []
 
-output_of : (format : BufWriteFormat) (document : List ℕ) (pieces : List Piece) (r : Rendered) → document_stage document ≡ Ok pieces → length r.citations ≡ length (markers_of pieces)
+pub output_of : (format : BufWriteFormat) (document : List ℕ) (pieces : List Piece) (r : Rendered) → document_stage document ≡ Ok pieces → length r.citations ≡ length (markers_of pieces)
     → IsOutputOf document (citations_in format r) (bibliography_in format r) (text (output_text format pieces r))
 output_of format document pieces r is count =
     let whole = read_whole document pieces is in
@@ -97,7 +97,7 @@ output_of format document pieces r is count =
 
 -- ---- verdicts that are outputs
 
-record IsWritten (works : Works) (task : Task) (output : List ℕ) : Type 0 where
+pub record IsWritten (works : Works) (task : Task) (output : List ℕ) : Type 0 where
   pub pieces : List Piece
   pub rendered : Rendered
   pub read : document_stage task.document ≡ Ok pieces
@@ -112,7 +112,7 @@ written_by works task output is =
     let rendered = bind_ok (rendered_stage library.0 task.context task.sections read.0) _ output read.2 in
     (library.0, library.1, record { pieces = read.0; rendered = rendered.0; read = read.1; is = rendered.1; writes = ok_is {F = Refusal} (text (output_text task.format read.0 rendered.0)) output rendered.2 })
 
-written : (bib : List ℕ) (task : Task) (output : List ℕ) → IsVerdict bib task (Ok output) → (w : Works) × AreWorksOf bib (Ok w) × IsWritten w task output
+pub written : (bib : List ℕ) (task : Task) (output : List ℕ) → IsVerdict bib task (Ok output) → (w : Works) × AreWorksOf bib (Ok w) × IsWritten w task output
 written bib task output (works, are_works, is) =
     let w = written_by works task output (sym is) in
     (w.0, subst (AreWorksOf bib) w.1 are_works, w.2)

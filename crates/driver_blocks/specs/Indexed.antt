@@ -1,7 +1,7 @@
 -- Blocks under the keys of their names: what the names print, and the people that they name.
 use Rattle.std.specs.Global.{Global}
 use Rattle.std.specs.Prelude.{◌≡◌, ℕ, ◌+◌, Bool, false, List, [], ◌∷◌, if◌then◌else◌, Option, Some, None, Vec, String}
-use Rattle.std.specs.HashMap.{HashMap, get_by_text}
+use Rattle.std.specs.BTreeMap.{BTreeMap, get_by_text}
 use Rattle.std.specs.Option.{option_map, option_map_or}
 use Rattle.std.specs.Str.{bytes_eq}
 use Rattle.driver_blocks.specs.Blocks.{Gathered}
@@ -26,9 +26,9 @@ indices_of q n [] = []
 indices_of q n (b ∷ bs) = if has_key q b then n ∷ indices_of q (n + 1) bs else indices_of q (n + 1) bs
 
 -- the indices under a key
-abbrev pub under : {S : Type 0} → HashMap (String Global) (Vec ℕ Global) S → List ℕ → List ℕ
+abbrev pub under : BTreeMap (String Global) (Vec ℕ Global) → List ℕ → List ℕ
 under table q = option_map_or (λ (v : Vec ℕ Global). v.items) (get_by_text table q) []
 
 -- a map has under each key the indices of the blocks whose names have it
-abbrev pub IsIndex : {S X : Type 0} → HashMap (String Global) (Vec ℕ Global) S → List (List (Gathered X)) → Type 0
+abbrev pub IsIndex : {X : Type 0} → BTreeMap (String Global) (Vec ℕ Global) → List (List (Gathered X)) → Type 0
 IsIndex table bs = (q : List ℕ) → under table q ≡ indices_of q 0 bs

@@ -12,7 +12,7 @@ use crate::key::names_key;
 use rendering_style::Citation;
 use rendering_tree::are_equal_elements;
 use std::alloc::{AllocError, Global};
-use std::collections::HashMap;
+use std::collections::BTreeMap;
 
 /// The blocks of a citation: cites with the same names, or each cite by itself where they are not gathered or it has none.
 pub(crate) fn blocks_of<'a>(
@@ -68,7 +68,7 @@ fn gather<'a>(alloc: Global, cites: &[Gathered<'a>]) -> Result<Vec<Vec<Gathered<
     ensures { IfOk result (λ v. blocks_view v.items
         ≡ gathered is_of_block (map gathered_view cites.now)) }
 {
-    let mut table = HashMap::new(alloc);
+    let mut table = BTreeMap::new(alloc);
     let mut blocks = Vec::new(alloc);
     for cite in cites {
         put(alloc, *cite, &mut table, &mut blocks)?;
@@ -80,7 +80,7 @@ fn gather<'a>(alloc: Global, cites: &[Gathered<'a>]) -> Result<Vec<Vec<Gathered<
 fn put<'a>(
     alloc: Global,
     cite: Gathered<'a>,
-    table: &mut HashMap<String, Vec<usize>>,
+    table: &mut BTreeMap<String, Vec<usize>>,
     blocks: &mut Vec<Vec<Gathered<'a>>>,
 ) -> Result<(), AllocError>
     requires { IsIndex table.old (blocks_view blocks.old.items) }
@@ -99,7 +99,7 @@ fn put_named<'a>(
     alloc: Global,
     cite: Gathered<'a>,
     key: String,
-    table: &mut HashMap<String, Vec<usize>>,
+    table: &mut BTreeMap<String, Vec<usize>>,
     blocks: &mut Vec<Vec<Gathered<'a>>>,
 ) -> Result<(), AllocError>
     requires table { IsIndex table.old (blocks_view blocks.old.items) }
@@ -142,7 +142,11 @@ fn key_of_names(alloc: Global, cite: &Gathered) -> Result<Option<String>, AllocE
 }
 
 /// Adds the index of a block to those under the key of its names.
-fn add(table: &mut HashMap<String, Vec<usize>>, key: String, index: usize) -> Result<(), AllocError>
+fn add(
+    table: &mut BTreeMap<String, Vec<usize>>,
+    key: String,
+    index: usize,
+) -> Result<(), AllocError>
     ensures { OnOk result ((q : List ℕ) → under table.new q
         ≡ under table.old q ++ (if bytes_eq q (string_bytes key) then index ∷ [] else [])) }
 {
@@ -152,7 +156,7 @@ fn add(table: &mut HashMap<String, Vec<usize>>, key: String, index: usize) -> Re
 
 /// The index of the first block that takes a cite with this key.
 fn block_taking(
-    table: &HashMap<String, Vec<usize>>,
+    table: &BTreeMap<String, Vec<usize>>,
     key: &str,
     blocks: &[Vec<Gathered>],
     cite: &Gathered,

@@ -85,7 +85,7 @@ module _ {P : Type 0} (same : P → P → Bool) (d : Document P) (t : Disambigua
       weaker_all (IsOne r.context.style.citation IsHiddenCite) IsUnshown (λ a g. g.1 g.0) (arranged_for t (r, bs)) (arranged_all r.context.style.citation IsHiddenCite (has_purpose r) (map (gathered_by t) bs) gs)
 
   -- a request of hidden items prints nothing
-  abbrev PrintsNothing : Request P × List (Final P) → Type 0
+  abbrev pub PrintsNothing : Request P × List (Final P) → Type 0
   PrintsNothing p = is_all_hidden p.0 ≡ true → citation_tree p.0 p.1 ≡ nothing
 
   final_hidden : (p : Option (Arranged (FirstPrint P)) × Arranged (FirstPrint P)) → IsUnshown p.1 → (final same t p).arranged.is_shown ≡ false

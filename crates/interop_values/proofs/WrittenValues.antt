@@ -1,5 +1,5 @@
 -- What stands under a written name is what a look-up finds in the written fields, where no two are written under one name.
-use Rattle.std.proofs.Common.{◌≡◌, ℕ, Bool, true, false, true≢false, cond, ◌↔◌, ◌||◌, List, [], ◌∷◌, ◌++◌, Option, Some, None, Contains, find, unwrap_or, option_map, option_to_list, option_and_then, flat_map, refl, sym, ap, subst, ◌∙◌, arith}
+use Rattle.std.proofs.Common.{◌≡◌, ℕ, Bool, true, false, cond, ◌↔◌, ◌||◌, List, [], ◌∷◌, ◌++◌, Option, Some, None, Contains, find, unwrap_or, option_map, option_to_list, option_and_then, flat_map, refl, sym, ap, subst, ◌∙◌, arith}
 use Rattle.std.specs.Prelude.{if◌then◌else◌}
 use Rattle.std.specs.List.{list_any, AllByRecursion, IsDistinct}
 use Rattle.std.specs.Map.{lookup, keys_of}

@@ -1,6 +1,6 @@
 use Rattle.std.specs.Global.{Global}
 use Rattle.std.proofs.Common.{◌≡◌, ◌<◌, ℕ, [], All, length, map, sym, ap, subst, ◌∙◌, Option, Some, None, Vec}
-use Rattle.std.specs.HashMap.{get_by_text}
+use Rattle.std.specs.BTreeMap.{get_by_text}
 use Rattle.std.specs.Option.{option_copied, option_map_or}
 use Rattle.std.specs.Prelude.{find, slice_index_or}
 use Rattle.std.proofs.lemmas.List.{length-map}
