@@ -1,0 +1,11 @@
+mod Verbatim
+mod Tidied
+mod Modes
+mod Marks
+mod Total
+mod Dollars
+mod Whole
+mod Spelling
+mod Again
+mod Takes
+mod Laws
