@@ -22,15 +22,10 @@ fn parse<'a>(alloc: Global, line: &'a str, scratch: &'a mut Scratch) -> Result<V
 
 /// Writes the members of the answer to a case; false where no kind has this name.
 fn is_answered(session: &mut Session, kind: &str, case: &Value<'_>) -> bool {
-    cases::answer_texts(session, kind, case)
-        || cases_values::answer(session, kind, case)
-        || cases_entries::answer(session, kind, case)
-        || cases_xml::answer(session, kind, case)
-        || cases_literature::answer(session, kind, case)
-        || cases_styles::answer(session, kind, case)
+    cases::answer(session, kind, case)
         || cases_rendering::answer(session, kind, case)
         || cases_cite::answer(session, kind, case)
-        || cases_citations::answer(session, kind, case)
+        || cases_uses::answer(session, kind, case)
         || cases_driver::answer(session, kind, case)
 }
 

@@ -1,10 +1,12 @@
-//! What cases are read and answered with: the members of JSON objects and of answers, chunks and spans, and why a line is no case.
-//! Also the cases of texts of BibLaTeX files and of contents of fields.
+//! What cases are read and answered with: the members of JSON objects and of answers, chunks and spans, the values of both libraries, and
+//! why a line is no case. Also the cases of texts of BibLaTeX files, of contents and values of fields, of entries and bibliographies, and
+//! of texts of XML.
 #![tactic(auto)]
 
 mod characters;
 mod chunks;
 mod content;
+mod entries;
 mod items;
 mod members;
 mod refusal;
@@ -12,12 +14,15 @@ mod session;
 mod showing;
 mod shown;
 mod spans;
+mod values;
 mod words;
 mod writing;
+mod xml;
 
 use characters::{answer_characters, answer_verbatim_field};
 pub use chunks::{normal_chunks, put_chunks, read_chunks, read_chunks_in};
 use content::answer_content;
+pub use entries::{put_parse_error, put_parse_reason, read_entry};
 use items::answer_items;
 pub use items::{put_fault, token_name};
 pub use json::Value;
@@ -26,10 +31,13 @@ pub use refusal::Refusal;
 pub use session::Session;
 use shown::answer_chunks;
 pub use spans::{maybe_span, put_span, put_span_as};
+pub use values::{
+    CaseValue, given, maybe_given, put_list, put_maybe, put_member, put_or_null, type_error_name,
+};
 pub use words::{value_of, word_of};
 
 /// Writes the members of the answer to a case of texts or contents; false where the kind is none of these.
-pub fn answer_texts(session: &mut Session, kind: &str, case: &Value<'_>) -> bool {
+fn answer_texts(session: &mut Session, kind: &str, case: &Value<'_>) -> bool {
     match kind {
         "items" => answer_items(session, case),
         "content" => answer_content(session, case),
@@ -39,4 +47,12 @@ pub fn answer_texts(session: &mut Session, kind: &str, case: &Value<'_>) -> bool
         _ => return false,
     }
     true
+}
+
+/// Writes the members of the answer to a case of this kind; false where the kind is none of these.
+pub fn answer(session: &mut Session, kind: &str, case: &Value<'_>) -> bool {
+    answer_texts(session, kind, case)
+        || values::answer(session, kind, case)
+        || entries::answer(session, kind, case)
+        || xml::answer(session, kind, case)
 }

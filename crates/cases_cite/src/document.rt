@@ -1,8 +1,7 @@
 //! Documents as their texts and markers.
 
 use cases::{Refusal, Session, Value, word_of};
-use cases_sources::PURPOSES;
-use cases_styles::LOCATORS;
+use cases_rendering::{LOCATORS, PURPOSES};
 use cite::{Cite, Document, DocumentError, Piece};
 
 /// The members of a case.

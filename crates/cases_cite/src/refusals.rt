@@ -1,9 +1,8 @@
 //! Why documents are not cited, as members of an answer. Out of memory has no answer.
 
 use crate::document::put_marker_error;
-use cases::{Refusal, Session, Value};
-use cases_entries::put_parse_error;
-use cases_sources::{put_faults, put_unknown};
+use cases::{Refusal, Session, Value, put_parse_error};
+use cases_rendering::{put_faults, put_unknown};
 use cite::{BibTextError, CiteError, DocumentTextError, SelectorError, SinkFault};
 
 /// Writes why a document was not cited, with the stage of what several stages refuse.

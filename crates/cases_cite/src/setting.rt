@@ -1,10 +1,8 @@
 //! How the document of a case is cited: the style, the locale and the format.
 
 use cases::{Session, Value, member};
-use cases_literature::boxed;
-use cases_sources::maybe_locale;
-use cases_styles::accepted;
-use cite::{BufWriteFormat, Locale, Style, author_date, english, note, numeric};
+use cases_rendering::{accepted, boxed, english_locale, maybe_locale};
+use cite::{BufWriteFormat, Locale, Style, author_date, note, numeric};
 
 /// A document, and how it is cited.
 #[derive(Clone, Copy)]
@@ -59,12 +57,6 @@ pub(crate) fn locale(session: &mut Session, case: &Value<'_>) -> Option<Box<Loca
         Some(locale) => boxed(session, locale),
         None => None,
     }
-}
-
-/// The locale of English; none where memory was refused.
-fn english_locale(session: &mut Session) -> Option<Locale> {
-    let made = english(session.alloc);
-    session.allocated(made)
 }
 
 /// The words of formats.

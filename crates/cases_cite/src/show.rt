@@ -2,9 +2,8 @@
 
 use bib_show::show;
 use biblatex::Bibliography;
-use cases::{Session, Value};
-use cases_entries::put_parse_error;
-use cases_sources::read_source;
+use cases::{Session, Value, put_parse_error};
+use cases_rendering::read_source;
 
 /// Writes what is shown of entries, or why their bib text was refused.
 pub(crate) fn answer_show(session: &mut Session, case: &Value<'_>) {

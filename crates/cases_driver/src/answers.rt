@@ -1,9 +1,7 @@
 //! Citations and bibliographies as members of answers.
 
 use cases::{Session, Value, word_of};
-use cases_rendering::{put_written, put_written_tree};
-use cases_sources::put_effort;
-use cases_styles::ALIGNS;
+use cases_rendering::{ALIGNS, put_effort, put_written, put_written_tree};
 use driver::{BibliographyItem, Rendered, RenderedBibliography, RenderedCitation};
 use rendering_tree::{ElemChild, ElemChildren};
 use std::alloc::AllocError;

@@ -4,7 +4,7 @@ use crate::answers::{put_rendered, put_text_of};
 use crate::finishing::{cited_alone, finished};
 use crate::sources::{Sources, read_styles};
 use cases::{Session, Value, member};
-use cases_sources::{bibliography_of, bridged, locale_files};
+use cases_rendering::{bibliography_of, bridged, locale_files};
 use rendering_style::Style;
 use std::slice;
 

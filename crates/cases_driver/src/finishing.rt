@@ -3,7 +3,7 @@
 use crate::requests::{cited, request};
 use crate::sources::{Sources, language};
 use cases::{Refusal, Session, Value, member};
-use cases_styles::maybe_code;
+use cases_rendering::maybe_code;
 use driver::{BibliographyDriver, Rendered, standalone_citation};
 use driver_requests::{BibliographyRequest, CitationRequest, DriverError};
 use literature::Entry;

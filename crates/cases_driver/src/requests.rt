@@ -2,8 +2,7 @@
 
 use crate::sources::{Sources, language};
 use cases::{Session, Value, member};
-use cases_sources::{PURPOSES, maybe_locator};
-use cases_styles::maybe_code;
+use cases_rendering::{PURPOSES, maybe_code, maybe_locator};
 use driver_requests::{CitationItem, CitationRequest};
 use literature::Entry;
 

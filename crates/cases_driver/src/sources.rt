@@ -2,8 +2,7 @@
 
 use biblatex::Bibliography;
 use cases::{Session, Value};
-use cases_sources::{named, put_unknown_name};
-use cases_styles::{accepted, maybe_code};
+use cases_rendering::{accepted, maybe_code, named, put_unknown_name};
 use literature::{Entry, Library};
 use rendering_locale::{Locale, LocaleCode};
 use rendering_style::Style;

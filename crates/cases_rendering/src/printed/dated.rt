@@ -1,0 +1,123 @@
+//! Dates as styles print them.
+
+use crate::printed::pages::{manner, put_characters, put_page_tree};
+use crate::styles::{PARTS, date_parts, locales};
+use cases::{Refusal, Session, Value, given};
+use literature::Date;
+use rendering_dates::{DateShape, DateStyle, push_years};
+use rendering_locale::{AskedLocales, DatePart, Locale};
+use rendering_page::Page;
+use rendering_taxonomy::DateParts;
+
+/// Writes the years of a date as the member `years`.
+fn put_years(session: &mut Session, locales: &AskedLocales<'_>, date: &Date) {
+    let mut years = String::new(session.alloc);
+    session.check(push_years(&mut years, locales, date));
+    session.put_text("years", years.as_str());
+}
+
+/// Writes what a page shows to which a date was appended, and its tree.
+fn put_dated<'a>(
+    session: &mut Session,
+    style: &DateStyle<'_, 'a>,
+    year_suffix: &'a str,
+    date: &Date,
+) {
+    let mut page = Page::new(session.alloc);
+    session.check(style.push_date(&mut page, year_suffix, date));
+    put_characters(session, &page);
+    put_page_tree(session, page);
+}
+
+/// The text of a member; one that is left out is empty.
+pub(crate) fn text_or_none<'v>(
+    session: &mut Session,
+    case: &'v Value<'_>,
+    name: &'static str,
+) -> &'v str {
+    match session.maybe_text(case, name) {
+        Some(text) => text,
+        None => "",
+    }
+}
+
+/// The parts that a case prints, and what stands between them.
+fn shape<'a>(session: &mut Session, case: &'a Value<'_>, parts: &'a [DatePart]) -> DateShape<'a> {
+    let cut = session.word_or(case, "parts", PARTS, DateParts::YearMonthDay);
+    let delimiter = text_or_none(session, case, "delimiter");
+    DateShape {
+        parts,
+        cut,
+        delimiter,
+    }
+}
+
+/// Writes how the date of a case is printed by these locales and parts.
+fn put_shaped<'s, 'a>(
+    session: &mut Session,
+    case: &'a Value<'_>,
+    quotes: &'s [&'s str],
+    locales: &'s AskedLocales<'a>,
+    parts: &'a [DatePart],
+) {
+    let manner = manner(session, case);
+    let shape = shape(session, case, parts);
+    let style = DateStyle {
+        alloc: session.alloc,
+        quotes,
+        locales,
+        manner,
+        shape,
+    };
+    let year_suffix = text_or_none(session, case, "letters");
+    let date: Date = given(session, case, "date");
+    put_dated(session, &style, year_suffix, &date);
+    put_years(session, locales, &date);
+}
+
+/// Writes how the date of a case is printed by these locales and parts, with the close quotes of the case.
+fn put_asked<'a>(
+    session: &mut Session,
+    case: &'a Value<'_>,
+    own: &'a [Locale],
+    files: &'a [Locale],
+    parts: &'a [DatePart],
+) {
+    let quotes = session.texts(case, "quotes");
+    let code = session.text(case, "code");
+    match AskedLocales::new(session.alloc, code, own, files) {
+        Ok(asked) => put_shaped(session, case, quotes.as_slice(), &asked, parts),
+        Err(_) => session.refuse(Refusal::Memory),
+    }
+}
+
+/// Writes how the date of a case is printed by these locales.
+fn put_listed(session: &mut Session, case: &Value<'_>, own: &[Locale], files: &[Locale]) {
+    let parts = date_parts(session, case);
+    put_asked(session, case, own, files, parts.as_slice());
+}
+
+/// The members of a case.
+const MEMBERS: [&str; 13] = [
+    "case",
+    "name",
+    "date",
+    "date_parts",
+    "parts",
+    "delimiter",
+    "letters",
+    "formatting",
+    "strips_periods",
+    "quotes",
+    "code",
+    "own",
+    "files",
+];
+
+/// `date`: what a page shows to which a date was appended, its tree, and the years of the date.
+pub(crate) fn answer(session: &mut Session, case: &Value<'_>) {
+    session.only(case, &MEMBERS);
+    let own = locales(session, case, "own");
+    let files = locales(session, case, "files");
+    put_listed(session, case, own.as_slice(), files.as_slice());
+}

@@ -1,0 +1,42 @@
+//! Cases of styles and locales; styles, locales and their words as values of cases.
+
+mod asking;
+mod codes;
+mod conditions;
+mod date_words;
+mod dates;
+mod given_locales;
+mod leaves;
+mod looks;
+mod members;
+mod name_options;
+mod names;
+mod nodes;
+mod parts;
+mod styles;
+mod terms;
+mod variables;
+
+use cases::{Session, Value};
+pub use conditions::KINDS;
+pub use date_words::PARTS;
+pub use dates::date_parts;
+pub use given_locales::{locale, locales, maybe_code, maybe_ordinals};
+pub use leaves::NUMBER_FORMS;
+pub use looks::{DISPLAYS, formatting, is_plain, put_formatting};
+pub use parts::ALIGNS;
+pub use styles::{accepted, style_of};
+pub use terms::{LOCATORS, form_of};
+pub use variables::{NAMES, variable_of};
+
+/// Writes the members of the answer to a case of this kind; false where the kind is none of these.
+pub fn answer(session: &mut Session, kind: &str, case: &Value<'_>) -> bool {
+    match kind {
+        "style" => styles::answer(session, case),
+        "locale_code" => codes::answer_code(session, case),
+        "language" => codes::answer_language(session, case),
+        "asked_locales" => asking::answer(session, case),
+        _ => return false,
+    }
+    true
+}

@@ -1,0 +1,115 @@
+//! What locales answer to requests for words, dates and endings.
+
+use crate::styles::date_words::FORMS as DATE_FORMS;
+use crate::styles::given_locales::locales;
+use crate::styles::terms::{FORMS, term_of};
+use cases::{Session, Value};
+use rendering_locale::AskedLocales;
+use rendering_taxonomy::{DateForm, OtherTerm, TermForm};
+
+/// Writes the text of the term of a case, or null.
+fn put_term(session: &mut Session, asked: &AskedLocales<'_>, case: &Value<'_>) {
+    let name = term_of(session, case, "term");
+    let form = session.word_or(case, "form", FORMS, TermForm::Long);
+    let plural = session.is_set(case, "plural");
+    session.key("term");
+    session.string_or_null(asked.term(name, form, plural));
+}
+
+/// Writes the text of the term of a case, empty where there is none.
+fn put_term_text(session: &mut Session, asked: &AskedLocales<'_>, case: &Value<'_>) {
+    let name = term_of(session, case, "term");
+    let form = session.word_or(case, "form", FORMS, TermForm::Long);
+    let plural = session.is_set(case, "plural");
+    session.put_text("term_text", asked.term_text(name, form, plural));
+}
+
+/// Writes the text between the parts of the dates of a form, or null where no locale has such dates.
+fn put_date(session: &mut Session, asked: &AskedLocales<'_>, case: &Value<'_>) {
+    let form = session.word_or(case, "date_form", DATE_FORMS, DateForm::Text);
+    session.key("date");
+    match asked.date(form) {
+        Some(date) => session.string(date.delimiter.as_str()),
+        None => session.null(),
+    }
+}
+
+/// Writes the ending of ordinal numbers that have none of their own, or null where no locale has endings.
+fn put_ordinals(session: &mut Session, asked: &AskedLocales<'_>) {
+    session.key("ordinals");
+    match asked.ordinals() {
+        Some(ordinals) => session.string(ordinals.default.as_str()),
+        None => session.null(),
+    }
+}
+
+/// Writes the open quote and the close quotes.
+fn put_quotes(session: &mut Session, asked: &AskedLocales<'_>) {
+    session.put_text("open_quote", asked.quote_text(OtherTerm::OpenQuote));
+    session.begin_list("close_quotes");
+    let quotes = asked.close_quotes(session.alloc);
+    if let Some(quotes) = session.allocated(quotes) {
+        for quote in &quotes {
+            session.string(*quote);
+        }
+    }
+    session.end_array();
+}
+
+/// Writes the member of the name.
+fn put(session: &mut Session, asked: &AskedLocales<'_>, case: &Value<'_>, name: &str) {
+    match name {
+        "term" => put_term(session, asked, case),
+        "term_text" => put_term_text(session, asked, case),
+        "date" => put_date(session, asked, case),
+        "ordinals" => put_ordinals(session, asked),
+        "punctuates_in_quotes" => session.put_bool(name, asked.punctuates_in_quotes()),
+        _ => put_quotes(session, asked),
+    }
+}
+
+/// What may be shown of asked locales.
+const SHOWN: [&str; 6] = [
+    "term",
+    "term_text",
+    "date",
+    "ordinals",
+    "punctuates_in_quotes",
+    "quotes",
+];
+
+/// Writes what is shown of asked locales.
+fn put_shown(session: &mut Session, asked: &AskedLocales<'_>, case: &Value<'_>) {
+    for name in SHOWN {
+        if session.is_shown(case, name, name == "term") {
+            put(session, asked, case, name);
+        }
+    }
+}
+
+/// The members of a case.
+const MEMBERS: [&str; 10] = [
+    "case",
+    "name",
+    "code",
+    "own",
+    "files",
+    "term",
+    "form",
+    "plural",
+    "date_form",
+    "show",
+];
+
+/// `asked_locales`: what a style's own locales and the locales of files answer to requests for a code.
+pub(crate) fn answer(session: &mut Session, case: &Value<'_>) {
+    session.only(case, &MEMBERS);
+    session.only_shown(case, &SHOWN);
+    let own = locales(session, case, "own");
+    let files = locales(session, case, "files");
+    let code = session.text(case, "code");
+    let asked = AskedLocales::new(session.alloc, code, own.as_slice(), files.as_slice());
+    if let Some(asked) = session.allocated(asked) {
+        put_shown(session, &asked, case);
+    }
+}

@@ -1,0 +1,92 @@
+//! Conditions of branches.
+
+use crate::styles::terms::LOCATORS;
+use crate::styles::variables::{DATES, any, printed};
+use cases::{Session, Value, value_of};
+use rendering_style::{ChooseTest, Condition};
+use rendering_taxonomy::{ChooseMatch, Kind, TestPosition};
+
+/// The words of the kinds, in alphabetical order.
+pub const KINDS: &[(&str, Kind)] = &[
+    ("article", Kind::Article),
+    ("article-journal", Kind::ArticleJournal),
+    ("book", Kind::Book),
+    ("chapter", Kind::Chapter),
+    ("document", Kind::Document),
+    ("entry-encyclopedia", Kind::EntryEncyclopedia),
+    ("manuscript", Kind::Manuscript),
+    ("paper-conference", Kind::PaperConference),
+    ("patent", Kind::Patent),
+    ("periodical", Kind::Periodical),
+    ("report", Kind::Report),
+    ("software", Kind::Software),
+    ("thesis", Kind::Thesis),
+    ("webpage", Kind::Webpage),
+];
+
+const POSITIONS: &[(&str, TestPosition)] = &[
+    ("first", TestPosition::First),
+    ("subsequent", TestPosition::Subsequent),
+    ("ibid", TestPosition::Ibid),
+    ("ibid-with-locator", TestPosition::IbidWithLocator),
+    ("near-note", TestPosition::NearNote),
+];
+
+const MATCHES: &[(&str, ChooseMatch)] = &[
+    ("all", ChooseMatch::All),
+    ("any", ChooseMatch::Any),
+    ("none", ChooseMatch::None),
+];
+
+/// The lists of tests of a branch, in the order in which they are tried.
+const TESTS: [&str; 6] = [
+    "type",
+    "variable",
+    "is_numeric",
+    "is_uncertain_date",
+    "locator",
+    "position",
+];
+
+/// The test that a word of the list asks for.
+fn test(name: &str, word: &str) -> Option<ChooseTest> {
+    match name {
+        "type" => value_of(KINDS, word).map(ChooseTest::Type),
+        "variable" => any(word).map(ChooseTest::Variable),
+        "is_numeric" => printed(word).map(ChooseTest::IsNumeric),
+        "is_uncertain_date" => value_of(DATES, word).map(ChooseTest::IsUncertainDate),
+        "locator" => value_of(LOCATORS, word).map(ChooseTest::Locator),
+        _ => value_of(POSITIONS, word).map(ChooseTest::Position),
+    }
+}
+
+/// Appends the tests of the list.
+fn push_tests(
+    session: &mut Session,
+    branch: &Value<'_>,
+    name: &'static str,
+    tests: &mut Vec<ChooseTest>,
+) {
+    let Some(items) = session.items(branch, name) else {
+        return;
+    };
+    for item in items {
+        match test(name, item.as_str().unwrap_or("")) {
+            Some(test) => session.push(tests, test),
+            None => session.want(name, "a list of its words"),
+        }
+    }
+}
+
+/// The condition of a branch.
+pub(crate) fn condition(session: &mut Session, branch: &Value<'_>) -> Condition {
+    let required = session.word_or(branch, "match", MATCHES, ChooseMatch::All);
+    let mut tests = Vec::new(session.alloc);
+    for name in TESTS {
+        push_tests(session, branch, name, &mut tests);
+    }
+    if session.is_set(branch, "disambiguate") {
+        session.push(&mut tests, ChooseTest::Disambiguate);
+    }
+    Condition { required, tests }
+}

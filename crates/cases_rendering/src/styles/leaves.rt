@@ -1,0 +1,172 @@
+//! Nodes without nodes in them.
+
+use crate::styles::date_words::{FORMS as DATE_FORMS, PARTS};
+use crate::styles::dates::date_parts;
+use crate::styles::looks::look;
+use crate::styles::names::label_look;
+use crate::styles::terms::{FORMS, form_of, term_of};
+use crate::styles::variables::{date_of, numbered_of, printed_of};
+use cases::{Session, Value, member};
+use rendering_style::{Date, Label, Node, Number, Text, TextLook, TextTarget};
+use rendering_taxonomy::{DateParts, NumberForm, TermForm};
+
+/// Forms of numbers.
+pub const NUMBER_FORMS: &[(&str, NumberForm)] = &[
+    ("numeric", NumberForm::Numeric),
+    ("ordinal", NumberForm::Ordinal),
+    ("roman", NumberForm::Roman),
+];
+
+/// The members that may say what a text node prints.
+const TARGETS: [&str; 4] = ["variable", "macro", "term", "value"];
+
+/// The one member that says what a text node prints; empty where there is not just one.
+fn named(node: &Value<'_>) -> &'static str {
+    let mut named = "";
+    for name in TARGETS {
+        if member(node, name).is_some() {
+            if !named.is_empty() {
+                return "";
+            }
+            named = name;
+        }
+    }
+    named
+}
+
+/// A term in its form.
+fn term_target(session: &mut Session, node: &Value<'_>) -> TextTarget {
+    let form = session.word_or(node, "form", FORMS, TermForm::Long);
+    let term = term_of(session, node, "term");
+    TextTarget::Term(term, form, session.is_set(node, "plural"))
+}
+
+/// What a text node prints: that of the one member that says it.
+fn target(session: &mut Session, node: &Value<'_>) -> TextTarget {
+    match named(node) {
+        "variable" => {
+            let form = form_of(session, node);
+            TextTarget::Variable(printed_of(session, node), form)
+        }
+        "macro" => TextTarget::Macro(session.owned_text(node, "macro")),
+        "term" => term_target(session, node),
+        "value" => TextTarget::Value(session.owned_text(node, "value")),
+        _ => {
+            session.want("a text", "of a variable, macro, term or value");
+            TextTarget::Value(String::new(session.alloc))
+        }
+    }
+}
+
+/// The members of a text node.
+const TEXT_MEMBERS: [&str; 13] = [
+    "node",
+    "variable",
+    "macro",
+    "term",
+    "value",
+    "form",
+    "plural",
+    "quotes",
+    "strip_periods",
+    "formatting",
+    "prefix",
+    "suffix",
+    "display",
+];
+
+fn text_node(session: &mut Session, node: &Value<'_>) -> Node {
+    session.only(node, &TEXT_MEMBERS);
+    Node::Text(Text {
+        target: target(session, node),
+        look: TextLook {
+            look: look(session, node),
+            quotes: session.is_set(node, "quotes"),
+            strip_periods: session.is_set(node, "strip_periods"),
+        },
+    })
+}
+
+/// The members of a number node.
+const NUMBER_MEMBERS: [&str; 7] = [
+    "node",
+    "variable",
+    "form",
+    "formatting",
+    "prefix",
+    "suffix",
+    "display",
+];
+
+/// The answer to a number or page variable.
+fn number_node(session: &mut Session, node: &Value<'_>) -> Node {
+    session.only(node, &NUMBER_MEMBERS);
+    Node::Number(Number {
+        variable: numbered_of(session, node),
+        form: session.word_or(node, "form", NUMBER_FORMS, NumberForm::Numeric),
+        look: look(session, node),
+    })
+}
+
+/// The members of a label node.
+const LABEL_MEMBERS: [&str; 8] = [
+    "node",
+    "variable",
+    "form",
+    "plural",
+    "strip_periods",
+    "formatting",
+    "prefix",
+    "suffix",
+];
+
+/// The term of a variable.
+fn label_node(session: &mut Session, node: &Value<'_>) -> Node {
+    session.only(node, &LABEL_MEMBERS);
+    Node::Label(Label {
+        variable: numbered_of(session, node),
+        label: label_look(session, node),
+    })
+}
+
+/// The members of a date node.
+const DATE_MEMBERS: [&str; 10] = [
+    "node",
+    "variable",
+    "form",
+    "parts",
+    "date_parts",
+    "delimiter",
+    "formatting",
+    "prefix",
+    "suffix",
+    "display",
+];
+
+/// The answer to a date variable.
+fn date_node(session: &mut Session, node: &Value<'_>) -> Node {
+    session.only(node, &DATE_MEMBERS);
+    Node::Date(Date {
+        variable: date_of(session, node),
+        form: session.maybe_word(node, "form", DATE_FORMS),
+        parts: session.word_or(node, "parts", PARTS, DateParts::YearMonthDay),
+        own_parts: date_parts(session, node),
+        delimiter: session.maybe_owned_text(node, "delimiter"),
+        look: look(session, node),
+    })
+}
+
+/// A node of this kind, which has no nodes in it.
+pub(crate) fn leaf(session: &mut Session, node: &Value<'_>, kind: &str) -> Node {
+    match kind {
+        "number" => number_node(session, node),
+        "label" => label_node(session, node),
+        "date" => date_node(session, node),
+        _ => {
+            if kind != "text" {
+                session.want("node", "a kind of nodes");
+            }
+            text_node(session, node)
+        }
+    }
+}

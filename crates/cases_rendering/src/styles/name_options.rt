@@ -1,0 +1,74 @@
+//! What is specified for names.
+
+use crate::styles::members::maybe_count;
+use cases::{Session, Value, member};
+use rendering_style::NameOptions;
+use rendering_taxonomy::{DelimiterBehavior, NameAnd, NameAsSortOrder, NameForm};
+
+const ANDS: &[(&str, NameAnd)] = &[("text", NameAnd::Text), ("symbol", NameAnd::Symbol)];
+
+const BEHAVIORS: &[(&str, DelimiterBehavior)] = &[
+    ("contextual", DelimiterBehavior::Contextual),
+    ("always", DelimiterBehavior::Always),
+    ("never", DelimiterBehavior::Never),
+    ("after-inverted-name", DelimiterBehavior::AfterInvertedName),
+];
+
+const FORMS: &[(&str, NameForm)] = &[
+    ("long", NameForm::Long),
+    ("short", NameForm::Short),
+    ("count", NameForm::Count),
+];
+
+const ORDERS: &[(&str, NameAsSortOrder)] = &[
+    ("first", NameAsSortOrder::First),
+    ("all", NameAsSortOrder::All),
+];
+
+/// The members of options of names, and of a name, whose options stand beside them.
+pub(crate) const NAME_MEMBERS: [&str; 16] = [
+    "and",
+    "delimiter",
+    "delimiter_precedes_last",
+    "et_al_min",
+    "et_al_use_first",
+    "et_al_subsequent_min",
+    "et_al_subsequent_use_first",
+    "et_al_use_last",
+    "form",
+    "initialize_with",
+    "name_as_sort_order",
+    "sort_separator",
+    "demote",
+    "formatting",
+    "prefix",
+    "suffix",
+];
+
+/// The options that the object has.
+pub(crate) fn options(session: &mut Session, given: &Value<'_>) -> NameOptions {
+    NameOptions {
+        and: session.maybe_word(given, "and", ANDS),
+        delimiter: session.maybe_owned_text(given, "delimiter"),
+        delimiter_precedes_last: session.maybe_word(given, "delimiter_precedes_last", BEHAVIORS),
+        et_al_min: maybe_count(session, given, "et_al_min"),
+        et_al_use_first: maybe_count(session, given, "et_al_use_first"),
+        et_al_subsequent_min: maybe_count(session, given, "et_al_subsequent_min"),
+        et_al_subsequent_use_first: maybe_count(session, given, "et_al_subsequent_use_first"),
+        et_al_use_last: session.maybe_bool(given, "et_al_use_last"),
+        form: session.maybe_word(given, "form", FORMS),
+        initialize_with: session.maybe_owned_text(given, "initialize_with"),
+        name_as_sort_order: session.maybe_word(given, "name_as_sort_order", ORDERS),
+        sort_separator: session.maybe_owned_text(given, "sort_separator"),
+        demote_non_dropping_particle: session.maybe_bool(given, "demote"),
+    }
+}
+
+/// The options of the member `name_options`; none where it is left out.
+pub(crate) fn name_options(session: &mut Session, object: &Value<'_>) -> NameOptions {
+    let Some(given) = member(object, "name_options") else {
+        return NameOptions::default();
+    };
+    session.only(given, &NAME_MEMBERS[..13]);
+    options(session, given)
+}

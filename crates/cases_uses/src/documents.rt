@@ -1,0 +1,45 @@
+//! Documents with their citations: as a text, and on a page.
+
+use crate::refusals::put_cite_error;
+use crate::setting::read_setting;
+use cases::{Session, Value};
+use cite_uses::{cited_by_numbers, cited_on_page};
+
+/// `cited_by_numbers`: a document with its citations as numbers, or why it was refused.
+pub(crate) fn answer_numbers(session: &mut Session, case: &Value<'_>) {
+    session.only(case, &["case", "name", "bib", "document", "message"]);
+    let bib = session.text(case, "bib").as_bytes();
+    let document = session.text(case, "document").as_bytes();
+    match cited_by_numbers(session.alloc, bib, document) {
+        Ok(output) => session.put_text("output", output.as_str()),
+        Err(error) => put_cite_error(session, case, &error),
+    }
+}
+
+/// `cited_on_page`: what stands on a page with room for so many bytes, or why the document was refused.
+pub(crate) fn answer_page(session: &mut Session, case: &Value<'_>) {
+    session.only(
+        case,
+        &[
+            "case", "name", "bib", "document", "style", "room", "message",
+        ],
+    );
+    let Some(setting) = read_setting(session, case, "titles") else {
+        return;
+    };
+    let bib = session.text(case, "bib").as_bytes();
+    let document = session.text(case, "document").as_bytes();
+    let room = session.maybe_count(case, "room").unwrap_or(usize::MAX);
+    let page = cited_on_page(
+        session.alloc,
+        bib,
+        document,
+        &setting.style,
+        &setting.locale,
+        room,
+    );
+    match page {
+        Ok(bytes) => session.put_maybe_text("output", str::from_utf8(&bytes).ok()),
+        Err(error) => put_cite_error(session, case, &error),
+    }
+}
