@@ -197,3 +197,7 @@ file_scalars (e ∷ es) all = entry_scalars e (entries_after (map plain_entry es
 -- so the characters of a written file are those of its entries
 pub file_characters : (es : List Source) → AllByRecursion IsSpelled es → chars (written_file es) ≡ file_of (map plain_entry es)
 file_characters es all = ap chars (sym (file_text es all)) ∙ chars-encodes (file_of (map plain_entry es)) (file_scalars es all)
+
+-- and its bytes are a text
+pub file_utf8 : (es : List Source) → AllByRecursion IsSpelled es → IsUtf8 (written_file es)
+file_utf8 es all = (file_of (map plain_entry es), (file_scalars es all, file_text es all))

@@ -25,7 +25,8 @@ above b h = grind (arith, nat_tests, h)
 lower : (c : ℕ) → is_no_capital c ≡ true → to_ascii_lowercase c ≡ c
 lower c e = grind (arith, nat_tests, e)
 
-high : (c : ℕ) → is_ascii c ≡ false → map to_ascii_lowercase (encode_utf8 c) ≡ encode_utf8 c
+-- characters above those of ASCII have no lower case
+pub high : (c : ℕ) → is_ascii c ≡ false → map to_ascii_lowercase (encode_utf8 c) ≡ encode_utf8 c
 unfolding lib.Utf8.encode
 high c other = by_size (is_ascii c) _ _ other
   where

@@ -20,7 +20,7 @@ use Rattle.biblatex_reading_back.specs.Spelled.{IsField, IsEntry, file_of}
 use Rattle.biblatex_reading_back.proofs.BalancedContents.{content_balanced}
 use Rattle.biblatex_reading_back.proofs.EntriesBack.{NamesNone, IsWrittenEntry, IsAlone, entries_read}
 use Rattle.biblatex_reading_back.proofs.FieldsBack.{plain_field, IsWrittenField}
-use Rattle.biblatex_reading_back.proofs.FilesSpelled.{plain_entry, IsSpelled, file_characters}
+use Rattle.biblatex_reading_back.proofs.FilesSpelled.{plain_entry, IsSpelled, file_characters, file_utf8}
 use Rattle.biblatex_reading_back.proofs.MeaningBack.{meant}
 use Rattle.biblatex_reading_back.proofs.NamesBack.{written_has, written_read}
 use Rattle.biblatex_reading_back.proofs.OrderBack.{all_ordered}
@@ -127,10 +127,12 @@ reads_back es settled text =
     let plains = map plain_entry es in
     let file = file_held plains (spelled_entries es all) in
     let read = entries_read (record { definitions = []; flags = [] }) nothing_loaded es file.raw.entries (all_of IsWrittenEntry es (λ e fine. fine.written) all) file.says.entries distinct (nothing_known es) in
-    let characters = file_characters es (all_of IsSpelled es (λ e fine. fine.spelled) all) in
+    let spelled = all_of IsSpelled es (λ e fine. fine.spelled) all in
+    let characters = file_characters es spelled in
     let alone = subst (AllByRecursion IsAlone) (sym read.whole) read.alone in
     let sorted = subst (AllByRecursion (λ e. AreInOrder e.fields)) (sym read.whole) read.sorted in
     record {
+      utf8 = file_utf8 es spelled;
       file = read.loaded.listed;
       meant = subst (λ (cs : List ℕ). TextMeans cs (Ok read.loaded.listed)) (sym characters) (meant (file_of plains) file.raw read.loaded (held-read (file_of plains) file.raw file.held) file.says.none read.read alone sorted);
       entries = subst (AreReadBack es) (sym read.whole) read.back;

@@ -34,8 +34,9 @@ AreReadBack [] (f ∷ fs) = ⊥
 AreReadBack (e ∷ es) [] = ⊥
 AreReadBack (e ∷ es) (f ∷ fs) = IsReadBack e f × AreReadBack es fs
 
--- The written file of entries means entries that were read back.
+-- The written file of entries is a text, and means entries that were read back.
 pub record ReadsBack (es : List Source) : Type 0 where
+  pub utf8 : IsUtf8 (written_file es)
   pub file : Listed
   pub meant : TextMeans (chars (written_file es)) (Ok file)
   pub entries : AreReadBack es file.entries

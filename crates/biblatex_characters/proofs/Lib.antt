@@ -1,0 +1,10 @@
+pub mod CharacterLists
+pub mod ComposedCharacters
+pub mod TokenCharacters
+pub mod ContentCharacters
+pub mod TextsOfCharacters
+pub mod DatesCharacters
+pub mod FieldsCharacters
+pub mod OffersCharacters
+pub mod RawCharacters
+pub mod FilesText

@@ -1,0 +1,4 @@
+pub mod Raw
+pub mod Members
+pub mod Values
+pub mod Read

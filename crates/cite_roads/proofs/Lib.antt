@@ -1,0 +1,3 @@
+pub mod NamesAreKeys
+pub mod WorksAlike
+pub mod SameVerdicts

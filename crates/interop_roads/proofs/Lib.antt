@@ -1,0 +1,4 @@
+pub mod FlatAlike
+pub mod NamesKnown
+pub mod WrittenLookUps
+pub mod ReadBackAlike
