@@ -18,7 +18,7 @@ const MEMBERS: [&str; 11] = [
 /// `cite`: the output of a document, or why it was refused.
 pub(crate) fn answer_cite(session: &mut Session, case: &Value<'_>) {
     session.only(case, &MEMBERS);
-    let Some(style) = style(session, case) else {
+    let Some(style) = style(session, case, "numeric") else {
         return;
     };
     let Some(locale) = locale(session, case) else {

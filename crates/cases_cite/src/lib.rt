@@ -1,4 +1,5 @@
-//! Cases of the bridge from BibLaTeX files to libraries, of labels, of documents and their citations, and of the programs.
+//! Cases of the bridge from BibLaTeX files to libraries, of labels, of documents and their citations, of the programs, and of what no clause
+//! says of calls of these libraries.
 #![tactic(auto)]
 
 mod bridge;
@@ -13,6 +14,7 @@ mod refusals;
 mod setting;
 mod show;
 mod taker;
+mod uses;
 
 use cases::{Session, Value};
 
@@ -25,7 +27,7 @@ pub fn answer(session: &mut Session, kind: &str, case: &Value<'_>) -> bool {
         "document" => document::answer_document(session, case),
         "program" => program::answer_program(session, case),
         "show" => show::answer_show(session, case),
-        _ => return false,
+        _ => return uses::answer(session, kind, case),
     }
     true
 }

@@ -3,6 +3,7 @@
 use cases::{Session, Value, member};
 use cases_rendering::{accepted, boxed, english_locale, maybe_locale};
 use cite::{BufWriteFormat, Locale, Style, author_date, note, numeric};
+use cite_uses::titles;
 
 /// A document, and how it is cited.
 #[derive(Clone, Copy)]
@@ -17,10 +18,14 @@ pub(crate) struct CiteSetting<'s> {
     pub(crate) sections: &'s [&'s str],
 }
 
-/// The style of a case, by its word or as data, `numeric` where it is left out; none where it is refused, and the answer then says why.
-pub(crate) fn style(session: &mut Session, case: &Value<'_>) -> Option<Box<Style>> {
+/// The style of a case, by its word or as data, or the usual one where it is left out; none where it is refused, and the answer then says why.
+pub(crate) fn style(
+    session: &mut Session,
+    case: &Value<'_>,
+    usual: &'static str,
+) -> Option<Box<Style>> {
     let Some(given) = member(case, "style") else {
-        return style_named(session, "numeric");
+        return style_named(session, usual);
     };
     match given.as_str() {
         Some(word) => style_named(session, word),
@@ -36,13 +41,22 @@ fn style_named(session: &mut Session, word: &str) -> Option<Box<Style>> {
         "numeric" => numeric(session.alloc),
         "author-date" => author_date(session.alloc),
         "note" => note(session.alloc),
+        "titles" => titles(session.alloc),
         _ => {
-            session.want("style", "numeric, author-date, note or a style");
+            session.want("style", "numeric, author-date, note, titles or a style");
             return None;
         }
     };
     match session.allocated(made) {
         Some(style) => boxed(session, style),
+        None => None,
+    }
+}
+
+/// The locale of English.
+pub(crate) fn english(session: &mut Session) -> Option<Box<Locale>> {
+    match english_locale(session) {
+        Some(locale) => boxed(session, locale),
         None => None,
     }
 }

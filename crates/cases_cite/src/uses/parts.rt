@@ -1,19 +1,13 @@
 //! The calls by which `cite` hands its output to a sink.
 
 use crate::refusals::put_cite_error;
-use crate::setting::read_setting;
-use cases::{Session, Value};
-use cite::{BufWriteFormat, Tap, cite};
+use crate::setting::{english, format, style};
+use cases::{Refusal, Session, Value};
+use cite::{CiteError, Tap, cite};
 use std::alloc::AllocError;
 use std::io;
 use std::io::{ErrorKind, Write};
 use std::mem::replace;
-
-/// The words of formats.
-const FORMATS: &[(&str, BufWriteFormat)] = &[
-    ("plain", BufWriteFormat::Plain),
-    ("html", BufWriteFormat::Html),
-];
 
 /// A writer that takes all of each call. A call with a line feed alone ends a part.
 #[derive(Drop)]
@@ -48,7 +42,8 @@ impl Write for Parts {
     }
 }
 
-/// `cite_parts`: the output of a document, cut at the calls of a sink that have a line feed alone, or why the document was refused.
+/// `cite_parts`: the output of a document, cut at the calls of a sink that have a line feed alone, or why the document was refused. The sink
+/// fails only where there is no memory, which has no answer.
 pub(crate) fn answer_parts(session: &mut Session, case: &Value<'_>) {
     session.only(
         case,
@@ -56,7 +51,10 @@ pub(crate) fn answer_parts(session: &mut Session, case: &Value<'_>) {
             "case", "name", "bib", "document", "style", "format", "sections", "message",
         ],
     );
-    let Some(setting) = read_setting(session, case, "numeric") else {
+    let Some(style) = style(session, case, "numeric") else {
+        return;
+    };
+    let Some(locale) = english(session) else {
         return;
     };
     let mut sink = Tap::new(Parts {
@@ -67,14 +65,15 @@ pub(crate) fn answer_parts(session: &mut Session, case: &Value<'_>) {
         session.alloc,
         session.text(case, "bib").as_bytes(),
         session.text(case, "document").as_bytes(),
-        &setting.style,
-        &setting.locale,
+        &style,
+        &locale,
         &session.texts(case, "sections"),
-        session.word_or(case, "format", FORMATS, BufWriteFormat::Plain),
+        format(session, case),
         &mut sink,
     );
     match cited {
         Ok(()) => put_parts(session, &sink.into_inner()),
+        Err(CiteError::Write(_)) => session.refuse(Refusal::Memory),
         Err(error) => put_cite_error(session, case, &error),
     }
 }

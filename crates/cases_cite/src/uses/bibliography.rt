@@ -1,8 +1,9 @@
 //! Bibliographies of entries, without a document.
 
-use crate::setting::{Setting, read_setting};
+use crate::setting::{english, style};
 use cases::{Refusal, Session, Value};
 use cases_rendering::{bibliography_of, bridged, named, put_unknown};
+use cite::{Locale, Style};
 use driver::{DriverError, Rendered};
 use literature::Entry;
 
@@ -14,7 +15,10 @@ pub(crate) fn answer_bibliography(session: &mut Session, case: &Value<'_>) {
             "case", "name", "bib", "entries", "order", "style", "message",
         ],
     );
-    let Some(setting) = read_setting(session, case, "numeric") else {
+    let Some(style) = style(session, case, "numeric") else {
+        return;
+    };
+    let Some(locale) = english(session) else {
         return;
     };
     let Some(file) = bibliography_of(session, case) else {
@@ -30,12 +34,12 @@ pub(crate) fn answer_bibliography(session: &mut Session, case: &Value<'_>) {
             None => return put_unknown(session, name),
         }
     }
-    put_bibliography(session, &entries, &setting);
+    put_bibliography(session, &entries, &style, &locale);
 }
 
 /// Writes the bibliography of entries.
-fn put_bibliography(session: &mut Session, entries: &[&Entry], setting: &Setting) {
-    match cite_uses::bibliography_of(session.alloc, entries, &setting.style, &setting.locale) {
+fn put_bibliography(session: &mut Session, entries: &[&Entry], style: &Style, locale: &Locale) {
+    match cite_uses::bibliography_of(session.alloc, entries, style, locale) {
         Ok(rendered) => put_items(session, &rendered),
         Err(DriverError::Memory) => session.refuse(Refusal::Memory),
         Err(DriverError::Overflow) => session.put_refused("Overflow"),

@@ -1,17 +1,14 @@
 //! Cases of the calls of `cite_uses`, of how `cite` hands its output to a sink, and of what is left where memory is refused to a call.
-#![tactic(auto)]
 
 mod bibliography;
 mod documents;
 mod kept;
 mod parts;
-mod refusals;
-mod setting;
 
 use cases::{Session, Value};
 
 /// Writes the members of the answer to a case of this kind; false where the kind is none of these.
-pub fn answer(session: &mut Session, kind: &str, case: &Value<'_>) -> bool {
+pub(crate) fn answer(session: &mut Session, kind: &str, case: &Value<'_>) -> bool {
     match kind {
         "bibliography_of" => bibliography::answer_bibliography(session, case),
         "cite_parts" => parts::answer_parts(session, case),
