@@ -1,3 +1,4 @@
+pub mod AlikeGiven
 pub mod CitesAlike
 pub mod Texts
 pub mod Spacing

@@ -18,6 +18,10 @@ named_in_bibliography s (Some b) = named (layout_nodes s b.layout)
 abbrev pub style_named : Style → Named
 style_named s = joined_named always_named (joined_named (named (layout_nodes s s.citation.layout)) (named_in_bibliography s s.bibliography))
 
+-- this holds of all answers that are alike to these in what a style names
+abbrev pub ForAlikeAnswers : Style → Answers → (Answers → Type 0) → Type 0
+ForAlikeAnswers style answers P = (others : Answers) → AreAlike (style_named style) answers others → P others
+
 -- cites of entries that answer alike give one tree with the same facts
 abbrev pub AlikeCitesAreOne : Type 0
 AlikeCitesAreOne =

@@ -9,6 +9,7 @@ ghost use Rattle.rendering_locale.specs.Views.{locale_view};
 ghost use Rattle.rendering_names.specs.Views.{resolved_options_view};
 ghost use Rattle.rendering_page.specs.Views.{quotes_view};
 ghost use Rattle.rendering_style.specs.StyleViews.{style_view};
+ghost use Rattle.rendering.specs.Alike.{ForAlikeAnswers};
 ghost use Rattle.rendering.specs.Purposes.{citation_options, locales_of, prints_suffix};
 
 use crate::author_node::AuthorNode;
@@ -100,6 +101,10 @@ impl<'a> StyleContext<'a> {
         ensures cite { IfOk result (λ r. rendering_view r ≡ citation (style_context_view self.now)
             (E.answers entry.now) (cite_properties_view properties.now)
             (option_map borrowed_code_view term_locale.entry) purpose verdict) }
+        ensures alike { ForAlikeAnswers (style_context_view self.now).style (E.answers entry.now)
+            (λ others. IfOk result (λ r. rendering_view r ≡ citation (style_context_view self.now)
+            others (cite_properties_view properties.now)
+            (option_map borrowed_code_view term_locale.entry) purpose verdict)) }
         ensures effort { effort.new ≡ next_count effort.old }
     {
         effort.count_one();
@@ -130,6 +135,11 @@ impl<'a> StyleContext<'a> {
             ≡ bibliography (style_context_view self.now)
             (E.answers entry.now) (cite_properties_view properties.now)
             (option_map borrowed_code_view term_locale.entry)) }
+        ensures alike { ForAlikeAnswers (style_context_view self.now).style (E.answers entry.now)
+            (λ others. IfOk result (λ r. option_map rendering_view r
+            ≡ bibliography (style_context_view self.now) others
+            (cite_properties_view properties.now)
+            (option_map borrowed_code_view term_locale.entry))) }
         ensures effort { effort.new ≡ next_count effort.old }
     {
         effort.count_one();
