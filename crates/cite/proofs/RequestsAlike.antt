@@ -21,7 +21,7 @@ use Rattle.rendering_nodes.specs.Named.{AnswerAlike, AreAlike, Named, joined_nam
 use Rattle.rendering.specs.Alike.{style_named}
 use Rattle.driver_requests.specs.CitedEntries.{index_among, once}
 use Rattle.driver_requests.specs.Requests.{Item, Request, note_number_in}
-use Rattle.driver_laws.specs.Alike.{item_with, request_with, requests_named}
+use Rattle.driver.specs.Alike.{item_with, request_with, requests_named}
 use Rattle.cite_markers.specs.Marker.{Cite}
 use Rattle.cite_markers.specs.Document.{Piece}
 use Rattle.cite.specs.Cited.{is_among}

@@ -17,7 +17,7 @@ use Rattle.rendering.specs.Alike.{style_named}
 use Rattle.driver_requests.specs.CitedEntries.{indices_among}
 use Rattle.driver_rounds.specs.Documents.{Document}
 use Rattle.driver.specs.Finish.{Rendered, finish}
-use Rattle.driver_laws.specs.Alike.{document_with}
+use Rattle.driver.specs.Alike.{document_with}
 use Rattle.driver_laws.proofs.DocumentsAlike.{alike_entries}
 use Rattle.cite_markers.specs.Document.{Piece}
 use Rattle.cite.specs.Cited.{is_among}

@@ -1,7 +1,9 @@
 pub mod ArrangedCites
 pub mod ArrangedCount
 pub mod ArrangedRenamed
+pub mod DocumentsAlike
 pub mod DocumentsOrder
+pub mod DocumentsRenamed
 pub mod FinalPrintsListed
 pub mod FinalPrintsOf
 pub mod FinalPrintsRuns
@@ -15,6 +17,7 @@ pub mod KeysFinals
 pub mod KeysListed
 pub mod ListedSteps
 pub mod Maps
+pub mod MapsTurned
 pub mod Members
 pub mod RequestFinals
 pub mod TakenTrees

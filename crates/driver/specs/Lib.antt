@@ -1,3 +1,4 @@
+pub mod Alike
 pub mod Brackets
 pub mod Stages
 pub mod Finish

@@ -6,6 +6,8 @@ ghost use Rattle.laws.specs.Results.{Gives, GivesBack};
 ghost use Rattle.driver_disambiguation.specs.CitesViews.{printed_cites_view};
 ghost use Rattle.driver_requests.specs.Errors.{overflow_of};
 ghost use Rattle.driver_rounds.specs.CitesInStep.{cites_count, requests_by};
+ghost use Rattle.rendering_entries.specs.Answers.{Answers};
+ghost use Rattle.driver.specs.Alike.{AreAlikeIn, document_with};
 ghost use Rattle.driver.specs.Finish.{effort_bound, finish, keys_in};
 ghost use Rattle.driver.specs.Listing.{items_at_most, keys_made, rendered_of};
 ghost use Rattle.driver.specs.Printing.{ArePrinted, document_citations, document_finals, document_listed, entries_listed};
@@ -117,6 +119,11 @@ impl<'a, T: EntryLike + Hash, P: PartialEq + Drop> BibliographyDriver<'a, T, P> 
         ensures keys { IfOk result (λ r. option_map keys_view r.bibliography ≡ option_map
             (λ s. keys_in (document_view T.eq T.answers self.entry.citations.items self.entry.offset
             request.entry)) (bibliography_context_of request.entry).style.bibliography) }
+        ensures alike { (others : ℕ → Answers) → AreAlikeIn (document_view T.eq T.answers
+            self.entry.citations.items self.entry.offset request.entry) others
+            → Gives overflow_of rendered_view result (finish P.eq (document_with others
+            (document_view T.eq T.answers self.entry.citations.items self.entry.offset
+            request.entry))) }
         ensures effort { IfOk result (λ r. r.effort ≤ effort_bound (document_view T.eq
             T.answers self.entry.citations.items self.entry.offset request.entry)) }
     {

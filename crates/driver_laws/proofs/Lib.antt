@@ -1,9 +1,7 @@
 pub mod DocumentsAlike
-pub mod DocumentsRenamed
 pub mod EntriesInStates
 pub mod EntriesListed
 pub mod EntriesOrdered
 pub mod HiddenNothing
-pub mod Maps
 pub mod SuffixesGiven
 pub mod UncitedEntries

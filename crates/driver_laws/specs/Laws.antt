@@ -17,7 +17,7 @@ use Rattle.driver_rounds.specs.Documents.{Document, order_in, number_of}
 use Rattle.driver.specs.Stages.{Final, finals_by_request, finals_of, first_print_of}
 use Rattle.driver_rounds.specs.FirstPrints.{entry_of_first}
 use Rattle.driver.specs.Finish.{citation_tree, finish, item_of_entry, item_trees, items_in, key_at, keys_in}
-use Rattle.driver_laws.specs.Alike.{document_with, document_named}
+use Rattle.driver.specs.Alike.{document_with, document_named}
 
 -- the index of the entry of a cite
 abbrev pub entry_final : {P : Type 0} → Final P → ℕ

@@ -14,8 +14,8 @@ use Rattle.driver_rounds.specs.Documents.{Document, order_in}
 use Rattle.driver_rounds.specs.FirstPrints.{adds_names, numbered_after}
 use Rattle.driver.specs.Stages.{has_purpose}
 use Rattle.driver.proofs.Maps.{any_map, any_same, enumerate_map, map_map, placed}
-use Rattle.driver_laws.specs.Alike.{document_with, item_with, request_with}
-use Rattle.driver_laws.proofs.Maps.{after, filter_map_map, map_turned, maps_turned, previous_map}
+use Rattle.driver.specs.Alike.{document_with, item_with, request_with}
+use Rattle.driver.proofs.MapsTurned.{after, filter_map_map, map_turned, maps_turned, previous_map}
 
 last_same : {A B : Type 0} (f : A → B) (n : ℕ) (xs : List A) → last_n n (map f xs) ≡ map f (last_n n xs)
 last_same f n xs = ap (λ m. drop (m - n) (map f xs)) (length-map xs f) ∙ drop-map f (length xs - n) xs
