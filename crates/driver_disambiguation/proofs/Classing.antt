@@ -5,7 +5,7 @@ use Rattle.std.proofs.Math.Path.{fun_ext}
 use Rattle.std.proofs.lemmas.Grind.{common_steps}
 use Rattle.std.specs.Prelude.{filter, nat_eq, nat_lt, unwrap_or}
 use Rattle.std.specs.Borrow.{Bor}
-use Rattle.std.specs.HashMap.{HashMap, get_by_text}
+use Rattle.std.specs.BTreeMap.{BTreeMap, get_by_text}
 use Rattle.std.specs.List.{flat_map, list_any, zip}
 use Rattle.std.specs.Cmp.Lexicographic.{bytes_decides}
 use Rattle.std.proofs.lemmas.Bool.{eqb-true, eq-eqb}
@@ -42,7 +42,7 @@ same_test false true to from = from refl
 same_test false false to from = refl
 
 -- cites have one number where they print one text
-numbered_alike : {S : Type 0} (texts : HashMap (String Global) ℕ S) → AreInjective texts → (p q : ℕ × Printed) → number_of texts p.1 ≡ Some p.0 → number_of texts q.1 ≡ Some q.0
+numbered_alike : (texts : BTreeMap (String Global) ℕ) → AreInjective texts → (p q : ℕ × Printed) → number_of texts p.1 ≡ Some p.0 → number_of texts q.1 ≡ Some q.0
     → is_alike p q ≡ classes.is_alike (printed_view p.1) (printed_view q.1)
 numbered_alike texts apart p q first second =
     let one = string_bytes p.1.text in
@@ -70,7 +70,7 @@ group_view : (xs : List (ℕ × Printed)) (n : ℕ) (group : List (Bor Printed))
 group_view xs n group is = sym (map-map printed_view (λ s. s.now) group) ∙ ap (map printed_view) is ∙ map-map printed_view (λ p. p.1) (filter (λ p. nat_eq n p.0) xs)
 
 -- the classes that the code makes
-pub classes_are : {S : Type 0} (texts : HashMap (String Global) ℕ S) (numbers : List ℕ) (cites : List Printed) (groups : List (Vec (Bor Printed) Global)) (shared : List ℕ) (cs : List (Vec (Bor Printed) Global))
+pub classes_are : (texts : BTreeMap (String Global) ℕ) (numbers : List ℕ) (cites : List Printed) (groups : List (Vec (Bor Printed) Global)) (shared : List ℕ) (cs : List (Vec (Bor Printed) Global))
     → AreNumbered texts numbers cites → ((n : ℕ) → map (λ s. s.now) (under groups n) ≡ of_number n (allowing (zip numbers cites))) → shared ≡ seconds (allowing (zip numbers cites))
     → map (λ c. c.items) cs ≡ flat_map if_mixed (map (under groups) shared) → map (λ c. class_view c.items) cs ≡ classes.classes (map printed_view cites)
 classes_are texts numbers cites groups shared cs numbered members seconds_are are_mixed =

@@ -1,10 +1,10 @@
 -- Numbers of texts, one after the other.
 use Rattle.std.specs.Global.{Global}
 use Rattle.std.proofs.Common.{◌≡◌, ℕ, ◌+◌, ◌<◌, Bool, true, false, cond, List, [], ◌∷◌, ◌++◌, map, take, drop, length, get_or, set, Option, Some, None, All, String, string_bytes, bytes_eq, refl, sym, ap, ◌∙◌, arith}
-use Rattle.std.specs.HashMap.{HashMap, UpdatesBy, get_by_text, hash_map_len}
-use Rattle.std.specs.String.{string_eq}
+use Rattle.std.specs.BTreeMap.{BTreeMap, UpdatesBy, get_by_text, btree_map_len, is_at}
+use Rattle.std.specs.String.{string_cmp}
 use Rattle.std.specs.Option.{is_some}
-use Rattle.std.proofs.lemmas.Map.Text.{hash_map_updates_text}
+use Rattle.std.proofs.lemmas.Map.Text.{btree_map_updates_text, text_cmp}
 use Rattle.std.specs.List.{zip}
 use Rattle.std.specs.Map.{lookup}
 use Rattle.std.specs.Cmp.Lexicographic.{bytes_decides}
@@ -18,9 +18,9 @@ never : (o : Option ℕ) (n : ℕ) → o ≡ None → o ≡ Some n → ⊥
 never o n is_none is = cc
 
 -- where there are no texts none has a number
-pub no_texts : {S : Type 0} (texts : HashMap (String Global) ℕ S) → texts.entries ≡ [] → AreNumbers texts
+pub no_texts : (texts : BTreeMap (String Global) ℕ) → texts.entries ≡ [] → AreNumbers texts
 no_texts texts empty =
-    let none : (q : List ℕ) → get_by_text texts q ≡ None = λ q. ap (lookup (λ k. bytes_eq q (string_bytes k))) empty in
+    let none : (q : List ℕ) → get_by_text texts q ≡ None = λ q. ap (lookup (is_at (text_cmp q))) empty in
     (λ q r n e f. absurd (never (get_by_text texts q) n (none q) e), λ q n e. absurd (never (get_by_text texts q) n (none q) e))
 
 apart_by : (b c : Bool) (q r text : List ℕ) (x y : Option ℕ) (number n : ℕ) → (b ≡ true → text ≡ q) → (c ≡ true → text ≡ r) → (x ≡ Some n → n < number) → (y ≡ Some n → n < number)
@@ -46,15 +46,15 @@ still_by : (b : Bool) (x : Option ℕ) (number n : ℕ) → (b ≡ true → x �
 still_by true x number n none e = absurd (never x n (none refl) e)
 still_by false x number n none e = e
 
-module _ {S : Type 0} (old new : HashMap (String Global) ℕ S) (text : List ℕ) (number : ℕ) where
+module _ (old new : BTreeMap (String Global) ℕ) (text : List ℕ) (number : ℕ) where
   -- a text that is new has the next number
-  pub next_number : number ≡ hash_map_len old → hash_map_len new ≡ number + 1 → ((q : List ℕ) → get_by_text new q ≡ cond (bytes_eq text q) (Some number) (get_by_text old q)) → AreNumbers old
+  pub next_number : number ≡ btree_map_len old → btree_map_len new ≡ number + 1 → ((q : List ℕ) → get_by_text new q ≡ cond (bytes_eq text q) (Some number) (get_by_text old q)) → AreNumbers old
       → AreNumbers new
   next_number is more after numbers =
       let below : (q : List ℕ) (n : ℕ) → get_by_text old q ≡ Some n → n < number = λ q n e. let less = numbers.1 q n e in omega (arith, is, less) in (
         λ q r n e f. apart_by (bytes_eq text q) (bytes_eq text r) q r text (get_by_text old q) (get_by_text old r) number n (bytes_decides text q).0 (bytes_decides text r).0 (below q n) (below r n)
             (numbers.0 q r n) (sym (after q) ∙ e) (sym (after r) ∙ f),
-        λ q n e. below_by (bytes_eq text q) (get_by_text old q) number n (hash_map_len new) more (below q n) (sym (after q) ∙ e),
+        λ q n e. below_by (bytes_eq text q) (get_by_text old q) number n (btree_map_len new) more (below q n) (sym (after q) ∙ e),
       )
 
   -- the others have the numbers that they had
@@ -64,9 +64,9 @@ module _ {S : Type 0} (old new : HashMap (String Global) ℕ S) (text : List ℕ
   pub own_number : ((q : List ℕ) → get_by_text new q ≡ cond (bytes_eq text q) (Some number) (get_by_text old q)) → get_by_text new text ≡ Some number
   own_number after = after text ∙ ap (λ b. cond b (Some number) (get_by_text old text)) ((bytes_decides text text).1 refl)
 
-module _ {S : Type 0} (old new : HashMap (String Global) ℕ S) where
+module _ (old new : BTreeMap (String Global) ℕ) where
   same_look : new.entries ≡ old.entries → (q : List ℕ) → get_by_text new q ≡ get_by_text old q
-  same_look e = λ q. ap (lookup (λ k. bytes_eq q (string_bytes k))) e
+  same_look e = λ q. ap (lookup (is_at (text_cmp q))) e
 
   -- where a call refused to put a text all are as they were
   pub same_numbers : new.entries ≡ old.entries → AreNumbers old → AreNumbers new
@@ -79,16 +79,16 @@ module _ {S : Type 0} (old new : HashMap (String Global) ℕ S) where
   same_still e = λ q n f. same_look e q ∙ f
 
 -- what a map has after a text was put, by its bytes
-pub put_text : {S : Type 0} (old new : HashMap (String Global) ℕ S) (key : String Global) (text : List ℕ) (number : ℕ) → string_bytes key ≡ text
-    → UpdatesBy string_eq (string_eq key) old new (Some number) → (q : List ℕ) → get_by_text new q ≡ cond (bytes_eq text q) (Some number) (get_by_text old q)
+pub put_text : (old new : BTreeMap (String Global) ℕ) (key : String Global) (text : List ℕ) (number : ℕ) → string_bytes key ≡ text
+    → UpdatesBy string_cmp (string_cmp key) old new (Some number) → (q : List ℕ) → get_by_text new q ≡ cond (bytes_eq text q) (Some number) (get_by_text old q)
 put_text old new key text number is updates =
-    λ q. hash_map_updates_text (string_bytes key) old new (Some number) updates q ∙ ap (λ t. cond (bytes_eq t q) (Some number) (get_by_text old q)) is
+    λ q. btree_map_updates_text (string_bytes key) old new (Some number) updates q ∙ ap (λ t. cond (bytes_eq t q) (Some number) (get_by_text old q)) is
 
 -- how many texts there are after one was put
-pub put_len : {S : Type 0} (old new : HashMap (String Global) ℕ S) (key : String Global) (text : List ℕ) (number : ℕ) (before : Option ℕ) → string_bytes key ≡ text → number ≡ hash_map_len old
-    → get_by_text old text ≡ None → before ≡ get_by_text old (string_bytes key) → hash_map_len new ≡ hash_map_len old + cond (is_some before) 0 1 → hash_map_len new ≡ number + 1
+pub put_len : (old new : BTreeMap (String Global) ℕ) (key : String Global) (text : List ℕ) (number : ℕ) (before : Option ℕ) → string_bytes key ≡ text → number ≡ btree_map_len old
+    → get_by_text old text ≡ None → before ≡ get_by_text old (string_bytes key) → btree_map_len new ≡ btree_map_len old + cond (is_some before) 0 1 → btree_map_len new ≡ number + 1
 put_len old new key text number before is len absent found more =
-    more ∙ ap (λ o. hash_map_len old + cond (is_some o) 0 1) (found ∙ ap (get_by_text old) is ∙ absent) ∙ ap (λ n. n + 1) (sym len)
+    more ∙ ap (λ o. btree_map_len old + cond (is_some o) 0 1) (found ∙ ap (get_by_text old) is ∙ absent) ∙ ap (λ n. n + 1) (sym len)
 
 module _ {X : Type 0} (f : X → Option ℕ) where
   -- what has numbers has as many
@@ -132,13 +132,13 @@ module _ {X : Type 0} (f g : X → Option ℕ) (still : (x : X) (n : ℕ) → f 
       map-set g xs i x ∙ (λ j. set (numbers_still xs ns before j) i (has j)) ∙ sym (map-set (λ n. Some n) ns i n)
 
 -- numbers that a cite is printed by another text change as the cites do
-pub renumbered : {S : Type 0} (old new : HashMap (String Global) ℕ S) (ns : List ℕ) (ss : List Printed) (i n : ℕ) (s : Printed) → AreNumbered old ns ss → AreNumbers new → AreStill old new
+pub renumbered : (old new : BTreeMap (String Global) ℕ) (ns : List ℕ) (ss : List Printed) (i n : ℕ) (s : Printed) → AreNumbered old ns ss → AreNumbers new → AreStill old new
     → get_by_text new (string_bytes s.text) ≡ Some n → AreNumbered new (set ns i n) (set ss i s)
 renumbered old new ns ss i n s before numbers still has =
     (numbers, numbers_set (number_of old) (number_of new) (λ t m e. still (string_bytes t.text) m e) ss ns i s n before.1 has)
 
 -- they stay where the others have the numbers that they had
-pub still_numbered : {S : Type 0} (old new : HashMap (String Global) ℕ S) (ns : List ℕ) (ss : List Printed) → AreNumbered old ns ss → AreNumbers new → AreStill old new → AreNumbered new ns ss
+pub still_numbered : (old new : BTreeMap (String Global) ℕ) (ns : List ℕ) (ss : List Printed) → AreNumbered old ns ss → AreNumbers new → AreStill old new → AreNumbered new ns ss
 still_numbered old new ns ss before numbers still = (numbers, numbers_still (number_of old) (number_of new) (λ t m e. still (string_bytes t.text) m e) ss ns before.1)
 
 -- cites, viewed, of which one at an index prints another text

@@ -10,7 +10,7 @@ ghost use Rattle.driver_names.specs.Views.{printed_view, class_view};
 
 use driver_names::Printed;
 use std::alloc::{AllocError, Global};
-use std::collections::HashMap;
+use std::collections::BTreeMap;
 
 /// Cites that may still be given a year suffix, in groups of those that print one text.
 #[derive(Drop)]
@@ -25,7 +25,7 @@ struct Groups<'a> {
 /// Cites of one entry alone are no class.
 pub(crate) fn classes<'a>(
     alloc: Global,
-    texts: &HashMap<String, usize>,
+    texts: &BTreeMap<String, usize>,
     numbers: &[usize],
     cites: &'a [Printed],
 ) -> Result<Vec<Vec<&'a Printed>>, AllocError>

@@ -1,17 +1,17 @@
 //! Numbers of texts.
 
 ghost use Rattle.std.specs.Prelude.{◌≡◌, Some, map, IfOk};
-ghost use Rattle.std.specs.HashMap.{get_by_text};
+ghost use Rattle.std.specs.BTreeMap.{get_by_text};
 ghost use Rattle.driver_disambiguation.specs.Numbered.{AreNumbers, AreStill, number_of};
 
 use driver_names::Printed;
 use std::alloc::{AllocError, Global};
-use std::collections::HashMap;
+use std::collections::BTreeMap;
 
 /// The numbers of the texts that cites print.
 pub(crate) fn numbers_of(
     alloc: Global,
-    texts: &mut HashMap<String, usize>,
+    texts: &mut BTreeMap<String, usize>,
     cites: &[Printed],
 ) -> Result<Vec<usize>, AllocError>
     requires { AreNumbers texts.old }
@@ -29,7 +29,7 @@ pub(crate) fn numbers_of(
 /// The number of a text. A new text gets the next one.
 pub(crate) fn number_of(
     alloc: Global,
-    texts: &mut HashMap<String, usize>,
+    texts: &mut BTreeMap<String, usize>,
     text: &str,
 ) -> Result<usize, AllocError>
     requires { AreNumbers texts.old }

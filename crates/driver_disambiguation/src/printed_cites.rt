@@ -10,7 +10,7 @@ use driver_requests::DriverError;
 use rendering_context::DisambiguateState;
 use rendering_tree::ElemChildren;
 use std::alloc::{AllocError, Global};
-use std::collections::HashMap;
+use std::collections::BTreeMap;
 
 /// Cites, each in the class of those that print the same text. The map from texts to classes is filled once; a cite that is printed again
 /// is taken out of its class and put into the one of its new text.
@@ -20,7 +20,7 @@ pub struct PrintedCites {
     /// Of each cite the number of its class.
     numbers: Vec<usize>,
     /// The numbers of the classes of all texts.
-    texts: HashMap<String, usize>,
+    texts: BTreeMap<String, usize>,
     ghost numbered: { AreNumbered texts numbers.items cites.items },
 }
 
@@ -43,7 +43,7 @@ impl PrintedCites {
     pub fn new(alloc: Global, cites: Vec<Printed>) -> Result<PrintedCites, AllocError>
         ensures { IfOk result (λ c. printed_cites_view c ≡ map printed_view cites.items) }
     {
-        let mut texts = HashMap::new(alloc);
+        let mut texts = BTreeMap::new(alloc);
         let numbers = numbers_of(alloc, &mut texts, cites.as_slice())?;
         Ok(PrintedCites {
             cites,

@@ -1,5 +1,5 @@
 use Rattle.std.proofs.Common.{◌≡◌, None, sym, ap, ◌∙◌, rules}
-use Rattle.std.specs.HashMap.{get_by_text, hash_map_len}
+use Rattle.std.specs.BTreeMap.{get_by_text, btree_map_len}
 use Rattle.std.specs.Option.{option_copied}
 use Rattle.driver_disambiguation.proofs.Numbering.{next_number, own_number, put_len, put_text, same_numbers, same_still, still_number}
 use Rattle.driver_disambiguation.proofs.numbers.number_of.Goals as goal
@@ -16,7 +16,7 @@ returns-in_err-insert-clause-still c = same_still c.args.texts.now c.insert.new.
 pub returns-clause-texts : goal.returns-clause-texts
 returns-clause-texts c =
     let absent : get_by_text c.args.texts.now c.args.text.now ≡ None = sym c.get.ensures.value ∙ ap option_copied c.in_default.is in
-    let len : c.len-number.result ≡ hash_map_len c.args.texts.now = search rules in
+    let len : c.len-number.result ≡ btree_map_len c.args.texts.now = search rules in
     let key = c.in_ok-from_str.field-0 in
     let after = put_text c.args.texts.now c.insert.new.self key c.args.text.now c.len-number.result c.in_ok-from_str.ensures.ok c.in_ok-insert.ensures.updates in
     next_number c.args.texts.now c.insert.new.self c.args.text.now c.len-number.result len

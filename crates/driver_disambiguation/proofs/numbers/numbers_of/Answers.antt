@@ -1,5 +1,5 @@
 use Rattle.std.proofs.Common.{sym, ap, ◌∙◌}
-use Rattle.std.specs.HashMap.{get_by_text}
+use Rattle.std.specs.BTreeMap.{get_by_text}
 use Rattle.driver_disambiguation.specs.Numbered.{number_of}
 use Rattle.driver_disambiguation.proofs.Numbering.{numbers_step}
 use Rattle.driver_disambiguation.proofs.numbers.numbers_of.Goals as goal

@@ -1,5 +1,5 @@
 use Rattle.std.proofs.Common.{◌≡◌, ◌<◌, Some, get_or, length, string_bytes, sym, ap, ◌∙◌, arith}
-use Rattle.std.specs.HashMap.{get_by_text}
+use Rattle.std.specs.BTreeMap.{get_by_text}
 use Rattle.std.proofs.lemmas.List.{length-map}
 use Rattle.rendering_context.specs.Views.{state_view}
 use Rattle.rendering_tree.specs.Views.{tree_view}
