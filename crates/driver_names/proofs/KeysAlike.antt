@@ -3,14 +3,15 @@ use Rattle.std.proofs.Common.{◌≡◌, ℕ, ◌+◌, ◌<◌, ◌≤◌, Bool,
 use Rattle.std.specs.Prelude.{count_by}
 use Rattle.std.specs.Borrow.{Bor}
 use Rattle.std.specs.Cmp.{IsEquivalence}
-use Rattle.std.specs.HashMap.{HashMap}
+use Rattle.std.specs.BTreeMap.{BTreeMap}
 use Rattle.std.specs.List.{list_any, position_or_len}
 use Rattle.std.proofs.lemmas.Bool.{false≢true}
 use Rattle.std.proofs.lemmas.List.{length-take-le, map-append, take-append-drop, take_more}
 use Rattle.std.proofs.lemmas.List.Folds.{list_any-append}
 use Rattle.std.proofs.lemmas.List.Sums.{count_by-le-length, sum_by_push}
-use Rattle.driver_requests.specs.Indices.{IsIndex, index_in}
+use Rattle.driver_requests.specs.Indices.{index_in}
 use Rattle.driver_requests.proofs.IndicesFound.{index_stays}
+use Rattle.driver_names.specs.Keys.{IsIndex}
 use Rattle.driver_names.proofs.Counting.{same_test}
 
 again_by : {K : Type 0} {eq : K → K → Bool} (laws : IsEquivalence eq) (earlier : List K) (e q : K) (b c : Bool) → list_any (eq e) earlier ≡ true → list_any (eq q) earlier ≡ b → eq q e ≡ c
@@ -22,7 +23,7 @@ again_by {eq = eq} laws earlier e q false true old here same =
 again_by {eq = eq} laws earlier e q false false old here same = rw (list_any-append (eq q) earlier (e ∷ []), here, same) refl
 
 -- a key that came earlier before changes no index
-pub index_again : {T S : Type 0} {eq : T → T → Bool} (laws : IsEquivalence eq) (table : HashMap (Bor T) ℕ S) (earlier : List T) (e : T) → list_any (eq e) earlier ≡ true → IsIndex eq table earlier
+pub index_again : {T : Type 0} {eq : T → T → Bool} (laws : IsEquivalence eq) (table : BTreeMap (Bor T) ℕ) (earlier : List T) (e : T) → list_any (eq e) earlier ≡ true → IsIndex eq table earlier
     → IsIndex eq table (earlier ++ e ∷ [])
 index_again {eq = eq} laws table earlier e old before = λ q. before q ∙ again_by laws earlier e q.now (list_any (eq q.now) earlier) (eq q.now e) old refl refl
 

@@ -12,7 +12,7 @@ use crate::names_people::CitedPerson;
 use rendering_taxonomy::DisambiguationRule;
 
 /// A name as it is compared.
-#[derive(Clone, Copy, PartialEq, Eq, Hash)]
+#[derive(Clone, Copy, PartialEq, Eq, PartialOrd, Ord)]
 pub(crate) struct ComparedName<'p> {
     pub(crate) name: &'p String,
     pub(crate) given_name: Option<&'p String>,

@@ -2,26 +2,24 @@
 
 ghost use Rattle.std.specs.Prelude.{◌≡◌, ◌+◌, ◌<◌, ◌^◌, List, [], ◌∷◌, ◌++◌, length, map, count_by, if◌then◌else◌, IfOk, OnOk};
 ghost use Rattle.std.specs.List.{position_or_len};
-ghost use Rattle.driver_requests.specs.Indices.{IsIndex};
-ghost use Rattle.driver_names.specs.Keys.{IsTally, counted, tallied};
+ghost use Rattle.driver_names.specs.Keys.{IsIndex, IsTally, counted, tallied};
 
 use std::alloc::{AllocError, Global};
-use std::collections::HashMap;
-use std::hash::Hash;
+use std::collections::BTreeMap;
 
 /// How many keys are compared with one another, which costs less than a table of them.
 const FEW_KEYS: usize = 8;
 
 /// How often each key occurs.
 #[derive(Drop)]
-pub(crate) enum Tally<K: Eq + Hash> {
+pub(crate) enum Tally<K: Ord> {
     /// Few keys.
     Few(Vec<K>),
     /// The number of each of many keys.
-    Many(HashMap<K, usize>),
+    Many(BTreeMap<K, usize>),
 }
 
-impl<K: Eq + Hash + Copy> Tally<K> {
+impl<K: Ord + Copy> Tally<K> {
     /// Counts keys.
     pub(crate) fn new(alloc: Global, keys: &[K]) -> Result<Tally<K>, AllocError>
         ensures { IfOk result (λ t. IsTally K.eq t keys.now) }
@@ -56,20 +54,17 @@ fn copies<K: Copy>(alloc: Global, keys: &[K]) -> Result<Vec<K>, AllocError>
 }
 
 /// The number of each key.
-fn counts_of<K: Eq + Hash + Copy>(
-    alloc: Global,
-    keys: &[K],
-) -> Result<HashMap<K, usize>, AllocError>
+fn counts_of<K: Ord + Copy>(alloc: Global, keys: &[K]) -> Result<BTreeMap<K, usize>, AllocError>
     ensures { IfOk result (λ m. (q : K) → counted K.eq m q ≡ count_by (K.eq q) keys.now) }
 {
-    let mut counts = HashMap::new(alloc);
+    let mut counts = BTreeMap::new(alloc);
     for key in keys {
         count_one(&mut counts, *key)?;
     }
     Ok(counts)
 }
 
-fn count_one<K: Eq + Hash + Copy>(counts: &mut HashMap<K, usize>, key: K) -> Result<(), AllocError>
+fn count_one<K: Ord + Copy>(counts: &mut BTreeMap<K, usize>, key: K) -> Result<(), AllocError>
     requires { counted K.eq counts.old key + 1 < 2 ^ 64 }
     ensures { OnOk result ((q : K)
         → counted K.eq counts.new q ≡ counted K.eq counts.old q + (if K.eq key q then 1 else 0)) }
@@ -80,7 +75,7 @@ fn count_one<K: Eq + Hash + Copy>(counts: &mut HashMap<K, usize>, key: K) -> Res
 }
 
 /// For each key the index of the first one that is the same.
-pub(crate) fn firsts<K: Eq + Hash>(alloc: Global, keys: &[K]) -> Result<Vec<usize>, AllocError>
+pub(crate) fn firsts<K: Ord>(alloc: Global, keys: &[K]) -> Result<Vec<usize>, AllocError>
     ensures { IfOk result (λ v. v.items ≡ map (λ k. position_or_len (K.eq k) keys.now) keys.now) }
 {
     if keys.len() <= FEW_KEYS {
@@ -114,10 +109,10 @@ fn first_among<K: Eq>(keys: &[K], key: &K) -> usize
 }
 
 /// What `firsts` returns, by a table of the keys that came earlier.
-fn firsts_of_many<K: Eq + Hash>(alloc: Global, keys: &[K]) -> Result<Vec<usize>, AllocError>
+fn firsts_of_many<K: Ord>(alloc: Global, keys: &[K]) -> Result<Vec<usize>, AllocError>
     ensures { IfOk result (λ v. v.items ≡ map (λ k. position_or_len (K.eq k) keys.now) keys.now) }
 {
-    let mut table = HashMap::new(alloc);
+    let mut table = BTreeMap::new(alloc);
     let mut firsts = Vec::with_capacity(alloc, keys.len())?;
     for (index, key) in keys.iter().enumerate() {
         firsts.push(first_of(&mut table, index, key)?)?;
@@ -126,8 +121,8 @@ fn firsts_of_many<K: Eq + Hash>(alloc: Global, keys: &[K]) -> Result<Vec<usize>,
 }
 
 /// The index of the first key that is the same. A new key is the first, at its own index.
-fn first_of<'k, K: Eq + Hash>(
-    table: &mut HashMap<&'k K, usize>,
+fn first_of<'k, K: Ord>(
+    table: &mut BTreeMap<&'k K, usize>,
     index: usize,
     key: &'k K,
 ) -> Result<usize, AllocError>

@@ -65,7 +65,8 @@ others_found p es e true apart h =
 others_found p es e false apart h =
     rw (list_any-append p es (e ∷ []), h, apart) refl
 
-found_step : {K : Type 0} {eq : K → K → Bool} (laws : IsEquivalence eq) (es : List K) (e q : K) (t : Bool) → list_any (eq e) es ≡ false → eq e q ≡ t
+-- an index among entries with a new one last
+pub found_step : {K : Type 0} {eq : K → K → Bool} (laws : IsEquivalence eq) (es : List K) (e q : K) (t : Bool) → list_any (eq e) es ≡ false → eq e q ≡ t
     → cond t (Some (length es)) (index_in (eq q) es) ≡ index_in (eq q) (es ++ e ∷ [])
 found_step {eq = eq} laws es e q true new h =
     rw (same_test laws e q h, list_any-append (eq e) es (e ∷ []), new, laws.refl e, sym (index_new laws es e new)) refl

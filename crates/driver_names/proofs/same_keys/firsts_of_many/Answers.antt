@@ -1,6 +1,6 @@
 use Rattle.std.proofs.Common.{◌≡◌, ◌≤◌, ◌+◌, ◌∷◌, ◌++◌, [], length, take, sym, ap, ◌∙◌, subst, arith}
 use Rattle.std.proofs.lemmas.List.{length-take-le, take_more}
-use Rattle.driver_requests.specs.Indices.{IsIndex}
+use Rattle.driver_names.specs.Keys.{IsIndex}
 use Rattle.driver_names.proofs.KeysAlike.{firsts_step}
 use Rattle.driver_names.proofs.same_keys.firsts_of_many.Goals as goal
 

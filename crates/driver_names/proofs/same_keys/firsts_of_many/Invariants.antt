@@ -1,6 +1,6 @@
 use Rattle.std.proofs.Common.{◌≡◌, map, take}
 use Rattle.std.specs.List.{position_or_len}
-use Rattle.driver_requests.specs.Indices.{IsIndex}
+use Rattle.driver_names.specs.Keys.{IsIndex}
 use Rattle.driver_names.proofs.same_keys.firsts_of_many.Given as goal
 
 abbrev pub invariant-loop-index : goal.invariant-loop-index
