@@ -1,11 +1,19 @@
 -- Keys that are put in a set one after the other.
 use Rattle.std.proofs.Common.{◌≡◌, ◌||◌, ℕ, Bool, true, false, List, [], ◌∷◌, ◌++◌, cond, refl, sym, ap, ◌∙◌, append_assoc, append-nil}
+use Rattle.std.specs.Borrow.{Bor}
+use Rattle.std.specs.BTreeSet.{BTreeSet, contains_by}
+use Rattle.std.specs.Cmp.Lexicographic.{slice_cmp}
+use Rattle.std.specs.List.{list_any}
+use Rattle.std.specs.Ordering.{nat_cmp}
 use Rattle.std.specs.Str.{bytes_eq}
+use Rattle.std.proofs.Math.Path.{fun_ext}
 use Rattle.std.proofs.lemmas.Bool.Decides.{Decides-like, same_from_decides}
 use Rattle.std.proofs.lemmas.List.Folds.{list_any-append}
+use Rattle.std.proofs.lemmas.Map.Text.{is_eq-slice_cmp}
 use Rattle.std.proofs.lemmas.Slice.Eq.{bytes_eq-Decides}
 use Rattle.biblatex.specs.Entries.{Source}
 use Rattle.cite.specs.Cited.{entries_with, is_among}
+use Rattle.cite.specs.Views.{has}
 
 pub or_false : (b : Bool) → (b || false) ≡ b
 or_false true = refl
@@ -28,6 +36,10 @@ either false false = refl
 -- one key more
 pub among_one : (before : Bool) (key k : List ℕ) → cond (bytes_eq key k) true before ≡ (before || is_among (key ∷ []) k)
 among_one before key k = either before (bytes_eq key k) ∙ ap (λ (b : Bool). before || (b || false)) (turned key k)
+
+-- a set that is sorted by the order of texts has those that it finds by it
+pub has_found : (texts : BTreeSet (Bor (List ℕ))) (t : Bor (List ℕ)) → has texts t ≡ contains_by (λ (x : Bor (List ℕ)). slice_cmp nat_cmp t.now x.now) texts
+has_found texts t = ap (λ test. list_any test texts.keys) (fun_ext (λ (x : Bor (List ℕ)). sym (is_eq-slice_cmp t.now x.now)))
 
 -- entries with the keys, one entry and then the others
 one_then : (b : Bool) (before rest : List Source) (e : Source) → (before ++ cond b (e ∷ []) []) ++ rest ≡ before ++ cond b (e ∷ rest) rest

@@ -1,7 +1,7 @@
 -- What the code has and returns, without where it lies in memory.
 use Rattle.std.specs.Prelude.{ℕ, Bool, List, map}
 use Rattle.std.specs.Borrow.{Bor}
-use Rattle.std.specs.HashSet.{HashSet}
+use Rattle.std.specs.BTreeSet.{BTreeSet}
 use Rattle.std.specs.List.{list_any}
 use Rattle.std.specs.Str.{bytes_eq}
 use Rattle.laws.specs.Text.{spelled}
@@ -30,7 +30,7 @@ abbrev pub file_works_with : BibFile → Library → specs.Works
 file_works_with w library = record { file = listed_view w.file; library = library_view library }
 
 -- whether a set of texts has one that is the same
-abbrev pub has : {S : Type 0} → HashSet (Bor (List ℕ)) S → Bor (List ℕ) → Bool
+abbrev pub has : BTreeSet (Bor (List ℕ)) → Bor (List ℕ) → Bool
 has texts t = list_any (λ (x : Bor (List ℕ)). bytes_eq t.now x.now) texts.keys
 
 -- what a call is given beside the bib text

@@ -14,7 +14,7 @@ ghost use Rattle.interop.specs.Views.{lent_sources_view};
 use biblatex::{Bibliography, Entry as SourceEntry};
 use cite_markers::{Cite, Document, Piece};
 use std::alloc::{AllocError, Global};
-use std::collections::HashSet;
+use std::collections::BTreeSet;
 
 /// The keys of the entries that the markers of a document cite.
 ///
@@ -24,11 +24,11 @@ pub fn cited_keys<'f>(
     alloc: Global,
     file: &'f Bibliography,
     document: &Document<'_>,
-) -> Result<HashSet<&'f str>, AllocError>
+) -> Result<BTreeSet<&'f str>, AllocError>
     ensures { IfOk result (λ keys. (k : Bor (List ℕ)) → has keys k
         ≡ is_among (keys_cited (listed_view file.now) (document_view document.now)) k.now) }
 {
-    let mut keys = HashSet::new(alloc);
+    let mut keys = BTreeSet::new(alloc);
     for piece in &document.pieces {
         insert_cited(file, piece, &mut keys)?;
     }
@@ -40,7 +40,7 @@ pub fn cited_keys<'f>(
 fn insert_cited<'f>(
     file: &'f Bibliography,
     piece: &Piece<'_>,
-    keys: &mut HashSet<&'f str>,
+    keys: &mut BTreeSet<&'f str>,
 ) -> Result<(), AllocError>
     ensures { OnOk result ((k : Bor (List ℕ)) → has keys.new k ≡ (has keys.old k
         || is_among (keys_in (listed_view file.now) (piece_view piece.now)) k.now)) }
@@ -55,7 +55,7 @@ fn insert_cited<'f>(
 fn insert_named<'f>(
     file: &'f Bibliography,
     cites: &[Cite<'_>],
-    keys: &mut HashSet<&'f str>,
+    keys: &mut BTreeSet<&'f str>,
 ) -> Result<(), AllocError>
     ensures { OnOk result ((k : Bor (List ℕ)) → has keys.new k ≡ (has keys.old k
         || is_among (keys_named (listed_view file.now) (map cite_view cites.now)) k.now)) }
@@ -70,7 +70,7 @@ fn insert_named<'f>(
 fn insert_meant<'f>(
     file: &'f Bibliography,
     name: &str,
-    keys: &mut HashSet<&'f str>,
+    keys: &mut BTreeSet<&'f str>,
 ) -> Result<(), AllocError>
     ensures { OnOk result ((k : Bor (List ℕ)) → has keys.new k ≡ (has keys.old k
         || is_among (key_meant (listed_view file.now) (text (chars name.now))) k.now)) }
@@ -82,7 +82,7 @@ fn insert_meant<'f>(
 }
 
 /// Adds a key.
-fn insert_key<'f>(key: &'f str, keys: &mut HashSet<&'f str>) -> Result<(), AllocError>
+fn insert_key<'f>(key: &'f str, keys: &mut BTreeSet<&'f str>) -> Result<(), AllocError>
     ensures { OnOk result ((k : Bor (List ℕ))
         → has keys.new k ≡ (if bytes_eq key.now k.now then true else has keys.old k)) }
 {
@@ -94,7 +94,7 @@ fn insert_key<'f>(key: &'f str, keys: &mut HashSet<&'f str>) -> Result<(), Alloc
 pub(crate) fn entries_with<'f>(
     alloc: Global,
     entries: &'f [SourceEntry],
-    keys: &HashSet<&str>,
+    keys: &BTreeSet<&'f str>,
 ) -> Result<Vec<&'f SourceEntry>, AllocError>
     ensures { (known : List (List ℕ)) → ((k : Bor (List ℕ)) → has keys.now k ≡ is_among known k.now)
         → IfOk result (λ v. lent_sources_view v.items
@@ -108,7 +108,7 @@ pub(crate) fn entries_with<'f>(
 }
 
 fn push_known<'f>(
-    keys: &HashSet<&str>,
+    keys: &BTreeSet<&'f str>,
     entry: &'f SourceEntry,
     found: &mut Vec<&'f SourceEntry>,
 ) -> Result<(), AllocError>
