@@ -10,6 +10,7 @@ pub mod EntriesIndices
 pub mod Finishing
 pub mod KeyLists
 pub mod MarkersPlain
+pub mod NamesAreKeys
 pub mod OneLine
 pub mod OutputPieces
 pub mod OutputReplaced
@@ -20,7 +21,9 @@ pub mod RenderedStages
 pub mod RequestsAlike
 pub mod RequestsNamed
 pub mod RequestsSteps
+pub mod RewrittenAnswers
 pub mod SameMarkers
+pub mod SameVerdicts
 pub mod SectionsAlike
 pub mod SelectorsPlain
 pub mod StepsAfter
@@ -28,5 +31,6 @@ pub mod StepsRefused
 pub mod VerdictStages
 pub mod VerdictsAlike
 pub mod VerdictsUnique
+pub mod WorksAlike
 pub mod WorksKeys
 pub mod WorksListed

@@ -10,6 +10,7 @@ pub mod Pieces
 pub mod Stages
 pub mod Verdict
 pub mod Alike
+pub mod Roads
 pub mod Replaced
 pub mod Refusals
 pub mod Finished

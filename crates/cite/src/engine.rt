@@ -15,6 +15,7 @@ ghost use Rattle.driver.specs.RenderedViews.{rendered_view};
 ghost use Rattle.cite.specs.Stages.{document_stage};
 ghost use Rattle.cite.specs.Verdict.{IsVerdict, rendered_stage};
 ghost use Rattle.cite.specs.Alike.{ForAlike};
+ghost use Rattle.cite.specs.Roads.{ForRewriting};
 ghost use Rattle.cite.specs.Pieces.{output_of};
 ghost use Rattle.cite.specs.Views.{task_of, file_works};
 ghost use Rattle.cite.specs.Answers.{Answers, Gives, Writes, IsRefusalUnlessWrite, UnlessWrite, OnWrite, IsLastFault};
@@ -147,6 +148,9 @@ pub fn cite_to_string(
     ensures alike { ForAlike bib.now (task_of document.now style.now locale.now sections.now format)
         (λ other. Answers (λ s. string_bytes s) result
         (IsVerdict other (task_of document.now style.now locale.now sections.now format))) }
+    // And so it is for the text that is written of its entries without `crossref`, if these are settled.
+    ensures rewriting { ForRewriting bib.now (λ other. Answers (λ s. string_bytes s) result
+        (IsVerdict other (task_of document.now style.now locale.now sections.now format))) }
 {
     let output = compose(alloc, bib, document, style, locale, sections, format)?;
     Ok(output.to_text(alloc)?)
@@ -178,9 +182,17 @@ pub fn cite<W: Sink>(
         (λ other. Writes
         (IsVerdict other (task_of document.now style.now locale.now sections.now format))
         (λ output. Appends (W.contents sink.old) (W.contents sink.new) output))) }
+    // It is the output of the text that is written of the entries without `crossref`, if these are settled.
+    ensures rewriting { OnOk result (ForRewriting bib.now (λ other. Writes
+        (IsVerdict other (task_of document.now style.now locale.now sections.now format))
+        (λ output. Appends (W.contents sink.old) (W.contents sink.new) output))) }
     // A refusal is the first one, with its fault.
     ensures refused { IfErr result (λ e. IsRefusalUnlessWrite e
         (IsVerdict bib.now (task_of document.now style.now locale.now sections.now format))) }
+    // And that text is refused at the same stage, with the same fault.
+    ensures rewriting_refused { IfErr result (λ e. ForRewriting bib.now (λ other.
+        IsRefusalUnlessWrite e
+        (IsVerdict other (task_of document.now style.now locale.now sections.now format)))) }
     // Nothing is written after any refusal but a failed write.
     ensures untouched { IfErr result (λ e. UnlessWrite e (sink.new ≡ sink.old)) }
     // After a failed write a prefix of the output stands, and some call of `write` failed or took nothing.

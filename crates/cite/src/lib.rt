@@ -25,7 +25,8 @@ pub use interop::{DateField, FieldFault};
 pub use literature::SelectorError;
 pub use one_line::refusals_have_line_messages;
 pub use output_laws::{
-    alike_texts_have_one_verdict, citations_depend_on_markers_alone, texts_come_out_unchanged,
+    alike_texts_have_one_verdict, citations_depend_on_markers_alone,
+    rewriting_has_the_same_verdicts, texts_come_out_unchanged,
 };
 pub use program::{paths, run};
 pub use rendering_locale::Locale;

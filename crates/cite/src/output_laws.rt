@@ -1,6 +1,7 @@
 //! What holds of the outputs of all documents.
 
 ghost use Rattle.cite.specs.Alike.{AlikeTextsHaveOneVerdict};
+ghost use Rattle.cite.specs.Roads.{RewritingHasTheSameVerdicts};
 ghost use Rattle.cite.specs.Replaced.{CitationsDependOnMarkersAlone, TextsComeOutUnchanged};
 
 /// An output is the document with a citation instead of each marker, and a bibliography after it: each text of the document comes out
@@ -17,4 +18,10 @@ pub fn citations_depend_on_markers_alone()
 /// Bib texts that are alike for a document, style, locale, sections and format have one output.
 pub fn alike_texts_have_one_verdict()
     ensures { AlikeTextsHaveOneVerdict }
+{}
+
+/// A bib text whose entries are settled without `crossref`, and the text that is written of these, have the same output for every document,
+/// style, locale, sections and format, or are refused at the same stage with the same fault.
+pub fn rewriting_has_the_same_verdicts()
+    ensures { RewritingHasTheSameVerdicts }
 {}

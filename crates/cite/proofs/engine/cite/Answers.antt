@@ -1,7 +1,9 @@
+use Rattle.std.proofs.Common.{◌≡◌, Err, rules}
 use Rattle.std.specs.Io.KnownBytes.{Appends}
 use Rattle.cite.specs.Pieces.{output_of}
 use Rattle.cite.specs.Views.{task_of}
 use Rattle.cite.proofs.AlikeAnswers.{writes_alike}
+use Rattle.cite.proofs.RewrittenAnswers.{refused_rewritten, writes_rewritten}
 use Rattle.cite.proofs.engine.cite.Goals as goal
 
 pub returns-in-Ok-clause-alike : goal.returns-in-Ok-clause-alike
@@ -11,3 +13,13 @@ returns-in-Ok-clause-alike g c =
 
 pub returns-clause-cut_short : goal.returns-clause-cut_short
 returns-clause-cut_short g c = (output_of c.in_ok-output.output, c.in_ok-output.ensures, c.in-Err.ensures.err)
+
+pub returns-in-Ok-clause-rewriting : goal.returns-in-Ok-clause-rewriting
+returns-in-Ok-clause-rewriting g c =
+    writes_rewritten c.args.bib.now (task_of c.args.document.now c.args.style.now c.args.locale.now c.args.sections.now c.args.format)
+    (λ output. Appends (g.W.Sink.contents c.args.sink.now) (g.W.Sink.contents c.write_to.new.sink) output) (output_of c.in_ok-output.output, c.in_ok-output.ensures, c.in-Ok.ensures.ok)
+
+pub returns-in_err-output-clause-rewriting_refused : goal.returns-in_err-output-clause-rewriting_refused
+returns-in_err-output-clause-rewriting_refused g c =
+    let is : c.from_residual.result ≡ Err c.in_err-output.field-0.0 = search rules in
+    refused_rewritten c.args.bib.now (task_of c.args.document.now c.args.style.now c.args.locale.now c.args.sections.now c.args.format) c.from_residual.result c.in_err-output.field-0.0 is c.in_err-output.ensures

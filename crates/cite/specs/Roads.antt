@@ -19,6 +19,10 @@ pub record IsSettledFile (bib : List ℕ) (file : Listed) : Type 0 where
 abbrev pub rewritten : Listed → List ℕ
 rewritten file = written_file (flat file.entries)
 
+-- this holds of the rewriting of each file as which a bib text is read, if its entries are settled without `crossref`
+abbrev pub ForRewriting : List ℕ → (List ℕ → Type 0) → Type 0
+ForRewriting bib P = (file : Listed) → IsSettledFile bib file → P (rewritten file)
+
 -- Both have the same output, or are refused at the same stage with the same fault.
 abbrev pub RewritingHasTheSameVerdicts : Type 0
 RewritingHasTheSameVerdicts =

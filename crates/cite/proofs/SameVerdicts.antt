@@ -23,9 +23,9 @@ use Rattle.interop_roads.proofs.ReadBackAlike.{back_library}
 use Rattle.cite.specs.Stages.{Refusal, IsRead, IsReadIf, bib_refused, library_stage, refused_as, works_from}
 use Rattle.cite.specs.Verdict.{Task, IsVerdict, verdict}
 use Rattle.cite.proofs.VerdictsUnique.{one_verdict}
-use Rattle.cite_roads.specs.Roads.{IsSettledFile, RewritingHasTheSameVerdicts, rewritten}
-use Rattle.cite_roads.proofs.NamesAreKeys.{names_are_keys}
-use Rattle.cite_roads.proofs.WorksAlike.{no_aliases, none_back, verdicts_same}
+use Rattle.cite.specs.Roads.{IsSettledFile, RewritingHasTheSameVerdicts, rewritten}
+use Rattle.cite.proofs.NamesAreKeys.{names_are_keys}
+use Rattle.cite.proofs.WorksAlike.{no_aliases, none_back, verdicts_same}
 
 -- a bib text that is read is a text, and has a meaning
 record IsMeant (bib : List ℕ) (file : Listed) : Type 0 where

@@ -34,7 +34,7 @@ use Rattle.cite.specs.Stages.{Refusal, document_stage, name_stage, section_stage
 use Rattle.cite.specs.Verdict.{Task, driver_stage, rendered_stage, verdict}
 use Rattle.cite.specs.Works.{Works, MeansOneWork, meaning, work_of}
 use Rattle.cite.proofs.SameMarkers.{names_same}
-use Rattle.cite_roads.proofs.NamesAreKeys.{HasNoAliases, NamesAreKeys, last_with}
+use Rattle.cite.proofs.NamesAreKeys.{HasNoAliases, NamesAreKeys, last_with}
 
 -- settled fields name no entries
 names_none : (f : Named) → is_settled_field f ≡ true → NamesNone f.0

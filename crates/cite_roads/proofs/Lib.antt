@@ -1,3 +1,0 @@
-pub mod NamesAreKeys
-pub mod WorksAlike
-pub mod SameVerdicts
