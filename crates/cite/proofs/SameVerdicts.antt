@@ -1,16 +1,15 @@
 -- A bib text and its rewriting have the same verdicts.
-use Rattle.std.proofs.Common.{◌≡◌, ◌↔◌, ℕ, Bool, true, false, cond, List, [], ◌∷◌, Result, Ok, Err, codes, refl, sym, ap, subst, ◌∙◌}
+use Rattle.std.proofs.Common.{◌≡◌, ℕ, Bool, true, false, cond, List, [], ◌∷◌, Result, Ok, Err, codes, refl, sym, ap, subst, ◌∙◌}
 use Rattle.std.specs.List.{AllByRecursion}
 use Rattle.std.specs.Str.{all_scalars, bytes_eq, chars, is_utf8, IsUtf8}
 use Rattle.std.proofs.lemmas.Str.{IsUtf8-from_is_utf8, is_utf8-from_IsUtf8, scalars-chars}
-use Rattle.laws.specs.Results.{◌>>=◌}
 use Rattle.laws.proofs.Results.{ok_is}
 use Rattle.biblatex.specs.Bibliographies.{Listed}
 use Rattle.biblatex.specs.Entries.{Source}
 use Rattle.biblatex.specs.Fields.{Named, without_field}
 use Rattle.biblatex.specs.Reading as reading
 use Rattle.biblatex.specs.Resolved.{TextMeans}
-use Rattle.biblatex_writing.specs.Flat.{flat, flat_entry}
+use Rattle.biblatex_writing.specs.Flat.{flat}
 use Rattle.biblatex_content.specs.Styled.{plain}
 use Rattle.biblatex_reading_back.specs.ReadingBack.{IsText, ReadsBack}
 use Rattle.biblatex_reading_back.proofs.SettledBack.{reads_back}
@@ -23,7 +22,7 @@ use Rattle.interop_roads.proofs.ReadBackAlike.{back_library}
 use Rattle.cite.specs.Stages.{Refusal, IsRead, IsReadIf, bib_refused, library_stage, refused_as, works_from}
 use Rattle.cite.specs.Verdict.{Task, IsVerdict, verdict}
 use Rattle.cite.proofs.VerdictsUnique.{one_verdict}
-use Rattle.cite.specs.Roads.{IsSettledFile, RewritingHasTheSameVerdicts, rewritten}
+use Rattle.cite.specs.Roads.{RewritingHasTheSameVerdicts, rewritten}
 use Rattle.cite.proofs.NamesAreKeys.{names_are_keys}
 use Rattle.cite.proofs.WorksAlike.{no_aliases, none_back, verdicts_same}
 

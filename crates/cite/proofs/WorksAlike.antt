@@ -1,5 +1,5 @@
 -- Entries that were read back mean the works that they meant.
-use Rattle.std.proofs.Common.{◌≡◌, ℕ, zero, suc, Bool, true, false, not, ◌&&◌, List, [], ◌∷◌, map, slice_get, Option, Some, None, Result, Ok, Err, codes, refl, sym, ap, ◌∙◌}
+use Rattle.std.proofs.Common.{◌≡◌, ℕ, zero, suc, true, not, ◌&&◌, List, [], ◌∷◌, slice_get, Option, Some, None, Result, Ok, Err, codes, refl, sym, ap, ◌∙◌}
 use Rattle.std.specs.Prelude.{option_and_then, if◌then◌else◌}
 use Rattle.std.specs.List.{AllByRecursion, list_all, list_any}
 use Rattle.std.specs.Str.{bytes_eq}
@@ -9,9 +9,9 @@ use Rattle.biblatex_writing.specs.SettledContent.{is_settled_content}
 use Rattle.std.specs.Str.{chars}
 use Rattle.laws.specs.Results.{◌>>=◌}
 use Rattle.laws.specs.Text.{text}
-use Rattle.biblatex.specs.Bibliographies.{Listed, entry_named}
+use Rattle.biblatex.specs.Bibliographies.{Listed}
 use Rattle.biblatex.specs.Entries.{Source}
-use Rattle.biblatex.specs.Fields.{Named, text_named, value_named}
+use Rattle.biblatex.specs.Fields.{Named}
 use Rattle.biblatex.specs.TypeNames.{written_type}
 use Rattle.biblatex_bibliography.specs.Bibliographies.{after_first}
 use Rattle.biblatex_writing.specs.Flat.{flat, flat_entry}
@@ -21,7 +21,7 @@ use Rattle.biblatex_reading_back.proofs.EntriesBack.{NamesNone, no_ids, not_name
 use Rattle.literature_entries.specs.EntriesData.{EntryData}
 use Rattle.literature.specs.Keys.{with_key}
 use Rattle.interop.specs.Bridge.{Fault}
-use Rattle.interop.specs.Library.{is_xdata, key_of, library_of}
+use Rattle.interop.specs.Library.{is_xdata, key_of}
 use Rattle.interop_roads.specs.Roads.{AreWrittenApart}
 use Rattle.interop_roads.proofs.FlatAlike.{others_stay}
 use Rattle.interop_roads.proofs.ReadBackAlike.{written_once}
@@ -30,9 +30,9 @@ use Rattle.cite_markers.specs.Document.{Piece}
 use Rattle.cite.specs.Markers.{names_cited}
 use Rattle.cite.specs.Output.{output_text}
 use Rattle.cite.specs.Sections.{chosen}
-use Rattle.cite.specs.Stages.{Refusal, document_stage, name_stage, section_stage, works_from}
+use Rattle.cite.specs.Stages.{document_stage, section_stage, works_from}
 use Rattle.cite.specs.Verdict.{Task, driver_stage, rendered_stage, verdict}
-use Rattle.cite.specs.Works.{Works, MeansOneWork, meaning, work_of}
+use Rattle.cite.specs.Works.{Works, MeansOneWork, work_of}
 use Rattle.cite.proofs.SameMarkers.{names_same}
 use Rattle.cite.proofs.NamesAreKeys.{HasNoAliases, NamesAreKeys, last_with}
 
