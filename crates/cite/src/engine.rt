@@ -148,7 +148,8 @@ pub fn cite_to_string(
     ensures alike { ForAlike bib.now (task_of document.now style.now locale.now sections.now format)
         (λ other. Answers (λ s. string_bytes s) result
         (IsVerdict other (task_of document.now style.now locale.now sections.now format))) }
-    // And so it is for the text that is written of its entries without `crossref`, if these are settled.
+    // And so it is for what is written of its entries without `crossref`, if these are settled and none has two
+    // fields that are written under one name.
     ensures rewriting { ForRewriting bib.now (λ other. Answers (λ s. string_bytes s) result
         (IsVerdict other (task_of document.now style.now locale.now sections.now format))) }
 {
@@ -182,14 +183,15 @@ pub fn cite<W: Sink>(
         (λ other. Writes
         (IsVerdict other (task_of document.now style.now locale.now sections.now format))
         (λ output. Appends (W.contents sink.old) (W.contents sink.new) output))) }
-    // It is the output of the text that is written of the entries without `crossref`, if these are settled.
+    // And it is the output of what is written of the entries without `crossref`, if these are settled and none has
+    // two fields that are written under one name.
     ensures rewriting { OnOk result (ForRewriting bib.now (λ other. Writes
         (IsVerdict other (task_of document.now style.now locale.now sections.now format))
         (λ output. Appends (W.contents sink.old) (W.contents sink.new) output))) }
     // A refusal is the first one, with its fault.
     ensures refused { IfErr result (λ e. IsRefusalUnlessWrite e
         (IsVerdict bib.now (task_of document.now style.now locale.now sections.now format))) }
-    // And that text is refused at the same stage, with the same fault.
+    // And what is written of those entries is refused at the same stage, with the same fault.
     ensures rewriting_refused { IfErr result (λ e. ForRewriting bib.now (λ other.
         IsRefusalUnlessWrite e
         (IsVerdict other (task_of document.now style.now locale.now sections.now format)))) }

@@ -21,7 +21,8 @@ pub fn alike_texts_have_one_verdict()
 {}
 
 /// A bib text whose entries are settled without `crossref`, and the text that is written of these, have the same output for every document,
-/// style, locale, sections and format, or are refused at the same stage with the same fault.
+/// style, locale, sections and format, or are refused at the same stage with the same fault; if no entry has two fields that are written under
+/// one name.
 pub fn rewriting_has_the_same_verdicts()
     ensures { RewritingHasTheSameVerdicts }
 {}
