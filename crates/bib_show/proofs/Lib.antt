@@ -3,3 +3,5 @@ pub mod ProgramFaults
 pub mod PositionLines
 pub mod ShownPlain
 pub mod ProgramUnique
+pub mod FlatApart
+pub mod FlatFiles

@@ -10,6 +10,8 @@ use Rattle.biblatex.specs.Errors.{reason_text}
 use Rattle.biblatex.specs.Reading.{Refusal}
 use Rattle.biblatex.specs.Resolved.{TextMeans}
 use Rattle.bib_show.specs.Refusals.{refusal_lines, IsSourceFault}
+use Rattle.bib_show.specs.Program.{IsFaultOf}
+use Rattle.bib_show.specs.declared.program.Form.{Form}
 
 -- bytes that are no text
 pub no_text : (path source : List ℕ) (at : ℕ) (message : List ℕ) → (IsUtf8 source → ⊥) → at ≡ utf8_valid_len source
@@ -23,6 +25,11 @@ pub refused_text : (path source message : List ℕ) (r : Refusal) → IsUtf8 sou
     → (message ≡ refusal_lines path source r.start (reason_text r.reason)) ⊎ (message ≡ no_memory (codes "bib_show")) → IsSourceFault path source message ⊎ (message ≡ no_memory (codes "bib_show"))
 refused_text path source message r utf8 means (inl is) = inl (inr (record { refusal = r; is_text = is_utf8-from_IsUtf8 source utf8; means = means; lines = is }))
 refused_text path source message r utf8 means (inr is) = inr is
+
+-- whatever was to be written
+pub source_fault : (form : Form) (path source message : List ℕ) → IsSourceFault path source message ⊎ (message ≡ no_memory (codes "bib_show")) → IsFaultOf form path source message ⊎ (message ≡ no_memory (codes "bib_show"))
+source_fault form path source message (inl is) = inl (inl is)
+source_fault form path source message (inr is) = inr is
 
 -- what was reported of a fault is one of its reasons
 reason_message : (Faults : List ℕ → Type 0) (Serves : (List ℕ → Type 0) → Type 0) (is message : List ℕ) (before after : ℕ)

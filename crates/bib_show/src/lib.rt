@@ -1,5 +1,5 @@
-//! Shows what a BibLaTeX file says once its references are resolved, or where its first mistake stands. `show` is the library's
-//! call, `run` is the program over files that were read and any writers.
+//! Shows what a BibLaTeX file says once its references are resolved, or writes that as a file without references, or says where its
+//! first mistake stands. `show` is the library's call, `run` is the program over files that were read and any writers.
 #![tactic(auto)]
 
 mod escape;
@@ -8,6 +8,7 @@ mod position;
 mod program;
 mod refusal;
 mod shown;
+mod unsettled;
 
 pub use program::{paths, run};
 pub use shown::show;

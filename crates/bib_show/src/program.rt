@@ -1,18 +1,26 @@
 //! The program over files that were read and any writers: words in, entries or a fault out.
 
-ghost use Rattle.std.specs.Prelude.{◌≡◌, ◌≤◌, ◌++◌, IfOk, IfErr, OnOk, OnErr, string_bytes, codes, ◌⊎◌};
+ghost use Rattle.std.specs.Prelude.{◌≡◌, ◌≤◌, ◌++◌, None, Ok, IfOk, IfErr, OnOk, OnErr, string_bytes, codes, ◌⊎◌};
 ghost use Rattle.std.specs.Option.{option_copied};
+ghost use Rattle.std.specs.Str.{chars};
 ghost use Rattle.std.specs.Io.KnownBytes.{Appends};
 ghost use Rattle.sinks.specs.Files.{read_at};
 ghost use Rattle.sinks.specs.Programs.{line, no_memory, IsUntouched, IsReason, Says};
 ghost use Rattle.biblatex.specs.Errors.{reason_view, reason_text};
-ghost use Rattle.bib_show.specs.Refusals.{IsSourceFault, refusal_lines};
-ghost use Rattle.bib_show.specs.Program.{information, asked, IsShownOf, IsFileOutput, IsWordOutput, IsOutput, Serves, IsFileFault, IsWordFault, IsFault, message_of};
+ghost use Rattle.biblatex.specs.Bibliographies.{listed_view};
+ghost use Rattle.biblatex.specs.Entries.{source_view};
+ghost use Rattle.biblatex.specs.Resolved.{TextMeans};
+ghost use Rattle.biblatex_writing.specs.Flat.{flat};
+ghost use Rattle.biblatex_writing.specs.Written.{written_file};
+ghost use Rattle.bib_show.specs.Refusals.{refusal_lines};
+ghost use Rattle.bib_show.specs.Unsettled.{first_unsettled, unsettled_lines, IsFirstUnsettled};
+ghost use Rattle.bib_show.specs.Program.{information, is_flat, is_option, asked, IsOutputOf, IsFileOutput, IsWordOutput, IsLoneOutput, IsFlatOutput, IsOutput, Serves, IsFaultOf, IsFileFault, IsWordFault, IsLoneFault, IsFlatFault, IsFault, message_of};
 ghost use Rattle.bib_show.specs.declared.program.RunFault.TheVariants.{Memory};
 
 use crate::refusal::refusal_lines;
 use crate::shown::show;
-use biblatex::{Bibliography, ParseError, ParseErrorKind};
+use crate::unsettled::{first_unsettled, key_start, unsettled_reason};
+use biblatex::{Bibliography, Entry, ParseError, ParseErrorKind};
 use sinks::{FileRead, ReadFault, Sink, bytes_at, line_of, say, write_all};
 use std::alloc::{AllocError, Global};
 
@@ -21,12 +29,14 @@ const PROGRAM: &str = "bib_show";
 
 /// The text of `--help`.
 const HELP: &str = "\
-usage: bib_show FILE
+usage: bib_show [--flat] FILE
        bib_show --help | --version
 
 Shows the entries of the BibLaTeX file FILE, their references resolved: for each
-entry a line with its type and its key, and a line for each of its fields. Of a
-file that is refused it shows the line and the column of the first fault.
+entry a line with its type and its key, and a line for each of its fields. With
+--flat it writes them as a BibLaTeX file without crossref and xdata, if that
+reads back as the same entries. Of a file that is refused it shows the line and
+the column of the first fault.
 
 Exit status: 0 if everything was written to standard output, else 1; then
 standard error says why.
@@ -38,6 +48,15 @@ const VERSION: &str = "bib_show 0.1.0\n";
 /// The line where there is no memory to say more.
 const NO_MEMORY: &str = "bib_show: out of memory\n";
 
+/// What is written of the entries of a file.
+#[derive(Clone, Copy)]
+enum Form {
+    /// A line for each entry and each field.
+    Shown,
+    /// A BibLaTeX file without references.
+    Flat,
+}
+
 /// Why the program ends with status 1.
 #[derive(Drop)]
 enum RunFault<'w> {
@@ -45,7 +64,7 @@ enum RunFault<'w> {
     Path(&'w str),
     Memory,
     Write,
-    /// The source is refused, of which these lines are the message.
+    /// The source is refused, or its entries would not read back, of which these lines are the message.
     Refused(String),
 }
 
@@ -57,23 +76,36 @@ impl From<AllocError> for RunFault<'_> {
     }
 }
 
-/// The paths of the files that the words ask for: the one word, unless it is `--help` or `--version`.
+/// The paths of the files that the words ask for: the one word, unless it is an option; or the one after `--flat`.
 pub fn paths<'s, 'w>(words: &'s [&'w str]) -> &'s [&'w str]
     ensures { result.now ≡ asked words.now }
 {
-    let [word] = words else {
-        return &[];
-    };
-    if information(word).is_some() {
-        return &[];
+    match words {
+        [word] => { if is_option(word) { &[] } else { words } }
+        [word, _] => { if is_flat(word) { &words[1..] } else { &[] } }
+        _ => &[],
     }
-    words
 }
 
-/// Runs the program: `FILE`, `--help` or `--version`. The entries of the file, their references resolved, or the text of the option
-/// go to `out`, and the status is 0; or lines that say why not go to `err`, and the status is 1: of a file that is refused
-/// `FILE:LINE:COLUMN:` and why, the line, and a caret below the position, else one line that begins `bib_show: `. `files` are what was
-/// read of the paths that `paths` names; one that is missing cannot be read. A fault of `err` is passed over.
+/// Whether the word is an option.
+fn is_option(word: &str) -> bool
+    ensures { result ≡ is_option word.now }
+{
+    is_flat(word) || information(word).is_some()
+}
+
+/// Whether the word is `--flat`.
+fn is_flat(word: &str) -> bool
+    ensures { result ≡ is_flat word.now }
+{
+    word == "--flat"
+}
+
+/// Runs the program: `FILE`, `--flat FILE`, `--help` or `--version`. The entries of the file, their references resolved, shown or as a
+/// BibLaTeX file, or the text of the option go to `out`, and the status is 0; or lines that say why not go to `err`, and the status is 1:
+/// of a file that is refused, or whose entries would not read back, `FILE:LINE:COLUMN:` and why, the line, and a caret below the position,
+/// else one line that begins `bib_show: `. `files` are what was read of the paths that `paths` names; one that is missing cannot be read.
+/// A fault of `err` is passed over.
 pub fn run<O: Sink, E: Sink>(
     alloc: Global,
     words: &[&str],
@@ -92,7 +124,7 @@ pub fn run<O: Sink, E: Sink>(
     ensures untouched { result ≡ 1
         → IsUntouched (Serves (read_at files.now) words.now) out.old out.new
         (O.contents out.old) (O.contents out.new) (O.failures out.old) (O.failures out.new) }
-    // After the status 0 `out` has taken exactly the text of the option, or what is shown of the entries that the file means.
+    // After the status 0 `out` has taken exactly the text of the option, or what is shown or written of the entries that the file means.
     ensures served { result ≡ 0 → Serves (read_at files.now) words.now (λ output.
         Appends (O.contents out.old) (O.contents out.new) output) }
     ensures status { result ≤ 1 }
@@ -123,7 +155,7 @@ fn lines_of(alloc: Global, fault: RunFault<'_>) -> Result<String, AllocError>
     ensures { IfOk result (λ lines. string_bytes lines ≡ message_of fault.entry) }
 {
     match fault {
-        RunFault::Usage => line_of(alloc, PROGRAM, "usage: bib_show FILE", ""),
+        RunFault::Usage => line_of(alloc, PROGRAM, "usage: bib_show [--flat] FILE", ""),
         RunFault::Path(path) => line_of(alloc, PROGRAM, "cannot read ", path),
         RunFault::Memory => line_of(alloc, PROGRAM, "out of memory", ""),
         RunFault::Write => line_of(alloc, PROGRAM, "write failed", ""),
@@ -164,13 +196,52 @@ fn output_of<'w>(
     ensures fault { IfErr result (λ f. IsFault (read_at files.now) words.now (message_of f)
         ⊎ (message_of f ≡ no_memory (codes "bib_show"))) }
 {
-    let [word] = words else {
+    match words {
+        [word] => lone_output(alloc, word, files),
+        [word, path] => flat_output(alloc, word, path, files),
+        _ => Err(RunFault::Usage),
+    }
+}
+
+/// What is to be written for one word.
+fn lone_output<'w>(
+    alloc: Global,
+    word: &'w str,
+    files: &[FileRead<'_>],
+) -> Result<String, RunFault<'w>>
+    ensures output { IfOk result (λ s. IsLoneOutput (is_flat word.now)
+        (information word.now) (read_at files.now word.now) (string_bytes s)) }
+    ensures fault { IfErr result (λ f. IsLoneFault (is_flat word.now)
+        (information word.now) word.now (read_at files.now word.now) (message_of f)
+        ⊎ (message_of f ≡ no_memory (codes "bib_show"))) }
+{
+    if is_flat(word) {
         return Err(RunFault::Usage);
-    };
+    }
     word_output(alloc, word, files)
 }
 
-/// What is to be written for a word.
+/// What is to be written for a word and a path.
+fn flat_output<'w>(
+    alloc: Global,
+    word: &str,
+    path: &'w str,
+    files: &[FileRead<'_>],
+) -> Result<String, RunFault<'w>>
+    ensures output { IfOk result (λ s.
+        IsFlatOutput (is_flat word.now) (read_at files.now path.now) (string_bytes s)) }
+    ensures fault { IfErr result (λ f. IsFlatFault (is_flat word.now)
+        path.now (read_at files.now path.now) (message_of f)
+        ⊎ (message_of f ≡ no_memory (codes "bib_show"))) }
+{
+    if is_flat(word) {
+        file_output(alloc, Form::Flat, path, files)
+    } else {
+        Err(RunFault::Usage)
+    }
+}
+
+/// What is to be written for a word that is not `--flat`.
 fn word_output<'w>(
     alloc: Global,
     word: &'w str,
@@ -184,7 +255,7 @@ fn word_output<'w>(
 {
     match information(word) {
         Some(text) => Ok(String::from_str(alloc, text)?),
-        None => file_output(alloc, word, files),
+        None => file_output(alloc, Form::Shown, word, files),
     }
 }
 
@@ -199,48 +270,117 @@ fn information(word: &str) -> Option<&'static str>
     }
 }
 
-/// What is shown of the file at the path.
+/// What is written of the file at the path.
 fn file_output<'w>(
     alloc: Global,
+    form: Form,
     path: &'w str,
     files: &[FileRead<'_>],
 ) -> Result<String, RunFault<'w>>
-    ensures output { IfOk result (λ s. IsFileOutput (read_at files.now path.now) (string_bytes s)) }
-    ensures fault { IfErr result (λ f. IsFileFault path.now (read_at files.now path.now)
+    ensures output { IfOk result (λ s.
+        IsFileOutput form (read_at files.now path.now) (string_bytes s)) }
+    ensures fault { IfErr result (λ f. IsFileFault form path.now (read_at files.now path.now)
         (message_of f) ⊎ (message_of f ≡ no_memory (codes "bib_show"))) }
 {
     match bytes_at(files, path) {
-        Ok(source) => source_output(alloc, path, source),
+        Ok(source) => source_output(alloc, form, path, source),
         Err(ReadFault::Memory) => Err(RunFault::Memory),
         Err(ReadFault::Unreadable) => Err(RunFault::Path(path)),
     }
 }
 
-/// What is shown of a source.
-fn source_output<'w>(alloc: Global, path: &str, source: &[u8]) -> Result<String, RunFault<'w>>
-    ensures shown { IfOk result (λ s. IsShownOf source.now (string_bytes s)) }
-    ensures fault { IfErr result (λ f. IsSourceFault path.now source.now (message_of f)
+/// What is written of a source.
+fn source_output<'w>(
+    alloc: Global,
+    form: Form,
+    path: &str,
+    source: &[u8],
+) -> Result<String, RunFault<'w>>
+    ensures output { IfOk result (λ s. IsOutputOf form source.now (string_bytes s)) }
+    ensures fault { IfErr result (λ f. IsFaultOf form path.now source.now (message_of f)
         ⊎ (message_of f ≡ no_memory (codes "bib_show"))) }
 {
     match str::from_utf8(source) {
-        Ok(text) => text_output(alloc, path, text),
+        Ok(text) => text_output(alloc, form, path, text),
         Err(error) => Err(refused(alloc, path, source, error.valid_up_to(), "not UTF-8")),
     }
 }
 
-/// What is shown of a text.
-fn text_output<'w>(alloc: Global, path: &str, text: &str) -> Result<String, RunFault<'w>>
-    ensures shown { IfOk result (λ s. IsShownOf text.now (string_bytes s)) }
-    ensures fault { IfErr result (λ f. IsSourceFault path.now text.now (message_of f)
+/// What is written of a text.
+fn text_output<'w>(
+    alloc: Global,
+    form: Form,
+    path: &str,
+    text: &str,
+) -> Result<String, RunFault<'w>>
+    ensures output { IfOk result (λ s. IsOutputOf form text.now (string_bytes s)) }
+    ensures fault { IfErr result (λ f. IsFaultOf form path.now text.now (message_of f)
         ⊎ (message_of f ≡ no_memory (codes "bib_show"))) }
 {
     match Bibliography::parse(alloc, text) {
-        Ok(bibliography) => Ok(show(alloc, &bibliography)?),
+        Ok(bibliography) => entries_output(alloc, form, path, text, bibliography),
         Err(ParseError::Memory) => Err(RunFault::Memory),
         Err(ParseError::Refused { kind, span }) => {
             Err(text_fault(alloc, path, text, &kind, span.start))
         }
     }
+}
+
+/// What is written of the entries that a text means.
+fn entries_output<'w>(
+    alloc: Global,
+    form: Form,
+    path: &str,
+    text: &str,
+    bibliography: Bibliography,
+) -> Result<String, RunFault<'w>>
+    requires { TextMeans (chars text.now) (Ok (listed_view bibliography)) }
+    ensures output { IfOk result (λ s. IsOutputOf form text.now (string_bytes s)) }
+    ensures fault { IfErr result (λ f. IsFaultOf form path.now text.now (message_of f)
+        ⊎ (message_of f ≡ no_memory (codes "bib_show"))) }
+{
+    match form {
+        Form::Shown => Ok(show(alloc, &bibliography)?),
+        Form::Flat => flat_file(alloc, path, text, bibliography),
+    }
+}
+
+/// The entries of a text without references, as a file.
+fn flat_file<'w>(
+    alloc: Global,
+    path: &str,
+    text: &str,
+    bibliography: Bibliography,
+) -> Result<String, RunFault<'w>>
+    ensures settled { OnOk result (first_unsettled 0 (flat bibliography.entries) ≡ None) }
+    ensures written { IfOk result (λ s. string_bytes s ≡ written_file (flat bibliography.entries)) }
+    ensures fault { IfErr result (λ f. IsFirstUnsettled path.now text.now
+        (flat bibliography.entries) (message_of f)
+        ⊎ (message_of f ≡ no_memory (codes "bib_show"))) }
+{
+    let mut flattened = bibliography;
+    flattened.flatten();
+    match first_unsettled(flattened.entries()) {
+        Some((index, entry)) => Err(unsettled(alloc, path, text, index, entry)?),
+        None => Ok(flattened.to_biblatex_string(alloc)?),
+    }
+}
+
+/// The fault for the entry of the text at the index, which does not read back.
+fn unsettled<'w>(
+    alloc: Global,
+    path: &str,
+    text: &str,
+    index: usize,
+    entry: &Entry,
+) -> Result<RunFault<'w>, AllocError>
+    ensures { IfOk result (λ f. (message_of f
+        ≡ unsettled_lines path.now text.now index (source_view entry.now))
+        ⊎ (message_of f ≡ no_memory (codes "bib_show"))) }
+{
+    let at = key_start(alloc, text, index)?;
+    let why = unsettled_reason(alloc, entry)?;
+    Ok(refused(alloc, path, text.as_bytes(), at, why.as_str()))
 }
 
 /// The fault for a text that is refused with this error at a position.

@@ -47,7 +47,7 @@ fn is_all(text: &str, part: Part) -> bool
 }
 
 /// Whether the key is one that an entry in braces can have; it may be empty.
-fn is_settled_key(key: &str) -> bool
+pub fn is_settled_key(key: &str) -> bool
     ensures { result ≡ is_settled_key (chars key.now) }
 {
     is_all(key, Part::Key)
@@ -171,7 +171,7 @@ fn is_unknown(name: &str) -> bool
 }
 
 /// Whether the type is what its own name is read as, as the kind of an entry.
-fn is_settled_type(entry_type: &EntryType) -> bool
+pub fn is_settled_type(entry_type: &EntryType) -> bool
     ensures { result ≡ is_settled_type (type_name entry_type.now) }
 {
     let name = entry_type.name();
@@ -180,7 +180,7 @@ fn is_settled_type(entry_type: &EntryType) -> bool
 
 /// Whether the field reads back: it names no entries, its name is an identifier without capitals, and its content reads
 /// back.
-fn is_settled_field(name: &str, value: &Chunks) -> bool
+pub fn is_settled_field(name: &str, value: &Chunks) -> bool
     ensures { result ≡ is_settled_field (name.now, field_value_view value.now.items) }
 {
     !names_entries(name)

@@ -66,9 +66,10 @@ fn take_step(session: &mut Session, step: &Value<'_>, bibliography: &mut Bibliog
         "set" => set(session, step, bibliography),
         "set_at" => set_at(session, step, bibliography),
         "set_each" => set_each(session, step, bibliography),
+        "flatten" => flatten(session, step, bibliography),
         _ => session.want(
             "step",
-            "push, insert, remove, alias, get, set, set_at or set_each",
+            "push, insert, remove, alias, get, set, set_at, set_each or flatten",
         ),
     }
 }
@@ -164,9 +165,19 @@ fn set_each(session: &mut Session, step: &Value<'_>, bibliography: &mut Bibliogr
     session.null();
 }
 
+/// Takes `crossref` out of each entry.
+fn flatten(session: &mut Session, step: &Value<'_>, bibliography: &mut Bibliography) {
+    session.only(step, &["step"]);
+    bibliography.flatten();
+    session.null();
+}
+
 /// Shows what a case asks for; the entries where it asks for nothing.
 fn show(session: &mut Session, case: &Value<'_>, bibliography: &Bibliography) {
-    session.only_shown(case, &["entries", "keys", "references"]);
+    session.only_shown(
+        case,
+        &["entries", "keys", "references", "settled", "written"],
+    );
     if session.is_shown(case, "entries", true) {
         let has_spans = session.is_set(case, "places");
         put_entries(session, bibliography, has_spans);
@@ -176,6 +187,20 @@ fn show(session: &mut Session, case: &Value<'_>, bibliography: &Bibliography) {
     }
     if session.is_shown(case, "references", false) {
         put_references(session, bibliography);
+    }
+    show_written(session, case, bibliography);
+}
+
+/// Shows what a case asks for of the bibliography as a file.
+fn show_written(session: &mut Session, case: &Value<'_>, bibliography: &Bibliography) {
+    if session.is_shown(case, "settled", false) {
+        session.put_bool("settled", bibliography.is_settled());
+    }
+    if session.is_shown(case, "written", false) {
+        let written = bibliography.to_biblatex_string(session.alloc);
+        if let Some(text) = session.allocated(written) {
+            session.put_text("written", text.as_str());
+        }
     }
 }
 

@@ -1,0 +1,67 @@
+-- What keeps entries from reading back as they are written, and the message for it.
+use Rattle.std.specs.Prelude.{◌≡◌, ℕ, ◌+◌, true, not, List, [], ◌∷◌, ◌++◌, Option, Some, None, Result, Ok, Err, slice_get, unwrap_or, codes, if◌then◌else◌}
+use Rattle.std.specs.Str.{chars, is_utf8}
+use Rattle.biblatex.specs.Raw.{At, Entry, Raw}
+use Rattle.biblatex.specs.Items.{raw_of}
+use Rattle.biblatex.specs.Fault.{Fault}
+use Rattle.biblatex.specs.Fields.{Named}
+use Rattle.biblatex.specs.Entries.{Source}
+use Rattle.biblatex.specs.Bibliographies.{Listed}
+use Rattle.biblatex.specs.Resolved.{TextMeans}
+use Rattle.biblatex_writing.specs.FieldNames.{written_name}
+use Rattle.biblatex_writing.specs.Flat.{flat}
+use Rattle.biblatex_writing.specs.Settled.{is_settled_entry, is_settled_field, is_settled_key, is_settled_type}
+use Rattle.biblatex_writing.specs.Written.{is_less}
+use Rattle.bib_show.specs.Refusals.{refusal_lines}
+
+-- the first entry that does not read back, and its index, where those before it are so many
+abbrev pub first_unsettled : ℕ → List Source → Option (ℕ × Source)
+first_unsettled n [] = None
+first_unsettled n (e ∷ es) = if is_settled_entry e then first_unsettled (n + 1) es else Some (n, e)
+
+-- of the name of a field that was found, if one was, and another name, the one that is written first
+abbrev pub written_first : Option (List ℕ) → List ℕ → List ℕ
+written_first None name = name
+written_first (Some found) name = if is_less (written_name name) (written_name found) then name else found
+
+-- the name of the field that is written first among those that do not read back and one that was found
+abbrev pub unsettled_field : Option (List ℕ) → List Named → Option (List ℕ)
+unsettled_field found [] = found
+unsettled_field found (f ∷ fs) = unsettled_field (if is_settled_field f then found else Some (written_first found f.0)) fs
+
+abbrev pub reason : List ℕ → List ℕ → List ℕ
+reason part name = codes "unsettled " ++ (part ++ (codes " " ++ name))
+
+-- Why an entry does not read back: its type does not; or else its key; or else a field, of which the one is named that is written first. There is
+-- such a field where the entry does not read back and its type and its key do.
+abbrev pub unsettled_reason : Source → List ℕ
+unsettled_reason e = if not (is_settled_type e.entry_type) then reason (codes "type") e.entry_type.name
+    else (if not (is_settled_key (chars e.key)) then reason (codes "key") e.key
+    else reason (codes "field") (unwrap_or (unsettled_field None e.fields) []))
+
+-- the byte of a text at which the key of its entry at an index begins; 0 where there is none
+abbrev pub key_start_of : Option (At Entry) → ℕ
+key_start_of None = 0
+key_start_of (Some e) = e.v.key.start
+
+abbrev pub key_start : ℕ → Result Raw (Fault × ℕ) → ℕ
+key_start index (Ok raw) = key_start_of (slice_get raw.entries index)
+key_start index (Err f) = 0
+
+-- an entry that does not read back, at its key
+abbrev pub unsettled_lines : List ℕ → List ℕ → ℕ → Source → List ℕ
+unsettled_lines path source index e = refusal_lines path source (key_start index (raw_of (chars source))) (unsettled_reason e)
+
+-- the message for entries of a text, at the first of them that does not read back
+pub record IsFirstUnsettled (path source : List ℕ) (es : List Source) (message : List ℕ) : Type 0 where
+  pub index : ℕ
+  pub entry : Source
+  pub first : first_unsettled 0 es ≡ Some (index, entry)
+  pub lines : message ≡ unsettled_lines path source index entry
+
+-- a text that means entries which, once they are without references, do not read back
+pub record IsUnsettled (path source message : List ℕ) : Type 0 where
+  pub resolved : Listed
+  pub is_text : is_utf8 source ≡ true
+  pub means : TextMeans (chars source) (Ok resolved)
+  pub unsettled : IsFirstUnsettled path source (flat resolved.entries) message
