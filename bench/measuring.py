@@ -62,9 +62,14 @@ def rate_between(small, large):
     return (large["instructions"] - small["instructions"]) / (large["bytes"] - small["bytes"])
 
 
+def exponent(small, large, small_size, large_size):
+    """The exponent by which instructions grow from one size to another."""
+    return math.log(large / small) / math.log(large_size / small_size)
+
+
 def growth_between(small, large):
     """The exponent by which the instructions grow with the bytes from one row to another."""
-    return math.log(large["instructions"] / small["instructions"]) / math.log(large["bytes"] / small["bytes"])
+    return exponent(small["instructions"], large["instructions"], small["bytes"], large["bytes"])
 
 
 class Table:

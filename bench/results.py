@@ -70,6 +70,16 @@ TABLES = {
     "reader": ("The reader", """`bib_show` on the file of mixed entries."""),
 }
 
+WRITER = """## Written files
+
+    bench/writer.py
+
+What the methods of `Bibliography` cost that take `crossref` out of its entries, say whether they are settled, and write them as a file: on the same
+mixed entries, for each entry or byte by which 10,000 of them have more than 1,000. `is_settled` looks at the bytes of keys, types, names and
+contents. Then all that each costs on texts of which one part grows. Of entries where some key does not mean its own entry, as where two have it,
+`is_settled` compares all pairs of keys.
+"""
+
 DEEP = """## Deep and doubled texts
 
 `bib_show` with a stack of 8 MB on texts that nest deeply, or whose abbreviations and references go on and on (`bench/deep.py` says what
@@ -287,6 +297,35 @@ def deep_table(found):
     return "\n".join([DEEP, "| text | bytes | status | seconds | memory |", "|---|---|---|---|---|", *rows, "", measured(found), ""])
 
 
+def writer_table(found):
+    """The part of the page about written files."""
+    parts = {"flatten": "each entry", "is_settled": "each byte that is looked at", "to_biblatex_string": "each byte that is written"}
+    rates = [f"| `{call}`, for {part} | {number(found['rates'][call])} | {number(found['wanted'][call])} |" for call, part in parts.items()]
+    rows, growth = [], []
+    for name, run in found["runs"].items():
+        for row in run["rows"]:
+            rows.append(f"| {name} | {number(row['N'])} | {number(row['written'])} | {' | '.join(number(row[call]) for call in parts)} |")
+        growth.append(f"| {name} | {' | '.join(str(run['exponents'].get(call, '')) for call in parts)} |")
+    calls = " | ".join(f"`{call}`" for call in parts)
+    return "\n".join([
+        WRITER,
+        "| | instructions | wanted at most |",
+        "|---|---|---|",
+        *rates,
+        "",
+        f"| text | N | bytes written | {calls} |",
+        "|---|---|---|---|---|---|",
+        *rows,
+        "",
+        f"| text | growth exponent of {calls} |",
+        "|---|---|---|---|",
+        *growth,
+        "",
+        measured(found),
+        "",
+    ])
+
+
 def rendering_table(found):
     """The part of the page about cites and items."""
     costs = [f"| one {name} | {number(cost)} | {number(found['wanted'][name])} |" for name, cost in found["costs"].items()]
@@ -327,6 +366,7 @@ def write_pages():
     found = read()
     parts = [HEAD] + [part(found[name]) for name, part in PARTS.items() if name in found]
     parts += [size_table(name, found[name]) for name in TABLES if name in found]
+    parts += [writer_table(found["writer"])] if "writer" in found else []
     parts += [deep_table(found["deep"])] if "deep" in found else []
     parts += [rendering_table(found["rendering"])] if "rendering" in found else []
     with open(os.path.join(TOP, "docs", "PERFORMANCE.md"), "w", encoding="utf-8") as file:
