@@ -1,0 +1,4 @@
+pub mod Words
+pub mod Names
+pub mod People
+pub mod Laws
