@@ -1,2 +1,4 @@
 pub mod Accepted
+pub mod Flattenings
 pub mod HiddenEntries
+pub mod WrittenApart

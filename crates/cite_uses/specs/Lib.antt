@@ -1,3 +1,4 @@
 pub mod Titles
 pub mod Tasks
 pub mod Hidden
+pub mod Flattened

@@ -1,14 +1,16 @@
-//! Four short callers of the libraries, to start one's own from: a BibLaTeX file and a document to a text; a sink of one's own; the
-//! bibliography of entries without a document; and a style of one's own with a macro. Each contract says exactly what the caller gets, by
-//! the definitions that the contracts of the libraries are written in.
+//! Five short callers of the libraries, to start one's own from: a BibLaTeX file and a document to a text; a sink of one's own; the
+//! bibliography of entries without a document; a style of one's own with a macro; and a BibLaTeX file to one without references. Each contract
+//! says exactly what the caller gets, by the definitions that the contracts of the libraries are written in.
 #![tactic(auto)]
 
 mod entries;
+mod flat;
 mod page;
 mod style;
 mod text;
 
 pub use entries::bibliography_of;
+pub use flat::flattened_file;
 pub use page::cited_on_page;
 pub use style::titles;
 pub use text::cited_by_numbers;
