@@ -2,3 +2,4 @@ pub mod Titles
 pub mod Tasks
 pub mod Hidden
 pub mod Flattened
+pub mod Alike
