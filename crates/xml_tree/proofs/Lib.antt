@@ -1,0 +1,16 @@
+pub mod Folded
+pub mod Elements
+pub mod Stacks
+pub mod Texts
+pub mod Started
+pub mod NamesMet
+pub mod Attributes
+pub mod Bound
+pub mod Lines
+pub mod Read
+pub mod TokenSteps
+pub mod Completing
+pub mod Depths
+pub mod Spelled
+pub mod SpelledAgain
+pub mod Outcome

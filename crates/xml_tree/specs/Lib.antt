@@ -1,0 +1,9 @@
+pub mod Trees
+pub mod Folding
+pub mod Values
+pub mod Scope
+pub mod Names
+pub mod Met
+pub mod Building
+pub mod Grammar
+pub mod Views
