@@ -76,8 +76,8 @@ WRITER = """## Written files
 
 What the methods of `Bibliography` cost that take `crossref` out of its entries, say whether they are settled, and write them as a file: on the same
 mixed entries, for each entry or byte by which 10,000 of them have more than 1,000. `is_settled` looks at the bytes of keys, types, names and
-contents. Then all that each costs on texts of which one part grows. Of entries where some key does not mean its own entry, as where two have it,
-`is_settled` compares all pairs of keys.
+contents. Then all that each costs on texts of which one part grows, where a call has more to do as it grows. Of entries where some key does not
+mean its own entry, as where two have it, `is_settled` compares all pairs of keys.
 """
 
 DEEP = """## Deep and doubled texts
@@ -304,7 +304,8 @@ def writer_table(found):
     rows, growth = [], []
     for name, run in found["runs"].items():
         for row in run["rows"]:
-            rows.append(f"| {name} | {number(row['N'])} | {number(row['written'])} | {' | '.join(number(row[call]) for call in parts)} |")
+            costs = [number(row[call]) if call in run["exponents"] else "" for call in parts]
+            rows.append(f"| {name} | {number(row['N'])} | {number(row['written'])} | {' | '.join(costs)} |")
         growth.append(f"| {name} | {' | '.join(str(run['exponents'].get(call, '')) for call in parts)} |")
     calls = " | ".join(f"`{call}`" for call in parts)
     return "\n".join([
