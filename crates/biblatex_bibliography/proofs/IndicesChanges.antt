@@ -7,7 +7,7 @@ use Rattle.std.specs.List.{insert, AllByRecursion}
 use Rattle.std.specs.List.Sorted.{IsStrictlySortedBy}
 use Rattle.std.proofs.lemmas.Slice.Eq.{bytes_eq-Decides}
 use Rattle.biblatex_bibliography.specs.declared.indices.NamedIndex.{NamedIndex}
-use Rattle.biblatex_bibliography.specs.Indices.{name_of, names_in, meaning_in, bound, index_without, without_index, named_down, AreInOrder}
+use Rattle.biblatex_bibliography.specs.Indices.{name_of, named_index, names_in, meaning_in, bound, index_without, without_index, named_down, AreInOrder}
 use Rattle.biblatex_bibliography.proofs.IndicesOrder.{compared}
 use Rattle.biblatex_bibliography.proofs.IndicesPlaces.{greater_absent}
 
@@ -45,15 +45,18 @@ rebound ns name index place n lt is before same = fun_ext (λ q. at ns place lt 
         (at ns place (omega (arith, lt)) is (λ k d low. before (suc k) d (omega (arith, low))) q)
 
 -- a name that stands nowhere is put in at a place
-pub put_in : (ns : List NamedIndex) (n : NamedIndex) (place : ℕ) → ((k : ℕ) (d : NamedIndex) → k < place → bytes_eq (name_of n) (name_of (get_or ns k d)) ≡ false)
-    → meaning_in (names_in (insert ns place n)) ≡ bound (name_of n ∷ []) n.index (meaning_in (names_in ns))
-put_in ns n place before = fun_ext (λ q. at ns place before q)
+pub put_in : (ns : List NamedIndex) (n : NamedIndex) (name : List ℕ) (index place : ℕ) → named_index n ≡ (name, index) → ((k : ℕ) (d : NamedIndex) → k < place → bytes_eq name (name_of (get_or ns k d)) ≡ false)
+    → meaning_in (names_in (insert ns place n)) ≡ bound (name ∷ []) index (meaning_in (names_in ns))
+put_in ns n name index place named before = fun_ext (λ q. at ns place before q)
   where
-    at : (ns : List NamedIndex) (place : ℕ) → ((k : ℕ) (d : NamedIndex) → k < place → bytes_eq (name_of n) (name_of (get_or ns k d)) ≡ false) → (q : List ℕ) → meaning_in (names_in (insert ns place n)) q ≡ bound (name_of n ∷ []) n.index (meaning_in (names_in ns)) q
-    at ns zero before q = flat (bytes_eq q (name_of n)) n.index (meaning_in (names_in ns) q)
-    at [] (suc place) before q = flat (bytes_eq q (name_of n)) n.index None
+    first : (ns : List NamedIndex) (q : List ℕ) → cond (bytes_eq q (name_of n)) (Some n.index) (meaning_in (names_in ns) q) ≡ bound (name ∷ []) index (meaning_in (names_in ns)) q
+    first ns q = (λ i. cond (bytes_eq q (named i).0) (Some (named i).1) (meaning_in (names_in ns) q)) ∙ flat (bytes_eq q name) index (meaning_in (names_in ns) q)
+
+    at : (ns : List NamedIndex) (place : ℕ) → ((k : ℕ) (d : NamedIndex) → k < place → bytes_eq name (name_of (get_or ns k d)) ≡ false) → (q : List ℕ) → meaning_in (names_in (insert ns place n)) q ≡ bound (name ∷ []) index (meaning_in (names_in ns)) q
+    at ns zero before q = first ns q
+    at [] (suc place) before q = first [] q
     at (m ∷ ns) (suc place) before q =
-        past (bytes_eq q (name_of m)) (bytes_eq q (name_of n)) m.index n.index _ (meaning_in (names_in ns) q) (differs_there q (name_of n) (name_of m) (before 0 m (omega arith)))
+        past (bytes_eq q (name_of m)) (bytes_eq q name) m.index index _ (meaning_in (names_in ns) q) (differs_there q name (name_of m) (before 0 m (omega arith)))
         (at ns place (λ k d low. before (suc k) d (omega (arith, low))) q)
 
 -- names in order stay so where one means another index

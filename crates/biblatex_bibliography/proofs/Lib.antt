@@ -1,3 +1,4 @@
+pub mod Fronts
 pub mod IndicesOrder
 pub mod IndicesPlaces
 pub mod IndicesChanges

@@ -99,10 +99,10 @@ pub joined : (xs ys zs : Names) → (xs ++ ys) ++ zs ≡ xs ++ (ys ++ zs)
 joined [] ys zs = refl
 joined (x ∷ xs) ys zs = ap (λ (ns : Names). x ∷ ns) (joined xs ys zs)
 
-pub name_last : (ns : List NamedIndex) (old : Names) (ys : List (String Global)) (y : String Global) (index : ℕ) → names_in ns ≡ old ++ numbered (map string_bytes ys) index
-    → names_in (ns ++ record { name = y; index = index } ∷ []) ≡ old ++ numbered (map string_bytes (ys ++ y ∷ [])) index
-name_last ns old ys y index is =
-    map_push named_index ns (record { name = y; index = index })
-    ∙ (ap (λ (xs : Names). xs ++ (string_bytes y, index) ∷ []) is
+pub name_last : (ns : List NamedIndex) (n : NamedIndex) (old : Names) (ys : List (String Global)) (y : String Global) (index : ℕ) → named_index n ≡ (string_bytes y, index) → names_in ns ≡ old ++ numbered (map string_bytes ys) index
+    → names_in (ns ++ n ∷ []) ≡ old ++ numbered (map string_bytes (ys ++ y ∷ [])) index
+name_last ns n old ys y index named is =
+    map_push named_index ns n
+    ∙ ((λ i. is i ++ named i ∷ [])
     ∙ (joined old (numbered (map string_bytes ys) index) ((string_bytes y, index) ∷ [])
     ∙ ap (λ (xs : Names). old ++ xs) (sym (numbered_last ys y index))))

@@ -38,7 +38,7 @@ AreWithin meaning count = (name : List ℕ) → IfSome (meaning name) (λ index.
 
 -- the names in memory
 abbrev pub name_of : NamedIndex → List ℕ
-name_of n = string_bytes n.name
+name_of n = string_bytes n.name.text
 
 abbrev pub named_index : NamedIndex → List ℕ × ℕ
 named_index n = (name_of n, n.index)

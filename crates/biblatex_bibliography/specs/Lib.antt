@@ -1,3 +1,4 @@
+pub mod Fronts
 pub mod Indices
 pub mod Bibliographies
 pub mod Naming

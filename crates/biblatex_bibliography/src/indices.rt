@@ -1,15 +1,39 @@
 //! The indices of entries by their names.
 
 ghost use Rattle.std.specs.Prelude.{◌≡◌, ◌<◌, ◌≤◌, ◌+◌, ◌-◌, ◌∷◌, ◌++◌, [], map, length, filter_map, option_to_list, slice_get, string_bytes, vec_len, vec_capacity, nat_lt, if◌then◌else◌, IfOk, IsOk, OnOk, OnErr};
-ghost use Rattle.biblatex_bibliography.specs.Indices.{meaning_in, names_in, named_down, bound, without_index, has_name, is_less, AreSorted, AreInOrder, IsPlace};
+ghost use Rattle.biblatex_bibliography.specs.Indices.{meaning_in, names_in, named_down, named_index, bound, without_index, has_name, is_less, AreSorted, AreInOrder, IsPlace};
 
+use crate::name::{Name, Sought};
 use std::alloc::{AllocError, Global};
 
 /// A name, and the index of the entry that it means.
 #[derive(Drop)]
 pub(crate) struct NamedIndex {
-    pub(crate) name: String,
+    pub(crate) name: Name,
     pub(crate) index: usize,
+}
+
+impl NamedIndex {
+    /// A name of the entry at an index.
+    pub(crate) fn new(name: String, index: usize) -> NamedIndex
+        ensures { named_index result ≡ (string_bytes name, index) }
+    {
+        let name = Name::new(name);
+        NamedIndex { name, index }
+    }
+}
+
+/// How many names are less than one that is looked up, by their bytes.
+fn place_of_sought(names: &[NamedIndex], sought: &Sought<'_>) -> usize
+    requires { AreSorted names.now }
+    ensures bound { result ≤ length names.now }
+    ensures place { IsPlace names.now sought.now.text.now result }
+{
+    names.partition_point(
+        |named: &NamedIndex| -> bool
+            ensures { result ≡ is_less sought.entry.now.text.now named.now }
+        { named.name.order(sought).is_lt() },
+    )
 }
 
 /// How many names are less than this one, by their bytes.
@@ -18,11 +42,7 @@ fn place_of(names: &[NamedIndex], name: &str) -> usize
     ensures bound { result ≤ length names.now }
     ensures place { IsPlace names.now name.now result }
 {
-    names.partition_point(
-        |named: &NamedIndex| -> bool
-            ensures { result ≡ is_less name.entry.now named.now }
-        { named.name.as_str().cmp(name).is_lt() },
-    )
+    place_of_sought(names, &Sought::new(name))
 }
 
 /// Whether the name stands at the place.
@@ -76,7 +96,7 @@ pub(crate) fn bind(
         names[place].index = index;
         return Ok(());
     }
-    names.insert(place, NamedIndex { name, index })?;
+    names.insert(place, NamedIndex::new(name, index))?;
     Ok(())
 }
 

@@ -6,6 +6,7 @@ mod indexed;
 mod indices;
 mod iterators;
 mod keys;
+mod name;
 mod naming;
 mod parsing;
 mod reading;

@@ -24,7 +24,7 @@ fn append_names(
         ≡ names_in names.old.items ++ numbered (map string_bytes more.items) index) }
 {
     for name in more {
-        names.push(NamedIndex { name, index })?;
+        names.push(NamedIndex::new(name, index))?;
     }
     Ok(())
 }
@@ -51,7 +51,7 @@ pub(crate) fn sorted_names(alloc: Global, entries: &[Entry]) -> Result<Vec<Named
     names.sort_by(
         |a: &NamedIndex, b: &NamedIndex| -> Ordering
             ensures { result ≡ slice_cmp nat_cmp (name_of a.now) (name_of b.now) }
-        { a.name.as_str().cmp(b.name.as_str()) },
+        { a.name.order(&b.name.as_sought()) },
     )?;
     Ok(names)
 }
@@ -63,7 +63,7 @@ fn is_in_order(names: &[NamedIndex]) -> bool
     for place in 1..names.len() {
         let before = &names[place - 1];
         let named = &names[place];
-        if before.name.as_str().cmp(named.name.as_str()).is_ge() {
+        if before.name.order(&named.name.as_sought()).is_ge() {
             return false;
         }
     }
@@ -139,7 +139,7 @@ pub(crate) fn last_of_each(
     }
     let mut last = Vec::with_capacity(alloc, names.len())?;
     for named in names {
-        bind(&mut last, named.name, named.index)?;
+        bind(&mut last, named.name.into_text(), named.index)?;
     }
     Ok(last)
 }

@@ -2,7 +2,7 @@ use Rattle.std.proofs.Common.{◌≡◌, List, ℕ, true, false, length, slice_g
 use Rattle.std.proofs.lemmas.Slice.Eq.{bytes_eq-Decides}
 use Rattle.biblatex_bibliography.specs.declared.indices.NamedIndex.{NamedIndex}
 use Rattle.biblatex_bibliography.specs.Indices.{name_of, names_in, meaning_in, has_name, AreSorted, AreInOrder, IsPlace}
-use Rattle.biblatex_bibliography.proofs.IndicesOrder.{in_order_sorted, is_Less}
+use Rattle.biblatex_bibliography.proofs.IndicesOrder.{compared, in_order_sorted, is_Less}
 use Rattle.biblatex_bibliography.proofs.IndicesPlaces.{there, at_place, before_apart, after_place}
 use Rattle.biblatex_bibliography.proofs.IndicesChanges.{rebound, put_in, order_rebound, order_put_in}
 use Rattle.biblatex_bibliography.proofs.indices.bind.Goals as goal
@@ -37,20 +37,22 @@ returns-clause-ok c =
     let ns = c.args.names.now.items in
     let name = string_bytes c.args.name in
     let place = c.place_of-place.result in
-    let n : NamedIndex = record { name = c.args.name; index = c.args.index } in
+    let n = c.new.result in
     let sliced = subst (λ (xs : List NamedIndex). IsPlace xs c.as_str.result.now place) c.as_slice.ensures.value c.place_of-place.ensures.place in
     let is = subst (λ (x : List ℕ). IsPlace ns x place) c.as_str.ensures.value sliced in
-    ap (λ (xs : List NamedIndex). meaning_in (names_in xs)) c.in_ok-insert.ensures.items ∙ put_in ns n place (before_apart ns name place is)
+    ap (λ (xs : List NamedIndex). meaning_in (names_in xs)) c.in_ok-insert.ensures.items ∙ put_in ns n name c.args.index place c.new.ensures (before_apart ns name place is)
 
 pub returns-clause-order : goal.returns-clause-order
 returns-clause-order c =
     let ns = c.args.names.now.items in
     let name = string_bytes c.args.name in
     let place = c.place_of-place.result in
-    let n : NamedIndex = record { name = c.args.name; index = c.args.index } in
+    let n = c.new.result in
+    let named : name_of n ≡ name = ap (λ (m : List ℕ × ℕ). m.0) c.new.ensures in
     let sliced = subst (λ (xs : List NamedIndex). IsPlace xs c.as_str.result.now place) c.as_slice.ensures.value c.place_of-place.ensures.place in
     let is = subst (λ (x : List ℕ). IsPlace ns x place) c.as_str.ensures.value sliced in
     let asked : c.stands_at.result ≡ has_name name (slice_get ns place) = c.stands_at.ensures ∙ (λ i. has_name (c.as_str-2.ensures.value i) (slice_get (c.as_slice-2.ensures.value i) place)) in
     let differs : has_name name (slice_get ns place) ≡ false = sym asked ∙ c.if-stands_at.false in
     subst AreInOrder (sym c.in_ok-insert.ensures.items)
-    (order_put_in ns n place c.requires (λ k d low within. is_Less (name_of (get_or ns k d)) name (is.0 k d (omega arith) low)) (after_place ns name place (in_order_sorted ns c.requires) is differs))
+    (order_put_in ns n place c.requires (λ k d low within. ap (compared (name_of (get_or ns k d))) named ∙ is_Less (name_of (get_or ns k d)) name (is.0 k d (omega arith) low))
+    (λ k d up within. ap (λ (x : List ℕ). compared x (name_of (get_or ns k d))) named ∙ after_place ns name place (in_order_sorted ns c.requires) is differs k d up within))

@@ -9,4 +9,4 @@ loop-name-init c = sym (append-nil (names_in c.args.names.now.items))
 
 pub loop-name-preserved : goal.loop-name-preserved
 loop-name-preserved c =
-    ap (λ (ns : List NamedIndex). names_in ns) c.in_ok-push.ensures.items ∙ name_last c.loop-name.names.items (names_in c.args.names.now.items) c.loop-name.yielded c.in-Some.name c.args.index c.loop-name.invariant
+    ap (λ (ns : List NamedIndex). names_in ns) c.in_ok-push.ensures.items ∙ name_last c.loop-name.names.items c.new.result (names_in c.args.names.now.items) c.loop-name.yielded c.in-Some.name c.args.index c.new.ensures c.loop-name.invariant

@@ -1,7 +1,7 @@
-use Rattle.std.proofs.Common.{List, [], ◌∷◌, None, string_bytes, sym, ap, subst, ◌∙◌}
+use Rattle.std.proofs.Common.{List, [], ◌∷◌, None, sym, ap, subst, ◌∙◌}
 use Rattle.std.proofs.lemmas.List.{map_push}
 use Rattle.biblatex_bibliography.specs.declared.indices.NamedIndex.{NamedIndex}
-use Rattle.biblatex_bibliography.specs.Indices.{Names, named_index, names_in, meaning_in, bound, AreInOrder}
+use Rattle.biblatex_bibliography.specs.Indices.{Names, name_of, named_index, names_in, meaning_in, bound, AreInOrder}
 use Rattle.biblatex_bibliography.specs.Naming.{bound_each}
 use Rattle.biblatex_bibliography.proofs.NamingEqual.{bound_alone, bound_more}
 use Rattle.biblatex_bibliography.proofs.NamingOrder.{order_nothing}
@@ -19,7 +19,8 @@ pub loop-named-preserved : goal.loop-named-preserved
 loop-named-preserved c =
     let n = c.in-Some.named in (
       c.bind.ensures.order,
-      c.in_ok-bind.ensures.ok ∙ (ap (bound (string_bytes n.name ∷ []) n.index) c.loop-named.invariant.1
+      c.in_ok-bind.ensures.ok ∙ ((λ i. bound (c.into_text.ensures i ∷ []) n.index (meaning_in (names_in c.loop-named.last.items)))
+          ∙ (ap (bound (name_of n ∷ []) n.index) c.loop-named.invariant.1
           ∙ (sym (bound_more (names_in c.loop-named.yielded) (named_index n) (λ name. None))
-          ∙ ap (λ (ns : Names). bound_each ns (λ name. None)) (sym (map_push named_index c.loop-named.yielded n)))),
+          ∙ ap (λ (ns : Names). bound_each ns (λ name. None)) (sym (map_push named_index c.loop-named.yielded n))))),
     )
