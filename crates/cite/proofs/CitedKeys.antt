@@ -1,5 +1,5 @@
 -- Keys that are put in a set one after the other.
-use Rattle.std.proofs.Common.{◌≡◌, ◌||◌, ℕ, Bool, true, false, List, [], ◌∷◌, ◌++◌, cond, refl, sym, ap, ◌∙◌, append_assoc, append-nil}
+use Rattle.std.proofs.Common.{◌≡◌, ◌||◌, ℕ, Bool, true, false, List, [], ◌∷◌, ◌++◌, cond, refl, sym, ap, ◌∙◌}
 use Rattle.std.specs.Borrow.{Bor}
 use Rattle.std.specs.BTreeSet.{BTreeSet, contains_by}
 use Rattle.std.specs.Cmp.Lexicographic.{slice_cmp}
@@ -11,8 +11,7 @@ use Rattle.std.proofs.lemmas.Bool.Decides.{Decides-like, same_from_decides}
 use Rattle.std.proofs.lemmas.List.Folds.{list_any-append}
 use Rattle.std.proofs.lemmas.Map.Text.{is_eq-slice_cmp}
 use Rattle.std.proofs.lemmas.Slice.Eq.{bytes_eq-Decides}
-use Rattle.biblatex.specs.Entries.{Source}
-use Rattle.cite.specs.Cited.{entries_with, is_among}
+use Rattle.cite.specs.Cited.{is_among}
 use Rattle.cite.specs.Views.{has}
 
 pub or_false : (b : Bool) → (b || false) ≡ b
@@ -24,7 +23,7 @@ pub among_more : (before : Bool) (keys others : List (List ℕ)) (k : List ℕ) 
 among_more true keys others k = refl
 among_more false keys others k = sym (list_any-append (bytes_eq k) keys others)
 
-turned : (a b : List ℕ) → bytes_eq a b ≡ bytes_eq b a
+pub turned : (a b : List ℕ) → bytes_eq a b ≡ bytes_eq b a
 turned a b = same_from_decides (bytes_eq a b) (bytes_eq b a) (bytes_eq-Decides a b) (Decides-like (bytes_eq b a) sym sym (bytes_eq-Decides b a))
 
 either : (before same : Bool) → cond same true before ≡ (before || (same || false))
@@ -40,19 +39,3 @@ among_one before key k = either before (bytes_eq key k) ∙ ap (λ (b : Bool). b
 -- a set that is sorted by the order of texts has those that it finds by it
 pub has_found : (texts : BTreeSet (Bor (List ℕ))) (t : Bor (List ℕ)) → has texts t ≡ contains_by (λ (x : Bor (List ℕ)). slice_cmp nat_cmp t.now x.now) texts
 has_found texts t = ap (λ test. list_any test texts.keys) (fun_ext (λ (x : Bor (List ℕ)). sym (is_eq-slice_cmp t.now x.now)))
-
--- entries with the keys, one entry and then the others
-one_then : (b : Bool) (before rest : List Source) (e : Source) → (before ++ cond b (e ∷ []) []) ++ rest ≡ before ++ cond b (e ∷ rest) rest
-one_then true before rest e = append_assoc before (e ∷ []) rest
-one_then false before rest e = ap (λ (es : List Source). es ++ rest) (append-nil before)
-
-pub entries_more : (keys : List (List ℕ)) (before : List Source) (e : Source) (rest : List Source)
-    → (before ++ entries_with keys (e ∷ [])) ++ entries_with keys rest ≡ before ++ entries_with keys (e ∷ rest)
-entries_more keys before e rest = one_then (is_among keys e.key) before (entries_with keys rest) e
-
--- an entry by whether it has one of the keys
-pub with_known : (keys : List (List ℕ)) (e : Source) → is_among keys e.key ≡ true → e ∷ [] ≡ entries_with keys (e ∷ [])
-with_known keys e is = ap (λ (b : Bool). cond b (e ∷ []) []) (sym is)
-
-pub without_known : (keys : List (List ℕ)) (e : Source) → is_among keys e.key ≡ false → [] ≡ entries_with keys (e ∷ [])
-without_known keys e is = ap (λ (b : Bool). cond b (e ∷ []) []) (sym is)

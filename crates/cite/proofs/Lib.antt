@@ -9,6 +9,8 @@ pub mod DocumentAsked
 pub mod EntriesIndices
 pub mod Finishing
 pub mod KeyLists
+pub mod KeysDistinct
+pub mod MarkedEntries
 pub mod MarkersPlain
 pub mod NamesAreKeys
 pub mod OneLine

@@ -1,5 +1,5 @@
 -- The works that a call needs: where it has sections, which may choose any, all works of the file, and else those that the document cites.
-use Rattle.std.specs.Prelude.{ℕ, Bool, List, [], filter, option_to_list, if◌then◌else◌}
+use Rattle.std.specs.Prelude.{ℕ, Bool, true, false, List, [], ◌∷◌, filter, option_to_list, slice_set, Option, Some, None, if◌then◌else◌}
 use Rattle.std.specs.List.{flat_map, list_any}
 use Rattle.std.specs.Option.{option_map}
 use Rattle.std.specs.Str.{bytes_eq}
@@ -43,6 +43,32 @@ is_among keys key = list_any (bytes_eq key) keys
 -- the entries with these keys
 abbrev pub entries_with : List (List ℕ) → List Source → List Source
 entries_with keys es = filter (λ e. is_among keys e.key) es
+
+-- marks, with one for the entry at an index, if there is one
+abbrev pub marked_at : Option ℕ → List Bool → List Bool
+marked_at None marks = marks
+marked_at (Some index) marks = slice_set marks index true
+
+-- marks, with those of the entries that cites name
+abbrev pub marked_cites : Listed → List Bool → List Cite → List Bool
+marked_cites file marks [] = marks
+marked_cites file marks (c ∷ cs) = marked_cites file (marked_at (file.index (text c.name)) marks) cs
+
+abbrev pub marked_in : Listed → List Bool → Piece → List Bool
+marked_in file marks (Text t) = marks
+marked_in file marks (Marker cites) = marked_cites file marks cites
+
+-- marks, with those of the entries that pieces cite
+abbrev pub marked_pieces : Listed → List Bool → List Piece → List Bool
+marked_pieces file marks [] = marks
+marked_pieces file marks (p ∷ ps) = marked_pieces file (marked_in file marks p) ps
+
+-- the entries that have a mark, of which there is one for each
+abbrev pub marked_entries : List Bool → List Source → List Source
+marked_entries [] es = []
+marked_entries (m ∷ ms) [] = []
+marked_entries (true ∷ ms) (e ∷ es) = e ∷ marked_entries ms es
+marked_entries (false ∷ ms) (e ∷ es) = marked_entries ms es
 
 -- the entries that are needed
 abbrev pub entries_needed : Listed → List (List ℕ) → List Piece → List Source

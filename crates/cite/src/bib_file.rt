@@ -1,9 +1,10 @@
 //! The works of a bib text, and what names mean.
 
-ghost use Rattle.std.specs.Prelude.{◌≡◌, []};
+ghost use Rattle.std.specs.Prelude.{◌≡◌, [], true};
 ghost use Rattle.std.specs.Option.{option_map};
 ghost use Rattle.biblatex.specs.Bibliographies.{listed_view};
 ghost use Rattle.biblatex.specs.Entries.{source_view};
+ghost use Rattle.biblatex_writing.specs.Settled.{have_distinct_keys};
 ghost use Rattle.literature_entries.specs.EntriesData.{entry_view};
 ghost use Rattle.interop.specs.Library.{all_faults, library_of};
 ghost use Rattle.interop.specs.Views.{lent_sources_view, library_view};
@@ -12,8 +13,8 @@ ghost use Rattle.cite.specs.Stages.{IsRead, fields_refused, refused_as};
 ghost use Rattle.cite.specs.Answers.{Answers, Gives};
 
 use crate::bytes::utf8_text;
-use crate::cited::{cited_keys, entries_with};
 use crate::error::{BibTextError, CiteError};
+use crate::marks::{cited_marks, marked_entries};
 use biblatex::{Bibliography, Entry as SourceEntry, ParseError};
 use cite_markers::Document;
 use interop::{check_dates, from_biblatex, from_entries, is_xdata};
@@ -21,18 +22,21 @@ use literature::Library;
 use literature_entries::Entry;
 use std::alloc::Global;
 
-/// The entries of a bib text, all of whose dates can be read. A library is made only of those that are needed.
+/// The entries of a bib text, whose keys are distinct and all of whose dates can be read. A library is made only of those that are
+/// needed.
 #[derive(Drop)]
 pub(crate) struct BibFile {
     file: Bibliography,
     ghost readable: { all_faults (listed_view file).entries ≡ [] },
+    ghost distinct: { have_distinct_keys (listed_view file).entries ≡ true },
 }
 
 impl BibFile {
-    ghost use Rattle.std.specs.Prelude.{◌≡◌, map, Ok};
+    ghost use Rattle.std.specs.Prelude.{◌≡◌, true, map, Ok};
     ghost use Rattle.std.specs.Option.{option_map};
     ghost use Rattle.laws.specs.Text.{spelled};
     ghost use Rattle.biblatex.specs.Bibliographies.{listed_view};
+    ghost use Rattle.biblatex_writing.specs.Settled.{have_distinct_keys};
     ghost use Rattle.literature_entries.specs.EntriesData.{entry_view};
     ghost use Rattle.interop.specs.Views.{library_view};
     ghost use Rattle.cite_markers.specs.Views.{document_view};
@@ -53,6 +57,7 @@ impl BibFile {
     /// The works of a file, or all fields of it that cannot be read.
     #[tactic(auto, using(interop::proofs::LibraryFaults::none))]
     fn checked(alloc: Global, file: Bibliography) -> Result<BibFile, CiteError>
+        requires { have_distinct_keys (listed_view file).entries ≡ true }
         ensures { Gives file_works result (library_stage (listed_view file)) }
     {
         check_dates(alloc, &file)?;
@@ -81,8 +86,8 @@ impl BibFile {
             (entries_with (keys_cited (listed_view self.now.file) (document_view document.now))
             (listed_view self.now.file).entries))) }
     {
-        let keys = cited_keys(alloc, &self.file, document)?;
-        let cited = entries_with(alloc, self.file.entries(), &keys)?;
+        let marks = cited_marks(alloc, &self.file, document)?;
+        let cited = marked_entries(alloc, self.file.entries(), marks.as_slice())?;
         library_of(alloc, &cited)
     }
 

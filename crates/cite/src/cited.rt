@@ -1,17 +1,15 @@
-//! The entries of a file that a document cites.
+//! The keys of the entries that a document cites.
 
-ghost use Rattle.std.specs.Prelude.{◌≡◌, ◌||◌, ◌++◌, ◌∷◌, [], if◌then◌else◌, true, ℕ, List, map, IfOk, OnOk};
+ghost use Rattle.std.specs.Prelude.{◌≡◌, ◌||◌, if◌then◌else◌, true, ℕ, List, map, IfOk, OnOk};
 ghost use Rattle.std.specs.Str.{bytes_eq, chars};
 ghost use Rattle.laws.specs.Text.{text};
 ghost use Rattle.std.specs.Borrow.{Bor};
 ghost use Rattle.biblatex.specs.Bibliographies.{listed_view};
-ghost use Rattle.biblatex.specs.Entries.{source_view, sources_view};
 ghost use Rattle.cite_markers.specs.Views.{cite_view, piece_view, document_view};
-ghost use Rattle.cite.specs.Cited.{entries_with, is_among, key_meant, keys_cited, keys_in, keys_named};
+ghost use Rattle.cite.specs.Cited.{is_among, key_meant, keys_cited, keys_in, keys_named};
 ghost use Rattle.cite.specs.Views.{has};
-ghost use Rattle.interop.specs.Views.{lent_sources_view};
 
-use biblatex::{Bibliography, Entry as SourceEntry};
+use biblatex::Bibliography;
 use cite_markers::{Cite, Document, Piece};
 use std::alloc::{AllocError, Global};
 use std::collections::BTreeSet;
@@ -88,36 +86,4 @@ fn insert_key<'f>(key: &'f str, keys: &mut BTreeSet<&'f str>) -> Result<(), Allo
 {
     keys.insert(key)?;
     Ok(())
-}
-
-/// The entries that have one of these keys, in their order.
-pub(crate) fn entries_with<'f>(
-    alloc: Global,
-    entries: &'f [SourceEntry],
-    keys: &BTreeSet<&'f str>,
-) -> Result<Vec<&'f SourceEntry>, AllocError>
-    ensures { (known : List (List ℕ)) → ((k : Bor (List ℕ)) → has keys.now k ≡ is_among known k.now)
-        → IfOk result (λ v. lent_sources_view v.items
-        ≡ entries_with known (sources_view entries.now)) }
-{
-    let mut found = Vec::new(alloc);
-    for entry in entries {
-        push_known(keys, entry, &mut found)?;
-    }
-    Ok(found)
-}
-
-fn push_known<'f>(
-    keys: &BTreeSet<&'f str>,
-    entry: &'f SourceEntry,
-    found: &mut Vec<&'f SourceEntry>,
-) -> Result<(), AllocError>
-    ensures { (known : List (List ℕ)) → ((k : Bor (List ℕ)) → has keys.now k ≡ is_among known k.now)
-        → OnOk result (lent_sources_view found.new.items
-        ≡ lent_sources_view found.old.items ++ entries_with known (source_view entry.now ∷ [])) }
-{
-    if !keys.contains(entry.key.as_str()) {
-        return Ok(());
-    }
-    Ok(found.push(entry)?)
 }

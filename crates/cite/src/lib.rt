@@ -7,6 +7,7 @@ mod bytes;
 mod cited;
 mod engine;
 mod error;
+mod marks;
 mod one_line;
 mod output;
 mod output_laws;
