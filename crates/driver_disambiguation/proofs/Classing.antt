@@ -1,11 +1,11 @@
 -- Classes by what the code has of cites.
 use Rattle.std.specs.Global.{Global}
-use Rattle.std.proofs.Common.{◌≡◌, ℕ, Bool, true, false, cond, not, ◌||◌, List, [], ◌∷◌, ◌++◌, map, suc, length, Some, Vec, String, string_bytes, bytes_eq, refl, sym, ap, ◌∙◌, arith}
+use Rattle.std.proofs.Common.{◌≡◌, ℕ, Bool, true, false, cond, not, ◌||◌, List, [], ◌∷◌, ◌++◌, map, suc, length, Some, Vec, string_bytes, bytes_eq, refl, sym, ap, ◌∙◌, arith}
 use Rattle.std.proofs.Math.Path.{fun_ext}
 use Rattle.std.proofs.lemmas.Grind.{common_steps}
 use Rattle.std.specs.Prelude.{filter, nat_eq, nat_lt, unwrap_or}
 use Rattle.std.specs.Borrow.{Bor}
-use Rattle.std.specs.BTreeMap.{BTreeMap, get_by_text}
+use Rattle.std.specs.BTreeMap.{BTreeMap}
 use Rattle.std.specs.List.{flat_map, list_any, zip}
 use Rattle.std.specs.Cmp.Lexicographic.{bytes_decides}
 use Rattle.std.proofs.lemmas.Bool.{eqb-true, eq-eqb}
@@ -23,7 +23,8 @@ use Rattle.driver_names.specs.Prints as prints
 use Rattle.driver_disambiguation.specs.Classes as classes
 use Rattle.driver_disambiguation.specs.Classes.{is_mixed, parts}
 use Rattle.driver_disambiguation.specs.Grouping.{allowing, if_mixed, is_alike, of_number, seconds, under}
-use Rattle.driver_disambiguation.specs.Numbered.{AreInjective, AreNumbered, number_of}
+use Rattle.driver_disambiguation.specs.Numbered.{AreInjective, AreNumbered, number_of, number_under}
+use Rattle.driver_disambiguation.specs.declared.hashed_text.HashedText.{HashedText}
 use Rattle.driver_names.specs.Views.{class_view, printed_view}
 use Rattle.driver_names.specs.declared.printed.Printed.{Printed}
 use Rattle.driver_disambiguation.proofs.Groups.{seconds_parts}
@@ -42,13 +43,13 @@ same_test false true to from = from refl
 same_test false false to from = refl
 
 -- cites have one number where they print one text
-numbered_alike : (texts : BTreeMap (String Global) ℕ) → AreInjective texts → (p q : ℕ × Printed) → number_of texts p.1 ≡ Some p.0 → number_of texts q.1 ≡ Some q.0
+numbered_alike : (texts : BTreeMap HashedText ℕ) → AreInjective texts → (p q : ℕ × Printed) → number_of texts p.1 ≡ Some p.0 → number_of texts q.1 ≡ Some q.0
     → is_alike p q ≡ classes.is_alike (printed_view p.1) (printed_view q.1)
 numbered_alike texts apart p q first second =
     let one = string_bytes p.1.text in
     let other = string_bytes q.1.text in
     same_test (nat_eq p.0 q.0) (bytes_eq one other) (λ e. apart one other q.0 (first ∙ ap (λ n. Some n) (eqb-true p.0 q.0 e)) second)
-    (λ e. eq-eqb p.0 q.0 (ap (λ o. unwrap_or o 0) (sym first ∙ ap (get_by_text texts) ((bytes_decides one other).0 e) ∙ second)))
+    (λ e. eq-eqb p.0 q.0 (ap (λ o. unwrap_or o 0) (sym first ∙ ap (number_under texts) ((bytes_decides one other).0 e) ∙ second)))
     ∙ alike p.1 q.1
 
 one_mixed : (b : Bool) (ss : List (Bor Printed)) (rest : List (List (Bor Printed))) (all : List (List prints.Printed)) → map class_view rest ≡ all
@@ -70,7 +71,7 @@ group_view : (xs : List (ℕ × Printed)) (n : ℕ) (group : List (Bor Printed))
 group_view xs n group is = sym (map-map printed_view (λ s. s.now) group) ∙ ap (map printed_view) is ∙ map-map printed_view (λ p. p.1) (filter (λ p. nat_eq n p.0) xs)
 
 -- the classes that the code makes
-pub classes_are : (texts : BTreeMap (String Global) ℕ) (numbers : List ℕ) (cites : List Printed) (groups : List (Vec (Bor Printed) Global)) (shared : List ℕ) (cs : List (Vec (Bor Printed) Global))
+pub classes_are : (texts : BTreeMap HashedText ℕ) (numbers : List ℕ) (cites : List Printed) (groups : List (Vec (Bor Printed) Global)) (shared : List ℕ) (cs : List (Vec (Bor Printed) Global))
     → AreNumbered texts numbers cites → ((n : ℕ) → map (λ s. s.now) (under groups n) ≡ of_number n (allowing (zip numbers cites))) → shared ≡ seconds (allowing (zip numbers cites))
     → map (λ c. c.items) cs ≡ flat_map if_mixed (map (under groups) shared) → map (λ c. class_view c.items) cs ≡ classes.classes (map printed_view cites)
 classes_are texts numbers cites groups shared cs numbered members seconds_are are_mixed =

@@ -1,27 +1,36 @@
 -- Numbers of texts, one after the other.
-use Rattle.std.specs.Global.{Global}
-use Rattle.std.proofs.Common.{◌≡◌, ℕ, ◌+◌, ◌<◌, Bool, true, false, cond, List, [], ◌∷◌, ◌++◌, map, take, drop, length, get_or, set, Option, Some, None, All, String, string_bytes, bytes_eq, refl, sym, ap, ◌∙◌, arith}
-use Rattle.std.specs.BTreeMap.{BTreeMap, UpdatesBy, get_by_text, btree_map_len, is_at}
-use Rattle.std.specs.String.{string_cmp}
+use Rattle.std.proofs.Common.{◌≡◌, ℕ, ◌+◌, ◌<◌, Bool, true, false, cond, List, [], ◌∷◌, ◌++◌, map, take, drop, length, get_or, set, Option, Some, None, Ordering, Less, Equal, Greater, nat_cmp, is_eq, All, string_bytes, bytes_eq, true≢false, refl, sym, ap, ◌∙◌, arith}
+use Rattle.std.proofs.Math.Path.{fun_ext}
+use Rattle.std.specs.BTreeMap.{BTreeMap, get, insert_entry, btree_map_len}
+use Rattle.std.specs.Cmp.Lexicographic.{slice_cmp}
 use Rattle.std.specs.Option.{is_some}
-use Rattle.std.proofs.lemmas.Map.Text.{btree_map_updates_text, text_cmp}
+use Rattle.std.specs.Ordering.{MatchOrdering, ordering_then, match_ordering}
+use Rattle.std.proofs.lemmas.Bool.Decides.{same_from_decides}
+use Rattle.std.proofs.lemmas.Cmp.{ranked}
+use Rattle.std.proofs.lemmas.Map.Text.{is_eq-slice_cmp}
 use Rattle.std.specs.List.{zip}
 use Rattle.std.specs.Map.{lookup}
 use Rattle.std.specs.Cmp.Lexicographic.{bytes_decides}
 use Rattle.std.proofs.lemmas.List.{get_or-map, length-map, map-append, map-set, take_more}
 use Rattle.std.proofs.lemmas.List.Elements.{All-cons, All-nil}
-use Rattle.driver_disambiguation.specs.Numbered.{AreNumbered, AreNumbers, AreStill, number_of}
+use Rattle.driver_disambiguation.specs.Hashes.{hash_of}
+use Rattle.driver_disambiguation.specs.Numbered.{AreNumbered, AreNumbers, AreStill, number_of, number_under}
+use Rattle.driver_disambiguation.specs.declared.hashed_text.HashedText.{HashedText}
 use Rattle.driver_names.specs.declared.printed.Printed.{Printed}
+
+-- whether a text has these bytes
+abbrev has_text : List ℕ → HashedText → Bool
+has_text q k = bytes_eq q (string_bytes k.text)
 
 -- nothing is something
 never : (o : Option ℕ) (n : ℕ) → o ≡ None → o ≡ Some n → ⊥
 never o n is_none is = cc
 
 -- where there are no texts none has a number
-pub no_texts : (texts : BTreeMap (String Global) ℕ) → texts.entries ≡ [] → AreNumbers texts
+pub no_texts : (texts : BTreeMap HashedText ℕ) → texts.entries ≡ [] → AreNumbers texts
 no_texts texts empty =
-    let none : (q : List ℕ) → get_by_text texts q ≡ None = λ q. ap (lookup (is_at (text_cmp q))) empty in
-    (λ q r n e f. absurd (never (get_by_text texts q) n (none q) e), λ q n e. absurd (never (get_by_text texts q) n (none q) e))
+    let none : (q : List ℕ) → number_under texts q ≡ None = λ q. ap (lookup (has_text q)) empty in
+    (λ q r n e f. absurd (never (number_under texts q) n (none q) e), λ q n e. absurd (never (number_under texts q) n (none q) e))
 
 apart_by : (b c : Bool) (q r text : List ℕ) (x y : Option ℕ) (number n : ℕ) → (b ≡ true → text ≡ q) → (c ≡ true → text ≡ r) → (x ≡ Some n → n < number) → (y ≡ Some n → n < number)
     → (x ≡ Some n → y ≡ Some n → bytes_eq q r ≡ true) → cond b (Some number) x ≡ Some n → cond c (Some number) y ≡ Some n → bytes_eq q r ≡ true
@@ -46,27 +55,27 @@ still_by : (b : Bool) (x : Option ℕ) (number n : ℕ) → (b ≡ true → x �
 still_by true x number n none e = absurd (never x n (none refl) e)
 still_by false x number n none e = e
 
-module _ (old new : BTreeMap (String Global) ℕ) (text : List ℕ) (number : ℕ) where
+module _ (old new : BTreeMap HashedText ℕ) (text : List ℕ) (number : ℕ) where
   -- a text that is new has the next number
-  pub next_number : number ≡ btree_map_len old → btree_map_len new ≡ number + 1 → ((q : List ℕ) → get_by_text new q ≡ cond (bytes_eq text q) (Some number) (get_by_text old q)) → AreNumbers old
+  pub next_number : number ≡ btree_map_len old → btree_map_len new ≡ number + 1 → ((q : List ℕ) → number_under new q ≡ cond (bytes_eq text q) (Some number) (number_under old q)) → AreNumbers old
       → AreNumbers new
   next_number is more after numbers =
-      let below : (q : List ℕ) (n : ℕ) → get_by_text old q ≡ Some n → n < number = λ q n e. let less = numbers.1 q n e in omega (arith, is, less) in (
-        λ q r n e f. apart_by (bytes_eq text q) (bytes_eq text r) q r text (get_by_text old q) (get_by_text old r) number n (bytes_decides text q).0 (bytes_decides text r).0 (below q n) (below r n)
+      let below : (q : List ℕ) (n : ℕ) → number_under old q ≡ Some n → n < number = λ q n e. let less = numbers.1 q n e in omega (arith, is, less) in (
+        λ q r n e f. apart_by (bytes_eq text q) (bytes_eq text r) q r text (number_under old q) (number_under old r) number n (bytes_decides text q).0 (bytes_decides text r).0 (below q n) (below r n)
             (numbers.0 q r n) (sym (after q) ∙ e) (sym (after r) ∙ f),
-        λ q n e. below_by (bytes_eq text q) (get_by_text old q) number n (btree_map_len new) more (below q n) (sym (after q) ∙ e),
+        λ q n e. below_by (bytes_eq text q) (number_under old q) number n (btree_map_len new) more (below q n) (sym (after q) ∙ e),
       )
 
   -- the others have the numbers that they had
-  pub still_number : get_by_text old text ≡ None → ((q : List ℕ) → get_by_text new q ≡ cond (bytes_eq text q) (Some number) (get_by_text old q)) → AreStill old new
-  still_number absent after = λ q n e. after q ∙ still_by (bytes_eq text q) (get_by_text old q) number n (λ h. ap (get_by_text old) (sym ((bytes_decides text q).0 h)) ∙ absent) e
+  pub still_number : number_under old text ≡ None → ((q : List ℕ) → number_under new q ≡ cond (bytes_eq text q) (Some number) (number_under old q)) → AreStill old new
+  still_number absent after = λ q n e. after q ∙ still_by (bytes_eq text q) (number_under old q) number n (λ h. ap (number_under old) (sym ((bytes_decides text q).0 h)) ∙ absent) e
 
-  pub own_number : ((q : List ℕ) → get_by_text new q ≡ cond (bytes_eq text q) (Some number) (get_by_text old q)) → get_by_text new text ≡ Some number
-  own_number after = after text ∙ ap (λ b. cond b (Some number) (get_by_text old text)) ((bytes_decides text text).1 refl)
+  pub own_number : ((q : List ℕ) → number_under new q ≡ cond (bytes_eq text q) (Some number) (number_under old q)) → number_under new text ≡ Some number
+  own_number after = after text ∙ ap (λ b. cond b (Some number) (number_under old text)) ((bytes_decides text text).1 refl)
 
-module _ (old new : BTreeMap (String Global) ℕ) where
-  same_look : new.entries ≡ old.entries → (q : List ℕ) → get_by_text new q ≡ get_by_text old q
-  same_look e = λ q. ap (lookup (is_at (text_cmp q))) e
+module _ (old new : BTreeMap HashedText ℕ) where
+  same_look : new.entries ≡ old.entries → (q : List ℕ) → number_under new q ≡ number_under old q
+  same_look e = λ q. ap (lookup (has_text q)) e
 
   -- where a call refused to put a text all are as they were
   pub same_numbers : new.entries ≡ old.entries → AreNumbers old → AreNumbers new
@@ -78,17 +87,81 @@ module _ (old new : BTreeMap (String Global) ℕ) where
   pub same_still : new.entries ≡ old.entries → AreStill old new
   same_still e = λ q n f. same_look e q ∙ f
 
+turned : (xs ys : List ℕ) → bytes_eq xs ys ≡ bytes_eq ys xs
+turned xs ys = same_from_decides (bytes_eq xs ys) (bytes_eq ys xs) (bytes_decides xs ys) ((λ e. sym ((bytes_decides ys xs).0 e)), (λ e. (bytes_decides ys xs).1 (sym e)))
+
+differ : (k l : HashedText) → (k.hash ≡ l.hash → ⊥) → (b : Bool) → bytes_eq (string_bytes k.text) (string_bytes l.text) ≡ b → false ≡ b
+differ k l apart true is = absurd (apart (k.hashed ∙ (ap hash_of ((bytes_decides (string_bytes k.text) (string_bytes l.text)).0 is) ∙ sym l.hashed)))
+differ k l apart false is = refl
+
+by_hash : (k l : HashedText) (o : Ordering) → MatchOrdering o (k.hash < l.hash) (k.hash ≡ l.hash) (l.hash < k.hash)
+    → is_eq (ordering_then o (slice_cmp nat_cmp (string_bytes k.text) (string_bytes l.text))) ≡ bytes_eq (string_bytes k.text) (string_bytes l.text)
+by_hash k l Less ranks =
+    let low : k.hash < l.hash = ranks in
+    differ k l (λ same. omega (arith, same, low)) (bytes_eq (string_bytes k.text) (string_bytes l.text)) refl
+by_hash k l Equal ranks = is_eq-slice_cmp (string_bytes k.text) (string_bytes l.text)
+by_hash k l Greater ranks =
+    let high : l.hash < k.hash = ranks in
+    differ k l (λ same. omega (arith, same, high)) (bytes_eq (string_bytes k.text) (string_bytes l.text)) refl
+
+-- how texts are ordered: by their hashes, and by their bytes where these are equal
+abbrev pub order_of : HashedText → HashedText → Ordering
+order_of k l = ordering_then (nat_cmp k.hash l.hash) (slice_cmp nat_cmp (string_bytes k.text) (string_bytes l.text))
+
+-- texts that are equal by this order have the same bytes
+pub equal_texts : (k l : HashedText) → is_eq (order_of k l) ≡ has_text (string_bytes k.text) l
+equal_texts k l = by_hash k l (nat_cmp k.hash l.hash) (ranked k.hash l.hash (nat_cmp k.hash l.hash) refl)
+
+-- what is looked up by the order is the number under the bytes
+pub looked_up : (texts : BTreeMap HashedText ℕ) (k : HashedText) → get order_of texts k ≡ number_under texts (string_bytes k.text)
+looked_up texts k = ap (λ test. lookup test texts.entries) (fun_ext (λ l. equal_texts k l))
+
+swapped : (b c : Bool) (x y : ℕ) (o : Option ℕ) → (b ≡ true → c ≡ true → ⊥) → cond b (Some x) (cond c (Some y) o) ≡ cond c (Some y) (cond b (Some x) o)
+swapped true true x y o never_both = absurd (never_both refl refl)
+swapped true false x y o never_both = refl
+swapped false c x y o never_both = refl
+
+covered : (b : Bool) (x y : ℕ) (o : Option ℕ) → cond b (Some x) o ≡ cond b (Some x) (cond b (Some y) o)
+covered true x y o = refl
+covered false x y o = refl
+
+same_text : (q : List ℕ) (k l : HashedText) → has_text (string_bytes k.text) l ≡ true → has_text q l ≡ has_text q k
+same_text q k l is = ap (bytes_eq q) (sym ((bytes_decides (string_bytes k.text) (string_bytes l.text)).0 is))
+
+-- a text that is not equal to another by the order has other bytes
+other_text : (q : List ℕ) (k l : HashedText) → is_eq (order_of k l) ≡ false → has_text q l ≡ true → has_text q k ≡ true → ⊥
+other_text q k l apart one two =
+    true≢false (sym ((bytes_decides (string_bytes k.text) (string_bytes l.text)).1 (sym ((bytes_decides q (string_bytes k.text)).0 two) ∙ (bytes_decides q (string_bytes l.text)).0 one)) ∙ (sym (equal_texts k l) ∙ apart))
+
+put_entry : (key : HashedText) (number : ℕ) (es : List (HashedText × ℕ)) (q : List ℕ) → lookup (has_text q) (insert_entry order_of es key number) ≡ cond (has_text q key) (Some number) (lookup (has_text q) es)
+put_entry key number [] q = refl
+put_entry key number (e ∷ es) q = by_order (order_of key e.0) refl (put_entry key number es q)
+  where
+    by_order : (o : Ordering) → order_of key e.0 ≡ o → lookup (has_text q) (insert_entry order_of es key number) ≡ cond (has_text q key) (Some number) (lookup (has_text q) es)
+        → lookup (has_text q) (match_ordering o ((key, number) ∷ e ∷ es) ((e.0, number) ∷ es) (e ∷ insert_entry order_of es key number)) ≡ cond (has_text q key) (Some number) (cond (has_text q e.0) (Some e.1) (lookup (has_text q) es))
+    by_order Less is more = refl
+    by_order Equal is more =
+        let same : has_text q e.0 ≡ has_text q key = same_text q key e.0 (sym (equal_texts key e.0) ∙ ap is_eq is) in
+        ap (λ (b : Bool). cond b (Some number) (lookup (has_text q) es)) same
+        ∙ (covered (has_text q key) number e.1 (lookup (has_text q) es)
+        ∙ ap (λ (b : Bool). cond (has_text q key) (Some number) (cond b (Some e.1) (lookup (has_text q) es))) (sym same))
+    by_order Greater is more =
+        ap (λ (o : Option ℕ). cond (has_text q e.0) (Some e.1) o) more
+        ∙ swapped (has_text q e.0) (has_text q key) e.1 number (lookup (has_text q) es) (other_text q key e.0 (ap is_eq is))
+
 -- what a map has after a text was put, by its bytes
-pub put_text : (old new : BTreeMap (String Global) ℕ) (key : String Global) (text : List ℕ) (number : ℕ) → string_bytes key ≡ text
-    → UpdatesBy string_cmp (string_cmp key) old new (Some number) → (q : List ℕ) → get_by_text new q ≡ cond (bytes_eq text q) (Some number) (get_by_text old q)
-put_text old new key text number is updates =
-    λ q. btree_map_updates_text (string_bytes key) old new (Some number) updates q ∙ ap (λ t. cond (bytes_eq t q) (Some number) (get_by_text old q)) is
+pub put_text : (old new : BTreeMap HashedText ℕ) (key : HashedText) (text : List ℕ) (number : ℕ) → string_bytes key.text ≡ text
+    → new.entries ≡ insert_entry order_of old.entries key number → (q : List ℕ) → number_under new q ≡ cond (bytes_eq text q) (Some number) (number_under old q)
+put_text old new key text number is entries = λ q.
+    ap (lookup (has_text q)) entries
+    ∙ (put_entry key number old.entries q
+    ∙ ap (λ (b : Bool). cond b (Some number) (number_under old q)) (ap (bytes_eq q) is ∙ turned q text))
 
 -- how many texts there are after one was put
-pub put_len : (old new : BTreeMap (String Global) ℕ) (key : String Global) (text : List ℕ) (number : ℕ) (before : Option ℕ) → string_bytes key ≡ text → number ≡ btree_map_len old
-    → get_by_text old text ≡ None → before ≡ get_by_text old (string_bytes key) → btree_map_len new ≡ btree_map_len old + cond (is_some before) 0 1 → btree_map_len new ≡ number + 1
+pub put_len : (old new : BTreeMap HashedText ℕ) (key : HashedText) (text : List ℕ) (number : ℕ) (before : Option ℕ) → string_bytes key.text ≡ text → number ≡ btree_map_len old
+    → number_under old text ≡ None → before ≡ get order_of old key → btree_map_len new ≡ btree_map_len old + cond (is_some before) 0 1 → btree_map_len new ≡ number + 1
 put_len old new key text number before is len absent found more =
-    more ∙ ap (λ o. btree_map_len old + cond (is_some o) 0 1) (found ∙ ap (get_by_text old) is ∙ absent) ∙ ap (λ n. n + 1) (sym len)
+    more ∙ ap (λ o. btree_map_len old + cond (is_some o) 0 1) (found ∙ looked_up old key ∙ ap (number_under old) is ∙ absent) ∙ ap (λ n. n + 1) (sym len)
 
 module _ {X : Type 0} (f : X → Option ℕ) where
   -- what has numbers has as many
@@ -132,13 +205,13 @@ module _ {X : Type 0} (f g : X → Option ℕ) (still : (x : X) (n : ℕ) → f 
       map-set g xs i x ∙ (λ j. set (numbers_still xs ns before j) i (has j)) ∙ sym (map-set (λ n. Some n) ns i n)
 
 -- numbers that a cite is printed by another text change as the cites do
-pub renumbered : (old new : BTreeMap (String Global) ℕ) (ns : List ℕ) (ss : List Printed) (i n : ℕ) (s : Printed) → AreNumbered old ns ss → AreNumbers new → AreStill old new
-    → get_by_text new (string_bytes s.text) ≡ Some n → AreNumbered new (set ns i n) (set ss i s)
+pub renumbered : (old new : BTreeMap HashedText ℕ) (ns : List ℕ) (ss : List Printed) (i n : ℕ) (s : Printed) → AreNumbered old ns ss → AreNumbers new → AreStill old new
+    → number_under new (string_bytes s.text) ≡ Some n → AreNumbered new (set ns i n) (set ss i s)
 renumbered old new ns ss i n s before numbers still has =
     (numbers, numbers_set (number_of old) (number_of new) (λ t m e. still (string_bytes t.text) m e) ss ns i s n before.1 has)
 
 -- they stay where the others have the numbers that they had
-pub still_numbered : (old new : BTreeMap (String Global) ℕ) (ns : List ℕ) (ss : List Printed) → AreNumbered old ns ss → AreNumbers new → AreStill old new → AreNumbered new ns ss
+pub still_numbered : (old new : BTreeMap HashedText ℕ) (ns : List ℕ) (ss : List Printed) → AreNumbered old ns ss → AreNumbers new → AreStill old new → AreNumbered new ns ss
 still_numbered old new ns ss before numbers still = (numbers, numbers_still (number_of old) (number_of new) (λ t m e. still (string_bytes t.text) m e) ss ns before.1)
 
 -- cites, viewed, of which one at an index prints another text

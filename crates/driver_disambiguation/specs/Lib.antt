@@ -1,3 +1,4 @@
+pub mod Hashes
 pub mod States
 pub mod Classes
 pub mod Rounds

@@ -8,6 +8,7 @@ ghost use Rattle.driver_disambiguation.specs.Grouping.{allowing, if_mixed, of_nu
 ghost use Rattle.driver_disambiguation.specs.Numbered.{AreNumbered};
 ghost use Rattle.driver_names.specs.Views.{printed_view, class_view};
 
+use crate::hashed_text::HashedText;
 use driver_names::Printed;
 use std::alloc::{AllocError, Global};
 use std::collections::BTreeMap;
@@ -25,7 +26,7 @@ struct Groups<'a> {
 /// Cites of one entry alone are no class.
 pub(crate) fn classes<'a>(
     alloc: Global,
-    texts: &BTreeMap<String, usize>,
+    texts: &BTreeMap<HashedText, usize>,
     numbers: &[usize],
     cites: &'a [Printed],
 ) -> Result<Vec<Vec<&'a Printed>>, AllocError>

@@ -5,6 +5,7 @@
 mod branches;
 mod classes;
 mod given_suffixes;
+mod hashed_text;
 mod numbers;
 mod printed_cites;
 mod round;

@@ -1,9 +1,9 @@
 //! Numbers of texts.
 
 ghost use Rattle.std.specs.Prelude.{◌≡◌, Some, map, IfOk};
-ghost use Rattle.std.specs.BTreeMap.{get_by_text};
-ghost use Rattle.driver_disambiguation.specs.Numbered.{AreNumbers, AreStill, number_of};
+ghost use Rattle.driver_disambiguation.specs.Numbered.{AreNumbers, AreStill, number_of, number_under};
 
+use crate::hashed_text::HashedText;
 use driver_names::Printed;
 use std::alloc::{AllocError, Global};
 use std::collections::BTreeMap;
@@ -11,7 +11,7 @@ use std::collections::BTreeMap;
 /// The numbers of the texts that cites print.
 pub(crate) fn numbers_of(
     alloc: Global,
-    texts: &mut BTreeMap<String, usize>,
+    texts: &mut BTreeMap<HashedText, usize>,
     cites: &[Printed],
 ) -> Result<Vec<usize>, AllocError>
     requires { AreNumbers texts.old }
@@ -29,18 +29,19 @@ pub(crate) fn numbers_of(
 /// The number of a text. A new text gets the next one.
 pub(crate) fn number_of(
     alloc: Global,
-    texts: &mut BTreeMap<String, usize>,
+    texts: &mut BTreeMap<HashedText, usize>,
     text: &str,
 ) -> Result<usize, AllocError>
     requires { AreNumbers texts.old }
     ensures texts { AreNumbers texts.new }
     ensures still { AreStill texts.old texts.new }
-    ensures number { IfOk result (λ n. get_by_text texts.new text.now ≡ Some n) }
+    ensures number { IfOk result (λ n. number_under texts.new text.now ≡ Some n) }
 {
-    if let Some(number) = texts.get(text) {
+    let text = HashedText::new(String::from_str(alloc, text)?);
+    if let Some(number) = texts.get(&text) {
         return Ok(*number);
     }
     let number = texts.len();
-    texts.insert(String::from_str(alloc, text)?, number)?;
+    texts.insert(text, number)?;
     Ok(number)
 }

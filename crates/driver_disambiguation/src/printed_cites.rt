@@ -3,6 +3,7 @@
 ghost use Rattle.driver_disambiguation.specs.Numbered.{AreNumbered};
 
 use crate::classes::classes;
+use crate::hashed_text::HashedText;
 use crate::numbers::{number_of, numbers_of};
 use crate::round::{given_to_classes, some_prints_date};
 use driver_names::{GivenState, Printed, plain_text};
@@ -20,7 +21,7 @@ pub struct PrintedCites {
     /// Of each cite the number of its class.
     numbers: Vec<usize>,
     /// The numbers of the classes of all texts.
-    texts: BTreeMap<String, usize>,
+    texts: BTreeMap<HashedText, usize>,
     ghost numbered: { AreNumbered texts numbers.items cites.items },
 }
 

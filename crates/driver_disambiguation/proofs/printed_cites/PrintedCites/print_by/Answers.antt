@@ -1,9 +1,9 @@
 use Rattle.std.proofs.Common.{◌≡◌, ◌<◌, Some, get_or, length, string_bytes, sym, ap, ◌∙◌, arith}
-use Rattle.std.specs.BTreeMap.{get_by_text}
 use Rattle.std.proofs.lemmas.List.{length-map}
 use Rattle.rendering_context.specs.Views.{state_view}
 use Rattle.rendering_tree.specs.Views.{tree_view}
 use Rattle.driver_names.specs.Views.{printed_again, printed_view}
+use Rattle.driver_disambiguation.specs.Numbered.{number_under}
 use Rattle.driver_disambiguation.proofs.Numbering.{renumbered, view_set, still_numbered}
 use Rattle.driver_disambiguation.proofs.printed_cites.PrintedCites.print_by.Goals as goal
 
@@ -19,8 +19,8 @@ pub invariant_of-self-2 : goal.invariant_of-self-2
 invariant_of-self-2 c =
     let old = c.args.self.now in
     let new = c.number_of.new.texts in
-    let has : get_by_text new (string_bytes c.set_print.new.self.text) ≡ Some c.in_ok-number.number =
-    ap (λ t. get_by_text new (string_bytes t)) c.set_print.ensures.text ∙ ap (get_by_text new) (sym c.as_str.ensures.value) ∙ c.in_ok-number.ensures.number in
+    let has : number_under new (string_bytes c.set_print.new.self.text) ≡ Some c.in_ok-number.number =
+    ap (λ t. number_under new (string_bytes t)) c.set_print.ensures.text ∙ ap (number_under new) (sym c.as_str.ensures.value) ∙ c.in_ok-number.ensures.number in
     record { numbered = renumbered old.texts new old.numbers.items old.cites.items c.args.cite c.in_ok-number.number c.set_print.new.self old.numbered c.in_ok-number.ensures.texts c.in_ok-number.ensures.still has }
 
 pub returns : goal.returns
