@@ -18,8 +18,8 @@ IsSeason m = (21 ≤ m) × (m ≤ 24)
 abbrev pub IsShort : ℕ → Type 0
 IsShort m = (m ≡ 4) ⊎ ((m ≡ 6) ⊎ ((m ≡ 9) ⊎ (m ≡ 11)))
 
--- Each month of a year has the days 1 to 28; February of a leap year alone has a day 29; the others have 29 and 30, and all but the
--- four short ones 31.
+-- Each month has the days 1 to 28. February has a day 29 in a leap year. Every other month has 29 and 30, and those that are not short
+-- have 31.
 abbrev pub HasDay : ℕ → ℕ → ℕ → Type 0
 HasDay y m d = (1 ≤ d)
     × ((d ≤ 28) ⊎ (((d ≡ 29) × (m ≡ 2) × IsLeap y) ⊎ (((d ≤ 30) × (m ≡ 2 → ⊥)) ⊎ ((d ≡ 31) × (m ≡ 2 → ⊥) × (IsShort m → ⊥)))))

@@ -23,7 +23,7 @@ abbrev pub MonthIsGood : Option ℕ → Type 0
 MonthIsGood None = Unit {0}
 MonthIsGood (Some m) = IsMonth m ⊎ IsSeason m
 
--- A day, where there is one, is one that the month has; after a season it says nothing.
+-- A day, where there is one, is one that the month has; after a season day and time say nothing, but sign and mark count.
 abbrev pub DayIsGood : ℕ → Option ℕ → Option ℕ → Type 0
 DayIsGood y (Some m) (Some d) = IsSeason m ⊎ HasDay y m d
 DayIsGood y (Some m) None = Unit {0}

@@ -24,7 +24,7 @@ pub record Written : Type 0 where
   pub uncertain : Bool
   pub approximate : Bool
 
--- Digits, then what follows them.
+-- Digits, then what follows them, which may begin with a digit too.
 abbrev pub AreDigits : Spells (List ℕ)
 AreDigits cs t rest = (cs ≡ t ++ rest) × AllPassTest is_ascii_digit t
 
@@ -46,7 +46,7 @@ abbrev pub IsPart : Spells (Option ℕ)
 IsPart cs None rest = cs ≡ rest
 IsPart cs (Some n) rest = (a : List ℕ) × (cs ≡ hyphen ∷ a) × IsNumber 1 2 a n rest
 
--- A day stands after a month alone.
+-- A day stands only after a month.
 abbrev pub IsDay : Option ℕ → Spells (Option ℕ)
 IsDay None cs None rest = cs ≡ rest
 IsDay None cs (Some d) rest = ⊥
@@ -75,7 +75,7 @@ IsOffset cs (Some (Offset positive hours minutes)) rest = (a : List ℕ) × (cs 
 abbrev pub IsClock : Spells Time
 IsClock cs t rest = (a : List ℕ) × (b : List ℕ) × IsMinutes cs (t.hour, t.minute) a × IsSeconds a t.second b × IsOffset b t.offset rest
 
--- A time is `T` and what a clock shows, or nothing; it stands after a day alone.
+-- A time is `T` and what a clock shows, or nothing; it stands only after a day.
 abbrev pub IsTime : Option ℕ → Spells (Option Time)
 IsTime day cs None rest = cs ≡ rest
 IsTime None cs (Some t) rest = ⊥

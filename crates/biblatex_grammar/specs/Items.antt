@@ -19,7 +19,7 @@ abbrev pub Closes : {X : Type 0} → ℕ → List X → List ℕ → List ℕ �
 Closes closing [] cs rest = IsAfterGap closing cs rest
 Closes closing (x ∷ xs) cs rest = ⊥
 
--- After a key or a value the item ends, or a comma stands and what may follow it.
+-- After a key or a value the item ends before `rest`; or a comma stands, and after it what Next says, which ends the item itself.
 abbrev pub EndsOrGoesOn : {X : Type 0} → ℕ → List X → (List ℕ → Type 0) → List ℕ → List ℕ → Type 0
 EndsOrGoesOn closing xs Next cs rest = Closes closing xs cs rest ⊎ ((a : List ℕ) × IsAfterGap comma cs a × Next a)
 

@@ -25,7 +25,7 @@ MayFollow cs c = Begins (cs ++ c ∷ [])
 abbrev pub IsInQuotes : List ℕ → Type 0
 IsInQuotes cs = (c : ℕ) → (c == close_brace) ≡ false → MayFollow cs c
 
--- After a key or a field's value a comma may stand.
+-- After a key or a field's value a comma may stand; in quotation marks it may too, as any character but a closing brace.
 abbrev pub IsAfterKeyOrValue : List ℕ → Type 0
 IsAfterKeyOrValue cs = MayFollow cs comma × (IsInQuotes cs → ⊥)
 

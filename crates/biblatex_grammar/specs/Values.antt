@@ -26,7 +26,7 @@ IsAt n cs x rest = IsOffset n x.start cs × IsOffset n x.end rest
 abbrev pub IsIdentifier : ℕ → Spells (At (List ℕ))
 IsIdentifier n cs name rest = BeginsWith is_first_of_identifier cs × IsRun is_of_identifier cs name.v rest × IsAt n cs name rest
 
--- A number has ASCII digits, one at least, and at most one point.
+-- A number has ASCII digits, one at least, and at most one point, which may stand first or last.
 abbrev pub IsDigits : List ℕ → Type 0
 IsDigits t = AllPassTest is_ascii_digit t
 
@@ -38,11 +38,11 @@ abbrev pub IsBare : List ℕ → Piece → Type 0
 IsBare t (normal s) = IsNumber t × (s ≡ t)
 IsBare t (abbreviation s) = (IsNumber t → ⊥) × (s ≡ t)
 
--- A piece in braces is the text between them.
+-- A piece in braces is the text between them, and its range is without them.
 abbrev pub IsBraced : ℕ → Spells (At Piece)
 IsBraced n cs p rest = (a : List ℕ) × (t : List ℕ) × (cs ≡ open_brace ∷ a) × IsBalanced Braces close_brace a t rest × (p.v ≡ normal t) × IsAt n a p (close_brace ∷ rest)
 
--- A piece in quotation marks is the text between them.
+-- A piece in quotation marks is the text between them, and its range is without them.
 abbrev pub IsQuoted : ℕ → Spells (At Piece)
 IsQuoted n cs p rest = (a : List ℕ) × (t : List ℕ) × (cs ≡ double_quote ∷ a) × IsBalanced Quotes double_quote a t rest × (p.v ≡ normal t) × IsAt n a p (double_quote ∷ rest)
 

@@ -24,7 +24,8 @@ ArePlain cs (c ∷ t) rest = (a : List ℕ) × (cs ≡ c ∷ a) × (IsMark cs �
 abbrev pub IsFirst : Spells ℕ
 IsFirst cs c rest = ((cs ≡ c ∷ rest) × (IsMark cs → ⊥)) ⊎ IsEscape cs (c ∷ rest)
 
--- A text is its first character and all that are no mark after it.
+-- A text is its first character and all that are no mark after it. A backslash before an opening ends the text before it, so that two texts
+-- may touch.
 abbrev pub IsText : Spells (List ℕ)
 IsText cs [] rest = ⊥
 IsText cs (c ∷ t) rest = (a : List ℕ) × IsFirst cs c a × ArePlain a t rest
@@ -47,7 +48,7 @@ IsDocument cs ps = ArePieces cs ps []
 abbrev pub LacksMarker : List ℕ → Type 0
 LacksMarker cs = (cites : List Cite) (rest : List ℕ) → IsMarker cs cites rest → ⊥
 
--- After pieces an opening stands at which no marker begins: the document is refused there.
+-- After pieces an opening stands at which no marker begins: the document is refused at the byte where the opening begins.
 abbrev pub IsRefused : List ℕ → ℕ → Type 0
 IsRefused cs at = (front : List ℕ) × (opening : List ℕ) × (ps : List Piece)
     × (cs ≡ front ++ opening) × ArePieces cs ps opening × IsOpening opening × LacksMarker opening × (at ≡ length (text_of front))
