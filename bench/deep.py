@@ -6,8 +6,9 @@
 A title of 1,000,000 groups in one another, 10 MB of opening braces, 100,000 abbreviations of which each opens the next, once with a
 note that opens the first and once with one that opens it 100,000 times, 100,000 abbreviations of which each doubles the one before and that
 give nothing, 40,000 notes that open names of 100,000 bytes, an address of 200,000 pieces, 100,000 entries of which each refers to the
-next, and as many of which the last one refers to the first. For each it prints the bytes of the text, the status and the one that is
-awaited, the seconds and the peak memory. It ends with status 1 where a status is another one.
+next, as many of which the last one refers to the first, and 1,000,000 books of either kind. For each it prints the bytes of the text, the
+status and the one that is awaited, the seconds and the peak memory. It ends with status 1 where a status is another one, or where one of the
+books in a chain lacks the publisher, which only the last one has by itself.
 """
 import os
 import resource
@@ -20,6 +21,7 @@ import results
 from measuring import built
 
 STACK = 8 << 20
+PUBLISHER = b"  publisher = P\n"
 
 
 def groups(count):
@@ -73,13 +75,25 @@ def circle(count):
     return "\n".join(f"@misc{{k{place}, crossref = {{k{(place + 1) % count}}}}}" for place in range(count)) + "\n"
 
 
-def run(words):
-    """The status, the seconds and the peak memory in bytes of one run."""
+def books(count, last):
+    """So many books, each referring to the next, and the last one with this field."""
+    lines = [f"@book{{k{place}, crossref = {{k{place + 1}}}}}" for place in range(count - 1)]
+    return "\n".join(lines) + f"\n@book{{k{count - 1}, {last}}}\n"
+
+
+def run(words, out):
+    """The status, the seconds and the peak memory in bytes of one run, whose output goes to a file. GNU time starts it, since what is started
+    from here begins with the memory of Python."""
     started = time.perf_counter()
     limit = lambda: resource.setrlimit(resource.RLIMIT_STACK, (STACK, STACK))
-    running = subprocess.Popen(words, stdout=subprocess.DEVNULL, stderr=subprocess.DEVNULL, preexec_fn=limit)
-    _, status, usage = os.wait4(running.pid, 0)
-    return os.waitstatus_to_exitcode(status), time.perf_counter() - started, usage.ru_maxrss * 1024
+    ran = subprocess.run(["/usr/bin/time", "-f", "%M", *words], stdout=out, stderr=subprocess.PIPE, preexec_fn=limit)
+    return ran.returncode, time.perf_counter() - started, int(ran.stderr.split()[-1]) * 1024
+
+
+def count_lines(path, wanted):
+    """How often a file has a line."""
+    with open(path, "rb") as lines:
+        return sum(line == wanted for line in lines)
 
 
 def main():
@@ -96,18 +110,22 @@ def main():
         ("an address of pieces", address(200_000), 0),
         ("references in a chain", references(100_000), 0),
         ("references in a circle", circle(100_000), 1),
+        ("1,000,000 books in a chain", books(1_000_000, "publisher={P}"), 0),
+        ("1,000,000 books in a circle", books(1_000_000, "crossref={k0}"), 1),
     ]
     fails, found = 0, []
-    print(f"{'text':<26} {'bytes':>10} {'status':>6} {'awaited':>7} {'seconds':>8} {'memory':>12}")
+    print(f"{'text':<27} {'bytes':>10} {'status':>6} {'awaited':>7} {'seconds':>8} {'memory':>13}")
     with tempfile.TemporaryDirectory() as folder:
-        path = os.path.join(folder, "b.bib")
+        path, shown = os.path.join(folder, "b.bib"), os.path.join(folder, "shown")
         for name, text, awaited in rows:
             with open(path, "w") as out:
                 out.write(text)
-            status, seconds, memory = run([program, path])
-            fails += status != awaited
+            with open(shown, "wb") as out:
+                status, seconds, memory = run([program, path], out)
+            is_lacking = "publisher" in text and count_lines(shown, PUBLISHER) != text.count("@")
+            fails += status != awaited or is_lacking
             found.append({"text": name, "bytes": len(text), "status": status, "seconds": round(seconds, 2), "memory": memory})
-            print(f"{name:<26} {len(text):>10} {status:>6} {awaited:>7} {seconds:>8.3f} {memory:>12}")
+            print(f"{name:<27} {len(text):>10} {status:>6} {awaited:>7} {seconds:>8.3f} {memory:>13}", flush=True)
     if fails:
         sys.exit(1)
     results.record("deep", {"rows": found})
