@@ -39,7 +39,7 @@ fn put_document_error(session: &mut Session, error: &DocumentTextError) {
 }
 
 /// Writes which section was refused, by its index from zero, and the message for it.
-fn put_section_error(session: &mut Session, index: usize, error: &SelectorError) {
+pub(crate) fn put_section_error(session: &mut Session, index: usize, error: &SelectorError) {
     session.put_refused("Selector");
     session.put_count("index", index);
     session.put_printed("error", error);

@@ -1,7 +1,10 @@
 pub mod Accepted
-pub mod EqualWorks
+pub mod AlikeEach
+pub mod AlikeNames
+pub mod AlikeVerdicts
 pub mod Flattenings
 pub mod HiddenEntries
-pub mod NamesMeant
-pub mod WorksCited
+pub mod IndicesSorted
+pub mod KeysRise
+pub mod OneOrder
 pub mod WrittenApart

@@ -1,25 +1,25 @@
 //! Whether a document has to be rendered again once its BibLaTeX file was changed.
 
-ghost use Rattle.std.specs.Prelude.{◌≡◌, ◌↔◌, ◌++◌, ◌∷◌, [], ℕ, List, Some, filter, map, IfOk, IsTrue, OnOk};
-ghost use Rattle.std.specs.Borrow.{Bor};
+ghost use Rattle.std.specs.Prelude.{◌≡◌, ◌↔◌, map, IfOk, IsTrue};
+ghost use Rattle.std.specs.List.{AllByRecursion};
 ghost use Rattle.std.specs.Option.{option_map};
-ghost use Rattle.std.specs.Str.{chars};
-ghost use Rattle.laws.specs.Text.{text};
 ghost use Rattle.literature_entries.specs.EntriesData.{entry_view};
-ghost use Rattle.interop.specs.Views.{library_view};
-ghost use Rattle.cite_markers.specs.Views.{cite_view, document_view, piece_view};
-ghost use Rattle.cite.specs.Cited.{is_among};
-ghost use Rattle.cite.specs.Markers.{names_cited};
-ghost use Rattle.cite.specs.Views.{has};
+ghost use Rattle.literature.specs.Holding.{holds_at};
+ghost use Rattle.literature.specs.Views.{selector_view};
+ghost use Rattle.interop.specs.Library.{key_of};
+ghost use Rattle.rendering_style.specs.StyleViews.{style_view};
+ghost use Rattle.cite_markers.specs.Views.{document_view};
 ghost use Rattle.cite.specs.Works.{meaning};
-ghost use Rattle.cite_uses.specs.Alike.{GiveOneVerdict, HaveEqualWorks, MeanEqualWorks, MeansEqualWorks, in_order_of, names_of, now_of, works_view};
+ghost use Rattle.cite_uses.specs.Alike.{AreAlikeWorks, GiveOneVerdict, HaveAlikeWorks, MeansAlikeTo, MeansAlikeWorks, asked_names, asked_selectors, works_view};
 
+use crate::names::cited_names;
+use crate::order::are_in_one_order;
 use biblatex::Bibliography;
-use cite::{Cite, Document, Piece, cited_keys, work_of};
-use literature::{Entry, Library};
-use literature_entries::are_equal_entries;
+use cite::{Document, work_of};
+use literature::{Entry, Library, Selector};
+use rendering_alike::{StyleNames, answer_alike, style_names};
+use rendering_style::Style;
 use std::alloc::{AllocError, Global};
-use std::collections::BTreeSet;
 
 /// A BibLaTeX file that was read, and its library.
 #[derive(Clone, Copy)]
@@ -28,91 +28,102 @@ pub struct Works<'f> {
     pub library: &'f Library,
 }
 
-/// Whether a document comes out the same with the works of either file, whatever the style, the locale, the sections and the format: each
-/// of its names means equal works in both, and these stand in one order. After a yes the output is the same, or the refusal. After a no it
-/// may be the same all the same, as where the works differ in a field that is not printed. This looks at each cite and at each work of both
-/// libraries once, and renders nothing.
+/// What works are asked: the variables and kinds that a style names, and whether sections choose them.
+#[derive(Clone, Copy)]
+pub(crate) struct Asked<'s> {
+    pub(crate) names: &'s StyleNames,
+    pub(crate) sections: &'s [Selector],
+}
+
+/// Whether a document comes out the same with the works of either file in a style and with these sections, whatever the locale and the format:
+/// each of its names means works of one key in both, which answer alike to all that the style names and are chosen by the same sections, and
+/// these stand in one order. After a yes the output is the same, or the refusal. After a no it may be the same all the same, as where the
+/// works differ in a field that the style asks for and does not print. The cost grows with the cites, and for their order as a sort does,
+/// not with the files; nothing is rendered.
 ///
 /// # Errors
 /// Out of memory.
 pub fn are_alike(
     alloc: Global,
     document: &Document<'_>,
+    style: &Style,
+    sections: &[Selector],
     first: &Works<'_>,
     second: &Works<'_>,
 ) -> Result<bool, AllocError>
-    // A yes says that the works of the names are equal, and stand in one order; a no, that they do not.
-    ensures equal { IfOk result (λ yes. IsTrue yes ↔ HaveEqualWorks (works_view first.now)
-        (works_view second.now) (document_view document.now)) }
+    // A yes says that the works of the names are alike, and stand in one order; a no, that they do not.
+    ensures alike { IfOk result (λ yes. IsTrue yes ↔ HaveAlikeWorks (style_view style.now)
+        (map selector_view sections.now) (works_view first.now) (works_view second.now)
+        (document_view document.now)) }
     // After a yes the first file and the second one give the document one output, or one refusal.
-    ensures same { IfOk result (λ yes. IsTrue yes → GiveOneVerdict (works_view first.now)
-        (works_view second.now) (document_view document.now)) }
+    ensures same { IfOk result (λ yes. IsTrue yes → GiveOneVerdict (style_view style.now)
+        (map selector_view sections.now) (works_view first.now) (works_view second.now)
+        (document_view document.now)) }
 {
-    if !mean_equal_works(document, first, second) {
+    let names = cited_names(alloc, document)?;
+    let named = style_names(alloc, style)?;
+    let asked = Asked {
+        names: &named,
+        sections,
+    };
+    if !mean_alike_works(alloc, &asked, &names, first, second)? {
         return Ok(false);
     }
-    let cited = cited_keys(alloc, first.file, document)?;
-    let keys = keys_in_order(alloc, &cited, first.library)?;
-    let others = keys_in_order(alloc, &cited, second.library)?;
-    Ok(are_same(&keys, &others))
+    are_in_one_order(alloc, &names, first.file, second.file)
 }
 
-/// Whether each name in the cites of a document means equal works.
-fn mean_equal_works(document: &Document<'_>, first: &Works<'_>, second: &Works<'_>) -> bool
-    ensures { IsTrue result ↔ MeanEqualWorks (works_view first.now) (works_view second.now)
-        (names_cited (document_view document.now)) }
+/// Whether each of these names means alike works.
+fn mean_alike_works(
+    alloc: Global,
+    asked: &Asked<'_>,
+    names: &[&str],
+    first: &Works<'_>,
+    second: &Works<'_>,
+) -> Result<bool, AllocError>
+    ensures { IfOk result (λ yes. IsTrue yes ↔ AllByRecursion
+        (λ n. MeansAlikeWorks (asked_names asked.now) (asked_selectors asked.now)
+        (works_view first.now) (works_view second.now) n.now) names.now) }
 {
-    for piece in &document.pieces {
-        if !mean_equal_in(piece, first, second) {
-            return false;
+    for name in names {
+        if !means_alike_works(alloc, asked, *name, first, second)? {
+            return Ok(false);
         }
     }
-    true
+    Ok(true)
 }
 
-/// Whether each name in a piece means equal works.
-fn mean_equal_in(piece: &Piece<'_>, first: &Works<'_>, second: &Works<'_>) -> bool
-    ensures { IsTrue result ↔ MeanEqualWorks (works_view first.now) (works_view second.now)
-        (names_cited (piece_view piece.now ∷ [])) }
-{
-    match piece {
-        Piece::Text(_) => true,
-        Piece::Marker(cites) => cites_mean_equal(cites, first, second),
-    }
-}
-
-/// Whether the names of cites mean equal works.
-fn cites_mean_equal(cites: &[Cite<'_>], first: &Works<'_>, second: &Works<'_>) -> bool
-    ensures { IsTrue result ↔ MeanEqualWorks (works_view first.now) (works_view second.now)
-        (names_of (map cite_view cites.now)) }
-{
-    for cite in cites {
-        if !means_equal(cite.name, first, second) {
-            return false;
-        }
-    }
-    true
-}
-
-/// Whether a name means equal works.
-fn means_equal(name: &str, first: &Works<'_>, second: &Works<'_>) -> bool
-    ensures { IsTrue result ↔ MeansEqualWorks (works_view first.now) (works_view second.now)
-        (text (chars name.now)) }
+/// Whether a name means alike works.
+fn means_alike_works(
+    alloc: Global,
+    asked: &Asked<'_>,
+    name: &str,
+    first: &Works<'_>,
+    second: &Works<'_>,
+) -> Result<bool, AllocError>
+    ensures { IfOk result (λ yes. IsTrue yes
+        ↔ MeansAlikeWorks (asked_names asked.now) (asked_selectors asked.now)
+        (works_view first.now) (works_view second.now) name.now) }
 {
     match meant(first, name) {
-        Some(work) => means(second, name, work),
-        None => false,
+        Some(work) => means_alike(alloc, asked, name, work, second),
+        None => Ok(false),
     }
 }
 
-/// Whether a name means a work that is equal to this one.
-fn means(works: &Works<'_>, name: &str, work: &Entry) -> bool
-    ensures { IsTrue result ↔ (meaning name.now (works_view works.now)
-        ≡ Some (entry_view work.now)) }
+/// Whether a name means a work that is alike to this one.
+fn means_alike(
+    alloc: Global,
+    asked: &Asked<'_>,
+    name: &str,
+    work: &Entry,
+    works: &Works<'_>,
+) -> Result<bool, AllocError>
+    ensures { IfOk result (λ yes. IsTrue yes ↔ MeansAlikeTo (asked_names asked.now)
+        (asked_selectors asked.now) (entry_view work.now) (works_view works.now) name.now) }
 {
     match meant(works, name) {
-        Some(other) => are_equal_entries(other, work),
-        None => false,
+        Some(other) => are_alike_works(alloc, asked, work, other),
+        None => Ok(false),
     }
 }
 
@@ -125,41 +136,49 @@ fn meant<'f>(works: &Works<'f>, name: &str) -> Option<&'f Entry>
     work_of(works.library, entry)
 }
 
-/// Those of the keys that works of the library have, in the order of the library.
-fn keys_in_order<'l>(
+/// Whether two works are alike.
+fn are_alike_works(
     alloc: Global,
-    keys: &BTreeSet<&str>,
-    library: &'l Library,
-) -> Result<Vec<&'l str>, AllocError>
-    ensures { (known : List (List ℕ)) → ((k : Bor (List ℕ)) → has keys.now k ≡ is_among known k.now)
-        → IfOk result (λ v. map now_of v.items ≡ in_order_of (library_view library.now) known) }
+    asked: &Asked<'_>,
+    work: &Entry,
+    other: &Entry,
+) -> Result<bool, AllocError>
+    ensures { IfOk result (λ yes. IsTrue yes ↔ AreAlikeWorks (asked_names asked.now)
+        (asked_selectors asked.now) (entry_view work.now) (entry_view other.now)) }
 {
-    let mut found = Vec::new(alloc);
-    for entry in library.iter() {
-        push_known(keys, entry.key(), &mut found)?;
+    if !have_one_key(work, other) {
+        return Ok(false);
     }
-    Ok(found)
+    if !are_chosen_alike(asked.sections, work, other) {
+        return Ok(false);
+    }
+    answer_alike(alloc, asked.names, work, other)
 }
 
-/// Adds a key, if it is one of these.
-fn push_known<'l>(
-    keys: &BTreeSet<&str>,
-    key: &'l str,
-    found: &mut Vec<&'l str>,
-) -> Result<(), AllocError>
-    ensures { (known : List (List ℕ)) → ((k : Bor (List ℕ)) → has keys.now k ≡ is_among known k.now)
-        → OnOk result (map now_of found.new.items
-        ≡ map now_of found.old.items ++ filter (is_among known) (key.now ∷ [])) }
+/// Whether two works have one key.
+fn have_one_key(work: &Entry, other: &Entry) -> bool
+    ensures { IsTrue result ↔ (key_of (entry_view work.now) ≡ key_of (entry_view other.now)) }
 {
-    if !keys.contains(key) {
-        return Ok(());
-    }
-    Ok(found.push(key)?)
+    work.key() == other.key()
 }
 
-/// Whether texts are the same, in the same order.
-fn are_same(texts: &[&str], others: &[&str]) -> bool
-    ensures { IsTrue result ↔ (map now_of texts.now ≡ map now_of others.now) }
+/// Whether two works are chosen by the same sections.
+fn are_chosen_alike(sections: &[Selector], work: &Entry, other: &Entry) -> bool
+    ensures { IsTrue result ↔ AllByRecursion (λ s. holds_at (selector_view s) (entry_view work.now)
+        ≡ holds_at (selector_view s) (entry_view other.now)) sections.now }
 {
-    texts == others
+    for section in sections {
+        if !chooses_alike(section, work, other) {
+            return false;
+        }
+    }
+    true
+}
+
+/// Whether a section chooses both works or neither.
+fn chooses_alike(section: &Selector, work: &Entry, other: &Entry) -> bool
+    ensures { IsTrue result ↔ (holds_at (selector_view section.now) (entry_view work.now)
+        ≡ holds_at (selector_view section.now) (entry_view other.now)) }
+{
+    section.matches(work) == section.matches(other)
 }

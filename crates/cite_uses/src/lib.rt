@@ -7,6 +7,8 @@
 mod alike;
 mod entries;
 mod flat;
+mod names;
+mod order;
 mod page;
 mod style;
 mod text;

@@ -1,35 +1,38 @@
-use Rattle.std.proofs.Common.{◌↔◌, IsTrue, map, true≢false, sym, ap, ◌∙◌}
-use Rattle.std.proofs.lemmas.Bool.{iff_false}
-use Rattle.biblatex.specs.Bibliographies.{listed_view}
+use Rattle.std.proofs.Common.{true≢false, map, sym, ap, ◌∙◌}
+use Rattle.std.proofs.lemmas.Result.{IfOk-weaker}
+use Rattle.literature.specs.Views.{selector_view}
+use Rattle.rendering_style.specs.StyleViews.{style_view}
+use Rattle.rendering_alike.specs.Naming.{names_view}
 use Rattle.cite_markers.specs.Views.{document_view}
-use Rattle.cite.specs.Cited.{keys_cited}
-use Rattle.cite_uses.specs.Alike.{HaveEqualWorks, now_of, works_view}
-use Rattle.cite_uses.proofs.EqualWorks.{decided, one_verdict_each}
+use Rattle.cite_uses.specs.Alike.{now_of, works_view}
+use Rattle.cite_uses.proofs.AlikeNames.{by_order, not_each}
+use Rattle.cite_uses.proofs.AlikeVerdicts.{one_verdict_each}
 use Rattle.cite_uses.proofs.alike.are_alike.Goals as goal
 
-pub returns-then-not-mean_equal_works-clause-equal : goal.returns-then-not-mean_equal_works-clause-equal
-returns-then-not-mean_equal_works-clause-equal c = (
-  λ no. absurd (true≢false (sym no)),
-  λ h. absurd (iff_false c.mean_equal_works.ensures c.if-not-mean_equal_works.true h.names),
-)
+pub returns-then-not-branch-clause-alike : goal.returns-then-not-branch-clause-alike
+returns-then-not-branch-clause-alike c =
+    not_each (style_view c.args.style.now) (map selector_view c.args.sections.now) (works_view c.args.first.now) (works_view c.args.second.now) (document_view c.args.document.now) (names_view c.in_ok-named.named) c.in_ok-named.ensures
+    c.deref.result.now (ap (map now_of) c.deref.ensures.value ∙ c.in_ok-names.ensures) c.in_ok-mean_alike_works.field-0 c.in_ok-mean_alike_works.ensures c.if-not-branch.true
 
-pub returns-then-not-mean_equal_works-clause-same : goal.returns-then-not-mean_equal_works-clause-same
-returns-then-not-mean_equal_works-clause-same c = λ no. absurd (true≢false (sym no))
+pub returns-then-not-branch-clause-same : goal.returns-then-not-branch-clause-same
+returns-then-not-branch-clause-same c = λ no. absurd (true≢false (sym no))
 
-pub returns-clause-equal : goal.returns-clause-equal
-returns-clause-equal c =
-    let pieces = document_view c.args.document.now in
-    let known = keys_cited (listed_view c.args.first.now.file.now) pieces in
-    decided (works_view c.args.first.now) (works_view c.args.second.now) pieces (c.mean_equal_works.ensures.0 c.if-not-mean_equal_works.false) (map now_of c.deref.result.now) (map now_of c.deref-2.result.now) c.are_same.result
-    (ap (map now_of) c.deref.ensures.value ∙ c.in_ok-keys.ensures known c.in_ok-cited.ensures) (ap (map now_of) c.deref-2.ensures.value ∙ c.in_ok-others.ensures known c.in_ok-cited.ensures) c.are_same.ensures
+pub returns-clause-alike : goal.returns-clause-alike
+returns-clause-alike c =
+    IfOk-weaker c.are_in_one_order.result _ _
+    (λ b e.
+    by_order (style_view c.args.style.now) (map selector_view c.args.sections.now) (works_view c.args.first.now) (works_view c.args.second.now) (document_view c.args.document.now) (names_view c.in_ok-named.named) c.in_ok-named.ensures
+    c.deref.result.now (ap (map now_of) c.deref.ensures.value ∙ c.in_ok-names.ensures) b (c.in_ok-mean_alike_works.ensures.0 c.if-not-branch.false)
+    (map now_of c.deref-2.result.now) (ap (map now_of) c.deref-2.ensures.value ∙ c.in_ok-names.ensures) e)
+    c.are_in_one_order.ensures
 
 pub returns-clause-same : goal.returns-clause-same
-returns-clause-same c = λ yes.
-    let pieces = document_view c.args.document.now in
-    let known = keys_cited (listed_view c.args.first.now.file.now) pieces in
-    let v = works_view c.args.first.now in
-    let w = works_view c.args.second.now in
-    let equal : IsTrue c.are_same.result ↔ HaveEqualWorks v w pieces =
-    decided v w pieces (c.mean_equal_works.ensures.0 c.if-not-mean_equal_works.false) (map now_of c.deref.result.now) (map now_of c.deref-2.result.now) c.are_same.result
-    (ap (map now_of) c.deref.ensures.value ∙ c.in_ok-keys.ensures known c.in_ok-cited.ensures) (ap (map now_of) c.deref-2.ensures.value ∙ c.in_ok-others.ensures known c.in_ok-cited.ensures) c.are_same.ensures in
-    one_verdict_each v w pieces (equal.0 yes)
+returns-clause-same c =
+    IfOk-weaker c.are_in_one_order.result _ _
+    (λ b e yes.
+    let alike =
+    by_order (style_view c.args.style.now) (map selector_view c.args.sections.now) (works_view c.args.first.now) (works_view c.args.second.now) (document_view c.args.document.now) (names_view c.in_ok-named.named) c.in_ok-named.ensures
+    c.deref.result.now (ap (map now_of) c.deref.ensures.value ∙ c.in_ok-names.ensures) b (c.in_ok-mean_alike_works.ensures.0 c.if-not-branch.false)
+    (map now_of c.deref-2.result.now) (ap (map now_of) c.deref-2.ensures.value ∙ c.in_ok-names.ensures) e in
+    one_verdict_each (style_view c.args.style.now) (map selector_view c.args.sections.now) (works_view c.args.first.now) (works_view c.args.second.now) (document_view c.args.document.now) (alike.0 yes))
+    c.are_in_one_order.ensures

@@ -1,0 +1,4 @@
+pub mod NamesSteps
+pub mod NamesMembers
+pub mod AnswersAll
+pub mod NumbersLent

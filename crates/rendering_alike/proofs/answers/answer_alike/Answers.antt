@@ -1,0 +1,27 @@
+use Rattle.std.proofs.Common.{◌≡◌, ◌↔◌, IsTrue, List, subst}
+use Rattle.std.specs.List.{AllByRecursion}
+use Rattle.std.proofs.lemmas.Bool.{iff_false}
+use Rattle.std.proofs.lemmas.Result.{IfOk-weaker}
+use Rattle.rendering_nodes.specs.Named.{AnswerAlike}
+use Rattle.rendering_taxonomy.specs.declared.kind.Kind.{Kind}
+use Rattle.rendering_taxonomy.specs.declared.variable.Variable.{Variable}
+use Rattle.rendering_alike.specs.Naming.{names_view}
+use Rattle.rendering_alike.proofs.AnswersAll.{all_alike, not_all_alike}
+use Rattle.rendering_alike.proofs.answers.answer_alike.Goals as goal
+
+pub returns-then-not-are_of_one_kind : goal.returns-then-not-are_of_one_kind
+returns-then-not-are_of_one_kind g c =
+    let a = g.E.EntryLike.answers c.args.one.now in
+    let b = g.E.EntryLike.answers c.args.other.now in
+    not_all_alike (names_view c.args.names.now) a b
+    (iff_false (subst (λ (ks : List Kind). IsTrue c.are_of_one_kind.result ↔ AllByRecursion (λ (k : Kind). a.kind k ≡ b.kind k) ks) c.deref.ensures.value c.are_of_one_kind.ensures) c.if-not-are_of_one_kind.true)
+
+pub returns : goal.returns
+returns g c =
+    let a = g.E.EntryLike.answers c.args.one.now in
+    let b = g.E.EntryLike.answers c.args.other.now in
+    IfOk-weaker c.answer_all_alike.result _ _
+    (λ yes e.
+    all_alike (names_view c.args.names.now) a b yes (subst (AllByRecursion (λ (k : Kind). a.kind k ≡ b.kind k)) c.deref.ensures.value (c.are_of_one_kind.ensures.0 c.if-not-are_of_one_kind.false))
+    (subst (λ (vs : List Variable). IsTrue yes ↔ AllByRecursion (AnswerAlike a b) vs) c.deref-2.ensures.value e))
+    c.answer_all_alike.ensures
