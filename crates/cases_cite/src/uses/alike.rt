@@ -11,6 +11,7 @@ use cite_uses::{Works, are_alike};
 use literature::Selector;
 
 /// What is asked of a document: how it is cited, and the two files.
+#[derive(Clone, Copy)]
 struct Asked<'a> {
     style: &'a Style,
     sections: &'a [Selector],
