@@ -9,7 +9,7 @@ pub mod NamingEqual
 pub mod NamingOrder
 pub mod NamingSources
 pub mod NamingOnce
-pub mod NamingOwn
+pub mod NamingApart
 pub mod LendingBorrowed
 pub mod LendingFlat
 pub mod ResolvedEntries

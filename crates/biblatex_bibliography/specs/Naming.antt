@@ -1,5 +1,6 @@
 -- The names of entries in the order of a file, and what they mean.
-use Rattle.std.specs.Prelude.{ℕ, suc, Bool, true, false, ◌&&◌, ◌==◌, List, [], ◌∷◌, ◌++◌, map, filter, Option, Some, None, nat_lt, if◌then◌else◌}
+use Rattle.std.specs.Prelude.{ℕ, suc, Bool, true, false, not, ◌&&◌, ◌||◌, ◌==◌, List, [], ◌∷◌, ◌++◌, map, filter, slice_get, Option, Some, None, nat_lt, if◌then◌else◌}
+use Rattle.std.specs.List.{list_any}
 use Rattle.std.specs.Str.{bytes_eq}
 use Rattle.biblatex_entries.specs.Entries.{Source, names_of}
 use Rattle.biblatex_bibliography.specs.Indices.{Names, Meaning, meaning_in, bound}
@@ -36,12 +37,22 @@ abbrev pub first_repeated : Names → ℕ → List Source → Option ℕ
 first_repeated names number [] = None
 first_repeated names number (e ∷ es) = if is_below number (meaning_in names e.key) then Some number else first_repeated names (suc number) es
 
--- whether there is an index, and it is this one
-abbrev pub is_index : ℕ → Option ℕ → Bool
-is_index number None = false
-is_index number (Some index) = index == number
+-- whether there is an entry, and it has the key
+abbrev pub is_key_of : List ℕ → Option Source → Bool
+is_key_of key None = false
+is_key_of key (Some e) = bytes_eq key e.key
 
--- whether the key of each entry means the index of that entry, among entries of which the first has this number
-abbrev pub have_own_indices : Meaning → ℕ → List Source → Bool
-have_own_indices meaning number [] = true
-have_own_indices meaning number (e ∷ es) = is_index number (meaning e.key) && have_own_indices meaning (suc number) es
+-- whether none of the entries has the key
+abbrev pub is_no_key : List ℕ → List Source → Bool
+is_no_key key es = not (list_any (bytes_eq key) (map (λ e. e.key) es))
+
+-- Whether the key of an entry is that of no entry after it, and of no other entry that it means. Nothing more is asked where it means its own
+-- entry, since another entry of this key means that one too, and is not apart.
+abbrev pub is_apart : List Source → ℕ → List ℕ → List Source → Option ℕ → Bool
+is_apart all number key later None = is_no_key key later
+is_apart all number key later (Some index) = index == number || (not (is_key_of key (slice_get all index)) && is_no_key key later)
+
+-- whether this is so of each entry, among entries of which the first has this number
+abbrev pub are_apart : Meaning → List Source → ℕ → List Source → Bool
+are_apart meaning all number [] = true
+are_apart meaning all number (e ∷ es) = is_apart all number e.key es (meaning e.key) && are_apart meaning all (suc number) es

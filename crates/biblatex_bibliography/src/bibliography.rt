@@ -22,12 +22,10 @@ ghost use Rattle.biblatex_bibliography.specs.Bibliographies.{indexed, listed_vie
 use crate::indexed::{key_alone, put_last, replace, take};
 use crate::indices::{NamedIndex, bind, index_in, indices_meant};
 use crate::keys::Keys;
-use crate::naming::have_own_indices;
+use crate::naming::are_apart;
 use biblatex_entries::Entry;
 use biblatex_inheritance::{Resolution, ResolveError, resolve};
-use biblatex_writing::{
-    are_each_settled, entries_text, flatten_entries, have_distinct_keys, write_entries,
-};
+use biblatex_writing::{are_each_settled, entries_text, flatten_entries, write_entries};
 use sinks::{Sink, SinkFault};
 use std::alloc::{AllocError, Global};
 use std::marker::Model;
@@ -275,12 +273,11 @@ impl Bibliography {
         self.has_distinct_keys() && are_each_settled(self.entries.as_slice())
     }
 
-    /// Whether no two entries have one key: each key means its own entry, or all pairs are compared.
+    /// Whether no two entries have one key.
     fn has_distinct_keys(&self) -> bool
         ensures { result ≡ have_distinct_keys self.now.entries }
     {
-        let entries = self.entries.as_slice();
-        have_own_indices(entries, self.names.as_slice()) || have_distinct_keys(entries)
+        are_apart(self.entries.as_slice(), self.names.as_slice())
     }
 
     /// Takes `crossref` out of every entry. Takes no memory.

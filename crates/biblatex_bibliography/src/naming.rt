@@ -1,16 +1,17 @@
 //! The names of entries, put in order once for all of them.
 
-ghost use Rattle.std.specs.Prelude.{◌≡◌, ℕ, ◌++◌, List, None, map, string_bytes, IfOk, OnOk};
+ghost use Rattle.std.specs.Prelude.{◌≡◌, ℕ, ◌++◌, List, None, map, slice_get, string_bytes, IfOk, OnOk};
 ghost use Rattle.std.specs.Bool.{OnTrue};
 ghost use Rattle.std.specs.Cmp.Lexicographic.{slice_cmp};
 ghost use Rattle.std.specs.Ordering.{nat_cmp};
 ghost use Rattle.biblatex_entries.specs.Entries.{sources_view};
 ghost use Rattle.biblatex_bibliography.specs.Indices.{meaning_in, names_in, name_of, AreSorted, AreInOrder};
 ghost use Rattle.biblatex_bibliography.specs.Naming as specs;
-ghost use Rattle.biblatex_bibliography.specs.Naming.{numbered, names_from, equal_names, bound_each, is_below, is_index, have_own_indices};
+ghost use Rattle.biblatex_bibliography.specs.Naming.{numbered, names_from, equal_names, bound_each, is_below, is_key_of, is_apart, are_apart};
 
 use crate::indices::{NamedIndex, bind, first_index_in, index_in};
 use biblatex_entries::Entry;
+use biblatex_writing::has_key;
 use std::alloc::{AllocError, Global};
 use std::cmp::Ordering;
 
@@ -100,25 +101,47 @@ pub(crate) fn first_repeated(entries: &[Entry], names: &[NamedIndex]) -> Option<
     None
 }
 
-/// Whether the key means the index.
-fn is_index_of(names: &[NamedIndex], key: &str, index: usize) -> bool
-    requires { AreInOrder names.now }
-    ensures { result ≡ is_index index (meaning_in (names_in names.now) key.now) }
+/// Whether the entry at the index has that key.
+fn has_key_at(entries: &[Entry], index: usize, key: &str) -> bool
+    ensures { result ≡ is_key_of key.now (slice_get (sources_view entries.now) index) }
 {
-    match index_in(names, key) {
-        Some(meant) => meant == index,
+    match entries.get(index) {
+        Some(entry) => key == entry.key.as_str(),
         None => false,
     }
 }
 
-/// Whether the key of each entry means the index of that entry.
-pub(crate) fn have_own_indices(entries: &[Entry], names: &[NamedIndex]) -> bool
+/// Whether the key of the entry of a number is that of no entry after it, and of no other entry that it means. Nothing is
+/// compared where it means its own entry: another entry of this key means that one too, and is not apart.
+fn is_apart(
+    entries: &[Entry],
+    number: usize,
+    key: &str,
+    meant: Option<usize>,
+    later: &[Entry],
+) -> bool
+    ensures { result ≡ is_apart (sources_view entries.now) number key.now
+        (sources_view later.now) meant }
+{
+    match meant {
+        Some(index) => {
+            index == number || (!has_key_at(entries, index, key) && !has_key(later, key))
+        }
+        None => !has_key(later, key),
+    }
+}
+
+/// Whether the key of each entry is apart, so that no two are equal. Each key is looked up; one that means no entry, or an
+/// entry of another key, is compared with those of all entries after it.
+pub(crate) fn are_apart(entries: &[Entry], names: &[NamedIndex]) -> bool
     requires { AreInOrder names.now }
-    ensures { result ≡ have_own_indices (meaning_in (names_in names.now)) 0
+    ensures { result ≡ are_apart (meaning_in (names_in names.now)) (sources_view entries.now) 0
         (sources_view entries.now) }
 {
-    for index in 0..entries.len() {
-        if !is_index_of(names, entries[index].key.as_str(), index) {
+    for number in 0..entries.len() {
+        let key = entries[number].key.as_str();
+        let meant = index_in(names, key);
+        if !is_apart(entries, number, key, meant, &entries[number + 1..]) {
             return false;
         }
     }

@@ -222,7 +222,7 @@ pub fn are_each_settled(entries: &[Entry]) -> bool
 }
 
 /// Whether an entry has that key.
-fn has_key(entries: &[Entry], key: &str) -> bool
+pub fn has_key(entries: &[Entry], key: &str) -> bool
     ensures { result ≡ list_any (bytes_eq key.now)
         (map (λ e. e.key) (sources_view entries.now)) }
 {
