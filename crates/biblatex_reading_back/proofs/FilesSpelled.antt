@@ -100,7 +100,7 @@ file_text (e ∷ es) all =
     entry_text e (entries_after (map plain_entry es)) all.0 ∙ (ap (λ (x : List ℕ). written_entry e ++ x) (entries_text es all.1) ∙ sym (file_is e es))
 
 -- All of a file are characters.
-scalars_both : (xs ys : List ℕ) → all_scalars xs ≡ true → all_scalars ys ≡ true → all_scalars (xs ++ ys) ≡ true
+pub scalars_both : (xs ys : List ℕ) → all_scalars xs ≡ true → all_scalars ys ≡ true → all_scalars (xs ++ ys) ≡ true
 scalars_both [] ys p q = q
 scalars_both (x ∷ xs) ys p q = both _ _ (first_of_two _ (all_scalars xs) p) (scalars_both xs ys (second_of_two _ (all_scalars xs) p) q)
 

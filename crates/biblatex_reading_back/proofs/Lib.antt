@@ -18,3 +18,4 @@ pub mod FilesSpelled
 pub mod EntriesBack
 pub mod MeaningBack
 pub mod SettledBack
+pub mod MemoryTexts

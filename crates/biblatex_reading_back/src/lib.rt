@@ -1,10 +1,11 @@
-//! Laws of written BibLaTeX files: what is written of settled contents reads back as these contents. Each function does nothing, and
-//! carries a law of definitions as its contract.
+//! Laws of written BibLaTeX files: what is written of settled contents reads back as these contents. Each function carries a law of
+//! definitions as its contract, and does nothing; the one of a bibliography in memory looks at each of its entries.
 #![tactic(auto)]
 
 mod contents;
 mod entries;
 mod files;
+mod memory;
 
 pub use contents::{
     ordinary_contents_read_back, tidy_texts_stay, verbatim_contents_read_back,
@@ -12,3 +13,4 @@ pub use contents::{
 };
 pub use entries::settled_entries_read_back;
 pub use files::files_are_read_as_spelled;
+pub use memory::settled_bibliography_reads_back;
