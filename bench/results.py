@@ -76,8 +76,8 @@ WRITER = """## Written files
 
 What the methods of `Bibliography` cost that take `crossref` out of its entries, say whether they are settled, and write them as a file: on the same
 mixed entries, for each entry or byte by which 10,000 of them have more than 1,000. `is_settled` looks at the bytes of keys, types, names and
-contents. Then all that each costs on texts of which one part grows, where a call has more to do as it grows. Of entries where some key does not
-mean its own entry, as where two have it, `is_settled` compares all pairs of keys.
+contents. Then all that each costs on texts of which one part grows, where a call has more to do as it grows. Of entries all
+of whose keys were changed, `is_settled` compares all pairs of keys.
 """
 
 DEEP = """## Deep and doubled texts

@@ -11,8 +11,8 @@ text as a key, of which one prints it, and is taken off.
 On 1,000 and 10,000 mixed entries, which come of a fixed seed, it prints the instructions of `flatten` for each entry, of `is_settled` for each byte
 of keys, types, names and contents, and of `to_biblatex_string` for each byte that is written, by the difference of the two sizes, so that what does
 not grow counts for nothing. Then for each of some texts of two sizes the instructions of each call, and the exponent by which they grow: many short
-entries; one entry of many fields, whose names are in an order that is drawn; one content; and entries of which the last two have one key, where
-all pairs of keys are compared. It ends with status 1 where a call costs more than is wanted.
+entries; one entry of many fields, whose names are in an order that is drawn; one content; entries of which the last two have one key; and entries
+all of whose keys were changed, where all pairs of keys are compared. It ends with status 1 where a call costs more than is wanted.
 """
 import json
 import os
@@ -66,11 +66,17 @@ def last_again(count):
     return [{"step": "push", "key": f"k{count - 1}", "type": "misc"}]
 
 
+def other_keys(count):
+    """A step that gives each entry a key that is no name."""
+    return [{"step": "set_keys", "keys": [f"x{place}" for place in range(count)]}]
+
+
 TEXTS = {
     "short entries": (short_entries, None, (10_000, 100_000)),
     "fields of one entry": (fields, None, (10_000, 100_000)),
     "bytes of one content": (content, None, (1_000_000, 10_000_000)),
-    "entries, the last two of one key": (short_entries, last_again, (1_000, 10_000)),
+    "entries, the last two of one key": (short_entries, last_again, (10_000, 100_000)),
+    "entries, all keys changed": (short_entries, other_keys, (1_000, 10_000)),
 }
 
 

@@ -1,10 +1,12 @@
 //! Cases of entries and bibliographies of BibLaTeX files.
 
 mod bibliographies;
+mod changes;
 mod data;
 mod entries;
 mod entry_types;
 mod fields;
+mod files;
 mod getters;
 mod printing;
 mod refusals;

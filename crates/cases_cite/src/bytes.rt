@@ -1,6 +1,5 @@
-//! Bytes in cases and answers: a text where they are UTF-8, a list of numbers where they need not be.
+//! Bytes in cases: a text where they are UTF-8, a list of numbers where they need not be.
 
-use crate::taker::Taker;
 use cases::{Session, Value};
 
 /// What a member with bytes has to be.
@@ -52,21 +51,4 @@ fn bytes_in(session: &mut Session, items: &[Value<'_>], name: &'static str) -> V
 /// A number as a byte.
 fn byte(item: &Value<'_>) -> Option<u8> {
     u8::try_from(item.as_u64()?).ok()
-}
-
-/// Writes the bytes that a writer took as the member of the name.
-pub(crate) fn put_taken(session: &mut Session, name: &str, taker: &Taker) {
-    session.key(name);
-    match str::from_utf8(&taker.taken) {
-        Ok(text) => session.string(text),
-        Err(_) => put_list(session, &taker.taken),
-    }
-}
-
-fn put_list(session: &mut Session, bytes: &[u8]) {
-    session.begin_array();
-    for byte in bytes {
-        session.unsigned(u64::from(*byte));
-    }
-    session.end_array();
 }

@@ -1,11 +1,9 @@
 //! Documents with their citations.
 
-use crate::bytes::{bytes, put_taken};
-use crate::limits::read_taker;
+use crate::bytes::bytes;
 use crate::refusals::put_cite_error;
 use crate::setting::{CiteSetting, format, locale, style};
-use crate::taker::Taker;
-use cases::{Refusal, Session, Value};
+use cases::{Refusal, Session, Taker, Value, put_taken, read_taker};
 use cite::{CiteError, Tap, cite, cite_to_string};
 use std::alloc::Global;
 

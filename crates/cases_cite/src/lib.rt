@@ -8,12 +8,10 @@ mod citing;
 mod document;
 mod files;
 mod labels;
-mod limits;
 mod program;
 mod refusals;
 mod setting;
 mod show;
-mod taker;
 mod uses;
 
 use cases::{Session, Value};

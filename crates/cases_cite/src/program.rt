@@ -1,10 +1,7 @@
 //! Runs of the programs over files in memory.
 
-use crate::bytes::put_taken;
 use crate::files::{are_refused, read_files};
-use crate::limits::read_taker;
-use crate::taker::Taker;
-use cases::{Refusal, Session, Value};
+use cases::{Refusal, Session, Taker, Value, put_taken, read_taker};
 use cite::{FileRead, Tap};
 
 /// The members of a case.

@@ -1,9 +1,9 @@
 //! Why documents are not cited, as members of an answer. Out of memory has no answer.
 
 use crate::document::put_marker_error;
-use cases::{Refusal, Session, Value, put_parse_error};
+use cases::{Refusal, Session, Value, put_parse_error, put_write_error};
 use cases_rendering::{put_faults, put_unknown};
-use cite::{BibTextError, CiteError, DocumentTextError, SelectorError, SinkFault};
+use cite::{BibTextError, CiteError, DocumentTextError, SelectorError};
 
 /// Writes why a document was not cited, with the stage of what several stages refuse.
 pub(crate) fn put_cite_error(session: &mut Session, case: &Value<'_>, error: &CiteError) {
@@ -43,13 +43,4 @@ pub(crate) fn put_section_error(session: &mut Session, index: usize, error: &Sel
     session.put_refused("Selector");
     session.put_count("index", index);
     session.put_printed("error", error);
-}
-
-/// Writes what a sink did that did not take all.
-fn put_write_error(session: &mut Session, fault: SinkFault) {
-    session.put_refused("Write");
-    match fault {
-        SinkFault::Failed => session.put_text("fault", "Failed"),
-        SinkFault::TookNothing => session.put_text("fault", "TookNothing"),
-    }
 }

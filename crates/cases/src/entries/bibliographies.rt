@@ -1,6 +1,8 @@
 //! Bibliographies: what is read of a text, what is put in and taken out then, and what names mean.
 
-use crate::entries::data::{read_entry, set_field};
+use crate::entries::changes::change;
+use crate::entries::data::read_entry;
+use crate::entries::files::show_written;
 use crate::entries::printing::put_entry;
 use crate::entries::refusals::{put_parse_error, put_raw_error};
 use crate::{Session, Value};
@@ -11,7 +13,7 @@ pub(crate) fn answer_bibliography(session: &mut Session, case: &Value<'_>) {
     session.only(
         case,
         &[
-            "case", "name", "bib", "counted", "steps", "places", "show", "message",
+            "case", "name", "bib", "counted", "steps", "places", "show", "sink", "message",
         ],
     );
     let bib = session.maybe_text(case, "bib").unwrap_or("");
@@ -63,14 +65,7 @@ fn take_step(session: &mut Session, step: &Value<'_>, bibliography: &mut Bibliog
         "remove" => remove(session, step, bibliography),
         "alias" => alias(session, step, bibliography),
         "get" => get(session, step, bibliography),
-        "set" => set(session, step, bibliography),
-        "set_at" => set_at(session, step, bibliography),
-        "set_each" => set_each(session, step, bibliography),
-        "flatten" => flatten(session, step, bibliography),
-        _ => session.want(
-            "step",
-            "push, insert, remove, alias, get, set, set_at, set_each or flatten",
-        ),
+        word => change(session, word, step, bibliography),
     }
 }
 
@@ -133,45 +128,6 @@ fn get(session: &mut Session, step: &Value<'_>, bibliography: &Bibliography) {
     }
 }
 
-/// Gives the entry that a name means a field.
-fn set(session: &mut Session, step: &Value<'_>, bibliography: &mut Bibliography) {
-    session.only(step, &["step", "entry", "field", "value"]);
-    let entry = bibliography.get_mut(session.text(step, "entry"));
-    set_in(session, step, entry);
-}
-
-/// Gives the entry at an index a field.
-fn set_at(session: &mut Session, step: &Value<'_>, bibliography: &mut Bibliography) {
-    session.only(step, &["step", "place", "field", "value"]);
-    let entry = bibliography.entry_mut(session.count(step, "place"));
-    set_in(session, step, entry);
-}
-
-/// Gives an entry a field, and writes whether there is one.
-fn set_in(session: &mut Session, step: &Value<'_>, entry: Option<&mut Entry>) {
-    let is_there = entry.is_some();
-    if let Some(entry) = entry {
-        set_field(session, step, entry);
-    }
-    session.boolean(is_there);
-}
-
-/// Gives each entry a field.
-fn set_each(session: &mut Session, step: &Value<'_>, bibliography: &mut Bibliography) {
-    session.only(step, &["step", "field", "value"]);
-    for entry in bibliography.iter_mut() {
-        set_field(session, step, entry);
-    }
-    session.null();
-}
-
-/// Takes `crossref` out of each entry.
-fn flatten(session: &mut Session, step: &Value<'_>, bibliography: &mut Bibliography) {
-    session.only(step, &["step"]);
-    bibliography.flatten();
-    session.null();
-}
-
 /// Shows what a case asks for; the entries where it asks for nothing.
 fn show(session: &mut Session, case: &Value<'_>, bibliography: &Bibliography) {
     session.only_shown(
@@ -189,19 +145,6 @@ fn show(session: &mut Session, case: &Value<'_>, bibliography: &Bibliography) {
         put_references(session, bibliography);
     }
     show_written(session, case, bibliography);
-}
-
-/// Shows what a case asks for of the bibliography as a file.
-fn show_written(session: &mut Session, case: &Value<'_>, bibliography: &Bibliography) {
-    if session.is_shown(case, "settled", false) {
-        session.put_bool("settled", bibliography.is_settled());
-    }
-    if session.is_shown(case, "written", false) {
-        let written = bibliography.to_biblatex_string(session.alloc);
-        if let Some(text) = session.allocated(written) {
-            session.put_text("written", text.as_str());
-        }
-    }
 }
 
 /// Writes the member `entries`: each entry in its order.

@@ -40,6 +40,16 @@ pub(crate) fn set_field(session: &mut Session, object: &Value<'_>, entry: &mut E
     session.check(entry.set(field, value));
 }
 
+/// Puts a field into an entry, under the name of the member `field` as it is, with the value of the member `value`.
+pub(crate) fn put_field(session: &mut Session, object: &Value<'_>, entry: &mut Entry) {
+    let Some(value) = object.get("value") else {
+        return session.want("value", VALUE);
+    };
+    let name = session.owned_text(object, "field");
+    let value = read_value(session, value);
+    session.check(entry.fields.insert(name, value));
+}
+
 /// A value of a field: a list of chunks, or a text, which is one normal chunk of no source.
 fn read_value(session: &mut Session, value: &Value<'_>) -> Chunks {
     match value {

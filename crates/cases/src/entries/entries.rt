@@ -1,7 +1,7 @@
 //! One entry: what changes it, and what is asked of it.
 
 use crate::entries::data::{read_entry, set_field};
-use crate::entries::fields::{get_as, set_as};
+use crate::entries::fields::{get_as, set_typed};
 use crate::entries::getters::show;
 use crate::entries::printing::put_value;
 use crate::entries::refusals::put_parse_error;
@@ -81,6 +81,13 @@ fn take_step(session: &mut Session, step: &Value<'_>, entry: &mut Entry) {
 fn set(session: &mut Session, step: &Value<'_>, entry: &mut Entry) {
     session.only(step, &["step", "field", "value"]);
     set_field(session, step, entry);
+    session.null();
+}
+
+/// Gives an entry a field, as the value of a type.
+fn set_as(session: &mut Session, step: &Value<'_>, entry: &mut Entry) {
+    session.only(step, &["step", "field", "type", "value"]);
+    set_typed(session, step, entry);
     session.null();
 }
 

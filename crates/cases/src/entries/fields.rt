@@ -30,8 +30,7 @@ pub(crate) fn get_as(session: &mut Session, step: &Value<'_>, entry: &Entry) {
 }
 
 /// Gives an entry a field, as the value of a type that a step names.
-pub(crate) fn set_as(session: &mut Session, step: &Value<'_>, entry: &mut Entry) {
-    session.only(step, &["step", "field", "type", "value"]);
+pub(crate) fn set_typed(session: &mut Session, step: &Value<'_>, entry: &mut Entry) {
     match session.text(step, "type") {
         "integer" => set_value::<i64>(session, step, entry),
         "text" => set_value::<String>(session, step, entry),
@@ -44,7 +43,6 @@ pub(crate) fn set_as(session: &mut Session, step: &Value<'_>, entry: &mut Entry)
         "date" => set_value::<Date>(session, step, entry),
         _ => session.want("type", "a type of values"),
     }
-    session.null();
 }
 
 /// Gives an entry a field, as the value of the type that a step gives.

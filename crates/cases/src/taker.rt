@@ -20,11 +20,11 @@ pub(crate) struct Limits {
 
 /// A writer into memory.
 #[derive(Drop)]
-pub(crate) struct Taker {
+pub struct Taker {
     /// What it has taken.
-    pub(crate) taken: Vec<u8>,
+    pub taken: Vec<u8>,
     /// Whether there was no memory for what it was to take.
-    pub(crate) lacks_memory: bool,
+    pub lacks_memory: bool,
     limits: Limits,
 }
 

@@ -1,10 +1,10 @@
 //! The sinks of a case.
 
 use crate::taker::{Limits, Taker};
-use cases::{Session, Value};
+use crate::{Session, Value};
 
 /// The writer below the sink that a member describes; where it is left out, one that takes all.
-pub(crate) fn read_taker(session: &mut Session, case: &Value<'_>, name: &'static str) -> Taker {
+pub fn read_taker(session: &mut Session, case: &Value<'_>, name: &'static str) -> Taker {
     let limits = match case.get(name) {
         None | Some(Value::Null) => Limits {
             bytes_a_call: None,
