@@ -18,3 +18,4 @@ pub use biblatex_text::{
     BiblatexParser, Fault, Field, Pair, RawBibliography, RawChunk, RawEntry, RawError, Spanned,
     Token, is_id_continue, is_id_start, is_key,
 };
+pub use biblatex_writing::{is_settled_content, written_name};
