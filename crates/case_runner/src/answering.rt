@@ -25,6 +25,7 @@ fn is_answered(session: &mut Session, kind: &str, case: &Value<'_>) -> bool {
     cases::answer(session, kind, case)
         || cases_rendering::answer(session, kind, case)
         || cases_cite::answer(session, kind, case)
+        || cases_uses::answer(session, kind, case)
         || cases_driver::answer(session, kind, case)
 }
 

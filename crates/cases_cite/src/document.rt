@@ -26,7 +26,7 @@ fn put_error(session: &mut Session, case: &Value<'_>, error: &DocumentError) {
 }
 
 /// Writes at which byte an opening stands that no marker follows.
-pub(crate) fn put_marker_error(session: &mut Session, offset: usize) {
+pub fn put_marker_error(session: &mut Session, offset: usize) {
     session.put_refused("Marker");
     session.put_count("offset", offset);
 }

@@ -1,5 +1,5 @@
-//! Cases of the bridge from BibLaTeX files to libraries, of labels, of documents and their citations, of the programs, and of what no clause
-//! says of calls of these libraries.
+//! Cases of the bridge from BibLaTeX files to libraries, of labels, of documents and their citations, of the programs, of how `cite` hands its
+//! output to a sink, and of what is left where memory is refused to a call.
 #![tactic(auto)]
 
 mod bridge;
@@ -7,14 +7,18 @@ mod bytes;
 mod citing;
 mod document;
 mod files;
+mod kept;
 mod labels;
+mod parts;
 mod program;
 mod refusals;
 mod setting;
 mod show;
-mod uses;
 
 use cases::{Session, Value};
+pub use document::put_marker_error;
+pub use refusals::{put_cite_error, put_section_error};
+pub use setting::{english, style};
 
 /// Writes the members of the answer to a case of this kind; false where the kind is none of these.
 pub fn answer(session: &mut Session, kind: &str, case: &Value<'_>) -> bool {
@@ -22,10 +26,13 @@ pub fn answer(session: &mut Session, kind: &str, case: &Value<'_>) -> bool {
         "bridge" => bridge::answer_bridge(session, case),
         "citation_label" => labels::answer_label(session, case),
         "cite" => citing::answer_cite(session, case),
+        "cite_parts" => parts::answer_parts(session, case),
         "document" => document::answer_document(session, case),
+        "inserted" => kept::answer_inserted(session, case),
         "program" => program::answer_program(session, case),
         "show" => show::answer_show(session, case),
-        _ => return uses::answer(session, kind, case),
+        "written_after" => kept::answer_written(session, case),
+        _ => return false,
     }
     true
 }

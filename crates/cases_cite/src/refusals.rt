@@ -6,7 +6,7 @@ use cases_rendering::{put_faults, put_unknown};
 use cite::{BibTextError, CiteError, DocumentTextError, SelectorError};
 
 /// Writes why a document was not cited, with the stage of what several stages refuse.
-pub(crate) fn put_cite_error(session: &mut Session, case: &Value<'_>, error: &CiteError) {
+pub fn put_cite_error(session: &mut Session, case: &Value<'_>, error: &CiteError) {
     match error {
         CiteError::Memory => session.refuse(Refusal::Memory),
         CiteError::BibText(error) => put_bib_error(session, error),
@@ -39,7 +39,7 @@ fn put_document_error(session: &mut Session, error: &DocumentTextError) {
 }
 
 /// Writes which section was refused, by its index from zero, and the message for it.
-pub(crate) fn put_section_error(session: &mut Session, index: usize, error: &SelectorError) {
+pub fn put_section_error(session: &mut Session, index: usize, error: &SelectorError) {
     session.put_refused("Selector");
     session.put_count("index", index);
     session.put_printed("error", error);

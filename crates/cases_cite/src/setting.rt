@@ -3,7 +3,6 @@
 use cases::{Session, Value, member};
 use cases_rendering::{accepted, boxed, english_locale, maybe_locale};
 use cite::{BufWriteFormat, Locale, Style, author_date, note, numeric};
-use cite_uses::titles;
 
 /// A document, and how it is cited.
 #[derive(Clone, Copy)]
@@ -19,11 +18,7 @@ pub(crate) struct CiteSetting<'s> {
 }
 
 /// The style of a case, by its word or as data, or the usual one where it is left out; none where it is refused, and the answer then says why.
-pub(crate) fn style(
-    session: &mut Session,
-    case: &Value<'_>,
-    usual: &'static str,
-) -> Option<Box<Style>> {
+pub fn style(session: &mut Session, case: &Value<'_>, usual: &'static str) -> Option<Box<Style>> {
     let Some(given) = member(case, "style") else {
         return style_named(session, usual);
     };
@@ -41,9 +36,8 @@ fn style_named(session: &mut Session, word: &str) -> Option<Box<Style>> {
         "numeric" => numeric(session.alloc),
         "author-date" => author_date(session.alloc),
         "note" => note(session.alloc),
-        "titles" => titles(session.alloc),
         _ => {
-            session.want("style", "numeric, author-date, note, titles or a style");
+            session.want("style", "numeric, author-date, note or a style");
             return None;
         }
     };
@@ -54,7 +48,7 @@ fn style_named(session: &mut Session, word: &str) -> Option<Box<Style>> {
 }
 
 /// The locale of English.
-pub(crate) fn english(session: &mut Session) -> Option<Box<Locale>> {
+pub fn english(session: &mut Session) -> Option<Box<Locale>> {
     match english_locale(session) {
         Some(locale) => boxed(session, locale),
         None => None,

@@ -1,25 +1,22 @@
-//! Cases of the calls of `cite_uses`, of how `cite` hands its output to a sink, and of what is left where memory is refused to a call.
+//! Cases of the calls of `cite_uses`.
+#![tactic(auto)]
 
 mod alike;
 mod bibliography;
 mod documents;
 mod flattened;
-mod kept;
-mod parts;
+mod style;
 
 use cases::{Session, Value};
 
 /// Writes the members of the answer to a case of this kind; false where the kind is none of these.
-pub(crate) fn answer(session: &mut Session, kind: &str, case: &Value<'_>) -> bool {
+pub fn answer(session: &mut Session, kind: &str, case: &Value<'_>) -> bool {
     match kind {
         "are_alike" => alike::answer_alike(session, case),
         "bibliography_of" => bibliography::answer_bibliography(session, case),
-        "cite_parts" => parts::answer_parts(session, case),
         "cited_by_numbers" => documents::answer_numbers(session, case),
         "cited_on_page" => documents::answer_page(session, case),
         "flattened_file" => flattened::answer_flattened(session, case),
-        "inserted" => kept::answer_inserted(session, case),
-        "written_after" => kept::answer_written(session, case),
         _ => return false,
     }
     true

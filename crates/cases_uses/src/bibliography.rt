@@ -1,7 +1,8 @@
 //! Bibliographies of entries, without a document.
 
-use crate::setting::{english, style};
+use crate::style::style_or_titles;
 use cases::{Refusal, Session, Value};
+use cases_cite::english;
 use cases_rendering::{bibliography_of, bridged, named, put_unknown};
 use cite::{Locale, Style};
 use driver::{DriverError, Rendered};
@@ -15,7 +16,7 @@ pub(crate) fn answer_bibliography(session: &mut Session, case: &Value<'_>) {
             "case", "name", "bib", "entries", "order", "style", "message",
         ],
     );
-    let Some(style) = style(session, case, "numeric") else {
+    let Some(style) = style_or_titles(session, case, "numeric") else {
         return;
     };
     let Some(locale) = english(session) else {

@@ -1,10 +1,9 @@
 //! Documents with a file that was changed.
 
-use crate::document::put_marker_error;
-use crate::refusals::put_section_error;
-use crate::setting::style;
+use crate::style::style_or_titles;
 use biblatex::Bibliography;
 use cases::{Refusal, Session, Value, put_parse_error};
+use cases_cite::{put_marker_error, put_section_error};
 use cases_rendering::bridged;
 use cite::{Document, DocumentError, SelectorError, Style};
 use cite_uses::{Works, are_alike};
@@ -28,7 +27,7 @@ pub(crate) fn answer_alike(session: &mut Session, case: &Value<'_>) {
             "case", "name", "bib", "other", "document", "style", "sections", "message",
         ],
     );
-    let Some(style) = style(session, case, "numeric") else {
+    let Some(style) = style_or_titles(session, case, "numeric") else {
         return;
     };
     let Some(file) = read(session, case, "bib") else {

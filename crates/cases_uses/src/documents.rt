@@ -1,8 +1,8 @@
 //! Documents with their citations: as a text, and on a page.
 
-use crate::refusals::put_cite_error;
-use crate::setting::{english, style};
+use crate::style::style_or_titles;
 use cases::{Refusal, Session, Value};
+use cases_cite::{english, put_cite_error};
 use cite::{CiteError, SinkFault};
 use cite_uses::{cited_by_numbers, cited_on_page};
 
@@ -26,7 +26,7 @@ pub(crate) fn answer_page(session: &mut Session, case: &Value<'_>) {
             "case", "name", "bib", "document", "style", "room", "message",
         ],
     );
-    let Some(style) = style(session, case, "titles") else {
+    let Some(style) = style_or_titles(session, case, "titles") else {
         return;
     };
     let Some(locale) = english(session) else {
