@@ -43,8 +43,13 @@ impl Style {
         ensures answer { MatchResult result (λ _. IsAnswer (style_parts_view parts) None) (λ e.
             IfSome (refusal_of e) (λ r. IsAnswer (style_parts_view parts) (Some r))) }
     {
-        let table = checked(alloc, &parts)?;
-        Ok(Style { parts, table })
+        match checked(alloc, &parts) {
+            Ok(table) => Ok(Style { parts, table }),
+            Err(fault) => {
+                drop(parts);
+                Err(fault)
+            }
+        }
     }
 
     /// What the style is made of.
