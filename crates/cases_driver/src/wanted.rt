@@ -3,6 +3,7 @@
 use crate::citations::{put_citation, put_item};
 use crate::properties::properties_of;
 use crate::writing::put_writing;
+use biblatex::Bibliography;
 use cases::{Refusal, Session, Value};
 use cases_rendering::{
     bibliography_of, bridged, locale_files, maybe_code, named, put_unknown_name, style_of,
@@ -43,19 +44,43 @@ const MEMBERS: [&str; 16] = [
 /// `citation`, `item`, `writing`: what the style of a case gives of its entry.
 pub(crate) fn answer(session: &mut Session, case: &Value<'_>, wanted: Wanted) {
     session.only(case, &MEMBERS);
-    let Some(style) = style_of(session, case) else {
-        return;
-    };
+    if let Some(style) = style_of(session, case) {
+        answer_by_style(session, case, wanted, &style);
+        drop(style);
+    }
+}
+
+/// What a style gives of the entry of a case.
+fn answer_by_style(session: &mut Session, case: &Value<'_>, wanted: Wanted, style: &Style) {
     let files = locale_files(session, case);
-    let Some(bibliography) = bibliography_of(session, case) else {
-        return;
-    };
-    let Some(library) = bridged(session, case, &bibliography) else {
+    if let Some(bibliography) = bibliography_of(session, case) {
+        answer_of_file(
+            session,
+            case,
+            wanted,
+            style,
+            files.as_slice(),
+            &bibliography,
+        );
+        drop(bibliography);
+    }
+}
+
+/// What a style gives of the entry of a case over these files, where the entry is one of the bibliography.
+fn answer_of_file(
+    session: &mut Session,
+    case: &Value<'_>,
+    wanted: Wanted,
+    style: &Style,
+    files: &[Locale],
+    bibliography: &Bibliography,
+) {
+    let Some(library) = bridged(session, case, bibliography) else {
         return;
     };
     let name = session.text(case, "entry");
-    match named(&bibliography, &library, name) {
-        Some(entry) => put_by_style(session, case, wanted, &style, files.as_slice(), entry),
+    match named(bibliography, &library, name) {
+        Some(entry) => put_by_style(session, case, wanted, style, files, entry),
         None => put_unknown_name(session, name),
     }
 }
