@@ -33,10 +33,18 @@ use std::slice::{Iter, IterMut};
 
 /// Entries in file order, found by their names, which are kept in the order of their bytes. A name means the entry that it was last
 /// given to.
-#[derive(Drop)]
 pub struct Bibliography {
     entries: Vec<Entry>,
     names: Vec<NamedIndex>,
+}
+
+impl Drop for Bibliography {
+    fn drop(self) {
+        let Bibliography {
+            entries: _,
+            names: _,
+        } = self;
+    }
 }
 
 impl Model for Bibliography {
@@ -234,14 +242,9 @@ impl Bibliography {
         ensures err { IfErr result (IsRefusedAs self.entries (references (listed_view self))) }
     {
         let references = self.references(alloc)?;
-        let Resolution { entries, count } = resolve(alloc, self.entries, &references)?;
-        Ok((
-            Bibliography {
-                entries,
-                names: self.names,
-            },
-            count,
-        ))
+        let Bibliography { entries, names } = self;
+        let Resolution { entries, count } = resolve(alloc, entries, &references)?;
+        Ok((Bibliography { entries, names }, count))
     }
 
     /// Writes the entries as a BibLaTeX file. Takes no memory. After an error the sink has taken a prefix of the file.
@@ -291,6 +294,7 @@ impl Bibliography {
     pub fn into_vec(self) -> Vec<Entry>
         ensures { sources_view result.items ≡ self.entries }
     {
-        self.entries
+        let Bibliography { entries, names: _ } = self;
+        entries
     }
 }

@@ -46,7 +46,6 @@ pub(crate) fn answer(session: &mut Session, case: &Value<'_>, wanted: Wanted) {
     session.only(case, &MEMBERS);
     if let Some(style) = style_of(session, case) {
         answer_by_style(session, case, wanted, &style);
-        drop(style);
     }
 }
 
@@ -62,7 +61,6 @@ fn answer_by_style(session: &mut Session, case: &Value<'_>, wanted: Wanted, styl
             files.as_slice(),
             &bibliography,
         );
-        drop(bibliography);
     }
 }
 

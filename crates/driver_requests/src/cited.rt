@@ -14,11 +14,20 @@ use std::collections::HashMap;
 use std::hash::Hash;
 
 /// The entries that are cited, each once in the order of first cites, and for each request the indices of its items' entries among them.
-#[derive(Drop)]
 pub struct Cited<'a, T: Eq + Hash> {
     table: HashMap<&'a T, usize>,
     entries: Vec<&'a T>,
     runs: Vec<Vec<usize>>,
+}
+
+impl<'a, T: Eq + Hash> Drop for Cited<'a, T> {
+    fn drop(self) {
+        let Cited {
+            table: _,
+            entries: _,
+            runs: _,
+        } = self;
+    }
 }
 
 impl<'a, T: Eq + Hash> Cited<'a, T> {

@@ -13,11 +13,16 @@ use literature_entries::Entry;
 use std::alloc::{AllocError, Global};
 
 /// Entries in order, of which no two have the same key.
-#[derive(Drop)]
 pub struct Library {
     entries: IndexMap<String, Entry>,
     ghost in_step: { AreInStep entries.entries },
     ghost distinct: { AreDistinct views.key_view (values_of entries.entries) },
+}
+
+impl Drop for Library {
+    fn drop(self) {
+        let Library { entries: _ } = self;
+    }
 }
 
 impl Library {
@@ -128,7 +133,8 @@ impl IntoIterator for Library {
     ghost into_iter_gives = { λ l r. (r ≡ entries l) × AreDistinct views.key_view r };
 
     fn into_iter(self) -> IntoValues<String, Entry, Global> {
-        self.entries.into_values()
+        let Library { entries } = self;
+        entries.into_values()
     }
 }
 

@@ -11,7 +11,7 @@ use literature_values::EntryType;
 use std::alloc::{AllocError, Global};
 
 /// What is asked of an entry and of its parents.
-#[derive(Debug, PartialEq, Eq, Drop)]
+#[derive(Debug, PartialEq, Eq)]
 pub(crate) enum Node {
     /// `*`: every entry.
     Any,
@@ -29,6 +29,21 @@ pub(crate) enum Node {
     Multi(Vec<Node>),
     /// `x > y`: `x` of the entry and `y` of its parents.
     Ancestry(Box<Node>, Box<Node>),
+}
+
+impl Drop for Node {
+    fn drop(self) {
+        match self {
+            Node::Any => {}
+            Node::Entry(_) => {}
+            Node::Not(_) => {}
+            Node::Binding(_, _) => {}
+            Node::Attributes(_, _) => {}
+            Node::Alternatives(_) => {}
+            Node::Multi(_) => {}
+            Node::Ancestry(_, _) => {}
+        }
+    }
 }
 
 /// `!x`.

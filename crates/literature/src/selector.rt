@@ -21,9 +21,15 @@ use std::alloc::{AllocError, Global};
 use std::fmt;
 
 /// What is asked of an entry and of its parents. A selector is read of a text, so it is at most 128 levels deep.
-#[derive(PartialEq, Eq, Drop)]
+#[derive(PartialEq, Eq)]
 pub struct Selector {
     root: Node,
+}
+
+impl Drop for Selector {
+    fn drop(self) {
+        let Selector { root: _ } = self;
+    }
 }
 
 impl Selector {

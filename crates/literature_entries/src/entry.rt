@@ -11,7 +11,7 @@ use literature_values::EntryType;
 
 /// An entry of a library: its key, its type and fields, and the works that it is part of. Two entries are equal where all of
 /// this is; their hash is that of the key. Comparing, dropping and `Debug` recurse as deep as ancestors go.
-#[derive(Debug, PartialEq, Eq, Drop)]
+#[derive(Debug, PartialEq, Eq)]
 #[derive_where(Hash)]
 pub struct Entry {
     pub(crate) key: String,
@@ -19,6 +19,16 @@ pub struct Entry {
     pub(crate) details: Details,
     #[derive_where(skip(Hash))]
     pub(crate) parents: Vec<Entry>,
+}
+
+impl Drop for Entry {
+    fn drop(self) {
+        let Entry {
+            key: _,
+            details: _,
+            parents: _,
+        } = self;
+    }
 }
 
 impl Entry {

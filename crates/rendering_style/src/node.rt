@@ -174,7 +174,7 @@ pub struct Condition {
 
 /// A node. Comparing, dropping and `Debug` recurse as deep as nodes are nested.
 #[cycle(node)]
-#[derive(Debug, PartialEq, Eq, Drop)]
+#[derive(Debug, PartialEq, Eq)]
 pub enum Node {
     Text(Text),
     Number(Number),
@@ -186,6 +186,21 @@ pub enum Node {
     Choose(Vec<ChooseBranch>, Vec<Node>),
     /// A group, and its children.
     Group(Group, Vec<Node>),
+}
+
+impl Drop for Node {
+    #[cycle(dropping)]
+    fn drop(self) {
+        match self {
+            Node::Text(_) => {}
+            Node::Number(_) => {}
+            Node::Label(_) => {}
+            Node::Date(_) => {}
+            Node::Names(_, _) => {}
+            Node::Choose(_, _) => {}
+            Node::Group(_, _) => {}
+        }
+    }
 }
 
 /// Nodes that stand where a condition is met.

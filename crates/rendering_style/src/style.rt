@@ -19,13 +19,19 @@ use std::alloc::Global;
 use std::collections::HashMap;
 
 /// A style: no macro reaches itself, and no layout and no macro has more than 200 levels of nodes.
-#[derive(Debug, Drop)]
+#[derive(Debug)]
 pub struct Style {
     parts: StyleParts,
     table: HashMap<String, usize>,
     ghost indexed: { IsIndex table (macros_view parts) },
     ghost acyclic: { (i : ℕ) → IsCircular (references (macros_view parts)) i → ⊥ },
     ghost shallow: { style_fits (style_parts_view parts) ≡ true },
+}
+
+impl Drop for Style {
+    fn drop(self) {
+        let Style { parts: _, table: _ } = self;
+    }
 }
 
 impl Style {

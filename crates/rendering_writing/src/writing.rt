@@ -32,11 +32,20 @@ use std::alloc::{AllocError, Global};
 use std::marker::Model;
 
 /// A page, and what is handed down to what is appended to it. After an error nothing is known of what stands on the page.
-#[derive(Drop)]
 pub struct WritingContext<'a> {
     state: State<'a>,
     setting: NodeSetting<'a>,
     options_around: Vec<ResolvedNameOptions<'a>>,
+}
+
+impl Drop for WritingContext<'_> {
+    fn drop(self) {
+        let WritingContext {
+            state: _,
+            setting: _,
+            options_around: _,
+        } = self;
+    }
 }
 
 impl<'a> Model for WritingContext<'a> {
