@@ -1,10 +1,10 @@
 -- What is right of a bib text is right of each that is alike to it.
 use Rattle.std.proofs.Common.{ℕ, List, Result, Ok}
 use Rattle.cite.specs.Alike.{ForAlike}
-use Rattle.cite.specs.Answers.{Answers, Writes}
+use Rattle.cite_requests.specs.Answers.{Answers, Writes}
 use Rattle.cite.specs.Verdict.{Task, IsVerdict}
-use Rattle.cite.specs.declared.error.CiteError.{CiteError}
-use Rattle.cite.proofs.AnswersWeaker.{answers_weaker}
+use Rattle.cite_requests.specs.declared.error.CiteError.{CiteError}
+use Rattle.cite_requests.proofs.AnswersWeaker.{answers_weaker}
 use Rattle.cite.proofs.VerdictsAlike.{alike_verdicts}
 
 module _ (bib : List ℕ) (task : Task) where

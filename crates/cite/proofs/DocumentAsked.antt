@@ -20,18 +20,18 @@ use Rattle.driver_requests.specs.CitedEntries.{index_among, indices_among}
 use Rattle.driver_requests.specs.Views.{entries_in, entries_of, request_view}
 use Rattle.driver_requests.specs.declared.request.CitationRequest.{CitationRequest}
 use Rattle.cite_markers.specs.Marker.{Cite}
-use Rattle.cite.specs.Asked.{asked_request, asked_request_view}
+use Rattle.cite_requests.specs.Asked.{asked_request, asked_request_view}
 use Rattle.cite.specs.Finished.{document_asked}
 use Rattle.literature.specs.Holding.{holds_at}
-use Rattle.cite.specs.Markers.{CitedWork, cited_work, with_work}
-use Rattle.cite.specs.Requests.{OwnLocator, requests_of, works_in}
-use Rattle.cite.specs.Sections.{chosen}
-use Rattle.cite.specs.Steps.{all_ok}
+use Rattle.cite_requests.specs.Markers.{CitedWork, cited_work, with_work}
+use Rattle.cite_requests.specs.Requests.{OwnLocator, requests_of, works_in}
+use Rattle.cite_requests.specs.Sections.{chosen}
+use Rattle.cite_requests.specs.Steps.{all_ok}
 use Rattle.cite.specs.Verdict.{driver_document}
-use Rattle.cite.specs.Works.{Works, is_same, meaning, work_of}
-use Rattle.cite.proofs.AskedIndices.{AreAt, asked_works, entries_asked, items_by, indexed_request, requests_indexed, works_asked}
-use Rattle.cite.proofs.EntriesIndices.{IsListed, AreListed, AreListedWorks, chosen_listed, found_listed, joined, listed_entries, index_is, indices_are}
-use Rattle.cite.proofs.StepsRefused.{all_give}
+use Rattle.cite_requests.specs.Works.{Works, is_same, meaning, work_of}
+use Rattle.cite_requests.proofs.AskedIndices.{AreAt, asked_works, entries_asked, items_by, indexed_request, requests_indexed, works_asked}
+use Rattle.cite_requests.proofs.EntriesIndices.{IsListed, AreListed, AreListedWorks, chosen_listed, found_listed, joined, listed_entries, index_is, indices_are}
+use Rattle.cite_requests.proofs.StepsRefused.{all_give}
 
 module _ (works : Works) where
   named_if : (b : Bool) (k : List ℕ) (w : EntryData) → cond b None (with_key key_of k works.library) ≡ Some w → IsListed works.library w

@@ -13,9 +13,9 @@ use Rattle.driver.specs.Finish.{Rendered, finish}
 use Rattle.driver_rounds.specs.Views.{bibliography_context_of, document_view}
 use Rattle.driver_requests.specs.Errors.{overflow}
 use Rattle.cite.specs.Finished.{document_asked, finished}
-use Rattle.cite.specs.Requests.{OwnLocator, is_same_own}
-use Rattle.cite.specs.Stages as stages
-use Rattle.cite.specs.Stages.{refused_as}
+use Rattle.cite_requests.specs.Requests.{OwnLocator, is_same_own}
+use Rattle.cite_requests.specs.Stages as stages
+use Rattle.cite_requests.specs.Stages.{refused_as}
 
 module _ (same : Entry → Entry → Bool) (x : StyleContext) (own rs : List (CitationRequest Entry OwnLocator)) (offset : ℕ) (r : BibliographyRequest Entry) (es : List Entry)
     (requests : own ≡ rs) (none : offset ≡ 0) (context : bibliography_context_of r ≡ x) (order : borrowed r.order.now ≡ es) where

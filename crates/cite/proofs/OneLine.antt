@@ -26,20 +26,20 @@ use Rattle.rendering_context.specs.Contexts.{StyleContext}
 use Rattle.cite_markers.specs.Document.{Piece, document_of}
 use Rattle.cite_markers.specs.Marker.{Cite}
 use Rattle.driver.specs.Finish.{finish}
-use Rattle.cite.specs.Markers.{CitedWork, cited_work, cited_works, markers_of, with_work}
+use Rattle.cite_requests.specs.Markers.{CitedWork, cited_work, cited_works, markers_of, with_work}
 use Rattle.cite.specs.OneLine.{HasLineMessages, RefusalsHaveLineMessages}
 use Rattle.cite.specs.Program.{fault_message}
-use Rattle.cite.specs.Refusals.{marker_text}
+use Rattle.cite_requests.specs.Refusals.{marker_text}
 use Rattle.literature.specs.Errors.{fault_text}
-use Rattle.cite.specs.Requests.{is_same_own}
-use Rattle.cite.specs.Sections.{SectionFault, chosen, selector_in, selector_or_fault, selectors_of}
-use Rattle.cite.specs.Stages.{Refusal, bib_refused, document_not_utf8, no_marker, overflow, section_refused, unknown_name, refused_as, IsReadIf, IsRead, works_from, library_stage, AreWorksOf, document_stage, name_stage, section_stage}
-use Rattle.cite.specs.Steps.{all_ok}
+use Rattle.cite_requests.specs.Requests.{is_same_own}
+use Rattle.cite_requests.specs.Sections.{SectionFault, chosen, selector_in, selector_or_fault, selectors_of}
+use Rattle.cite_requests.specs.Stages.{Refusal, bib_refused, document_not_utf8, no_marker, overflow, section_refused, unknown_name, refused_as, IsReadIf, IsRead, works_from, library_stage, AreWorksOf, document_stage, name_stage, section_stage}
+use Rattle.cite_requests.specs.Steps.{all_ok}
 use Rattle.cite.specs.Verdict.{Task, driver_document, driver_stage, rendered_stage, verdict}
-use Rattle.cite.specs.Works.{Works, meaning}
-use Rattle.cite.proofs.MarkersPlain.{DocumentPlain, HasPlainName, MarkerPlain, document_plain, markers_plain}
-use Rattle.cite.proofs.SelectorsPlain.{FaultPlain, selector_plain}
-use Rattle.cite.proofs.StepsRefused.{Whatever, all_refuse, each_refuses, whatever}
+use Rattle.cite_requests.specs.Works.{Works, meaning}
+use Rattle.cite_requests.proofs.MarkersPlain.{DocumentPlain, HasPlainName, MarkerPlain, document_plain, markers_plain}
+use Rattle.cite_requests.proofs.SelectorsPlain.{FaultPlain, selector_plain}
+use Rattle.cite_requests.proofs.StepsRefused.{Whatever, all_refuse, each_refuses, whatever}
 
 abbrev HasPlainMessage : Fault → Type 0
 HasPlainMessage f = HasNoLineFeed (fault_message f)

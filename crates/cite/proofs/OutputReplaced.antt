@@ -17,17 +17,17 @@ use Rattle.driver.specs.Finish.{Citation, Rendered, finish}
 use Rattle.cite_markers.specs.Document.{Piece, Text, Marker, FollowInOrder, document_of}
 use Rattle.cite_markers.specs.Marker.{Cite}
 use Rattle.cite_markers.proofs.DocumentStands.{pieces_stand}
-use Rattle.cite.specs.Markers.{CitedWork, cited_work, cited_works, markers_of}
+use Rattle.cite_requests.specs.Markers.{CitedWork, cited_work, cited_works, markers_of}
 use Rattle.cite.specs.Output.{bibliography_text, document_text, output_text, tree_text}
 use Rattle.cite.specs.Replaced.{AreReplaced, CitationsDependOnMarkersAlone, IsOutputOf, TextsComeOutUnchanged}
-use Rattle.cite.specs.Requests.{is_same_own, request_of, works_in}
-use Rattle.cite.specs.Sections.{chosen}
-use Rattle.cite.specs.Stages.{Refusal, AreWorksOf, document_not_utf8, document_stage, name_stage, no_marker, overflow, refused_as, section_stage, unknown_name}
-use Rattle.cite.specs.Steps.{all_ok}
+use Rattle.cite_requests.specs.Requests.{is_same_own, request_of, works_in}
+use Rattle.cite_requests.specs.Sections.{chosen}
+use Rattle.cite_requests.specs.Stages.{Refusal, AreWorksOf, document_not_utf8, document_stage, name_stage, no_marker, overflow, refused_as, section_stage, unknown_name}
+use Rattle.cite_requests.specs.Steps.{all_ok}
 use Rattle.cite.specs.Verdict.{Task, IsVerdict, driver_document, driver_stage, rendered_stage, verdict}
-use Rattle.cite.specs.Works.{Works}
+use Rattle.cite_requests.specs.Works.{Works}
 use Rattle.cite.proofs.CitationsCount.{citations_count}
-use Rattle.cite.proofs.StepsRefused.{all_count, given}
+use Rattle.cite_requests.proofs.StepsRefused.{all_count, given}
 use Rattle.cite.proofs.VerdictStages.{ends}
 
 -- ---- a citation for each marker

@@ -10,15 +10,15 @@ use Rattle.literature.specs.declared.selector_error.SelectorError.TheVariants as
 use lib.Chars.{codes}
 use Rattle.sinks.specs.Sinks.{HasFailed, AppendsPrefix}
 use Rattle.sinks.specs.Programs.{Served, IsUntouched, Says, no_memory}
-use Rattle.cite.specs.Answers.{Wanted, Writes, IsRefusal, IsSectionRefusal, UnlessWrite, OnWrite}
+use Rattle.cite_requests.specs.Answers.{Wanted, Writes, IsRefusal, IsSectionRefusal, UnlessWrite, OnWrite}
 use Rattle.cite.specs.Program.{Reads, Job, IsReason, IsRefused, IsJobFault, ServesJob, error_message, line, said, task_in, refusal_message}
-use Rattle.cite.specs.Refusals.{section_text}
-use Rattle.cite.specs.Stages.{Refusal}
+use Rattle.cite_requests.specs.Refusals.{section_text}
+use Rattle.cite_requests.specs.Stages.{Refusal}
 use Rattle.cite.specs.Verdict.{IsVerdict}
-use Rattle.cite.specs.declared.error.CiteError.{CiteError}
-use Rattle.cite.specs.declared.error.CiteError.TheVariants as errors
-use Rattle.cite.specs.declared.error.BibTextError.TheVariants as bib
-use Rattle.cite.specs.declared.error.DocumentTextError.TheVariants as document
+use Rattle.cite_requests.specs.declared.error.CiteError.{CiteError}
+use Rattle.cite_requests.specs.declared.error.CiteError.TheVariants as errors
+use Rattle.cite_requests.specs.declared.error.BibTextError.TheVariants as bib
+use Rattle.cite_requests.specs.declared.error.DocumentTextError.TheVariants as document
 
 -- what is served here is served there
 pub untouched_weaker : {O : Type 0} (S T : Served) (old new : O) (before after : Option (List ℕ)) (was now : ℕ) → ((P : List ℕ → Type 0) → S P → T P)

@@ -11,18 +11,18 @@ use Rattle.rendering_context.specs.Contexts.{StyleContext}
 use Rattle.driver.specs.Finish.{finish}
 use Rattle.driver_requests.specs.declared.request.CitationRequest.{CitationRequest}
 use Rattle.cite_markers.specs.Document.{Piece}
-use Rattle.cite.specs.Asked.{AskedRequest, asked_request, asked_request_view, requests_asked}
+use Rattle.cite_requests.specs.Asked.{AskedRequest, asked_request, asked_request_view, requests_asked}
 use Rattle.cite.specs.Finished.{finished}
-use Rattle.cite.specs.Markers.{CitedWork, cited_works, markers_of}
-use Rattle.cite.specs.Requests.{OwnLocator, is_same_own}
-use Rattle.cite.specs.Sections.{chosen}
-use Rattle.cite.specs.Stages.{Refusal, overflow, refused_as, name_stage, section_stage, unknown_name}
+use Rattle.cite_requests.specs.Markers.{CitedWork, cited_works, markers_of}
+use Rattle.cite_requests.specs.Requests.{OwnLocator, is_same_own}
+use Rattle.cite_requests.specs.Sections.{chosen}
+use Rattle.cite_requests.specs.Stages.{Refusal, overflow, refused_as, name_stage, section_stage, unknown_name}
 use Rattle.cite.specs.Verdict.{driver_stage, rendered_stage}
-use Rattle.cite.specs.Works.{Works}
+use Rattle.cite_requests.specs.Works.{Works}
 use Rattle.cite.proofs.DocumentAsked.{chosen_works_listed, document_is, markers_listed}
-use Rattle.cite.proofs.EntriesIndices.{AreListedWorks}
-use Rattle.cite.proofs.RequestsNamed.{requests_are}
-use Rattle.cite.proofs.StepsRefused.{given}
+use Rattle.cite_requests.proofs.EntriesIndices.{AreListedWorks}
+use Rattle.cite_requests.proofs.RequestsNamed.{requests_are}
+use Rattle.cite_requests.proofs.StepsRefused.{given}
 
 -- a name that is unknown
 stops_at_names : (works : Works) (x : StyleContext) (sections : List (List ℕ)) (ps : List Piece) (r : Refusal) → name_stage works ps ≡ Err r → rendered_stage works x sections ps ≡ Err r

@@ -24,13 +24,13 @@ use Rattle.driver_requests.specs.Requests.{Item, Request, note_number_in}
 use Rattle.driver.specs.Alike.{item_with, request_with, requests_named}
 use Rattle.cite_markers.specs.Marker.{Cite}
 use Rattle.cite_markers.specs.Document.{Piece}
-use Rattle.cite.specs.Cited.{is_among}
-use Rattle.cite.specs.Markers.{CitedWork, cited_work, markers_of, with_work}
-use Rattle.cite.specs.Requests.{OwnLocator, item_of, locator_of, request_of, works_in}
-use Rattle.cite.specs.Steps.{all_ok}
-use Rattle.cite.specs.Works.{Works, meaning}
-use Rattle.cite.proofs.EntriesIndices.{AreListedWorks}
-use Rattle.cite.proofs.KeyLists.{at_once_among, index_mapped, key_at_index}
+use Rattle.cite_requests.specs.Cited.{is_among}
+use Rattle.cite_requests.specs.Markers.{CitedWork, cited_work, markers_of, with_work}
+use Rattle.cite_requests.specs.Requests.{OwnLocator, item_of, locator_of, request_of, works_in}
+use Rattle.cite_requests.specs.Steps.{all_ok}
+use Rattle.cite_requests.specs.Works.{Works, meaning}
+use Rattle.cite_requests.proofs.EntriesIndices.{AreListedWorks}
+use Rattle.cite_requests.proofs.KeyLists.{at_once_among, index_mapped, key_at_index}
 
 -- a cite with the key of its work
 abbrev pub keyed : CitedWork → Cite × List ℕ

@@ -2,13 +2,13 @@
 use Rattle.std.proofs.Common.{◌≡◌, ℕ, List, Result, Ok, Err, sym, subst}
 use Rattle.std.specs.Prelude.{IfErr}
 use Rattle.biblatex.specs.Bibliographies.{Listed}
-use Rattle.cite.specs.Answers.{Answers, Writes, IsRefusal, IsRefusalUnlessWrite, UnlessWrite}
+use Rattle.cite_requests.specs.Answers.{Answers, Writes, IsRefusal, IsRefusalUnlessWrite, UnlessWrite}
 use Rattle.cite.specs.Roads.{ForRewriting, IsSettledFile, rewritten}
-use Rattle.cite.specs.Stages.{Refusal}
+use Rattle.cite_requests.specs.Stages.{Refusal}
 use Rattle.cite.specs.Verdict.{Task, IsVerdict}
-use Rattle.cite.specs.declared.error.CiteError.{CiteError}
-use Rattle.cite.specs.declared.error.CiteError.TheVariants as errors
-use Rattle.cite.proofs.AnswersWeaker.{answers_weaker, refused_weaker}
+use Rattle.cite_requests.specs.declared.error.CiteError.{CiteError}
+use Rattle.cite_requests.specs.declared.error.CiteError.TheVariants as errors
+use Rattle.cite_requests.proofs.AnswersWeaker.{answers_weaker, refused_weaker}
 use Rattle.cite.proofs.SameVerdicts.{same_verdicts}
 
 -- what holds of an error holds unless it is a failed write

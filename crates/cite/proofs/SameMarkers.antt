@@ -17,13 +17,13 @@ use Rattle.rendering.specs.Alike.{style_named}
 use Rattle.cite_markers.specs.Document.{Piece}
 use Rattle.cite_markers.specs.Marker.{Cite}
 use Rattle.cite.specs.Alike.{IsTaskRead, IsBibRead, AgreeFor, AreAlikeFor, keys_in_order}
-use Rattle.cite.specs.Markers.{CitedWork, cited_work, markers_of, names_cited, with_work}
-use Rattle.cite.specs.Requests.{works_in}
-use Rattle.cite.specs.Stages.{Refusal, name_stage, refused_as, unknown_name}
-use Rattle.cite.specs.Steps.{all_ok}
+use Rattle.cite_requests.specs.Markers.{CitedWork, cited_work, markers_of, names_cited, with_work}
+use Rattle.cite_requests.specs.Requests.{works_in}
+use Rattle.cite_requests.specs.Stages.{Refusal, name_stage, refused_as, unknown_name}
+use Rattle.cite_requests.specs.Steps.{all_ok}
 use Rattle.cite.specs.Verdict.{Task}
-use Rattle.cite.specs.Works.{Works, MeansOneWork}
-use Rattle.cite.proofs.EntriesIndices.{AreListedWorks, IsListed}
+use Rattle.cite_requests.specs.Works.{Works, MeansOneWork}
+use Rattle.cite_requests.proofs.EntriesIndices.{AreListedWorks, IsListed}
 use Rattle.cite.proofs.RequestsAlike.{alike_itself}
 use Rattle.cite.proofs.VerdictsAlike.{cited_listed}
 

@@ -19,7 +19,7 @@ use Rattle.interop.specs.Bridge.{Fault}
 use Rattle.interop.specs.Library.{library_of}
 use Rattle.interop_roads.proofs.FlatAlike.{flat_library}
 use Rattle.interop_roads.proofs.ReadBackAlike.{back_library}
-use Rattle.cite.specs.Stages.{Refusal, IsRead, IsReadIf, bib_refused, library_stage, refused_as, works_from}
+use Rattle.cite_requests.specs.Stages.{Refusal, IsRead, IsReadIf, bib_refused, library_stage, refused_as, works_from}
 use Rattle.cite.specs.Verdict.{Task, IsVerdict, verdict}
 use Rattle.cite.proofs.VerdictsUnique.{one_verdict}
 use Rattle.cite.specs.Roads.{RewritingHasTheSameVerdicts, rewritten}

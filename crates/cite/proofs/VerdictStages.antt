@@ -4,9 +4,9 @@ use Rattle.laws.specs.Text.{text}
 use Rattle.driver.specs.Finish.{Rendered}
 use Rattle.cite_markers.specs.Document.{Piece}
 use Rattle.cite.specs.Output.{output_text}
-use Rattle.cite.specs.Stages.{Refusal, AreWorksOf, document_stage}
+use Rattle.cite_requests.specs.Stages.{Refusal, AreWorksOf, document_stage}
 use Rattle.cite.specs.Verdict.{Task, rendered_stage, verdict, IsVerdict}
-use Rattle.cite.specs.Works.{Works}
+use Rattle.cite_requests.specs.Works.{Works}
 
 -- the stages of the bib text stop
 stopped : (r : Refusal) (task : Task) → verdict (Err r) task ≡ Err r

@@ -20,22 +20,22 @@ use Rattle.driver.specs.Finish.{Rendered, finish}
 use Rattle.driver.specs.Alike.{document_with}
 use Rattle.driver_laws.proofs.DocumentsAlike.{alike_entries}
 use Rattle.cite_markers.specs.Document.{Piece}
-use Rattle.cite.specs.Cited.{is_among}
-use Rattle.cite.specs.Markers.{CitedWork, cited_works, markers_of}
+use Rattle.cite_requests.specs.Cited.{is_among}
+use Rattle.cite_requests.specs.Markers.{CitedWork, cited_works, markers_of}
 use Rattle.cite.specs.Output.{output_text}
-use Rattle.cite.specs.Requests.{OwnLocator, is_same_own, requests_of, works_in}
-use Rattle.cite.specs.Sections.{chosen}
-use Rattle.cite.specs.Stages.{Refusal, document_stage, name_stage, overflow, refused_as, section_stage, unknown_name}
+use Rattle.cite_requests.specs.Requests.{OwnLocator, is_same_own, requests_of, works_in}
+use Rattle.cite_requests.specs.Sections.{chosen}
+use Rattle.cite_requests.specs.Stages.{Refusal, document_stage, name_stage, overflow, refused_as, section_stage, unknown_name}
 use Rattle.cite.specs.Verdict.{Task, driver_document, driver_stage, rendered_stage, verdict}
-use Rattle.cite.specs.Works.{Works, is_same}
+use Rattle.cite_requests.specs.Works.{Works, is_same}
 use Rattle.cite.proofs.DocumentAsked.{markers_listed}
-use Rattle.cite.proofs.EntriesIndices.{AreListedWorks}
-use Rattle.cite.proofs.StepsRefused.{given}
+use Rattle.cite_requests.proofs.EntriesIndices.{AreListedWorks}
+use Rattle.cite_requests.proofs.StepsRefused.{given}
 use Rattle.cite.proofs.VerdictsUnique.{one_verdict}
 use Rattle.cite.specs.Alike.{IsBibRead, AgreeFor, AreAlikeFor, AlikeTextsHaveOneVerdict, keys_by_cite}
 use Rattle.cite.proofs.RequestsAlike.{among_all, answers_at, answers_by, cites_kept, each_index, keyed, keyed_alike, named_alike, nothing_answered, request_at, requests_given, requests_keyed}
-use Rattle.cite.proofs.SectionsAlike.{chosen_alike, says}
-use Rattle.cite.proofs.WorksListed.{found_cited, works_listed}
+use Rattle.cite_requests.proofs.SectionsAlike.{chosen_alike, says}
+use Rattle.cite_requests.proofs.WorksListed.{found_cited, works_listed}
 
 -- what a call comes to, where no stage refuses
 verdict_of : (works : Works) (task : Task) (pieces : List Piece) (selectors : List Tree) (ms : List (List CitedWork))

@@ -4,9 +4,9 @@ use Rattle.std.specs.Str.{chars, is_utf8}
 use Rattle.laws.specs.Results.{◌>>=◌}
 use Rattle.biblatex.specs.Bibliographies.{Listed}
 use Rattle.biblatex.proofs.ResolvedUnique.{one_meaning}
-use Rattle.cite.specs.Stages.{Refusal, bib_refused, refused_as, IsReadIf, IsRead, library_stage, AreWorksOf}
+use Rattle.cite_requests.specs.Stages.{Refusal, bib_refused, refused_as, IsReadIf, IsRead, library_stage, AreWorksOf}
 use Rattle.cite.specs.Verdict.{Task, verdict, IsVerdict}
-use Rattle.cite.specs.Works.{Works}
+use Rattle.cite_requests.specs.Works.{Works}
 
 one_read : (bib : List ℕ) (r s : Result Listed Refusal) → IsRead bib r → IsRead bib s → r ≡ s
 one_read bib r s = at (is_utf8 bib)

@@ -27,12 +27,12 @@ use Rattle.interop_roads.proofs.FlatAlike.{others_stay}
 use Rattle.interop_roads.proofs.ReadBackAlike.{written_once}
 use Rattle.interop_roads.proofs.WrittenLookUps.{nothing_back}
 use Rattle.cite_markers.specs.Document.{Piece}
-use Rattle.cite.specs.Markers.{names_cited}
+use Rattle.cite_requests.specs.Markers.{names_cited}
 use Rattle.cite.specs.Output.{output_text}
-use Rattle.cite.specs.Sections.{chosen}
-use Rattle.cite.specs.Stages.{document_stage, section_stage, works_from}
+use Rattle.cite_requests.specs.Sections.{chosen}
+use Rattle.cite_requests.specs.Stages.{document_stage, section_stage, works_from}
 use Rattle.cite.specs.Verdict.{Task, driver_stage, rendered_stage, verdict}
-use Rattle.cite.specs.Works.{Works, MeansOneWork, work_of}
+use Rattle.cite_requests.specs.Works.{Works, MeansOneWork, work_of}
 use Rattle.cite.proofs.SameMarkers.{names_same}
 use Rattle.cite.proofs.NamesAreKeys.{HasNoAliases, NamesAreKeys, last_with}
 

@@ -9,12 +9,12 @@ use Rattle.rendering_style.specs.Styles.{Style}
 use Rattle.rendering_nodes.specs.Named.{AreAlike}
 use Rattle.rendering.specs.Alike.{style_named}
 use Rattle.cite_markers.specs.Document.{Piece}
-use Rattle.cite.specs.Cited.{is_among}
-use Rattle.cite.specs.Markers.{CitedWork}
-use Rattle.cite.specs.Requests.{works_in}
-use Rattle.cite.specs.Stages.{Refusal, AreWorksOf, document_stage, name_stage, section_stage}
+use Rattle.cite_requests.specs.Cited.{is_among}
+use Rattle.cite_requests.specs.Markers.{CitedWork}
+use Rattle.cite_requests.specs.Requests.{works_in}
+use Rattle.cite_requests.specs.Stages.{Refusal, AreWorksOf, document_stage, name_stage, section_stage}
 use Rattle.cite.specs.Verdict.{Task, IsVerdict}
-use Rattle.cite.specs.Works.{Works}
+use Rattle.cite_requests.specs.Works.{Works}
 
 -- the document and the sections of a task are read
 pub record IsTaskRead (task : Task) : Type 0 where

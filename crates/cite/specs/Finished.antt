@@ -9,8 +9,8 @@ use Rattle.driver_requests.specs.Views.{entries_in, request_view}
 use Rattle.driver_requests.specs.declared.request.CitationRequest.{CitationRequest}
 use Rattle.driver_rounds.specs.Documents.{Document}
 use Rattle.driver.specs.Finish.{Rendered, finish}
-use Rattle.cite.specs.Requests.{OwnLocator, is_same_own}
-use Rattle.cite.specs.Stages.{Refusal, overflow, refused_as}
+use Rattle.cite_requests.specs.Requests.{OwnLocator, is_same_own}
+use Rattle.cite_requests.specs.Stages.{Refusal, overflow, refused_as}
 
 -- the document of requests and of entries that are wanted first, where entries are the same by this
 abbrev pub document_asked : (Entry → Entry → Bool) → StyleContext → List (CitationRequest Entry OwnLocator) → List Entry → Document OwnLocator

@@ -2,9 +2,9 @@
 use Rattle.std.specs.Prelude.{ℕ, All, List, [], Err}
 use Rattle.biblatex.specs.Lines.{HasNoLineFeed}
 use Rattle.interop.specs.Bridge.{Fault}
-use Rattle.cite.specs.Stages.{Refusal, fields_refused}
+use Rattle.cite_requests.specs.Stages.{Refusal, fields_refused}
 use Rattle.cite.specs.Verdict.{Task, IsVerdict}
-use Rattle.cite.specs.Refusals.{refusal_text}
+use Rattle.cite_requests.specs.Refusals.{refusal_text}
 use Rattle.cite.specs.Program.{fault_message}
 
 -- the fields that a refusal reports

@@ -17,13 +17,13 @@ use Rattle.rendering_output.specs.declared.writing.BufWriteFormat.TheVariants.{P
 use Rattle.cite_styles.specs.English.{english}
 use Rattle.rendering_style.specs.Styles.{Style}
 use Rattle.cite_styles.specs.Styles.{numeric, author_date, note}
-use Rattle.cite.specs.Answers.{Writes}
-use Rattle.cite.specs.Refusals.{refusal_text, error_text}
-use Rattle.cite.specs.Requests.{context_of}
-use Rattle.cite.specs.Stages.{Refusal, fields_refused}
+use Rattle.cite_requests.specs.Answers.{Writes}
+use Rattle.cite_requests.specs.Refusals.{refusal_text, error_text}
+use Rattle.cite_requests.specs.Requests.{context_of}
+use Rattle.cite_requests.specs.Stages.{Refusal, fields_refused}
 use Rattle.cite.specs.Verdict.{Task, IsVerdict}
-use Rattle.cite.specs.declared.error.CiteError.{CiteError}
-use Rattle.cite.specs.declared.error.CiteError.TheVariants as errors
+use Rattle.cite_requests.specs.declared.error.CiteError.{CiteError}
+use Rattle.cite_requests.specs.declared.error.CiteError.TheVariants as errors
 use Rattle.cite.specs.declared.program.RunFault.{RunFault}
 use Rattle.cite.specs.declared.program.RunFault.TheVariants as faults
 

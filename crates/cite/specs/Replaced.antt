@@ -4,8 +4,8 @@ use Rattle.std.specs.Str.{chars}
 use Rattle.laws.specs.Text.{text}
 use Rattle.cite_markers.specs.Document.{Piece, Text, Marker, FollowInOrder}
 use Rattle.cite_markers.specs.Marker.{Cite}
-use Rattle.cite.specs.Markers.{markers_of}
-use Rattle.cite.specs.Stages.{document_stage}
+use Rattle.cite_requests.specs.Markers.{markers_of}
+use Rattle.cite_requests.specs.Stages.{document_stage}
 use Rattle.cite.specs.Verdict.{Task, IsVerdict}
 
 -- characters are the texts of pieces in order, with a citation instead of each marker, up to what follows

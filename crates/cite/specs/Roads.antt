@@ -5,7 +5,7 @@ use Rattle.biblatex_writing.specs.Flat.{flat}
 use Rattle.biblatex_writing.specs.Settled.{is_settled}
 use Rattle.biblatex_writing.specs.Written.{written_file}
 use Rattle.interop_roads.specs.Roads.{AreWrittenApart}
-use Rattle.cite.specs.Stages.{Refusal, IsRead}
+use Rattle.cite_requests.specs.Stages.{Refusal, IsRead}
 use Rattle.cite.specs.Verdict.{Task, IsVerdict}
 
 -- A bib text is read as this file, whose entries without `crossref` are settled, and have no two fields in one entry that are written

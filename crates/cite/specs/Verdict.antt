@@ -9,12 +9,12 @@ use Rattle.driver_requests.specs.CitedEntries.{indices_among}
 use Rattle.cite_markers.specs.Document.{Piece}
 use Rattle.driver_rounds.specs.Documents.{Document}
 use Rattle.driver.specs.Finish.{Rendered, finish}
-use Rattle.cite.specs.Markers.{CitedWork}
+use Rattle.cite_requests.specs.Markers.{CitedWork}
 use Rattle.cite.specs.Output.{output_text}
-use Rattle.cite.specs.Requests.{OwnLocator, is_same_own, requests_of, works_in}
-use Rattle.cite.specs.Sections.{chosen}
-use Rattle.cite.specs.Stages.{Refusal, overflow, refused_as, AreWorksOf, document_stage, name_stage, section_stage}
-use Rattle.cite.specs.Works.{Works, is_same}
+use Rattle.cite_requests.specs.Requests.{OwnLocator, is_same_own, requests_of, works_in}
+use Rattle.cite_requests.specs.Sections.{chosen}
+use Rattle.cite_requests.specs.Stages.{Refusal, overflow, refused_as, AreWorksOf, document_stage, name_stage, section_stage}
+use Rattle.cite_requests.specs.Works.{Works, is_same}
 
 -- What a call is given beside the bib text: the bytes of the document, the style with its locale, the sections as characters,
 -- and the format.

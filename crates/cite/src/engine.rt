@@ -5,28 +5,27 @@ ghost use Rattle.laws.specs.Text.{spelled};
 ghost use Rattle.rendering_locale.specs.Views.{locale_view};
 ghost use Rattle.rendering_style.specs.StyleViews.{style_view};
 ghost use Rattle.cite.specs.Finished.{finished};
-ghost use Rattle.cite.specs.Requests.{context_of};
+ghost use Rattle.cite_requests.specs.Requests.{context_of};
 ghost use Rattle.std.specs.Io.KnownBytes.{Appends};
 ghost use Rattle.laws.specs.Counts.{next_count};
 ghost use Rattle.laws.specs.Borrowed.{borrowed};
 ghost use Rattle.sinks.specs.Sinks.{HasFailed, AppendsPrefix};
 ghost use Rattle.cite_markers.specs.Views.{document_view};
 ghost use Rattle.driver.specs.RenderedViews.{rendered_view};
-ghost use Rattle.cite.specs.Stages.{document_stage};
 ghost use Rattle.cite.specs.Verdict.{IsVerdict, rendered_stage};
 ghost use Rattle.cite.specs.Alike.{ForAlike};
 ghost use Rattle.cite.specs.Roads.{ForRewriting};
 ghost use Rattle.cite.specs.Pieces.{output_of};
-ghost use Rattle.cite.specs.Views.{task_of, file_works};
-ghost use Rattle.cite.specs.Answers.{Answers, Gives, Writes, IsRefusalUnlessWrite, UnlessWrite, OnWrite, IsLastFault};
+ghost use Rattle.cite_requests.specs.Views.{file_works};
+ghost use Rattle.cite.specs.Views.{task_of};
+ghost use Rattle.cite_requests.specs.Answers.{Answers, Gives, Writes, IsRefusalUnlessWrite, UnlessWrite, OnWrite, IsLastFault};
 
-use crate::bib_file::BibFile;
-use crate::bytes::utf8_text;
-use crate::error::{CiteError, DocumentTextError};
 use crate::output::Output;
-use crate::requests::{CitingSetting, MarkerRequest, language, requests};
-use crate::sections::{chosen, selectors};
-use cite_markers::{Document, DocumentError};
+use cite_markers::Document;
+use cite_requests::{
+    BibFile, CiteError, CitingSetting, MarkerRequest, chosen, language, marker_requests,
+    read_document, selectors,
+};
 use driver::{BibliographyDriver, Rendered};
 use driver_requests::{BibliographyRequest, DriverError};
 use literature_entries::Entry;
@@ -36,22 +35,6 @@ use rendering_style::Style;
 use sinks::Sink;
 use std::alloc::Global;
 use std::slice;
-
-/// The pieces of a document.
-fn read_document<'s>(alloc: Global, document: &'s [u8]) -> Result<Document<'s>, CiteError>
-    ensures { Gives document_view result (document_stage document.now) }
-{
-    let Some(text) = utf8_text(document) else {
-        return Err(CiteError::Document(DocumentTextError::Utf8));
-    };
-    match Document::parse(alloc, text) {
-        Ok(document) => Ok(document),
-        Err(DocumentError::Memory) => Err(CiteError::Memory),
-        Err(DocumentError::Marker { offset }) => {
-            Err(CiteError::Document(DocumentTextError::Marker { offset }))
-        }
-    }
-}
 
 /// Citations and bibliography of a document. The file is dropped before the driver begins, which prints entries of the library alone.
 fn render(
@@ -72,7 +55,7 @@ fn render(
         style,
         locale,
     };
-    let requests = requests(alloc, &bib_file, setting, document)?;
+    let requests = marker_requests(alloc, &bib_file, setting, document)?;
     drop(bib_file);
     let selectors = selectors(alloc, sections)?;
     let chosen = chosen(alloc, &selectors, &library)?;

@@ -2,26 +2,17 @@
 //! after it. `cite` writes to a sink, `cite_to_string` returns the text, and `run` is the program over files that were read.
 #![tactic(auto)]
 
-mod bib_file;
-mod bytes;
-mod cited;
 mod engine;
-mod error;
-mod marks;
 mod one_line;
 mod output;
 mod output_laws;
 mod printed;
 mod program;
-mod requests;
-mod sections;
 
-pub use bib_file::work_of;
 pub use cite_markers::{Cite, CiteLocator, Document, DocumentError, Piece};
+pub use cite_requests::{BibTextError, CiteError, DocumentTextError, cited_keys, work_of};
 pub use cite_styles::{author_date, english, note, numeric};
-pub use cited::cited_keys;
 pub use engine::{cite, cite_to_string};
-pub use error::{BibTextError, CiteError, DocumentTextError};
 pub use interop::{DateField, FieldFault};
 pub use literature::SelectorError;
 pub use one_line::refusals_have_line_messages;

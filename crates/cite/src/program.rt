@@ -11,10 +11,10 @@ ghost use Rattle.interop.specs.Views.{fault_view};
 ghost use Rattle.std.specs.Option.{option_map};
 ghost use Rattle.rendering_style.specs.StyleViews.{style_view};
 ghost use Rattle.cite.specs.Program.{asked, job_of, ServesJob, IsJobFault, Serves, CannotRead, IsFault, IsReason, line, fault_message, fault_lines, fault_text, error_message, message_of, said, format_named, style_named};
-ghost use Rattle.cite.specs.Refusals.{error_text};
+ghost use Rattle.cite_requests.specs.Refusals.{error_text};
 
 use crate::engine::cite;
-use crate::error::CiteError;
+use cite_requests::CiteError;
 use cite_styles::{author_date, english, note, numeric};
 use interop::FieldFault;
 use rendering_output::BufWriteFormat;

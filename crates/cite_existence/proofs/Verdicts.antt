@@ -4,8 +4,8 @@ use Rattle.std.specs.Str.{chars, is_utf8}
 use Rattle.laws.specs.Results.{◌>>=◌}
 use Rattle.biblatex.specs.Bibliographies.{Listed}
 use Rattle.biblatex_existence.proofs.Meaning.{text_meaning}
-use Rattle.cite.specs.Works.{Works}
-use Rattle.cite.specs.Stages.{Refusal, bib_not_utf8, bib_refused, refused_as, IsReadIf, IsRead, library_stage, AreWorksOf}
+use Rattle.cite_requests.specs.Works.{Works}
+use Rattle.cite_requests.specs.Stages.{Refusal, bib_not_utf8, bib_refused, refused_as, IsReadIf, IsRead, library_stage, AreWorksOf}
 use Rattle.cite.specs.Verdict.{Task, verdict, IsVerdict}
 use Rattle.cite.proofs.VerdictsUnique.{one_verdict}
 use Rattle.cite_existence.specs.Verdicts.{HasOneVerdict}

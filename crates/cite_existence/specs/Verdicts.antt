@@ -1,6 +1,6 @@
 -- That each call of `cite` has a verdict.
 use Rattle.std.specs.Prelude.{◌≡◌, ℕ, List, Result}
-use Rattle.cite.specs.Stages.{Refusal}
+use Rattle.cite_requests.specs.Stages.{Refusal}
 use Rattle.cite.specs.Verdict.{Task, IsVerdict}
 
 -- the call has to do something, and nothing else

@@ -3,7 +3,7 @@ use Rattle.std.proofs.Common.{[], ◌∷◌}
 use Rattle.std.specs.Str.{chars}
 use Rattle.biblatex_locality.specs.Reached.{SayTheSameOf}
 use Rattle.biblatex_locality.proofs.OneMore.{one_more}
-use Rattle.cite.specs.Markers.{names_cited}
+use Rattle.cite_requests.specs.Markers.{names_cited}
 use Rattle.cite_locality.specs.Local.{OneUnreachedEntryChangesNothing}
 use Rattle.cite_locality.proofs.OrderKept.{order_kept}
 use Rattle.cite_locality.proofs.ReachedDecide.{reached_decide}

@@ -20,16 +20,16 @@ use Rattle.literature_entries.specs.EntriesData.{EntryData}
 use Rattle.literature.specs.Keys.{put, with_key}
 use Rattle.driver.proofs.Members.{both_all, every_all, weaker_all}
 use Rattle.interop.specs.Library.{all_works, is_xdata, key_of, put_after}
-use Rattle.cite.specs.Cited.{is_among}
-use Rattle.cite.specs.Markers.{CitedWork, names_cited}
-use Rattle.cite.specs.Requests.{works_in}
-use Rattle.cite.specs.Stages.{AreWorksOf}
+use Rattle.cite_requests.specs.Cited.{is_among}
+use Rattle.cite_requests.specs.Markers.{CitedWork, names_cited}
+use Rattle.cite_requests.specs.Requests.{works_in}
+use Rattle.cite_requests.specs.Stages.{AreWorksOf}
 use Rattle.cite.specs.Verdict.{Task}
-use Rattle.cite.specs.Works.{Works}
+use Rattle.cite_requests.specs.Works.{Works}
 use Rattle.cite.specs.Alike.{keys_in_order}
-use Rattle.cite.proofs.KeyLists.{turned}
+use Rattle.cite_requests.proofs.KeyLists.{turned}
 use Rattle.cite.proofs.VerdictsAlike.{cited_listed}
-use Rattle.cite.proofs.WorksListed.{found_cited}
+use Rattle.cite_requests.proofs.WorksListed.{found_cited}
 use Rattle.cite_locality.specs.Local.{AreRead}
 use Rattle.cite_locality.proofs.ReachedDecide.{file_apart, same_markers}
 use Rattle.cite_locality.proofs.WorksMeant.{is_work, others_keep, work, work_key, works_are}

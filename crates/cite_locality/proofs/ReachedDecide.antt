@@ -9,9 +9,9 @@ use Rattle.biblatex_locality.specs.Files.{IsFileOf}
 use Rattle.biblatex_locality.specs.Reached.{MeansTheSame, SayTheSameOf}
 use Rattle.biblatex_locality.proofs.LoadedKeys.{AreApart, heads_apart, loaded_apart}
 use Rattle.biblatex_locality.proofs.ReachedAlike.{alike_there}
-use Rattle.cite.specs.Markers.{names_cited}
+use Rattle.cite_requests.specs.Markers.{names_cited}
 use Rattle.cite.specs.Verdict.{Task}
-use Rattle.cite.specs.Works.{Works, MeansOneWork}
+use Rattle.cite_requests.specs.Works.{Works, MeansOneWork}
 use Rattle.cite.proofs.SameMarkers.{same_alike, same_markers as markers_same}
 use Rattle.cite_locality.specs.Local.{AreRead, ReachedEntriesDecide}
 use Rattle.cite_locality.proofs.WorksMeant.{meaning_is, works_same}

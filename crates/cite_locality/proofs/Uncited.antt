@@ -18,13 +18,13 @@ use Rattle.biblatex_locality.specs.Reached.{SayTheSameOf}
 use Rattle.literature_entries.specs.EntriesData.{EntryData}
 use Rattle.interop.specs.Bridge.{Fault}
 use Rattle.interop.specs.Library.{library_of}
-use Rattle.cite.specs.Stages.{Refusal, AreWorksOf, IsRead, IsReadIf, bib_refused, library_stage, refused_as, works_from}
+use Rattle.cite_requests.specs.Stages.{Refusal, AreWorksOf, IsRead, IsReadIf, bib_refused, library_stage, refused_as, works_from}
 use Rattle.cite.specs.Verdict.{Task, IsVerdict, verdict}
-use Rattle.cite.specs.Works.{Works}
+use Rattle.cite_requests.specs.Works.{Works}
 use Rattle.cite.proofs.VerdictsUnique.{one_verdict}
 use Rattle.cite.specs.Alike.{AreAlikeFor, keys_in_order}
 use Rattle.cite.proofs.VerdictsAlike.{alike_verdicts}
-use Rattle.cite.specs.Markers.{names_cited}
+use Rattle.cite_requests.specs.Markers.{names_cited}
 use Rattle.cite_locality.specs.Local.{AreRead}
 use Rattle.cite_locality.specs.Uncited.{UncitedEntriesChangeNothing}
 use Rattle.cite_locality.proofs.OrderKept.{order_kept}

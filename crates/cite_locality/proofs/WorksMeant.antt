@@ -26,9 +26,9 @@ use Rattle.interop.specs.Bridge.{Fault, container_of, entry_in, unless_faulty}
 use Rattle.interop.specs.Bridge as bridge
 use Rattle.interop.specs.Kinds.{row_of}
 use Rattle.interop.specs.Library.{all_faults, all_works, is_xdata, key_of, library_of, put_after}
-use Rattle.cite.specs.Stages.{Refusal, AreWorksOf, library_stage, works_from}
-use Rattle.cite.specs.Works.{Works, meaning, work_of}
-use Rattle.cite.proofs.KeyLists.{key_is}
+use Rattle.cite_requests.specs.Stages.{Refusal, AreWorksOf, library_stage, works_from}
+use Rattle.cite_requests.specs.Works.{Works, meaning, work_of}
+use Rattle.cite_requests.proofs.KeyLists.{key_is}
 
 same_itself : (k : List ℕ) → bytes_eq k k ≡ true
 same_itself k = (bytes_eq-Decides k k).1 refl

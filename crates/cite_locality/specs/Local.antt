@@ -5,7 +5,7 @@ use Rattle.biblatex.specs.Bibliographies.{Listed}
 use Rattle.biblatex_locality.specs.Differing.{BareEntry, HasOneMore, MeansOneKey, NoAbbreviationChanges}
 use Rattle.biblatex_locality.specs.Files.{IsFileOf}
 use Rattle.biblatex_locality.specs.Reached.{IsReached, SayTheSameOf}
-use Rattle.cite.specs.Markers.{names_cited}
+use Rattle.cite_requests.specs.Markers.{names_cited}
 use Rattle.cite.specs.Verdict.{Task}
 use Rattle.cite.specs.Alike.{IsTaskRead, IsBibRead, AreAlikeFor, keys_in_order}
 

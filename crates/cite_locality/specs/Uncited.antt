@@ -6,10 +6,10 @@ use Rattle.biblatex.specs.Bibliographies.{Listed}
 use Rattle.biblatex_joined.specs.Between.{ArePutBetween, AreUnreached}
 use Rattle.biblatex_locality.specs.Files.{IsFileOf}
 use Rattle.cite_markers.specs.Document.{Piece}
-use Rattle.cite.specs.Stages.{Refusal}
+use Rattle.cite_requests.specs.Stages.{Refusal}
 use Rattle.cite.specs.Verdict.{Task, IsVerdict}
 use Rattle.cite.specs.Alike.{IsTaskRead, IsBibRead}
-use Rattle.cite.specs.Markers.{names_cited}
+use Rattle.cite_requests.specs.Markers.{names_cited}
 
 -- the bytes of two parts of a bib text, and those of entries that can be put between them
 pub record ArePutTogether (front more back : List ℕ) : Type 0 where

@@ -21,12 +21,12 @@ use Rattle.driver.proofs.ItemsOrder.{found_some}
 use Rattle.driver.proofs.KeysFinals.{found_all}
 use Rattle.driver.proofs.Maps.{any_map, any_same}
 use Rattle.cite_markers.specs.Marker.{Cite}
-use Rattle.cite.specs.Markers.{CitedWork, cited_works, markers_of}
-use Rattle.cite.specs.Requests.{OwnLocator, is_same_own, item_of, request_of, works_in}
-use Rattle.cite.specs.Stages.{unknown_name}
+use Rattle.cite_requests.specs.Markers.{CitedWork, cited_works, markers_of}
+use Rattle.cite_requests.specs.Requests.{OwnLocator, is_same_own, item_of, request_of, works_in}
+use Rattle.cite_requests.specs.Stages.{unknown_name}
 use Rattle.cite.specs.Verdict.{Task}
 use Rattle.cite.proofs.RequestsAlike.{cites_kept}
-use Rattle.cite.proofs.StepsRefused.{given}
+use Rattle.cite_requests.proofs.StepsRefused.{given}
 use Rattle.cite_names.specs.Printed.{EachCiteIsPrinted, NoneIsRefused, document_of, prints_by_marker}
 
 -- whether some member passes, where each is made of one with the one before it

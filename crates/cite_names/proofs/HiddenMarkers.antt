@@ -15,15 +15,15 @@ use Rattle.driver_laws.specs.Laws.{is_all_hidden}
 use Rattle.driver_laws.proofs.HiddenNothing.{all_hidden}
 use Rattle.cite_markers.specs.Document.{Piece}
 use Rattle.cite_markers.specs.Marker.{Cite}
-use Rattle.cite.specs.Markers.{CitedWork, cited_works, markers_of}
+use Rattle.cite_requests.specs.Markers.{CitedWork, cited_works, markers_of}
 use Rattle.cite.specs.Output.{tree_text}
 use Rattle.cite.specs.Replaced.{IsOutputOf}
-use Rattle.cite.specs.Requests.{OwnLocator, is_same_own, item_of, request_of, works_in}
-use Rattle.cite.specs.Stages.{Refusal, document_stage, unknown_name}
+use Rattle.cite_requests.specs.Requests.{OwnLocator, is_same_own, item_of, request_of, works_in}
+use Rattle.cite_requests.specs.Stages.{Refusal, document_stage, unknown_name}
 use Rattle.cite.specs.Verdict.{Task}
 use Rattle.cite.proofs.OutputReplaced.{IsWritten, bibliography_in, citations_in, output_of, rendered_count, written}
 use Rattle.cite.proofs.RequestsAlike.{cites_kept}
-use Rattle.cite.proofs.StepsRefused.{given}
+use Rattle.cite_requests.proofs.StepsRefused.{given}
 use Rattle.cite_names.specs.Hidden.{HiddenMarkersPrintNothing, IsEmptyIfHidden}
 use Rattle.cite_names.specs.Printed.{NoneIsRefused, document_of, prints_by_marker}
 use Rattle.cite_names.proofs.Outputs.{IsOfPrints, of_prints}

@@ -14,15 +14,15 @@ use Rattle.driver_rounds.specs.Documents.{Document}
 use Rattle.driver.specs.Finish.{Citation, Rendered, finish}
 use Rattle.cite_markers.specs.Document.{Piece, Text, Marker}
 use Rattle.cite_markers.specs.Marker.{Cite}
-use Rattle.cite.specs.Markers.{CitedWork, cited_work, cited_works, markers_of, with_work}
+use Rattle.cite_requests.specs.Markers.{CitedWork, cited_work, cited_works, markers_of, with_work}
 use Rattle.cite.specs.Output.{bibliography_text, document_text, output_text, tree_text}
-use Rattle.cite.specs.Requests.{OwnLocator, is_same_own, item_of, request_of, requests_of, works_in}
-use Rattle.cite.specs.Sections.{chosen}
-use Rattle.cite.specs.Stages.{Refusal, document_stage, name_stage, overflow, refused_as, section_stage, unknown_name}
-use Rattle.cite.specs.Steps.{all_ok}
+use Rattle.cite_requests.specs.Requests.{OwnLocator, is_same_own, item_of, request_of, requests_of, works_in}
+use Rattle.cite_requests.specs.Sections.{chosen}
+use Rattle.cite_requests.specs.Stages.{Refusal, document_stage, name_stage, overflow, refused_as, section_stage, unknown_name}
+use Rattle.cite_requests.specs.Steps.{all_ok}
 use Rattle.cite.specs.Verdict.{Task, IsVerdict, driver_document, driver_stage, rendered_stage, verdict}
-use Rattle.cite.specs.Works.{Works, is_same, meaning}
-use Rattle.cite.proofs.StepsRefused.{given}
+use Rattle.cite_requests.specs.Works.{Works, is_same, meaning}
+use Rattle.cite_requests.proofs.StepsRefused.{given}
 use Rattle.cite.proofs.VerdictsUnique.{one_verdict}
 use Rattle.cite_names.specs.OtherNames.{AreOneCite, AreOnePiece, DifferInNames, OtherNamesPrintTheSame}
 

@@ -10,12 +10,12 @@ use Rattle.driver.specs.Finish.{Rendered, finish, overflows, rendered_from}
 use Rattle.driver.specs.Stages.{finals_by_request}
 use Rattle.cite_markers.specs.Document.{Piece}
 use Rattle.cite.specs.Output.{output_text}
-use Rattle.cite.specs.Requests.{OwnLocator, is_same_own}
-use Rattle.cite.specs.Stages.{AreWorksOf, document_stage, name_stage, overflow, section_stage}
+use Rattle.cite_requests.specs.Requests.{OwnLocator, is_same_own}
+use Rattle.cite_requests.specs.Stages.{AreWorksOf, document_stage, name_stage, overflow, section_stage}
 use Rattle.cite.specs.Verdict.{Task, rendered_stage}
-use Rattle.cite.specs.Works.{Works}
+use Rattle.cite_requests.specs.Works.{Works}
 use Rattle.cite.proofs.OutputReplaced.{IsWritten, written}
-use Rattle.cite.proofs.StepsRefused.{given}
+use Rattle.cite_requests.proofs.StepsRefused.{given}
 use Rattle.cite_names.specs.Printed.{NoneIsRefused, OutputsAreOfPrints, document_of, prints_by_marker}
 
 given_unless : (b : Bool) (x r : Rendered) → cond b (Err errors.overflow) (Ok x) ≡ Ok r → r ≡ x

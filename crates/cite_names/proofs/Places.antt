@@ -20,12 +20,12 @@ use Rattle.driver.proofs.KeysFinals.{found_all}
 use Rattle.driver.proofs.Members.{append_all, map_all, weaker_all}
 use Rattle.driver_laws.proofs.EntriesListed.{items_order, keys_order}
 use Rattle.driver_laws.proofs.EntriesOrdered.{order_has_the_cited}
-use Rattle.cite.specs.Cited.{is_among}
-use Rattle.cite.specs.Markers.{CitedWork}
-use Rattle.cite.specs.Requests.{OwnLocator, is_same_own, item_of, request_of, works_in}
+use Rattle.cite_requests.specs.Cited.{is_among}
+use Rattle.cite_requests.specs.Markers.{CitedWork}
+use Rattle.cite_requests.specs.Requests.{OwnLocator, is_same_own, item_of, request_of, works_in}
 use Rattle.cite.specs.Verdict.{Task}
-use Rattle.cite.specs.Works.{is_same}
-use Rattle.cite.proofs.KeyLists.{index_mapped, key_at_index, key_is}
+use Rattle.cite_requests.specs.Works.{is_same}
+use Rattle.cite_requests.proofs.KeyLists.{index_mapped, key_at_index, key_is}
 use Rattle.cite_names.specs.Printed.{NoneIsRefused, NumbersArePlaces, StandsOnceAt, all_prints, document_of}
 use Rattle.cite_names.proofs.PlacesListed.{made_there, member_there, number_there, only_there}
 use Rattle.cite_names.proofs.PrintedCites.{its_entry, its_key, its_state, works_among}

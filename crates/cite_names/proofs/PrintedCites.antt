@@ -23,15 +23,15 @@ use Rattle.driver.proofs.Members.{both_all, map_all, weaker_all, zip_all}
 use Rattle.driver_laws.specs.Laws.{entry_final}
 use Rattle.driver_laws.proofs.EntriesInStates.{IsInState, all_in_states}
 use Rattle.cite_markers.specs.Marker.{Cite}
-use Rattle.cite.specs.Cited.{is_among}
-use Rattle.cite.specs.Markers.{CitedWork, cited_work, cited_works, markers_of, with_work}
-use Rattle.cite.specs.Requests.{OwnLocator, is_same_own, item_of, request_of, works_in}
-use Rattle.cite.specs.Stages.{unknown_name}
-use Rattle.cite.specs.Steps.{all_ok}
+use Rattle.cite_requests.specs.Cited.{is_among}
+use Rattle.cite_requests.specs.Markers.{CitedWork, cited_work, cited_works, markers_of, with_work}
+use Rattle.cite_requests.specs.Requests.{OwnLocator, is_same_own, item_of, request_of, works_in}
+use Rattle.cite_requests.specs.Stages.{unknown_name}
+use Rattle.cite_requests.specs.Steps.{all_ok}
 use Rattle.cite.specs.Verdict.{Task}
-use Rattle.cite.specs.Works.{Works, is_same, meaning}
+use Rattle.cite_requests.specs.Works.{Works, is_same, meaning}
 use Rattle.cite.proofs.RequestsAlike.{among_all, cites_kept}
-use Rattle.cite.proofs.StepsRefused.{all_give, given}
+use Rattle.cite_requests.proofs.StepsRefused.{all_give, given}
 use Rattle.cite_names.specs.Printed.{IsPrintOf, NamesOfOneWorkShareNumberAndState, NoneIsRefused, document_of, prints_by_marker}
 use Rattle.cite_names.proofs.PlacesListed.{at_index}
 use Rattle.cite_names.proofs.Prints.{all_printed}

@@ -2,7 +2,7 @@
 use Rattle.std.specs.Prelude.{◌≡◌, ℕ, true, All, List, [], Ok}
 use Rattle.std.specs.List.{AllZip}
 use Rattle.cite_markers.specs.Marker.{Cite}
-use Rattle.cite.specs.Markers.{markers_of}
+use Rattle.cite_requests.specs.Markers.{markers_of}
 use Rattle.cite.specs.Replaced.{IsOutputOf}
 use Rattle.cite.specs.Verdict.{Task, IsVerdict}
 

@@ -5,9 +5,9 @@ use Rattle.laws.specs.Text.{text}
 use Rattle.cite_markers.specs.Document.{Piece, Text, Marker}
 use Rattle.cite_markers.specs.Marker.{Cite}
 use Rattle.cite.specs.Alike.{IsBibRead}
-use Rattle.cite.specs.Stages.{Refusal, document_stage}
+use Rattle.cite_requests.specs.Stages.{Refusal, document_stage}
 use Rattle.cite.specs.Verdict.{Task, IsVerdict}
-use Rattle.cite.specs.Works.{Works, meaning}
+use Rattle.cite_requests.specs.Works.{Works, meaning}
 
 -- two cites are the same but for their names, which mean the same work
 pub record AreOneCite (works : Works) (c d : Cite) : Type 0 where

@@ -11,12 +11,12 @@ use Rattle.driver.specs.Finish.{item_of_entry, item_trees, items_in, keys_in, re
 use Rattle.driver.specs.Stages.{Final, cite_of, finals_by_request}
 use Rattle.cite_markers.specs.Marker.{Cite}
 use Rattle.cite.specs.Alike.{IsBibRead, IsTaskRead}
-use Rattle.cite.specs.Markers.{markers_of}
+use Rattle.cite_requests.specs.Markers.{markers_of}
 use Rattle.cite.specs.Output.{output_text}
-use Rattle.cite.specs.Requests.{OwnLocator, is_same_own, works_in}
-use Rattle.cite.specs.Sections.{chosen}
+use Rattle.cite_requests.specs.Requests.{OwnLocator, is_same_own, works_in}
+use Rattle.cite_requests.specs.Sections.{chosen}
 use Rattle.cite.specs.Verdict.{Task, IsVerdict, driver_document}
-use Rattle.cite.specs.Works.{is_same, meaning}
+use Rattle.cite_requests.specs.Works.{is_same, meaning}
 
 -- No stage refuses a bib text, a document, its names or its sections.
 pub record NoneIsRefused (bib : List ℕ) (task : Task) : Type 0 where

@@ -15,11 +15,11 @@ use Rattle.interop.specs.Library.{key_of}
 use Rattle.rendering_nodes.specs.Named.{Named}
 use Rattle.cite_markers.specs.Document.{Piece, Text, Marker}
 use Rattle.cite_markers.specs.Marker.{Cite}
-use Rattle.cite.specs.Markers.{CitedWork, cited_work, cited_works, markers_of, names_cited, with_work}
-use Rattle.cite.specs.Requests.{works_in}
-use Rattle.cite.specs.Steps.{all_ok}
-use Rattle.cite.specs.Works.{Works, meaning}
-use Rattle.cite.proofs.EntriesIndices.{AreListedWorks, IsListed}
+use Rattle.cite_requests.specs.Markers.{CitedWork, cited_work, cited_works, markers_of, names_cited, with_work}
+use Rattle.cite_requests.specs.Requests.{works_in}
+use Rattle.cite_requests.specs.Steps.{all_ok}
+use Rattle.cite_requests.specs.Works.{Works, meaning}
+use Rattle.cite_requests.proofs.EntriesIndices.{AreListedWorks, IsListed}
 use Rattle.cite_uses.specs.Alike.{AreAlikeWorks, MeanAlikeWorks, names_of}
 
 module _ (works : Works) where

@@ -18,8 +18,8 @@ use Rattle.rendering.specs.Alike.{style_named}
 use Rattle.rendering_alike.specs.Naming.{NameTheSame}
 use Rattle.rendering_alike.proofs.AnswersAll.{alike_same, each_member, each_seen}
 use Rattle.cite_markers.specs.Document.{Piece, Text, Marker}
-use Rattle.cite.specs.Markers.{names_cited}
-use Rattle.cite.specs.Works.{Works, meaning}
+use Rattle.cite_requests.specs.Markers.{names_cited}
+use Rattle.cite_requests.specs.Works.{Works, meaning}
 use Rattle.cite_uses.specs.Alike.{AreAlikeWorks, AreInOneOrder, HaveAlikeWorks, MeanAlikeWorks, MeansAlikeTo, MeansAlikeWorks, indices_of, names_of, now_of}
 
 -- the names in a piece stand before those of the others

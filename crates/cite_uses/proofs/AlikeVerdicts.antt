@@ -11,13 +11,13 @@ use Rattle.rendering_style.specs.Styles.{Style}
 use Rattle.rendering.specs.Alike.{style_named}
 use Rattle.cite_markers.specs.Document.{Piece}
 use Rattle.cite.specs.Alike.{IsTaskRead, IsBibRead, AreAlikeFor, CitedAgree}
-use Rattle.cite.specs.Cited.{is_among}
-use Rattle.cite.specs.Markers.{CitedWork, cited_works, names_cited}
-use Rattle.cite.specs.Requests.{works_in}
-use Rattle.cite.specs.Stages.{Refusal, AreWorksOf, document_stage, name_stage, refused_as, section_stage, unknown_name}
+use Rattle.cite_requests.specs.Cited.{is_among}
+use Rattle.cite_requests.specs.Markers.{CitedWork, cited_works, names_cited}
+use Rattle.cite_requests.specs.Requests.{works_in}
+use Rattle.cite_requests.specs.Stages.{Refusal, AreWorksOf, document_stage, name_stage, refused_as, section_stage, unknown_name}
 use Rattle.cite.specs.Verdict.{Task, IsVerdict, rendered_stage, verdict}
-use Rattle.cite.specs.Works.{Works}
-use Rattle.cite.proofs.EntriesIndices.{AreListedWorks}
+use Rattle.cite_requests.specs.Works.{Works}
+use Rattle.cite_requests.proofs.EntriesIndices.{AreListedWorks}
 use Rattle.cite.proofs.VerdictsAlike.{alike_verdicts, cited_listed}
 use Rattle.cite.proofs.VerdictsUnique.{one_verdict}
 use Rattle.cite_uses.specs.Alike.{AskFor, GiveOneVerdict, HaveAlikeWorks}

@@ -11,7 +11,7 @@ use Rattle.biblatex.specs.Resolved.{TextMeans}
 use Rattle.biblatex_writing.specs.Flat.{flat}
 use Rattle.biblatex_writing.specs.Settled.{is_settled}
 use Rattle.cite.specs.Roads.{IsSettledFile}
-use Rattle.cite.specs.Stages.{IsRead, IsReadIf, bib_refused, refused_as}
+use Rattle.cite_requests.specs.Stages.{IsRead, IsReadIf, bib_refused, refused_as}
 use Rattle.cite_uses.specs.Flattened.{IsFlattening, is_written_apart}
 use Rattle.cite_uses.proofs.WrittenApart.{all_apart, apart_all}
 

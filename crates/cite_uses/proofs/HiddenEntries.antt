@@ -16,7 +16,7 @@ use Rattle.driver_requests.specs.declared.item.CitationItem.{CitationItem}
 use Rattle.driver_requests.specs.declared.request.CitationRequest.{CitationRequest}
 use Rattle.driver.proofs.Maps.{map_map}
 use Rattle.driver_rounds.specs.Views.{bibliography_context_of, document_view}
-use Rattle.cite.specs.Requests.{OwnLocator}
+use Rattle.cite_requests.specs.Requests.{OwnLocator}
 use Rattle.cite_uses.specs.Hidden.{context_in, hidden_document, hidden_parts, hidden_request}
 
 abbrev answers : Entry → Answers

@@ -19,10 +19,10 @@ use Rattle.interop.specs.Bridge as bridge
 use Rattle.interop.specs.Bridge.{Fault, container_of, entry_in, unless_faulty}
 use Rattle.interop.specs.Kinds.{row_of}
 use Rattle.interop.specs.Library.{all_faults, all_works, is_xdata, key_of, library_of, put_after}
-use Rattle.cite.specs.Stages.{Refusal, AreWorksOf, IsRead, library_stage, works_from}
-use Rattle.cite.specs.Works.{Works}
-use Rattle.cite.proofs.KeyLists.{key_is}
-use Rattle.cite.proofs.KeysDistinct.{distinct_apart, read_distinct}
+use Rattle.cite_requests.specs.Stages.{Refusal, AreWorksOf, IsRead, library_stage, works_from}
+use Rattle.cite_requests.specs.Works.{Works}
+use Rattle.cite_requests.proofs.KeyLists.{key_is}
+use Rattle.cite_requests.proofs.KeysDistinct.{distinct_apart, read_distinct}
 
 -- each key stands so to those after it
 module _ (R : List ℕ → List ℕ → Type 0) where

@@ -13,12 +13,12 @@ use Rattle.literature.specs.Keys.{with_key}
 use Rattle.literature.specs.Trees.{Tree}
 use Rattle.interop.specs.Library.{is_xdata, key_of}
 use Rattle.rendering_nodes.specs.Named.{Named}
-use Rattle.cite.specs.Cited.{is_among}
-use Rattle.cite.specs.Stages.{AreWorksOf}
-use Rattle.cite.specs.Works.{Works, meaning, work_of}
-use Rattle.cite.proofs.EntriesIndices.{AreListedWorks, found_key}
-use Rattle.cite.proofs.KeyLists.{key_is, turned}
-use Rattle.cite.proofs.WorksListed.{found_cited}
+use Rattle.cite_requests.specs.Cited.{is_among}
+use Rattle.cite_requests.specs.Stages.{AreWorksOf}
+use Rattle.cite_requests.specs.Works.{Works, meaning, work_of}
+use Rattle.cite_requests.proofs.EntriesIndices.{AreListedWorks, found_key}
+use Rattle.cite_requests.proofs.KeyLists.{key_is, turned}
+use Rattle.cite_requests.proofs.WorksListed.{found_cited}
 use Rattle.cite_uses.specs.Alike.{AreInOneOrder, MeanAlikeWorks, both_indices, indices_of}
 use Rattle.cite_uses.proofs.AlikeEach.{meant_work}
 use Rattle.cite_uses.proofs.KeysRise.{Rises, StandsBefore, kept_rises, key_at, library_rises, one_index}

@@ -17,11 +17,11 @@ use Rattle.rendering_alike.specs.Naming.{names_view}
 use Rattle.cite_markers.specs.Document.{Piece}
 use Rattle.cite_markers.specs.Marker.{Cite}
 use Rattle.laws.specs.Text.{text}
-use Rattle.cite.specs.Markers.{names_cited}
-use Rattle.cite.specs.Stages.{Refusal, AreWorksOf, document_stage, section_stage}
+use Rattle.cite_requests.specs.Markers.{names_cited}
+use Rattle.cite_requests.specs.Stages.{Refusal, AreWorksOf, document_stage, section_stage}
 use Rattle.cite.specs.Verdict.{Task, IsVerdict}
-use Rattle.cite.specs.Works as specs
-use Rattle.cite.specs.Works.{meaning}
+use Rattle.cite_requests.specs.Works as specs
+use Rattle.cite_requests.specs.Works.{meaning}
 use Rattle.cite_uses.specs.declared.alike.Asked.{Asked}
 use Rattle.cite_uses.specs.declared.alike.Works.{Works}
 

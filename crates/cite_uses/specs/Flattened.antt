@@ -9,7 +9,7 @@ use Rattle.biblatex.specs.Reading as reading
 use Rattle.biblatex_writing.specs.FieldNames.{other_names, written_name}
 use Rattle.biblatex_writing.specs.Settled.{are_distinct}
 use Rattle.cite.specs.Roads.{IsSettledFile, rewritten}
-use Rattle.cite.specs.Stages.{Refusal, IsRead, bib_refused}
+use Rattle.cite_requests.specs.Stages.{Refusal, IsRead, bib_refused}
 use Rattle.cite.specs.Verdict.{Task, IsVerdict}
 
 -- a field has the other name under which a field of this name may be read

@@ -10,7 +10,7 @@ use Rattle.driver_requests.specs.CitedEntries.{index_among}
 use Rattle.driver_requests.specs.Requests.{Request}
 use Rattle.driver_requests.specs.Views.{Parts, item_from}
 use Rattle.driver_rounds.specs.Documents.{Document}
-use Rattle.cite.specs.Requests.{OwnLocator}
+use Rattle.cite_requests.specs.Requests.{OwnLocator}
 
 -- an entry as a hidden item
 abbrev pub hidden_parts : Entry → Parts Entry OwnLocator

@@ -3,7 +3,7 @@ use Rattle.std.specs.Prelude.{ℕ, List, []}
 use Rattle.cite_styles.specs.English.{english}
 use Rattle.rendering_output.specs.declared.writing.BufWriteFormat.TheVariants.{Plain}
 use Rattle.cite_styles.specs.Styles.{numeric}
-use Rattle.cite.specs.Requests.{context_of}
+use Rattle.cite_requests.specs.Requests.{context_of}
 use Rattle.cite.specs.Verdict.{Task}
 
 -- citations as numbers, in English and plain text, without sections

@@ -9,7 +9,7 @@ ghost use Rattle.literature.specs.Views.{selector_view};
 ghost use Rattle.interop.specs.Library.{key_of};
 ghost use Rattle.rendering_style.specs.StyleViews.{style_view};
 ghost use Rattle.cite_markers.specs.Views.{document_view};
-ghost use Rattle.cite.specs.Works.{meaning};
+ghost use Rattle.cite_requests.specs.Works.{meaning};
 ghost use Rattle.cite_uses.specs.Alike.{AreAlikeWorks, GiveOneVerdict, HaveAlikeWorks, MeansAlikeTo, MeansAlikeWorks, asked_names, asked_selectors, works_view};
 
 use crate::names::cited_names;

@@ -9,7 +9,7 @@ ghost use Rattle.driver_requests.specs.Errors.{overflow_of};
 ghost use Rattle.driver_requests.specs.Views.{parts_of};
 ghost use Rattle.driver.specs.Finish.{finish};
 ghost use Rattle.driver.specs.RenderedViews.{rendered_view};
-ghost use Rattle.cite.specs.Requests.{is_same_own};
+ghost use Rattle.cite_requests.specs.Requests.{is_same_own};
 ghost use Rattle.cite_uses.specs.Hidden.{hidden_document, hidden_parts};
 
 use driver::{

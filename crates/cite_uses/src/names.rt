@@ -4,7 +4,7 @@ ghost use Rattle.std.specs.Prelude.{◌≡◌, ◌++◌, ◌∷◌, [], map, IfO
 ghost use Rattle.std.specs.Str.{chars};
 ghost use Rattle.laws.specs.Text.{text};
 ghost use Rattle.cite_markers.specs.Views.{cite_view, document_view, piece_view};
-ghost use Rattle.cite.specs.Markers.{names_cited};
+ghost use Rattle.cite_requests.specs.Markers.{names_cited};
 ghost use Rattle.cite_uses.specs.Alike.{names_of, now_of};
 
 use cite::{Cite, Document, Piece};

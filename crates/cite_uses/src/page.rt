@@ -2,7 +2,7 @@
 
 ghost use Rattle.std.specs.Prelude.{[], Ok, IfErr, IfOk};
 ghost use Rattle.rendering_output.specs.declared.writing.BufWriteFormat.TheVariants.{Html};
-ghost use Rattle.cite.specs.Answers.{IsRefusalUnlessWrite};
+ghost use Rattle.cite_requests.specs.Answers.{IsRefusalUnlessWrite};
 ghost use Rattle.cite.specs.Verdict.{IsVerdict};
 ghost use Rattle.cite.specs.Views.{task_of};
 

@@ -1,7 +1,7 @@
 //! A BibLaTeX file and a document to a text.
 
 ghost use Rattle.std.specs.Prelude.{string_bytes};
-ghost use Rattle.cite.specs.Answers.{Answers};
+ghost use Rattle.cite_requests.specs.Answers.{Answers};
 ghost use Rattle.cite.specs.Verdict.{IsVerdict};
 ghost use Rattle.cite_uses.specs.Tasks.{by_numbers};
 

@@ -1,9 +1,9 @@
 use Rattle.std.proofs.Common.{◌≡◌, ℕ, List, Result, Ok, Err, rules, sym, subst, String, string_bytes}
 use Rattle.std.specs.Global.{Global}
-use Rattle.cite.specs.Answers.{Answers}
+use Rattle.cite_requests.specs.Answers.{Answers}
 use Rattle.cite.specs.Verdict.{IsVerdict}
 use Rattle.cite.specs.Views.{task_of}
-use Rattle.cite.specs.declared.error.CiteError.{CiteError}
+use Rattle.cite_requests.specs.declared.error.CiteError.{CiteError}
 use Rattle.cite.proofs.AlikeAnswers.{answers_alike}
 use Rattle.cite.proofs.RewrittenAnswers.{answers_rewritten}
 use Rattle.cite.proofs.engine.cite_to_string.Goals as goal

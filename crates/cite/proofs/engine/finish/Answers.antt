@@ -7,7 +7,7 @@ use Rattle.rendering_locale.specs.Views.{locale_view}
 use Rattle.rendering_style.specs.StyleViews.{style_view}
 use Rattle.driver.specs.RenderedViews.{rendered_view}
 use Rattle.driver_rounds.specs.Views.{bibliography_context_of}
-use Rattle.cite.specs.Requests.{context_of}
+use Rattle.cite_requests.specs.Requests.{context_of}
 use Rattle.cite.proofs.Finishing.{gives, overflows}
 use Rattle.cite.proofs.engine.finish.Goals as goal
 

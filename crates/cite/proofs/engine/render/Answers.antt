@@ -4,7 +4,6 @@ use Rattle.laws.specs.Text.{spelled}
 use Rattle.literature.specs.Entries.{entries}
 use Rattle.std.specs.Borrow.{Bor}
 use Rattle.laws.specs.Borrowed.{borrowed}
-use Rattle.biblatex.specs.Bibliographies.{listed_view}
 use Rattle.interop.specs.Views.{library_view}
 use Rattle.literature_entries.specs.EntriesData.{EntryData, entry_view}
 use Rattle.literature_entries.specs.declared.entry.Entry.{Entry}
@@ -15,19 +14,19 @@ use Rattle.rendering_style.specs.StyleViews.{style_view}
 use Rattle.driver.specs.RenderedViews.{rendered_view}
 use Rattle.driver.specs.declared.rendered.Rendered.{Rendered}
 use Rattle.cite_markers.specs.Views.{document_view}
-use Rattle.cite.specs.Answers.{Gives}
-use Rattle.cite.specs.Asked.{asked_request_view}
-use Rattle.cite.specs.Cited.{library_needed}
-use Rattle.cite.specs.Requests.{context_of}
+use Rattle.cite_requests.specs.Answers.{Gives}
+use Rattle.cite_requests.specs.Asked.{asked_request_view}
+use Rattle.cite_requests.specs.Cited.{library_needed}
+use Rattle.cite_requests.specs.Requests.{context_of}
 use Rattle.cite.specs.Verdict.{rendered_stage}
-use Rattle.cite.specs.Sections.{chosen}
-use Rattle.cite.specs.Stages.{Refusal}
-use Rattle.cite.specs.Views.{lent_works_view, file_works_with, file_works}
-use Rattle.cite.specs.declared.error.CiteError.{CiteError}
-use Rattle.cite.proofs.AnswersWeaker.{no_refusal, refused_weaker}
-use Rattle.cite.proofs.CitedWorks.{rendered_with}
+use Rattle.cite_requests.specs.Sections.{chosen}
+use Rattle.cite_requests.specs.Stages.{Refusal}
+use Rattle.cite_requests.specs.Views.{lent_works_view, file_view, file_works_with, file_works}
+use Rattle.cite_requests.specs.declared.error.CiteError.{CiteError}
+use Rattle.cite_requests.proofs.AnswersWeaker.{no_refusal, refused_weaker}
+use Rattle.cite.proofs.NeededWorks.{rendered_with}
 use Rattle.cite.proofs.RenderedStages.{finishes, names_stop, sections_stop}
-use Rattle.cite.proofs.EntriesIndices.{works_listed}
+use Rattle.cite_requests.proofs.EntriesIndices.{works_listed}
 use Rattle.cite.proofs.engine.render.Goals as goal
 
 pub returns-in_err-library : goal.returns-in_err-library
@@ -36,11 +35,11 @@ returns-in_err-library c =
     let all = rendered_stage (file_works c.args.bib_file) x (map spelled c.args.sections.now) (document_view c.args.document.now) in
     let is : c.from_residual.result ≡ Err c.in_err-library.field-0.0 = search rules in
     subst (λ (r : Result Rendered CiteError). Gives rendered_view r all) (sym is)
-    (no_refusal c.in_err-library.field-0.0 (library_needed (listed_view c.args.bib_file.file) (map spelled c.args.sections.now) (document_view c.args.document.now)) (λ a. all ≡ a) c.in_err-library.ensures)
+    (no_refusal c.in_err-library.field-0.0 (library_needed (file_view c.args.bib_file) (map spelled c.args.sections.now) (document_view c.args.document.now)) (λ a. all ≡ a) c.in_err-library.ensures)
 
 pub returns-in_err-requests : goal.returns-in_err-requests
 returns-in_err-requests c =
-    let file = listed_view c.args.bib_file.file in
+    let file = file_view c.args.bib_file in
     let sections = map spelled c.args.sections.now in
     let pieces = document_view c.args.document.now in
     let library = library_view c.in_ok-library.library in
@@ -54,7 +53,7 @@ returns-in_err-requests c =
 
 pub returns-in_err-selectors : goal.returns-in_err-selectors
 returns-in_err-selectors c =
-    let file = listed_view c.args.bib_file.file in
+    let file = file_view c.args.bib_file in
     let sections = map spelled c.args.sections.now in
     let pieces = document_view c.args.document.now in
     let library = library_view c.in_ok-library.library in
@@ -73,7 +72,7 @@ lent_whole (e ∷ es) = ap (λ (ws : List EntryData). entry_view e.now ∷ ws) (
 
 pub returns : goal.returns
 returns c =
-    let file = listed_view c.args.bib_file.file in
+    let file = file_view c.args.bib_file in
     let sections = map spelled c.args.sections.now in
     let pieces = document_view c.args.document.now in
     let library = c.in_ok-library.library in

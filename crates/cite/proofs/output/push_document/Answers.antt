@@ -7,7 +7,7 @@ use Rattle.cite_markers.specs.declared.document.Piece.{Piece}
 use Rattle.cite.specs.Output.{document_text}
 use Rattle.cite.specs.Pieces.{citations_after}
 use Rattle.cite.proofs.OutputPieces.{no_piece, piece_first, writes_same}
-use Rattle.cite.proofs.StepsAfter.{at_item}
+use Rattle.cite_requests.proofs.StepsAfter.{at_item}
 use Rattle.cite.proofs.output.push_document.Goals as goal
 
 pub loop-piece-preserved : goal.loop-piece-preserved

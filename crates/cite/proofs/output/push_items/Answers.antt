@@ -7,7 +7,7 @@ use Rattle.driver.specs.RenderedViews.{item_fields_view}
 use Rattle.driver.specs.declared.rendered.BibliographyItem.{BibliographyItem}
 use Rattle.cite.specs.Output.{item_text}
 use Rattle.cite.proofs.OutputPieces.{item_first, no_item, writes_same}
-use Rattle.cite.proofs.StepsAfter.{at_item}
+use Rattle.cite_requests.proofs.StepsAfter.{at_item}
 use Rattle.cite.proofs.output.push_items.Goals as goal
 
 pub loop-item-init : goal.loop-item-init

@@ -3,10 +3,10 @@ use Rattle.std.specs.Io.KnownBytes.{Appends}
 use Rattle.std.proofs.lemmas.Result.{on_ok_weaker}
 use Rattle.sinks.specs.Files.{read_at}
 use Rattle.sinks.specs.Sinks.{AppendsPrefix}
-use Rattle.cite.specs.Answers.{Writes}
+use Rattle.cite_requests.specs.Answers.{Writes}
 use Rattle.cite.specs.Jobs.{job_view}
 use Rattle.cite.specs.Program.{IsJobFault, ServesJob, IsRefused, error_message, task_in}
-use Rattle.cite.specs.Requests.{context_of}
+use Rattle.cite_requests.specs.Requests.{context_of}
 use Rattle.cite.specs.Verdict.{Task, IsVerdict}
 use Rattle.cite.specs.Views.{task_of}
 use Rattle.cite.proofs.ProgramServed.{fault_of_job, if_err_all, left_untouched, of_job, on_err_all, on_write_weaker, reason_weaker, says_why}

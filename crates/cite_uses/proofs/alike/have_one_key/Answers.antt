@@ -1,6 +1,6 @@
 use Rattle.std.proofs.Common.{sym, ◌∙◌}
 use Rattle.std.specs.Cmp.Lexicographic.{bytes_decides}
-use Rattle.cite.proofs.WorksKeys.{key_is}
+use Rattle.cite_requests.proofs.WorksKeys.{key_is}
 use Rattle.cite_uses.proofs.alike.have_one_key.Goals as goal
 
 pub returns : goal.returns

@@ -16,7 +16,7 @@ use Rattle.driver_requests.specs.Errors.{overflow_of}
 use Rattle.driver_requests.specs.Views.{context_of, parts_of}
 use Rattle.driver_requests.specs.declared.item.CitationItem.{CitationItem}
 use Rattle.driver_requests.specs.declared.request.CitationRequest.{CitationRequest}
-use Rattle.cite.specs.Requests.{OwnLocator, is_same_own}
+use Rattle.cite_requests.specs.Requests.{OwnLocator, is_same_own}
 use Rattle.cite_uses.specs.Hidden.{context_in}
 use Rattle.cite_uses.proofs.HiddenEntries.{asks}
 use Rattle.cite_uses.proofs.entries.bibliography_of.Goals as goal

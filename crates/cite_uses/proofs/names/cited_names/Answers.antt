@@ -2,8 +2,8 @@ use Rattle.std.proofs.Common.{◌+◌, ◌++◌, ◌∷◌, [], ℕ, List, drop,
 use Rattle.std.proofs.lemmas.List.{drop_all}
 use Rattle.cite_markers.specs.Document.{Piece}
 use Rattle.cite_markers.specs.Views.{piece_view}
-use Rattle.cite.specs.Markers.{names_cited}
-use Rattle.cite.proofs.StepsAfter.{at_view}
+use Rattle.cite_requests.specs.Markers.{names_cited}
+use Rattle.cite_requests.proofs.StepsAfter.{at_view}
 use Rattle.cite_uses.specs.Alike.{now_of}
 use Rattle.cite_uses.proofs.AlikeNames.{one_piece}
 use Rattle.cite_uses.proofs.names.cited_names.Goals as goal

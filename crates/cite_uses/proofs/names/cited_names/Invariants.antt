@@ -1,6 +1,6 @@
 use Rattle.std.proofs.Common.{◌≡◌, ◌++◌, drop, map}
 use Rattle.cite_markers.specs.Views.{document_view, piece_view}
-use Rattle.cite.specs.Markers.{names_cited}
+use Rattle.cite_requests.specs.Markers.{names_cited}
 use Rattle.cite_uses.specs.Alike.{now_of}
 use Rattle.cite_uses.proofs.names.cited_names.Given as goal
 

@@ -3,7 +3,7 @@ use Rattle.std.proofs.lemmas.Result.{on_ok_weaker}
 use Rattle.cite_markers.specs.Views.{cite_view, piece_view}
 use Rattle.cite_markers.specs.declared.document.Piece.{Piece}
 use Rattle.cite_markers.specs.declared.marker.Cite.{Cite}
-use Rattle.cite.specs.Markers.{names_cited}
+use Rattle.cite_requests.specs.Markers.{names_cited}
 use Rattle.cite_uses.specs.Alike.{names_of, now_of}
 use Rattle.cite_uses.proofs.names.push_names_in.Goals as goal
 

@@ -1,7 +1,7 @@
 use Rattle.std.proofs.Common.{◌≡◌, [], subst, string_bytes}
 use Rattle.rendering_output.specs.declared.writing.BufWriteFormat.TheVariants.{Plain}
-use Rattle.cite.specs.Answers.{Answers}
-use Rattle.cite.specs.Requests.{context_of}
+use Rattle.cite_requests.specs.Answers.{Answers}
+use Rattle.cite_requests.specs.Requests.{context_of}
 use Rattle.cite.specs.Verdict.{Task, IsVerdict}
 use Rattle.cite.specs.Views.{task_of}
 use Rattle.cite_uses.specs.Tasks.{by_numbers}

@@ -1,9 +1,0 @@
-use Rattle.std.proofs.Common.{◌≡◌, drop, map}
-use Rattle.cite_markers.specs.Views.{cite_view}
-use Rattle.cite.specs.Asked.{item_asked, asked_item_view, items_asked}
-use Rattle.cite.specs.Steps.{all_ok_after}
-use Rattle.cite.specs.Views.{file_works_with}
-use Rattle.cite.proofs.requests.items.Given as goal
-
-abbrev pub invariant-loop-cite : goal.invariant-loop-cite
-invariant-loop-cite l = all_ok_after (item_asked (file_works_with l.bib_file l.library)) (map asked_item_view l.items.items) (map cite_view (drop l.cite-index l.cites)) ≡ items_asked (file_works_with l.bib_file l.library) (map cite_view l.cites)

@@ -1,9 +1,0 @@
-use Rattle.std.proofs.Common.{◌≡◌, map, take}
-use Rattle.interop.specs.Views.{library_view}
-use Rattle.literature.specs.Views.{selector_view}
-use Rattle.cite.specs.Sections.{chosen}
-use Rattle.cite.specs.Views.{lent_works_view}
-use Rattle.cite.proofs.sections.chosen.Given as goal
-
-abbrev pub invariant-loop-selector : goal.invariant-loop-selector
-invariant-loop-selector l = lent_works_view l.found.items ≡ chosen (map selector_view (take l.selector-index l.selectors)) (library_view l.library)

@@ -1,0 +1,9 @@
+use Rattle.std.proofs.Common.{◌≡◌, map, take}
+use Rattle.interop.specs.Views.{library_view}
+use Rattle.literature.specs.Views.{selector_view}
+use Rattle.cite_requests.specs.Sections.{chosen}
+use Rattle.cite_requests.specs.Views.{lent_works_view}
+use Rattle.cite_requests.proofs.sections.chosen.Given as goal
+
+abbrev pub invariant-loop-selector : goal.invariant-loop-selector
+invariant-loop-selector l = lent_works_view l.found.items ≡ chosen (map selector_view (take l.selector-index l.selectors)) (library_view l.library)

@@ -1,0 +1,11 @@
+pub mod Steps
+pub mod Works
+pub mod Cited
+pub mod Markers
+pub mod Sections
+pub mod Requests
+pub mod Asked
+pub mod Stages
+pub mod Refusals
+pub mod Views
+pub mod Answers
