@@ -273,7 +273,7 @@ impl Bibliography {
     pub fn is_settled(&self) -> bool
         ensures { result ≡ is_settled self.now.entries }
     {
-        self.has_distinct_keys() && are_each_settled(self.entries.as_slice())
+        are_each_settled(self.entries.as_slice()) && self.has_distinct_keys()
     }
 
     /// Whether no two entries have one key.
