@@ -1,2 +1,3 @@
 pub mod Local
 pub mod Uncited
+pub mod WrittenOut

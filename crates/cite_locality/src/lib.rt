@@ -1,9 +1,10 @@
-//! Laws of `cite`: what a document sees of a bib text are the entries that its names reach by references. The functions do nothing, and
-//! carry the laws as their contracts.
+//! Laws of `cite`: what a document sees of a bib text are the entries that its names reach by references, and what comes to an entry by
+//! reference prints as if it stood in the entry. The functions do nothing, and carry the laws as their contracts.
 #![tactic(auto)]
 
 ghost use Rattle.cite_locality.specs.Local.{OneUnreachedEntryChangesNothing, ReachedEntriesDecide};
 ghost use Rattle.cite_locality.specs.Uncited.{UncitedEntriesChangeNothing};
+ghost use Rattle.cite_locality.specs.WrittenOut.{ContentsMayBeWrittenOut, ReferencesMayBeWrittenOut};
 
 /// Bib texts that say the same of all that the names of a document reach, with the cited entries in one order, are alike for it.
 pub fn reached_entries_decide()
@@ -20,4 +21,12 @@ pub fn one_unreached_entry_changes_nothing()
 /// stage refuses the text with them or without them.
 pub fn uncited_entries_change_nothing()
     ensures { UncitedEntriesChangeNothing }
+{}
+
+/// A field that comes by reference prints as if it stood in the entry, and the references were gone: bib texts whose entries, read and
+/// without `crossref`, say the same have the same output, or the same refusal.
+pub fn references_may_be_written_out()
+    ensures says { ReferencesMayBeWrittenOut }
+    // So have bib texts whose entries have the same contents under written names, even of two fields that are written under one name.
+    ensures contents { ContentsMayBeWrittenOut }
 {}

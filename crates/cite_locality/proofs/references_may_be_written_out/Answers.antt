@@ -1,0 +1,8 @@
+use Rattle.cite_locality.proofs.WrittenOut.{contents_written, references_written}
+use Rattle.cite_locality.proofs.references_may_be_written_out.Goals as goal
+
+pub returns-clause-contents : goal.returns-clause-contents
+returns-clause-contents c = contents_written
+
+pub returns-clause-says : goal.returns-clause-says
+returns-clause-says c = references_written
