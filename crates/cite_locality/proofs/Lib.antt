@@ -6,3 +6,4 @@ pub mod FilesRead
 pub mod Uncited
 pub mod NamesStay
 pub mod WrittenOut
+pub mod WrittenOutExamples
