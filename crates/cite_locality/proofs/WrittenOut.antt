@@ -24,7 +24,7 @@ use Rattle.interop_roads.proofs.FlatAlike.{flat_library, others_stay}
 use Rattle.cite_markers.specs.Document.{Piece}
 use Rattle.cite_requests.specs.Markers.{names_cited}
 use Rattle.cite_requests.specs.Sections.{chosen}
-use Rattle.cite_requests.specs.Stages.{Refusal, document_stage, library_stage, section_stage, works_from}
+use Rattle.cite_requests.specs.Stages.{document_stage, library_stage, section_stage, works_from}
 use Rattle.cite_requests.specs.Works.{Works, MeansOneWork, work_of}
 use Rattle.cite.specs.Output.{output_text}
 use Rattle.cite.specs.Verdict.{Task, IsVerdict, driver_stage, rendered_stage, verdict}
