@@ -5,5 +5,6 @@ pub mod OneUnreached
 pub mod FilesRead
 pub mod Uncited
 pub mod NamesStay
+pub mod NoReferences
 pub mod WrittenOut
 pub mod WrittenOutExamples

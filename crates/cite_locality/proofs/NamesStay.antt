@@ -37,7 +37,8 @@ dated_ids : (o : Option Date) (t : Table) → dated o t (codes "ids") ≡ t (cod
 dated_ids None t = refl
 dated_ids (Some d) t = refl
 
-first_alone : (o : Option Value) → first o None ≡ o
+-- what is there alone comes first
+pub first_alone : (o : Option Value) → first o None ≡ o
 first_alone None = refl
 first_alone (Some v) = refl
 

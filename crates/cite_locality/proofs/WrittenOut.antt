@@ -30,9 +30,10 @@ use Rattle.cite.specs.Output.{output_text}
 use Rattle.cite.specs.Verdict.{Task, IsVerdict, driver_stage, rendered_stage, verdict}
 use Rattle.cite.proofs.SameMarkers.{names_same}
 use Rattle.cite.proofs.VerdictsUnique.{one_verdict}
-use Rattle.cite_locality.specs.WrittenOut.{ContentsMayBeWrittenOut, ReferencesMayBeWrittenOut}
+use Rattle.cite_locality.specs.WrittenOut.{AuthorsMayWriteReferencesOut, ContentsMayBeWrittenOut, ReferencesMayBeWrittenOut}
 use Rattle.cite_locality.proofs.FilesRead.{read_file}
 use Rattle.cite_locality.proofs.NamesStay.{names_stay}
+use Rattle.cite_locality.proofs.NoReferences.{alike_through, entries_stand, fields_stand}
 
 -- the text of an empty field is that of none
 text_filled : (o : Option (List Member)) → text_in (filled o) ≡ text_in o
@@ -130,3 +131,10 @@ contents_written bib other file written read read_too alike task answer =
 
 pub references_written : ReferencesMayBeWrittenOut
 references_written bib other file written read read_too says = contents_written bib other file written read read_too (files_alike (flat file.entries) (flat written.entries) says)
+
+pub authors_written : AuthorsMayWriteReferencesOut
+authors_written bib other file standing written read read_too stands none says =
+    contents_written bib other file written read read_too
+    (alike_through (flat file.entries) standing.entries (flat written.entries)
+    (files_alike (flat file.entries) standing.entries says)
+    (entries_stand standing.entries written.entries stands.resolves.heads (fields_stand standing written stands.resolves none) none))

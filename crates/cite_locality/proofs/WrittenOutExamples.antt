@@ -13,6 +13,7 @@ use Rattle.biblatex_inheritance.specs.Table.{renamed_in_part}
 use Rattle.biblatex_writing.specs.Flat.{flat}
 use Rattle.interop.specs.SameFiles.{SayTheSame}
 use Rattle.interop.proofs.SameFilesExamples.{itself}
+use Rattle.cite_locality.specs.WrittenOut.{HasNoReferences}
 
 -- a value of a text, wherever its chunks stand
 abbrev spelling : List Member → Value
@@ -47,13 +48,16 @@ pub has_crossref : (key other : List ℕ) (reference own title : List Member)
 unfolding year_part
 has_crossref key other reference own title = refl
 
--- the chapter that was read, and the one in which the title of the book is written
+-- the chapter that was read, and the one in which the title of the book is written, and which has no reference
 abbrev read_chapter : List ℕ → List Member → List Member → List Member → Source
 read_chapter key reference own title =
     entry key (codes "inbook") ((codes "booktitle", spelling title) ∷ (codes "crossref", spelling reference) ∷ (codes "title", spelling own) ∷ [])
 
 abbrev written_chapter : List ℕ → List Member → List Member → Source
 written_chapter key own title = entry key (codes "inbook") ((codes "booktitle", spelling title) ∷ (codes "title", spelling own) ∷ [])
+
+pub has_none : (key : List ℕ) (own title : List Member) → HasNoReferences (written_chapter key own title)
+has_none key own title = (refl, refl)
 
 -- with the book they say the same without `crossref`
 pub say_the_same : (key other : List ℕ) (reference first second : List Member) (m n : Member)

@@ -1,6 +1,11 @@
 -- References may be written out: a field that comes by reference prints as if it stood in the entry, and the references were gone.
-use Rattle.std.specs.Prelude.{◌↔◌, ℕ, List, Result, Ok}
+use Rattle.std.specs.Prelude.{◌≡◌, ◌↔◌, ℕ, List, None, Result, Ok, codes}
+use Rattle.std.specs.List.{AllByRecursion}
+use Rattle.std.specs.Str.{chars}
 use Rattle.biblatex.specs.Bibliographies.{Listed}
+use Rattle.biblatex.specs.Entries.{Source}
+use Rattle.biblatex.specs.Fields.{value_named}
+use Rattle.biblatex_locality.specs.Files.{IsFileOf}
 use Rattle.biblatex_writing.specs.Flat.{flat}
 use Rattle.interop.specs.Library.{AreAlike}
 use Rattle.interop.specs.SameFiles.{SayTheSame}
@@ -27,3 +32,15 @@ abbrev pub ContentsMayBeWrittenOut : Type 0
 ContentsMayBeWrittenOut =
     (bib other : List ℕ) (file written : Listed) → IsRead bib (Ok file) → IsRead other (Ok written)
     → AreAlike (flat file.entries) (flat written.entries) → HaveOneVerdict bib other
+
+-- an entry with neither `crossref` nor `xdata`
+abbrev pub HasNoReferences : Source → Type 0
+HasNoReferences e = (value_named (codes "crossref") e.fields ≡ None) × (value_named (codes "xdata") e.fields ≡ None)
+
+-- The same holds of the other text as its author sees it: its entries have no references, and, as they stand in it, they say what the
+-- entries of the first text say once their references are resolved.
+abbrev pub AuthorsMayWriteReferencesOut : Type 0
+AuthorsMayWriteReferencesOut =
+    (bib other : List ℕ) (file standing written : Listed) → IsRead bib (Ok file) → IsRead other (Ok written)
+    → IsFileOf (chars other) standing written → AllByRecursion HasNoReferences standing.entries
+    → SayTheSame (flat file.entries) standing.entries → HaveOneVerdict bib other

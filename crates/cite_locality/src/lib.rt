@@ -4,7 +4,7 @@
 
 ghost use Rattle.cite_locality.specs.Local.{OneUnreachedEntryChangesNothing, ReachedEntriesDecide};
 ghost use Rattle.cite_locality.specs.Uncited.{UncitedEntriesChangeNothing};
-ghost use Rattle.cite_locality.specs.WrittenOut.{ContentsMayBeWrittenOut, ReferencesMayBeWrittenOut};
+ghost use Rattle.cite_locality.specs.WrittenOut.{AuthorsMayWriteReferencesOut, ContentsMayBeWrittenOut, ReferencesMayBeWrittenOut};
 
 /// Bib texts that say the same of all that the names of a document reach, with the cited entries in one order, are alike for it.
 pub fn reached_entries_decide()
@@ -29,4 +29,6 @@ pub fn references_may_be_written_out()
     ensures says { ReferencesMayBeWrittenOut }
     // So have bib texts whose entries have the same contents under written names, even of two fields that are written under one name.
     ensures contents { ContentsMayBeWrittenOut }
+    // So has a text whose entries, as they stand in it, have no references and say what those of the other say once they are resolved.
+    ensures standing { AuthorsMayWriteReferencesOut }
 {}
