@@ -37,7 +37,7 @@ dated_ids : (o : Option Date) (t : Table) → dated o t (codes "ids") ≡ t (cod
 dated_ids None t = refl
 dated_ids (Some d) t = refl
 
--- what is there alone comes first
+-- the first of something and nothing
 pub first_alone : (o : Option Value) → first o None ≡ o
 first_alone None = refl
 first_alone (Some v) = refl
