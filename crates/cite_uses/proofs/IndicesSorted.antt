@@ -1,6 +1,6 @@
 -- Indices in two files are in one order where the second ones rise once they are sorted.
 use Rattle.std.proofs.Common.{◌≡◌, ◌↔◌, ◌+◌, ◌-◌, ◌<◌, ◌≤◌, ℕ, zero, suc, Bool, true, true≢false, ◌⊎◌, inl, inr, ⊎_elim, List, [], ◌∷◌, ◌++◌, Option, Some, None, refl, length, get_or, take, IsTrue, sym, subst, ap, ◌∙◌, arith, nat_cmp, is_lt, Ordering, Less, Equal, Greater}
-use Rattle.std.specs.Prelude.{Contains, IsPermutation, IsSorted, false}
+use Rattle.std.specs.Prelude.{IsPermutation, IsSorted, false}
 use Rattle.std.specs.Cmp.{ranks}
 use Rattle.std.specs.List.{cons_option}
 use Rattle.std.specs.List.Sorted.{IsNonDecreasingBy}
@@ -10,6 +10,7 @@ use Rattle.std.proofs.lemmas.List.Elements.{Contains-get_or}
 use Rattle.std.proofs.lemmas.List.Sorted.{Contains-permutation, IsNonDecreasingBy-from_all_adjacent, IsNonDecreasingBy-push, IsNonDecreasingBy-short, IsPermutation-sym}
 use Rattle.biblatex.specs.Bibliographies.{Listed}
 use Rattle.cite_uses.specs.Alike.{AreInOneOrder, both_indices, indices_of}
+use Rattle.cite_uses.specs.AlikePairs.{by_both}
 
 abbrev Pair : Type 0
 Pair = ℕ × ℕ
@@ -22,11 +23,8 @@ one_name file other name names = by (both_indices (file.index name) (other.index
     by None = refl
     by (Some p) = refl
 
--- pairs are compared by their first numbers, and then by their second ones
-abbrev compared : Pair → Pair → Ordering
-compared p q = ordering_then (nat_cmp p.0 q.0) (nat_cmp p.1 q.1)
-
-not_less : (p q : Pair) → is_lt (compared p q) ≡ false → (q.0 ≤ p.0) × (p.0 ≡ q.0 → q.1 ≤ p.1)
+-- what two pairs say of which the second is not less
+not_less : (p q : Pair) → is_lt (by_both p q) ≡ false → (q.0 ≤ p.0) × (p.0 ≡ q.0 → q.1 ≤ p.1)
 not_less p q never = by (nat_cmp p.0 q.0) (ranks p.0 q.0) (nat_cmp p.1 q.1) (ranks p.1 q.1) never
   where
     by : (o : Ordering) → MatchOrdering o (p.0 < q.0) (p.0 ≡ q.0) (q.0 < p.0) → (d : Ordering) → MatchOrdering d (p.1 < q.1) (p.1 ≡ q.1) (q.1 < p.1) → is_lt (ordering_then o d) ≡ false
@@ -42,7 +40,7 @@ split zero n = inl (omega arith)
 split (suc m) zero = inr (omega arith)
 split (suc m) (suc n) = ⊎_elim (λ h. inl (omega (arith, h))) (λ h. inr (omega (arith, h))) (split m n)
 
-module _ (ps qs : List Pair) (moved : IsPermutation ps qs) (sorted : IsSorted compared qs) where
+module _ (ps qs : List Pair) (moved : IsPermutation ps qs) (sorted : IsSorted by_both qs) where
   firsts : IsNonDecreasingBy (λ (p : Pair). p.0) qs
   firsts = IsNonDecreasingBy-from_all_adjacent (λ (p : Pair). p.0) qs (λ k d low. (not_less (get_or qs (k + 1) d) (get_or qs k d) (sorted k d (omega arith) low)).0)
 
@@ -113,10 +111,9 @@ module _ (xs : List Pair) where
   rise_all i last past h = (λ so. subst (IsNonDecreasingBy second) (take_all i xs past) h.0, λ up. refl)
 
 -- what was found, sorted, and lent
-pub order_decided : (found lent sorted all : List Pair) (b : Bool) → found ≡ all → IsPermutation found sorted → IsSorted compared sorted → lent ≡ sorted
-    → (IsTrue b ↔ IsNonDecreasingBy (λ (p : Pair). p.1) lent) → IsTrue b ↔ AreInOneOrder all
-order_decided found lent sorted all b is moved ascends same rise =
-    let order = sorted_order all sorted (subst (λ (ps : List Pair). IsPermutation ps sorted) is moved) ascends in (
+pub order_decided : (found lent sorted : List Pair) (b : Bool) → IsPermutation found sorted → IsSorted by_both sorted → lent ≡ sorted → (IsTrue b ↔ IsNonDecreasingBy (λ (p : Pair). p.1) lent) → IsTrue b ↔ AreInOneOrder found
+order_decided found lent sorted b moved ascends same rise =
+    let order = sorted_order found sorted moved ascends in (
       λ yes. order.0 (subst (IsNonDecreasingBy (λ (p : Pair). p.1)) same (rise.0 yes)),
       λ h. rise.1 (subst (IsNonDecreasingBy (λ (p : Pair). p.1)) (sym same) (order.1 h)),
     )

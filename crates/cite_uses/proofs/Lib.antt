@@ -1,6 +1,7 @@
 pub mod Accepted
 pub mod AlikeEach
 pub mod AlikeNames
+pub mod AlikePairs
 pub mod AlikeVerdicts
 pub mod Flattenings
 pub mod HiddenEntries

@@ -1,5 +1,5 @@
 -- Where the entries that names mean stand in one order in two files, the keys of the works that they are do so in the libraries.
-use Rattle.std.proofs.Common.{◌≡◌, ◌<◌, ◌≤◌, ◌||◌, ◌&&◌, ℕ, suc, Bool, true, false, true≢false, cond, List, [], ◌∷◌, drop, filter, map, slice_get, option_map, Option, Some, None, Ok, refl, sym, ap, subst, ◌∙◌, arith}
+use Rattle.std.proofs.Common.{◌≡◌, ◌≤◌, ◌||◌, ◌&&◌, ℕ, Bool, true, false, true≢false, cond, List, [], ◌∷◌, drop, filter, map, slice_get, option_map, Option, Some, None, Ok, refl, sym, ap, subst, ◌∙◌, arith}
 use Rattle.std.specs.Prelude.{Contains, option_and_then}
 use Rattle.std.specs.List.{AllByRecursion, cons_option}
 use Rattle.std.specs.Str.{bytes_eq}

@@ -3,3 +3,4 @@ pub mod Tasks
 pub mod Hidden
 pub mod Flattened
 pub mod Alike
+pub mod AlikePairs

@@ -1,6 +1,6 @@
 //! Whether a document has to be rendered again once its BibLaTeX file was changed.
 
-ghost use Rattle.std.specs.Prelude.{◌≡◌, ◌↔◌, map, IfOk, IsTrue};
+ghost use Rattle.std.specs.Prelude.{◌≡◌, ◌↔◌, map, IfOk, IsTrue, Some};
 ghost use Rattle.std.specs.List.{AllByRecursion};
 ghost use Rattle.std.specs.Option.{option_map};
 ghost use Rattle.literature_entries.specs.EntriesData.{entry_view};
@@ -9,11 +9,11 @@ ghost use Rattle.literature.specs.Views.{selector_view};
 ghost use Rattle.interop.specs.Library.{key_of};
 ghost use Rattle.rendering_style.specs.StyleViews.{style_view};
 ghost use Rattle.cite_markers.specs.Views.{document_view};
-ghost use Rattle.cite_requests.specs.Works.{meaning};
-ghost use Rattle.cite_uses.specs.Alike.{AreAlikeWorks, GiveOneVerdict, HaveAlikeWorks, MeansAlikeTo, MeansAlikeWorks, asked_names, asked_selectors, works_view};
+ghost use Rattle.cite_uses.specs.Alike.{AreAlikeWorks, GiveOneVerdict, HaveAlikeWorks, asked_names, asked_selectors, works_view};
+ghost use Rattle.cite_uses.specs.AlikePairs.{AreAlikeAt, IsAlikeAt, work_at};
 
 use crate::names::cited_names;
-use crate::order::are_in_one_order;
+use crate::order::{rise, sorted_indices};
 use biblatex::Bibliography;
 use cite::{Document, work_of};
 use literature::{Entry, Library, Selector};
@@ -38,8 +38,9 @@ pub(crate) struct Asked<'s> {
 /// Whether a document comes out the same with the works of either file in a style and with these sections, whatever the locale and the format:
 /// each of its names means works of one key in both, which answer alike to all that the style names and are chosen by the same sections, and
 /// these stand in one order. After a yes the output is the same, or the refusal. After a no it may be the same all the same, as where the
-/// works differ in a field that the style asks for and does not print. The cost grows with the cites, and for their order as a sort does,
-/// not with the files; nothing is rendered.
+/// works differ in a field that the style asks for and does not print. Works are compared once, however often and under whatever names they
+/// are cited. So the cost grows with the cites, as a sort and look-ups in the files do, and with what the cited entries answer; nothing is
+/// rendered.
 ///
 /// # Errors
 /// Out of memory.
@@ -61,78 +62,94 @@ pub fn are_alike(
         (document_view document.now)) }
 {
     let names = cited_names(alloc, document)?;
+    let indices = sorted_indices(alloc, &names, first.file, second.file)?;
+    if indices.len() < names.len() {
+        return Ok(false);
+    }
+    if !rise(&indices) {
+        return Ok(false);
+    }
     let named = style_names(alloc, style)?;
     let asked = Asked {
         names: &named,
         sections,
     };
-    if !mean_alike_works(alloc, &asked, &names, first, second)? {
-        return Ok(false);
-    }
-    are_in_one_order(alloc, &names, first.file, second.file)
+    are_alike_each(alloc, &asked, &indices, first, second)
 }
 
-/// Whether each of these names means alike works.
-fn mean_alike_works(
+/// Whether the works at each of these pairs of indices are alike. A pair that equals the one before is not compared.
+fn are_alike_each(
     alloc: Global,
     asked: &Asked<'_>,
-    names: &[&str],
+    pairs: &[(usize, usize)],
     first: &Works<'_>,
     second: &Works<'_>,
 ) -> Result<bool, AllocError>
-    ensures { IfOk result (λ yes. IsTrue yes ↔ AllByRecursion
-        (λ n. MeansAlikeWorks (asked_names asked.now) (asked_selectors asked.now)
-        (works_view first.now) (works_view second.now) n.now) names.now) }
+    ensures { IfOk result (λ yes. IsTrue yes ↔ AllByRecursion (AreAlikeAt (asked_names asked.now)
+        (asked_selectors asked.now) (works_view first.now) (works_view second.now)) pairs.now) }
 {
-    for name in names {
-        if !means_alike_works(alloc, asked, *name, first, second)? {
+    let mut last = None;
+    for pair in pairs {
+        if is_last(last, *pair) {
+            continue;
+        }
+        if !are_alike_at(alloc, asked, *pair, first, second)? {
             return Ok(false);
         }
+        last = Some(*pair);
     }
     Ok(true)
 }
 
-/// Whether a name means alike works.
-fn means_alike_works(
+/// Whether a pair is the last one that was compared.
+fn is_last(last: Option<(usize, usize)>, pair: (usize, usize)) -> bool
+    ensures { IsTrue result ↔ (last ≡ Some pair) }
+{
+    match last {
+        Some(before) => before.0 == pair.0 && before.1 == pair.1,
+        None => false,
+    }
+}
+
+/// Whether the works at a pair of indices are alike.
+fn are_alike_at(
     alloc: Global,
     asked: &Asked<'_>,
-    name: &str,
+    pair: (usize, usize),
     first: &Works<'_>,
     second: &Works<'_>,
 ) -> Result<bool, AllocError>
-    ensures { IfOk result (λ yes. IsTrue yes
-        ↔ MeansAlikeWorks (asked_names asked.now) (asked_selectors asked.now)
-        (works_view first.now) (works_view second.now) name.now) }
+    ensures { IfOk result (λ yes. IsTrue yes ↔ AreAlikeAt (asked_names asked.now)
+        (asked_selectors asked.now) (works_view first.now) (works_view second.now) pair) }
 {
-    match meant(first, name) {
-        Some(work) => means_alike(alloc, asked, name, work, second),
+    match work_at(first, pair.0) {
+        Some(work) => is_alike_at(alloc, asked, work, second, pair.1),
         None => Ok(false),
     }
 }
 
-/// Whether a name means a work that is alike to this one.
-fn means_alike(
+/// Whether there is a work at an index that is alike to this one.
+fn is_alike_at(
     alloc: Global,
     asked: &Asked<'_>,
-    name: &str,
     work: &Entry,
     works: &Works<'_>,
+    index: usize,
 ) -> Result<bool, AllocError>
-    ensures { IfOk result (λ yes. IsTrue yes ↔ MeansAlikeTo (asked_names asked.now)
-        (asked_selectors asked.now) (entry_view work.now) (works_view works.now) name.now) }
+    ensures { IfOk result (λ yes. IsTrue yes ↔ IsAlikeAt (asked_names asked.now)
+        (asked_selectors asked.now) (entry_view work.now) (works_view works.now) index) }
 {
-    match meant(works, name) {
+    match work_at(works, index) {
         Some(other) => are_alike_works(alloc, asked, work, other),
         None => Ok(false),
     }
 }
 
-/// The work that a name means.
-fn meant<'f>(works: &Works<'f>, name: &str) -> Option<&'f Entry>
-    ensures { option_map (λ e. entry_view e.now) result
-        ≡ meaning name.now (works_view works.now) }
+/// The work that the entry at an index is.
+fn work_at<'f>(works: &Works<'f>, index: usize) -> Option<&'f Entry>
+    ensures { option_map (λ e. entry_view e.now) result ≡ work_at (works_view works.now) index }
 {
-    let entry = works.file.get(name)?;
+    let entry = works.file.entries().get(index)?;
     work_of(works.library, entry)
 }
 

@@ -1,26 +1,29 @@
-//! Whether entries stand in one order in two files.
+//! The indices of entries in two files, and whether these stand in one order.
 
-ghost use Rattle.std.specs.Prelude.{◌≡◌, ◌↔◌, ◌++◌, ◌∷◌, [], map, IfOk, IsTrue, OnOk};
+ghost use Rattle.std.specs.Prelude.{◌≡◌, ◌↔◌, ◌++◌, ◌∷◌, [], map, IfOk, IsPermutation, IsSorted, IsTrue, OnOk};
 ghost use Rattle.std.specs.List.Sorted.{IsNonDecreasingBy};
 ghost use Rattle.biblatex.specs.Bibliographies.{listed_view};
-ghost use Rattle.cite_uses.specs.Alike.{AreInOneOrder, indices_of, now_of};
+ghost use Rattle.cite_uses.specs.Alike.{indices_of, now_of};
+ghost use Rattle.cite_uses.specs.AlikePairs.{by_both};
 
 use biblatex::Bibliography;
 use std::alloc::{AllocError, Global};
 
-/// Whether the entries that names mean in both files stand in one order.
-pub(crate) fn are_in_one_order(
+/// The indices of the entries that names mean in both files, sorted.
+pub(crate) fn sorted_indices(
     alloc: Global,
     names: &[&str],
     file: &Bibliography,
     other: &Bibliography,
-) -> Result<bool, AllocError>
-    ensures { IfOk result (λ yes. IsTrue yes ↔ AreInOneOrder
-        (indices_of (listed_view file.now) (listed_view other.now) (map now_of names.now))) }
+) -> Result<Vec<(usize, usize)>, AllocError>
+    ensures same { IfOk result (λ found. IsPermutation
+        (indices_of (listed_view file.now) (listed_view other.now) (map now_of names.now))
+        found.items) }
+    ensures sorted { IfOk result (λ found. IsSorted by_both found.items) }
 {
     let mut indices = indices(alloc, names, file, other)?;
     indices.sort()?;
-    Ok(rise(&indices))
+    Ok(indices)
 }
 
 /// The indices of the entries that names mean in both files.
@@ -59,7 +62,7 @@ fn push_indices(
 }
 
 /// Whether no second index is less than the one before it.
-fn rise(indices: &[(usize, usize)]) -> bool
+pub(crate) fn rise(indices: &[(usize, usize)]) -> bool
     ensures { IsTrue result ↔ IsNonDecreasingBy (λ p. p.1) indices.now }
 {
     let mut last = 0;
