@@ -48,6 +48,15 @@ author, which year suffixes disambiguate; in pairs, of which every other one nee
 where the second ones disambiguate them.
 """
 
+ALIKE_FILES = """## Files that were changed
+
+    bench/alike_files.py
+
+What it takes `are_alike` of `cite_uses` to say that a document has to be rendered again or not once its file was changed, with what makes the
+libraries of the two files: a document of N markers, and a file that has one more entry afterwards, which is not cited. It cites one
+entry with a title of 10 N bytes, by its key or by N aliases, or N entries, of a file of as many or of ten times as many.
+"""
+
 BLOCKS = """## Blocks of one citation
 
     bench/blocks.py
@@ -245,6 +254,23 @@ def alike_table(found):
     ])
 
 
+def alike_files_table(found):
+    """The part of the page about files that were changed."""
+    rows = []
+    for name, run in found["runs"].items():
+        for row, growth in zip(run["rows"], ["", run["exponent"]]):
+            rows.append(f"| {name} | {number(row['N'])} | {number(row['bytes'])} | {number(row['instructions'])} | {growth} |")
+    return "\n".join([
+        ALIKE_FILES,
+        "| cited | N | bytes of both files and the document | instructions | growth exponent from the size before |",
+        "|---|---|---|---|---|",
+        *rows,
+        "",
+        f"Wanted: growth exponents of at most {found['wanted']}. {measured(found)}",
+        "",
+    ])
+
+
 def blocks_table(found):
     """The part of the page about the blocks of one citation."""
     rows = []
@@ -286,6 +312,7 @@ PARTS = {
     "one_marker": one_table,
     "few_markers": few_table,
     "alike": alike_table,
+    "alike_files": alike_files_table,
     "blocks": blocks_table,
     "collisions": collisions_table,
 }
