@@ -17,7 +17,7 @@ pub(crate) fn bytes(session: &mut Session, object: &Value<'_>, name: &'static st
 }
 
 /// The bytes of a value, which stands in the member of that name.
-pub(crate) fn bytes_of(session: &mut Session, value: &Value<'_>, name: &'static str) -> Vec<u8> {
+pub fn bytes_of(session: &mut Session, value: &Value<'_>, name: &'static str) -> Vec<u8> {
     match value {
         Value::String(text) => bytes_in_text(session, text),
         Value::Array(items) => bytes_in(session, items, name),

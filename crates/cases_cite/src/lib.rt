@@ -1,20 +1,19 @@
-//! Cases of the bridge from BibLaTeX files to libraries, of labels, of documents and their citations, of the programs, of how `cite` hands its
-//! output to a sink, and of what is left where memory is refused to a call.
+//! Cases of the bridge from BibLaTeX files to libraries, of labels, of documents and their citations, of what `bib_show` shows of entries, of how
+//! `cite` hands its output to a sink, and of what is left where memory is refused to a call.
 #![tactic(auto)]
 
 mod bridge;
 mod bytes;
 mod citing;
 mod document;
-mod files;
 mod kept;
 mod labels;
 mod parts;
-mod program;
 mod refusals;
 mod setting;
 mod show;
 
+pub use bytes::bytes_of;
 use cases::{Session, Value};
 pub use document::put_marker_error;
 pub use refusals::{put_cite_error, put_section_error};
@@ -29,7 +28,6 @@ pub fn answer(session: &mut Session, kind: &str, case: &Value<'_>) -> bool {
         "cite_parts" => parts::answer_parts(session, case),
         "document" => document::answer_document(session, case),
         "inserted" => kept::answer_inserted(session, case),
-        "program" => program::answer_program(session, case),
         "show" => show::answer_show(session, case),
         "written_after" => kept::answer_written(session, case),
         _ => return false,

@@ -1,10 +1,12 @@
-//! Cases of the calls of `cite_uses`.
+//! Cases of the calls of `cite_uses`, and of runs of the programs.
 #![tactic(auto)]
 
 mod alike;
 mod bibliography;
 mod documents;
+mod files;
 mod flattened;
+mod program;
 mod style;
 
 use cases::{Session, Value};
@@ -17,6 +19,7 @@ pub fn answer(session: &mut Session, kind: &str, case: &Value<'_>) -> bool {
         "cited_by_numbers" => documents::answer_numbers(session, case),
         "cited_on_page" => documents::answer_page(session, case),
         "flattened_file" => flattened::answer_flattened(session, case),
+        "program" => program::answer_program(session, case),
         _ => return false,
     }
     true

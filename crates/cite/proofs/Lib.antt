@@ -4,12 +4,8 @@ pub mod DocumentAsked
 pub mod Finishing
 pub mod NamesAreKeys
 pub mod NeededWorks
-pub mod OneLine
 pub mod OutputPieces
 pub mod OutputReplaced
-pub mod ProgramLines
-pub mod ProgramServed
-pub mod ProgramWords
 pub mod RenderedStages
 pub mod RequestsAlike
 pub mod RewrittenAnswers

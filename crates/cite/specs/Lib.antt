@@ -6,6 +6,3 @@ pub mod Roads
 pub mod Replaced
 pub mod Finished
 pub mod Views
-pub mod Program
-pub mod Jobs
-pub mod OneLine

@@ -1,13 +1,11 @@
 //! A citation filter: replaces the markers of a document by citations of a BibLaTeX file, and writes the bibliography
-//! after it. `cite` writes to a sink, `cite_to_string` returns the text, and `run` is the program over files that were read.
+//! after it. `cite` writes to a sink, `cite_to_string` returns the text.
 #![tactic(auto)]
 
 mod engine;
-mod one_line;
 mod output;
 mod output_laws;
 mod printed;
-mod program;
 
 pub use cite_markers::{Cite, CiteLocator, Document, DocumentError, Piece};
 pub use cite_requests::{BibTextError, CiteError, DocumentTextError, cited_keys, work_of};
@@ -15,13 +13,11 @@ pub use cite_styles::{author_date, english, note, numeric};
 pub use engine::{cite, cite_to_string};
 pub use interop::{DateField, FieldFault};
 pub use literature::SelectorError;
-pub use one_line::refusals_have_line_messages;
 pub use output_laws::{
     alike_texts_have_one_verdict, citations_depend_on_markers_alone,
     rewriting_has_the_same_verdicts, texts_come_out_unchanged,
 };
-pub use program::{paths, run};
 pub use rendering_locale::Locale;
 pub use rendering_output::BufWriteFormat;
 pub use rendering_style::Style;
-pub use sinks::{FileRead, ReadFault, Sink, SinkFault, Tap};
+pub use sinks::{Sink, SinkFault, Tap};

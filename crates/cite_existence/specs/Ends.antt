@@ -2,7 +2,7 @@
 use Rattle.std.specs.Prelude.{◌≡◌, ℕ, List, Result, Err}
 use Rattle.std.specs.Borrow.{Bor}
 use Rattle.sinks.specs.declared.files.ReadFault.TheVariants.{Memory}
-use Rattle.cite.specs.Program.{Reads, Job, job_of, ServesJob, IsJobFault}
+use Rattle.cite_command.specs.Program.{Reads, Job, job_of, ServesJob, IsJobFault}
 
 -- how a run ends: with an output, or with the message for a fault
 pub data End : Type 0 where

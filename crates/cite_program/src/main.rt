@@ -1,8 +1,9 @@
-//! The program `cite`: real words, files and streams for `cite::run`. Without words it shows one stored run.
+//! The program `cite`: real words, files and streams for `cite_command::run`. Without words it shows one stored run.
 #![tactic(auto)]
 
-use cite::{CiteError, FileRead, SinkFault, Tap, paths, run};
-use sinks::{borrowed, read_files, words_given};
+use cite::{CiteError, SinkFault, Tap};
+use cite_command::{paths, run};
+use sinks::{FileRead, borrowed, read_files, words_given};
 use std::alloc::AllocError;
 use std::io;
 use std::io::{BufWriter, ErrorKind, Write};

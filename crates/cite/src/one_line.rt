@@ -1,8 +1,0 @@
-//! The messages for refusals, each of which is one line.
-
-ghost use Rattle.cite.specs.OneLine.{RefusalsHaveLineMessages};
-
-/// Every refusal of a call, and every field that cannot be read, is reported without a line feed.
-pub fn refusals_have_line_messages()
-    ensures { RefusalsHaveLineMessages }
-{}

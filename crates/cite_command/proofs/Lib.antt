@@ -1,0 +1,4 @@
+pub mod OneLine
+pub mod ProgramLines
+pub mod ProgramServed
+pub mod ProgramWords
