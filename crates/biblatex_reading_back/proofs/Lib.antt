@@ -1,4 +1,5 @@
 pub mod TidySame
+pub mod TidyMade
 pub mod VerbatimBack
 pub mod BalancedTexts
 pub mod BalancedContents

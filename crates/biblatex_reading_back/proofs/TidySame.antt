@@ -20,7 +20,7 @@ spaced_kept a (Letter kind c) kept = by_tests (is_blank c) (c == space) refl kep
 spaced_kept a (Math text) kept = refl
 
 -- after a space, or at the start, no space is kept
-no_space : (a : Bool) (m : Member) → is_kept a m ≡ true → is_space m ≡ true → a ≡ false
+pub no_space : (a : Bool) (m : Member) → is_kept a m ≡ true → is_space m ≡ true → a ≡ false
 no_space a (Letter kind c) kept is = by_tests a (is_blank c) (c == space) (space_blank c is) is kept
   where
     by_tests : (t b s : Bool) → b ≡ true → s ≡ true → (not b || (s && not t)) ≡ true → t ≡ false

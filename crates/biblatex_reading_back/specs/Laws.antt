@@ -1,5 +1,5 @@
 -- The laws of written contents.
-use Rattle.std.specs.Prelude.{◌≡◌, ℕ, Bool, true, false, List, Ok}
+use Rattle.std.specs.Prelude.{◌≡◌, ◌↔◌, ℕ, Bool, true, false, List, Ok}
 use Rattle.biblatex_content.specs.declared.chunk.Kind.TheVariants.{Verbatim}
 use Rattle.biblatex_content.specs.Ordinary.{ordinary}
 use Rattle.biblatex_content.specs.Styled.{Member, letters}
@@ -9,9 +9,9 @@ use Rattle.biblatex_content.specs.Writing.{written_content}
 use Rattle.biblatex_grammar.specs.Balanced.{Balanced, Braces, Stands, written}
 use Rattle.biblatex_writing.specs.SettledContent.{is_tidy_styled, is_settled_content}
 
--- Tidying leaves a tidy text as it is.
+-- A text is tidy exactly where tidying leaves it as it is.
 abbrev pub TidyTextsStay : Type 0
-TidyTextsStay = (ms : List Member) → is_tidy_styled ms ≡ true → tidied ms ≡ ms
+TidyTextsStay = (ms : List Member) → (is_tidy_styled ms ≡ true) ↔ (tidied ms ≡ ms)
 
 -- A settled content of a verbatim field is what is read of the text that is written of it.
 abbrev pub VerbatimContentsReadBack : Type 0

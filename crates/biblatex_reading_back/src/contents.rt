@@ -2,7 +2,7 @@
 
 ghost use Rattle.biblatex_reading_back.specs.Laws.{OrdinaryContentsReadBack, TidyTextsStay, VerbatimContentsReadBack, WrittenContentsAreBalanced};
 
-/// Tidying leaves a tidy text as it is.
+/// A text is tidy exactly where tidying leaves it as it is.
 pub fn tidy_texts_stay()
     ensures { TidyTextsStay }
 {}
