@@ -1,6 +1,7 @@
 -- What keeps entries from reading back as they are written, and the message for it.
-use Rattle.std.specs.Prelude.{◌≡◌, ℕ, ◌+◌, true, not, List, [], ◌∷◌, ◌++◌, Option, Some, None, Result, Ok, Err, slice_get, unwrap_or, codes, if◌then◌else◌}
-use Rattle.std.specs.Str.{chars, is_utf8}
+use Rattle.std.specs.Prelude.{◌≡◌, ℕ, ◌+◌, true, not, List, [], ◌∷◌, ◌++◌, Option, Some, None, Result, Ok, Err, slice_get, codes, if◌then◌else◌}
+use Rattle.std.specs.List.{list_any}
+use Rattle.std.specs.Str.{bytes_eq, chars, is_utf8}
 use Rattle.biblatex.specs.Raw.{At, Entry, Raw}
 use Rattle.biblatex.specs.Items.{raw_of}
 use Rattle.biblatex.specs.Fault.{Fault}
@@ -10,7 +11,7 @@ use Rattle.biblatex.specs.Bibliographies.{Listed}
 use Rattle.biblatex.specs.Resolved.{TextMeans}
 use Rattle.biblatex_writing.specs.FieldNames.{written_name}
 use Rattle.biblatex_writing.specs.Flat.{flat}
-use Rattle.biblatex_writing.specs.Settled.{is_settled_entry, is_settled_field, is_settled_key, is_settled_type}
+use Rattle.biblatex_writing.specs.Settled.{has_touching_hyphens, is_settled_entry, is_settled_field, is_settled_key, is_settled_type, naming_fields}
 use Rattle.biblatex_writing.specs.Written.{is_less}
 use Rattle.bib_show.specs.Refusals.{refusal_lines}
 
@@ -19,25 +20,35 @@ abbrev pub first_unsettled : ℕ → List Source → Option (ℕ × Source)
 first_unsettled n [] = None
 first_unsettled n (e ∷ es) = if is_settled_entry e then first_unsettled (n + 1) es else Some (n, e)
 
--- of the name of a field that was found, if one was, and another name, the one that is written first
-abbrev pub written_first : Option (List ℕ) → List ℕ → List ℕ
-written_first None name = name
-written_first (Some found) name = if is_less (written_name name) (written_name found) then name else found
+-- of a field that was found, if one was, and another one, the one that is written first
+abbrev pub written_first : Option Named → Named → Named
+written_first None f = f
+written_first (Some found) f = if is_less (written_name f.0) (written_name found.0) then f else found
 
--- the name of the field that is written first among those that do not read back and one that was found
-abbrev pub unsettled_field : Option (List ℕ) → List Named → Option (List ℕ)
+-- the field that is written first among those that do not read back and one that was found
+abbrev pub unsettled_field : Option Named → List Named → Option Named
 unsettled_field found [] = found
-unsettled_field found (f ∷ fs) = unsettled_field (if is_settled_field f then found else Some (written_first found f.0)) fs
+unsettled_field found (f ∷ fs) = unsettled_field (if is_settled_field f then found else Some (written_first found f)) fs
 
 abbrev pub reason : List ℕ → List ℕ → List ℕ
 reason part name = codes "unsettled " ++ (part ++ (codes " " ++ name))
 
--- Why an entry does not read back: its type does not; or else its key; or else a field, of which the one is named that is written first. There is
--- such a field where the entry does not read back and its type and its key do.
+-- what is wrong with a field that does not read back
+abbrev pub field_fault : Named → List ℕ
+field_fault f = if list_any (bytes_eq f.0) naming_fields then codes ": names entries"
+    else (if has_touching_hyphens f then codes ": two hyphens that touch are read as a dash" else codes ": is not read back")
+
+-- why a field does not read back
+abbrev pub field_reason : Option Named → List ℕ
+field_reason None = reason (codes "field") []
+field_reason (Some f) = codes "unsettled field " ++ (f.0 ++ field_fault f)
+
+-- Why an entry does not read back: its type does not; or else its key; or else a field, of which the one is named that is written first, and why.
+-- There is such a field where the entry does not read back and its type and its key do.
 abbrev pub unsettled_reason : Source → List ℕ
 unsettled_reason e = if not (is_settled_type e.entry_type) then reason (codes "type") e.entry_type.name
     else (if not (is_settled_key (chars e.key)) then reason (codes "key") e.key
-    else reason (codes "field") (unwrap_or (unsettled_field None e.fields) []))
+    else field_reason (unsettled_field None e.fields))
 
 -- the byte of a text at which the key of its entry at an index begins; 0 where there is none
 abbrev pub key_start_of : Option (At Entry) → ℕ

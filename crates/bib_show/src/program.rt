@@ -34,9 +34,9 @@ usage: bib_show [--flat] FILE
 
 Shows the entries of the BibLaTeX file FILE, their references resolved: for each
 entry a line with its type and its key, and a line for each of its fields. With
---flat it writes them as a BibLaTeX file without crossref and xdata, if that
-reads back as the same entries. Of a file that is refused it shows the line and
-the column of the first fault.
+--flat it writes them as a BibLaTeX file without crossref and xdata, if none has
+aliases (ids) and each field reads back. Of a file that is refused it shows the
+line and the column of the first fault.
 
 Exit status: 0 if everything was written to standard output, else 1; then
 standard error says why.

@@ -5,12 +5,14 @@ ghost use Rattle.std.specs.Option.{option_map};
 ghost use Rattle.std.specs.Str.{chars};
 ghost use Rattle.biblatex.specs.Items.{raw_of};
 ghost use Rattle.biblatex.specs.RawViews.{entry_view};
+ghost use Rattle.biblatex.specs.Value.{field_value_view};
 ghost use Rattle.biblatex.specs.Entries.{source_view, sources_view};
-ghost use Rattle.bib_show.specs.Unsettled.{first_unsettled, key_start, key_start_of, reason, unsettled_field, unsettled_reason, written_first};
+ghost use Rattle.bib_show.specs.Unsettled.{field_fault, field_reason, first_unsettled, key_start, key_start_of, reason, unsettled_field, unsettled_reason, written_first};
 
-use biblatex::{Entry, Fields, RawBibliography, RawEntry, RawError, Spanned};
+use biblatex::{Chunks, Entry, Fields, RawBibliography, RawEntry, RawError, Spanned};
 use biblatex_writing::{
-    is_settled_entry, is_settled_field, is_settled_key, is_settled_type, written_name,
+    has_touching_hyphens, is_settled_entry, is_settled_field, is_settled_key, is_settled_type,
+    names_entries, written_name,
 };
 use std::alloc::{AllocError, Global};
 
@@ -28,7 +30,7 @@ pub(crate) fn first_unsettled(entries: &[Entry]) -> Option<(usize, &Entry)>
 }
 
 /// Why an entry does not read back: its type does not; or else its key; or else a field, of which the one is named that is
-/// written first.
+/// written first, and why.
 pub(crate) fn unsettled_reason(alloc: Global, entry: &Entry) -> Result<String, AllocError>
     ensures { IfOk result (λ why. string_bytes why ≡ unsettled_reason (source_view entry.now)) }
 {
@@ -38,10 +40,7 @@ pub(crate) fn unsettled_reason(alloc: Global, entry: &Entry) -> Result<String, A
     if !is_settled_key(entry.key.as_str()) {
         return reason(alloc, "key", entry.key.as_str());
     }
-    match unsettled_field(&entry.fields) {
-        Some(name) => reason(alloc, "field", name),
-        None => reason(alloc, "field", ""),
-    }
+    field_reason(alloc, unsettled_field(&entry.fields))
 }
 
 fn reason(alloc: Global, part: &str, name: &str) -> Result<String, AllocError>
@@ -50,32 +49,65 @@ fn reason(alloc: Global, part: &str, name: &str) -> Result<String, AllocError>
     format!(in alloc; "unsettled {part} {name}")
 }
 
-/// The name of the field that is written first among those that do not read back.
-fn unsettled_field(fields: &Fields) -> Option<&str>
-    ensures { option_map (λ name. name.now) result ≡ unsettled_field None fields.now }
+/// Why a field does not read back, by its name and its content.
+fn field_reason(alloc: Global, field: Option<(&str, &Chunks)>) -> Result<String, AllocError>
+    ensures { IfOk result (λ why. string_bytes why ≡ field_reason
+        (option_map (λ f. (f.0.now, field_value_view f.1.now.items)) field.entry)) }
+{
+    match field {
+        Some((name, content)) => {
+            let fault = field_fault(name, content);
+            format!(in alloc; "unsettled field {name}{fault}")
+        }
+        None => reason(alloc, "field", ""),
+    }
+}
+
+/// What is wrong with a field of that name and content which does not read back.
+fn field_fault(name: &str, content: &Chunks) -> &'static str
+    ensures { result.now ≡ field_fault (name.now, field_value_view content.now.items) }
+{
+    if names_entries(name) {
+        ": names entries"
+    } else if has_touching_hyphens(name, content) {
+        ": two hyphens that touch are read as a dash"
+    } else {
+        ": is not read back"
+    }
+}
+
+/// The field that is written first among those that do not read back.
+fn unsettled_field(fields: &Fields) -> Option<(&str, &Chunks)>
+    ensures { option_map (λ f. (f.0.now, field_value_view f.1.now.items)) result
+        ≡ unsettled_field None fields.now }
 {
     let mut found = None;
-    for (name, value) in fields.iter() {
-        if !is_settled_field(name.as_str(), value) {
-            found = Some(written_first(found, name.as_str()));
+    for (name, content) in fields.iter() {
+        if !is_settled_field(name.as_str(), content) {
+            found = Some(written_first(found, (name.as_str(), content)));
         }
     }
     found
 }
 
-/// Of the name of a field that was found, if one was, and another name, the one that is written first.
-fn written_first<'f>(found: Option<&'f str>, name: &'f str) -> &'f str
-    ensures { result.now ≡ written_first (option_map (λ s. s.now) found.entry) name.now }
+/// Of a field that was found, if one was, and another one, the one that is written first.
+fn written_first<'f>(
+    found: Option<(&'f str, &'f Chunks)>,
+    field: (&'f str, &'f Chunks),
+) -> (&'f str, &'f Chunks)
+    ensures { (result.0.now, field_value_view result.1.now.items) ≡ written_first
+        (option_map (λ f. (f.0.now, field_value_view f.1.now.items)) found.entry)
+        (field.entry.0.now, field_value_view field.entry.1.now.items) }
 {
     match found {
         Some(found) => {
-            if written_name(name) < written_name(found) {
-                name
+            if written_name(field.0) < written_name(found.0) {
+                field
             } else {
                 found
             }
         }
-        None => name,
+        None => field,
     }
 }
 

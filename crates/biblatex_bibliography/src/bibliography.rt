@@ -269,7 +269,8 @@ impl Bibliography {
         entries_text(alloc, self.entries.as_slice())
     }
 
-    /// Whether what is written reads back as the same entries. Takes no memory.
+    /// Whether the entries are settled: no two keys are equal, and each entry alone is settled, so that what is written of it reads
+    /// back. Of two fields of an entry that are written under one name the second counts when it is read. Takes no memory.
     pub fn is_settled(&self) -> bool
         ensures { result ≡ is_settled self.now.entries }
     {

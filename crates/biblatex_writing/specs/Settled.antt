@@ -7,7 +7,7 @@ use Rattle.biblatex_content.specs.Verbatim.{is_verbatim_name}
 use Rattle.biblatex_fields.specs.Fields.{Named}
 use Rattle.biblatex_entries.specs.Entries.{Source}
 use Rattle.biblatex_entries.specs.TypeNames.{TypeName, type_of}
-use Rattle.biblatex_writing.specs.SettledContent.{is_settled_content}
+use Rattle.biblatex_writing.specs.SettledContent.{has_single_hyphens, is_settled_content}
 
 -- no capital of ASCII
 abbrev pub is_no_capital : ℕ → Bool
@@ -44,6 +44,10 @@ naming_fields = codes "ids" ∷ codes "crossref" ∷ codes "xdata" ∷ []
 -- a field that names no entries, whose name is an identifier without capitals, and whose content reads back
 abbrev pub is_settled_field : Named → Bool
 is_settled_field f = not (list_any (bytes_eq f.0) naming_fields) && is_lowered_identifier (chars f.0) && is_settled_content (is_verbatim_name f.0) f.1.text
+
+-- an ordinary field in which two neighbouring hyphens are of one kind
+abbrev pub has_touching_hyphens : Named → Bool
+has_touching_hyphens f = not (is_verbatim_name f.0) && not (has_single_hyphens f.1.text)
 
 -- a key may be empty
 abbrev pub is_settled_key : List ℕ → Bool

@@ -1,4 +1,4 @@
-//! BibLaTeX files as they are written: entries as a file, whether it reads back, and entries without references.
+//! BibLaTeX files as they are written: entries as a file, which entries and contents read back, and entries without references.
 #![tactic(auto)]
 
 mod characters;
@@ -15,7 +15,7 @@ pub use entries::{entries_text, write_entries};
 pub use flat::{flatten_entries, flatten_entry};
 pub use names::{is_never_written, other_name, written_name};
 pub use settled::{
-    are_each_settled, are_settled, has_key, have_distinct_keys, is_settled_entry, is_settled_field,
-    is_settled_key, is_settled_type,
+    are_each_settled, has_key, has_touching_hyphens, is_settled_entry, is_settled_field,
+    is_settled_key, is_settled_type, names_entries,
 };
 pub use settled_content::is_settled_content;

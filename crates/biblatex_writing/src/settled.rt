@@ -8,10 +8,10 @@ ghost use Rattle.biblatex_content.specs.Verbatim.{is_verbatim_name};
 ghost use Rattle.biblatex_fields.specs.Value.{field_value_view};
 ghost use Rattle.biblatex_entries.specs.Entries.{source_view, sources_view};
 ghost use Rattle.biblatex_entries.specs.TypeNames.{type_name, type_of, known_names};
-ghost use Rattle.biblatex_writing.specs.Settled.{are_distinct, have_distinct_keys, is_identifier, is_lowered_identifier, is_no_capital, is_same_type, is_settled, is_settled_entry, is_settled_field, is_settled_key, is_settled_type, naming_fields, no_entries};
+ghost use Rattle.biblatex_writing.specs.Settled.{has_touching_hyphens, is_identifier, is_lowered_identifier, is_no_capital, is_same_type, is_settled_entry, is_settled_field, is_settled_key, is_settled_type, naming_fields, no_entries};
 ghost use Rattle.biblatex_writing.specs.SettledNames.{passes, renamed_types};
 
-use crate::settled_content::is_settled_content;
+use crate::settled_content::{has_single_hyphens, is_settled_content};
 use biblatex_content::is_verbatim_field;
 use biblatex_entries::{Entry, EntryType};
 use biblatex_fields::{Chunks, Fields};
@@ -97,7 +97,7 @@ fn is_no_entry(kind: &str) -> bool
 }
 
 /// Whether the field of that name names entries.
-fn names_entries(name: &str) -> bool
+pub fn names_entries(name: &str) -> bool
     ensures { result ≡ list_any (bytes_eq name.now) naming_fields }
 {
     matches!(name, "ids" | "crossref" | "xdata")
@@ -188,6 +188,13 @@ pub fn is_settled_field(name: &str, value: &Chunks) -> bool
         && is_settled_content(value.as_slice(), is_verbatim_field(name))
 }
 
+/// Whether the field is ordinary, and two hyphens of one kind are neighbours in it, which are read as a dash.
+pub fn has_touching_hyphens(name: &str, value: &Chunks) -> bool
+    ensures { result ≡ has_touching_hyphens (name.now, field_value_view value.now.items) }
+{
+    !is_verbatim_field(name) && !has_single_hyphens(value.as_slice())
+}
+
 /// Whether all fields read back.
 fn are_settled_fields(fields: &Fields) -> bool
     ensures { result ≡ list_all is_settled_field fields.now }
@@ -232,26 +239,4 @@ pub fn has_key(entries: &[Entry], key: &str) -> bool
         }
     }
     false
-}
-
-/// Whether no two of the entries have one key. Compares all pairs. Takes no memory.
-pub fn have_distinct_keys(entries: &[Entry]) -> bool
-    ensures { result ≡ have_distinct_keys (sources_view entries.now) }
-{
-    let mut rest = entries;
-    while let Some((first, others)) = rest.split_first() {
-        if has_key(others, first.key.as_str()) {
-            return false;
-        }
-        rest = others;
-    }
-    true
-}
-
-/// Whether what is written of the entries reads back as the same entries. No two keys are equal, and keys, types, names
-/// of fields and contents are such as are read; no field is `ids`, `crossref` or `xdata`. Takes no memory.
-pub fn are_settled(entries: &[Entry]) -> bool
-    ensures { result ≡ is_settled (sources_view entries.now) }
-{
-    have_distinct_keys(entries) && are_each_settled(entries)
 }

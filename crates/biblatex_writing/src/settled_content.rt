@@ -6,7 +6,7 @@ ghost use Rattle.std.specs.Str.{chars};
 ghost use Rattle.biblatex_tex.specs.Character.{is_blank};
 ghost use Rattle.biblatex_content.specs.Views.{styled};
 ghost use Rattle.biblatex_writing.specs.Rules.{is_tidy_at, tidy_after, are_single_at, hyphens_after, kind_before, is_math_at, is_math_after};
-ghost use Rattle.biblatex_writing.specs.SettledContent.{is_math, is_settled_content, is_settled_ordinary, is_settled_verbatim, is_verbatim, is_writable, are_of_one_kind, depth_after};
+ghost use Rattle.biblatex_writing.specs.SettledContent.{has_single_hyphens, is_math, is_settled_content, is_settled_ordinary, is_settled_verbatim, is_verbatim, is_writable, are_of_one_kind, depth_after};
 
 use crate::rules::{Rule, is_met_by};
 use biblatex_content::{Chunk, Kind, Spanned};
@@ -237,13 +237,18 @@ pub fn is_settled_content(chunks: &[Spanned<Chunk>], is_verbatim: bool) -> bool
     }
 }
 
+/// Whether no two neighbouring hyphens of the text that the chunks spell are of one kind.
+pub(crate) fn has_single_hyphens(chunks: &[Spanned<Chunk>]) -> bool
+    ensures { result ≡ has_single_hyphens (styled chunks.now) }
+{
+    is_met_by(Hyphens::Other, chunks)
+}
+
 /// Whether the chunks, as the content of an ordinary field, read back as the same styled text.
 fn is_settled_ordinary(chunks: &[Spanned<Chunk>]) -> bool
     ensures { result ≡ is_settled_ordinary (styled chunks.now) }
 {
-    is_met_by(Tidy::Start, chunks)
-        && is_met_by(Hyphens::Other, chunks)
-        && is_met_by(BalancedMath, chunks)
+    is_met_by(Tidy::Start, chunks) && has_single_hyphens(chunks) && is_met_by(BalancedMath, chunks)
 }
 
 /// Whether the chunks, as the content of a verbatim field, read back as the same styled text.
