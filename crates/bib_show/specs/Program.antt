@@ -2,9 +2,9 @@
 use Rattle.std.specs.Prelude.{◌≡◌, ℕ, Bool, true, false, ◌||◌, ◌⊎◌, List, [], ◌∷◌, ◌++◌, Option, Some, None, is_some, Ok, Err, codes, string_bytes, if◌then◌else◌}
 use Rattle.std.specs.Str.{bytes_eq, chars, is_utf8}
 use Rattle.std.specs.Borrow.{Bor}
-use Rattle.sinks.specs.Files.{Outcome}
-use Rattle.sinks.specs.Programs.{line, no_memory, not_written}
-use Rattle.sinks.specs.declared.files.ReadFault.TheVariants.{Memory, Unreadable}
+use Rattle.programs.specs.Files.{Outcome}
+use Rattle.programs.specs.Programs.{line, no_memory, not_written}
+use Rattle.programs.specs.declared.files.ReadFault.TheVariants.{Memory, Unreadable}
 use Rattle.biblatex.specs.Bibliographies.{Listed}
 use Rattle.biblatex.specs.Resolved.{TextMeans}
 use Rattle.biblatex_writing.specs.Flat.{flat}

@@ -4,8 +4,8 @@ ghost use Rattle.std.specs.Prelude.{◌≡◌, ◌≤◌, ◌++◌, None, Ok, If
 ghost use Rattle.std.specs.Option.{option_copied};
 ghost use Rattle.std.specs.Str.{chars};
 ghost use Rattle.std.specs.Io.KnownBytes.{Appends};
-ghost use Rattle.sinks.specs.Files.{read_at};
-ghost use Rattle.sinks.specs.Programs.{line, no_memory, IsUntouched, IsReason, Says};
+ghost use Rattle.programs.specs.Files.{read_at};
+ghost use Rattle.programs.specs.Programs.{line, no_memory, IsUntouched, IsReason, Says};
 ghost use Rattle.biblatex.specs.Errors.{reason_view, reason_text};
 ghost use Rattle.biblatex.specs.Bibliographies.{listed_view};
 ghost use Rattle.biblatex.specs.Entries.{source_view};
@@ -21,7 +21,8 @@ use crate::refusal::refusal_lines;
 use crate::shown::show;
 use crate::unsettled::{first_unsettled, key_start, unsettled_reason};
 use biblatex::{Bibliography, Entry, ParseError, ParseErrorKind};
-use sinks::{FileRead, ReadFault, Sink, bytes_at, line_of, say, write_all};
+use programs::{FileRead, ReadFault, bytes_at, line_of, say};
+use sinks::{Sink, write_all};
 use std::alloc::{AllocError, Global};
 
 /// The name of the program.

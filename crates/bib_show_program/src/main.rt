@@ -2,7 +2,8 @@
 #![tactic(auto)]
 
 use bib_show::{paths, run};
-use sinks::{FileRead, Tap, borrowed, read_files, words_given};
+use programs::{FileRead, borrowed, read_files, words_given};
+use sinks::Tap;
 use std::io;
 use std::io::{ErrorKind, Write};
 use std::process::ExitCode;

@@ -2,7 +2,7 @@
 
 use cases::{Session, Value, member};
 use cases_cite::bytes_of;
-use sinks::{FileRead, ReadFault};
+use programs::{FileRead, ReadFault};
 
 /// The files of a case: the paths in `no_memory_for`, and then `files` by their paths.
 pub(crate) fn read_files<'c>(session: &mut Session, case: &Value<'c>) -> Vec<FileRead<'c>> {

@@ -2,7 +2,8 @@
 
 use crate::files::{are_refused, read_files};
 use cases::{Refusal, Session, Taker, Value, put_taken, read_taker};
-use sinks::{FileRead, Tap};
+use programs::FileRead;
+use sinks::Tap;
 
 /// The members of a case.
 const MEMBERS: [&str; 8] = [

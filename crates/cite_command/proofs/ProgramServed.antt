@@ -9,7 +9,7 @@ use Rattle.literature.specs.declared.selector_error.SelectorError.{SelectorError
 use Rattle.literature.specs.declared.selector_error.SelectorError.TheVariants as selectors
 use lib.Chars.{codes}
 use Rattle.sinks.specs.Sinks.{HasFailed, AppendsPrefix}
-use Rattle.sinks.specs.Programs.{Served, IsUntouched, Says, no_memory}
+use Rattle.programs.specs.Programs.{Served, IsUntouched, Says, no_memory}
 use Rattle.cite_requests.specs.Answers.{Wanted, Writes, IsRefusal, IsSectionRefusal, UnlessWrite, OnWrite}
 use Rattle.cite_command.specs.Program.{Reads, Job, IsReason, IsRefused, IsJobFault, ServesJob, error_message, line, said, task_in, refusal_message}
 use Rattle.cite_requests.specs.Refusals.{section_text}

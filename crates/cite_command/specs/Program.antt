@@ -7,9 +7,9 @@ use Rattle.std.specs.Str.{bytes_eq}
 use Rattle.std.specs.Borrow.{Bor}
 use Rattle.laws.specs.Results.{◌>>=◌}
 use Rattle.laws.specs.Text.{spelled}
-use Rattle.sinks.specs.Files.{Outcome}
-use Rattle.sinks.specs.Programs as programs
-use Rattle.sinks.specs.declared.files.ReadFault.TheVariants.{Memory, Unreadable}
+use Rattle.programs.specs.Files.{Outcome}
+use Rattle.programs.specs.Programs as programs
+use Rattle.programs.specs.declared.files.ReadFault.TheVariants.{Memory, Unreadable}
 use Rattle.interop.specs.Bridge.{Fault}
 use Rattle.interop.specs.Views.{fault_view}
 use Rattle.rendering_output.specs.declared.writing.BufWriteFormat.{BufWriteFormat}

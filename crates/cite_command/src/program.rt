@@ -5,8 +5,8 @@ ghost use Rattle.std.specs.Io.KnownBytes.{Appends};
 ghost use lib.Chars.{codes};
 ghost use Rattle.cite_command.specs.Jobs.{IsJob, job_view};
 ghost use Rattle.cite_command.specs.declared.program.RunFault.TheVariants as faults;
-ghost use Rattle.sinks.specs.Files.{read_at};
-ghost use Rattle.sinks.specs.Programs.{IsUntouched, Says, no_memory};
+ghost use Rattle.programs.specs.Files.{read_at};
+ghost use Rattle.programs.specs.Programs.{IsUntouched, Says, no_memory};
 ghost use Rattle.interop.specs.Views.{fault_view};
 ghost use Rattle.std.specs.Option.{option_map};
 ghost use Rattle.rendering_style.specs.StyleViews.{style_view};
@@ -17,9 +17,10 @@ use cite::cite;
 use cite_requests::CiteError;
 use cite_styles::{author_date, english, note, numeric};
 use interop::FieldFault;
+use programs::{FileRead, ReadFault, bytes_at};
 use rendering_output::BufWriteFormat;
 use rendering_style::Style;
-use sinks::{FileRead, ReadFault, Sink, bytes_at};
+use sinks::Sink;
 use std::alloc::{AllocError, Global};
 use std::fmt;
 
@@ -115,8 +116,8 @@ fn say<E: Sink>(lines: Result<String, AllocError>, err: &mut E)
         (E.contents err.old) (E.contents err.new) (E.failures err.old) (E.failures err.new) }
 {
     match lines {
-        Ok(text) => sinks::say(text.as_bytes(), err),
-        Err(_) => sinks::say(NO_MEMORY.as_bytes(), err),
+        Ok(text) => programs::say(text.as_bytes(), err),
+        Err(_) => programs::say(NO_MEMORY.as_bytes(), err),
     }
 }
 
@@ -167,7 +168,7 @@ fn error_line(alloc: Global, error: &CiteError) -> Result<String, AllocError>
     ensures { IfOk result (λ s. string_bytes s ≡ line (error_text error.now)) }
 {
     let text = error.to_string(alloc)?;
-    sinks::line_of(alloc, "cite", text.as_str(), "")
+    programs::line_of(alloc, "cite", text.as_str(), "")
 }
 
 /// The line that reports why `cite` was not called.
@@ -175,7 +176,7 @@ fn fault_line(alloc: Global, fault: &RunFault<'_>) -> Result<String, AllocError>
     ensures { IfOk result (λ s. string_bytes s ≡ message_of fault.now) }
 {
     let text = fault.to_string(alloc)?;
-    sinks::line_of(alloc, "cite", text.as_str(), "")
+    programs::line_of(alloc, "cite", text.as_str(), "")
 }
 
 /// What words ask for.

@@ -1,7 +1,7 @@
 -- Each run of the program has one end.
 use Rattle.std.proofs.Common.{◌≡◌, ℕ, true≢false, List, is_ok, Result, Ok, Err, refl, sym, ap, ◌∙◌}
-use Rattle.sinks.specs.Files.{Outcome}
-use Rattle.sinks.specs.declared.files.ReadFault.TheVariants.{Memory, Unreadable}
+use Rattle.programs.specs.Files.{Outcome}
+use Rattle.programs.specs.declared.files.ReadFault.TheVariants.{Memory, Unreadable}
 use Rattle.cite_command.specs.Program.{Reads, Job, job_of, line, refusal_message, path_text, task_in, ServesBytes, IsBytesFault, ServesJob, IsJobFault}
 use Rattle.cite_requests.specs.Stages.{Refusal}
 use Rattle.cite.specs.Verdict.{IsVerdict}

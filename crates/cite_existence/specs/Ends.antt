@@ -1,7 +1,7 @@
 -- That each run of the program has an end.
 use Rattle.std.specs.Prelude.{◌≡◌, ℕ, List, Result, Err}
 use Rattle.std.specs.Borrow.{Bor}
-use Rattle.sinks.specs.declared.files.ReadFault.TheVariants.{Memory}
+use Rattle.programs.specs.declared.files.ReadFault.TheVariants.{Memory}
 use Rattle.cite_command.specs.Program.{Reads, Job, job_of, ServesJob, IsJobFault}
 
 -- how a run ends: with an output, or with the message for a fault

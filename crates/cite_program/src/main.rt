@@ -3,7 +3,7 @@
 
 use cite::{CiteError, SinkFault, Tap};
 use cite_command::{paths, run};
-use sinks::{FileRead, borrowed, read_files, words_given};
+use programs::{FileRead, borrowed, read_files, words_given};
 use std::alloc::AllocError;
 use std::io;
 use std::io::{BufWriter, ErrorKind, Write};

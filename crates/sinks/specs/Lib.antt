@@ -1,4 +1,2 @@
 pub mod Sinks
 pub mod Targets
-pub mod Files
-pub mod Programs

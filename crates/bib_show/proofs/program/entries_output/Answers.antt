@@ -1,7 +1,7 @@
 use Rattle.std.specs.Prelude.{string_bytes}
 use Rattle.std.proofs.lemmas.Str.{is_utf8-from_IsUtf8}
 use Rattle.biblatex.specs.Bibliographies.{listed_view}
-use Rattle.sinks.specs.Programs.{no_memory}
+use Rattle.programs.specs.Programs.{no_memory}
 use lib.Chars.{codes}
 use Rattle.bib_show.specs.Program.{message_of}
 use Rattle.bib_show.proofs.FlatFiles.{flat_of, unsettled_of}

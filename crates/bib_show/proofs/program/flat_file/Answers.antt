@@ -1,6 +1,6 @@
 use Rattle.std.proofs.Common.{◌≡◌, Some, rules}
 use lib.Chars.{codes}
-use Rattle.sinks.specs.Programs.{no_memory}
+use Rattle.programs.specs.Programs.{no_memory}
 use Rattle.biblatex.specs.Entries.{source_view}
 use Rattle.biblatex_writing.specs.Flat.{flat}
 use Rattle.bib_show.specs.Program.{message_of}

@@ -1,4 +1,4 @@
-use Rattle.sinks.specs.Files.{read_at}
+use Rattle.programs.specs.Files.{read_at}
 use Rattle.bib_show.specs.Program.{Serves, IsFault}
 use Rattle.bib_show.proofs.ProgramFaults.{says_reason}
 use Rattle.bib_show.proofs.program.run.Goals as goal

@@ -1,7 +1,7 @@
 use Rattle.std.proofs.Common.{◌≡◌, ℕ, List, subst, ◌∙◌, ◌⊎◌}
 use Rattle.std.specs.Prelude.{IfErr}
 use lib.Chars.{codes}
-use Rattle.sinks.specs.Programs.{no_memory}
+use Rattle.programs.specs.Programs.{no_memory}
 use Rattle.bib_show.specs.Program.{IsFaultOf, message_of}
 use Rattle.bib_show.proofs.ProgramFaults.{no_text, source_fault}
 use Rattle.bib_show.proofs.program.source_output.Goals as goal

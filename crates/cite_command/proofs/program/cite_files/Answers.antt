@@ -1,7 +1,7 @@
 use Rattle.std.proofs.Common.{◌≡◌, ℕ, List, Ok, subst}
 use Rattle.std.specs.Io.KnownBytes.{Appends}
 use Rattle.std.proofs.lemmas.Result.{on_ok_weaker}
-use Rattle.sinks.specs.Files.{read_at}
+use Rattle.programs.specs.Files.{read_at}
 use Rattle.sinks.specs.Sinks.{AppendsPrefix}
 use Rattle.cite_requests.specs.Answers.{Writes}
 use Rattle.cite_command.specs.Jobs.{job_view}

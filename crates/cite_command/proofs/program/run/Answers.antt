@@ -1,4 +1,4 @@
-use Rattle.sinks.specs.Files.{read_at}
+use Rattle.programs.specs.Files.{read_at}
 use Rattle.cite_command.specs.Program.{IsFault, IsReason, Serves, error_message, message_of}
 use Rattle.cite_command.proofs.ProgramServed.{at_err, fault_reason, says_reason}
 use Rattle.cite_command.proofs.program.run.Goals as goal

@@ -1,6 +1,6 @@
 use Rattle.std.proofs.Common.{ℕ, List, Result, Ok, sym, subst}
 use Rattle.std.specs.Io.KnownBytes.{Appends}
-use Rattle.sinks.specs.Files.{read_at}
+use Rattle.programs.specs.Files.{read_at}
 use Rattle.cite_command.specs.Jobs.{job_view}
 use Rattle.cite_command.specs.Program.{Job, IsFault, IsJobFault, Serves, ServesJob, error_message, message_of}
 use Rattle.cite_command.proofs.ProgramServed.{err_weaker, fault_weaker, if_err_weaker, if_ok_weaker, ok_weaker, reason_weaker, untouched_weaker}

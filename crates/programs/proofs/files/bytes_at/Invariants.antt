@@ -1,6 +1,6 @@
 use Rattle.std.proofs.Common.{◌≡◌, drop, map}
-use Rattle.sinks.specs.Files.{file_view, outcome_at}
-use Rattle.sinks.proofs.files.bytes_at.Given as goal
+use Rattle.programs.specs.Files.{file_view, outcome_at}
+use Rattle.programs.proofs.files.bytes_at.Given as goal
 
 abbrev pub invariant-loop-file : goal.invariant-loop-file
 invariant-loop-file l = outcome_at (map file_view (drop l.file-index l.files)) l.path ≡ outcome_at (map file_view l.fn.files) l.fn.path

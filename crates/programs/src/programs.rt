@@ -1,11 +1,11 @@
 //! What programs have in common: their words, the files that these name, and lines for the second sink.
 
 ghost use Rattle.std.specs.Prelude.{◌≡◌, ◌++◌, map, IfOk, string_bytes};
-ghost use Rattle.sinks.specs.Programs.{line, Says};
-ghost use Rattle.sinks.specs.declared.files.FileRead.{FileRead};
+ghost use Rattle.programs.specs.Programs.{line, Says};
+ghost use Rattle.programs.specs.declared.files.FileRead.{FileRead};
 
 use crate::files::{FileRead, ReadFault};
-use crate::sink::{Sink, write_all};
+use sinks::{Sink, write_all};
 use std::alloc::{AllocError, Global};
 use std::io::ErrorKind;
 use std::{env, fs, io};

@@ -1,7 +1,7 @@
 //! Files that were read: what a program is given of its input.
 
 ghost use Rattle.std.specs.Prelude.{◌≡◌};
-ghost use Rattle.sinks.specs.Files.{outcome_view, read_at, IsRead};
+ghost use Rattle.programs.specs.Files.{outcome_view, read_at, IsRead};
 
 /// A path, and what reading its file gave.
 #[derive(Debug, Drop)]

@@ -1,5 +1,5 @@
 use Rattle.std.proofs.Common.{◌≡◌, map, take, string_bytes}
-use Rattle.sinks.proofs.programs.borrowed.Given as goal
+use Rattle.programs.proofs.programs.borrowed.Given as goal
 
 abbrev pub invariant-loop-word : goal.invariant-loop-word
 invariant-loop-word l = map (λ word. word.now) l.all.items ≡ map string_bytes (take l.word-index l.words)

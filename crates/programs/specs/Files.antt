@@ -3,9 +3,9 @@ use Rattle.std.specs.Global.{Global}
 use Rattle.std.specs.Prelude.{◌≡◌, ℕ, List, [], ◌∷◌, map, if◌then◌else◌, Vec, Result, Ok, Err}
 use Rattle.std.specs.Str.{bytes_eq}
 use Rattle.std.specs.Borrow.{Bor}
-use Rattle.sinks.specs.declared.files.ReadFault.{ReadFault}
-use Rattle.sinks.specs.declared.files.ReadFault.TheVariants.{Unreadable}
-use Rattle.sinks.specs.declared.files.FileRead.{FileRead}
+use Rattle.programs.specs.declared.files.ReadFault.{ReadFault}
+use Rattle.programs.specs.declared.files.ReadFault.TheVariants.{Unreadable}
+use Rattle.programs.specs.declared.files.FileRead.{FileRead}
 
 -- what reading gave: the bytes of a file, or why it was not read
 abbrev pub Outcome : Type 0
