@@ -13,10 +13,7 @@ use Rattle.biblatex_bibliography.specs.Bibliographies.{last_named, after_first}
 use Rattle.biblatex_bibliography.proofs.IndicesWithin.{length_last}
 use Rattle.biblatex_bibliography.proofs.IndicesNames.{last_named-last}
 use Rattle.biblatex_bibliography.proofs.NamingOrder.{joined}
-
-pub moved_over : {X : Type 0} (xs ys : List X) (x : X) → (xs ++ x ∷ []) ++ ys ≡ xs ++ x ∷ ys
-moved_over [] ys x = refl
-moved_over (z ∷ xs) ys x = ap (λ (zs : List _). z ∷ zs) (moved_over xs ys x)
+use Rattle.biblatex_reading.proofs.ReadingSteps.{moved_over}
 
 -- the names of one more entry
 pub names_last : (k : ℕ) (es : List Source) (e : Source) → names_from k (es ++ e ∷ []) ≡ names_from k es ++ numbered (names_of e) (k + length es)

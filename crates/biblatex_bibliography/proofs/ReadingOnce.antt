@@ -19,7 +19,8 @@ use Rattle.biblatex_bibliography.specs.Errors.{loaded_with_keys}
 use Rattle.biblatex_bibliography.specs.Reading.{Refusal, refused_at, duplicate_key, Loaded, nothing_loaded, source_of, unless_known, entries_after, loaded, entry_read, UpToFault, one_read, up_to_fault}
 use Rattle.biblatex_bibliography.proofs.IndicesWithin.{length_last}
 use Rattle.biblatex_bibliography.proofs.IndicesNames.{last_named-last}
-use Rattle.biblatex_bibliography.proofs.NamingSources.{moved_over, known_before}
+use Rattle.biblatex_bibliography.proofs.NamingSources.{known_before}
+use Rattle.biblatex_reading.proofs.ReadingSteps.{moved_over}
 
 -- entries that are read, each named by its key and its aliases
 abbrev pub as_read : List Source → List (At (List ℕ)) → Loaded
@@ -116,28 +117,6 @@ read_once g es r is =
 
 pub keys_as_long : (g : Glossary) (es : List (At Entry)) (r : UpToFault) → r ≡ up_to_fault g es → length r.entries ≡ length r.keys
 keys_as_long g es r is = subst (λ (x : UpToFault). length x.entries ≡ length x.keys) (sym is) (keys_long g es)
-
--- entries so far, and what is read after them
-abbrev pub followed : List Source → List (At (List ℕ)) → UpToFault → UpToFault
-followed es keys r = record { entries = es ++ r.entries; keys = keys ++ r.keys; fault = r.fault }
-
--- one more entry was read
-pub one_more_read : (g : Glossary) (es fs : List Source) (keys more : List (At (List ℕ))) (raw : At Entry) (rest : List (At Entry)) (s : Source) (total : UpToFault) → fs ≡ es ++ s ∷ [] → more ≡ keys ++ raw.v.key ∷ [] → entry_read g raw.v ≡ Ok s
-    → followed es keys (up_to_fault g (raw ∷ rest)) ≡ total → followed fs more (up_to_fault g rest) ≡ total
-one_more_read g es fs keys more raw rest s total is_fs is_more read is =
-    let r = up_to_fault g rest in
-    (λ i. followed (is_fs i) (is_more i) r)
-    ∙ ((λ i. record { entries = moved_over es r.entries s i; keys = moved_over keys r.keys raw.v.key i; fault = r.fault })
-    ∙ (ap (λ (x : Result Source Refusal). followed es keys (one_read raw.v.key x r)) (sym read) ∙ is))
-
--- no more entry was read
-pub none_more : (es : List Source) (keys : List (At (List ℕ))) (fault : Option Refusal) (r total : UpToFault) → r ≡ record { entries = []; keys = []; fault = fault } → followed es keys r ≡ total → record { entries = es; keys = keys; fault = fault } ≡ total
-none_more es keys fault r total none is =
-    (λ i. record { entries = sym (append-nil es) i; keys = sym (append-nil keys) i; fault = fault })
-    ∙ (ap (followed es keys) (sym none) ∙ is)
-
-pub fault_read : (g : Glossary) (raw : At Entry) (rest : List (At Entry)) (f : Refusal) → entry_read g raw.v ≡ Err f → up_to_fault g (raw ∷ rest) ≡ record { entries = []; keys = []; fault = Some f }
-fault_read g raw rest f read = ap (λ (x : Result Source Refusal). one_read raw.v.key x (up_to_fault g rest)) read
 
 ends_with : (total : Result Loaded Refusal) (o : Option Refusal) (r : Refusal) → o ≡ Some r → total ≡ Err r → IfSome o (λ x. total ≡ Err x)
 ends_with total o r is refused = subst (λ (p : Option Refusal). IfSome p (λ x. total ≡ Err x)) (sym is) refused

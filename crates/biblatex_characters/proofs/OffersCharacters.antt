@@ -19,7 +19,7 @@ use Rattle.biblatex_entries.specs.Roles.{role_of}
 use Rattle.biblatex_entries.specs.declared.role.Role.{Role}
 use Rattle.biblatex_entries.specs.declared.role.Role.TheVariants.{Article, PartOfBook, PartOfOther, XData}
 use Rattle.biblatex_inheritance.specs.Resolved.{Table, Offer, date_for, date_value, dated, first, first_offer, offer_if, offered, offers, own, resolved, undated, with_date}
-use Rattle.biblatex_inheritance.specs.Table.{inherits, is_among, is_xdata, never, of_all, of_articles, of_parts, renamed, source_name}
+use Rattle.biblatex_inherited_fields.specs.Table.{inherits, is_among, is_xdata, never, of_all, of_articles, of_parts, renamed, source_name}
 use Rattle.biblatex_characters.specs.Values.{IsTableText, IsValueText}
 use Rattle.biblatex_characters.proofs.CharacterLists.{first_of, second_of}
 use Rattle.biblatex_characters.proofs.ContentCharacters.{letters_characters, plain_characters}

@@ -12,7 +12,7 @@ use Rattle.biblatex_entries.specs.declared.role.Role.{Role}
 use Rattle.biblatex_entries.specs.Roles.{role_of, is_multi_volume}
 use Rattle.biblatex_entries.specs.Entries.{Source}
 use Rattle.reference_graph.specs.References.{references_of}
-use Rattle.biblatex_inheritance.specs.Table.{inherits, is_xdata, is_periodical, is_part, is_volume, is_part_of_book, is_book, renamed_in_part, renamed, source_name}
+use Rattle.biblatex_inherited_fields.specs.Table.{inherits, is_xdata, is_periodical, is_part, is_volume, is_part_of_book, is_book, renamed_in_part, renamed, source_name}
 use Rattle.biblatex_inheritance.specs.Resolved.{Table, Offer, first, first_offer, own, undated, dated, date_for, resolved, offers, offer_if}
 use Rattle.biblatex_existence.proofs.Equation.{iterated}
 use Rattle.biblatex_existence.proofs.Solving.{resolved_in, rule, no_fields, solution_of}

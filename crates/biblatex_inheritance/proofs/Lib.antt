@@ -1,4 +1,3 @@
-pub mod TablePassing
 pub mod ResolvedDates
 pub mod ResolvedReferences
 pub mod ResolvedJoined

@@ -19,7 +19,7 @@ use Rattle.biblatex_fields.specs.Value.{Value}
 use Rattle.biblatex_entries.specs.Entries.{Source}
 use Rattle.biblatex_entries.specs.declared.role.Role.{Role}
 use Rattle.biblatex_entries.specs.Roles.{role_of}
-use Rattle.biblatex_inheritance.specs.Table.{inherits, source_name}
+use Rattle.biblatex_inherited_fields.specs.Table.{inherits, source_name}
 use Rattle.biblatex_inheritance.specs.Resolved.{Table, Offer, first, offered, first_offer, own, date_for, date_value, dated, undated, resolved}
 
 -- no date is written as an empty text

@@ -1,4 +1,3 @@
-pub mod Table
 pub mod Resolved
 pub mod Views
 pub mod Solution

@@ -19,26 +19,13 @@ use Rattle.biblatex_dates.specs.Written.{date_text}
 use Rattle.biblatex_dates.specs.declared.date.Date.{Date}
 use Rattle.biblatex_dates.specs.declared.error.TypeErrorKind.{TypeErrorKind}
 use Rattle.biblatex_inheritance.specs.declared.error.DateFault.{DateFault}
-use Rattle.biblatex_inheritance.specs.Table.{inherits, source_name}
-
--- the value under each name, if there is one
-abbrev pub Table : Type 0
-Table = List ℕ → Option Value
+pub use Rattle.biblatex_inherited_fields.specs.Offered.{Table, first, offered}
 
 -- what a reference has to offer: the entry of a number, by its role and its fields
 pub record Offer : Type 0 where
   pub number : ℕ
   pub role : Role
   pub fields : Table
-
--- the first of two values, or the second where there is no first
-abbrev pub first : Option Value → Option Value → Option Value
-first None other = other
-first (Some v) other = Some v
-
--- what one reference offers under a name
-abbrev pub offered : Role → Role → Table → Table
-offered to from fields name = if inherits to name then fields (source_name to from name) else None
 
 abbrev pub first_offer : Role → List Offer → Table
 first_offer to [] name = None

@@ -10,25 +10,14 @@ use Rattle.biblatex_fields.specs.Value.{field_value_view}
 use Rattle.biblatex_entries.specs.TypeNames.{type_name}
 use Rattle.biblatex_entries.specs.Roles.{role_of}
 use Rattle.biblatex_entries.specs.declared.entry.Entry.{Entry}
-use Rattle.biblatex_inheritance.specs.Resolved.{Table, Offer, first, last_date, first_fault}
+pub use Rattle.biblatex_inherited_fields.specs.Views.{table_view, PassesOn}
+use Rattle.biblatex_inheritance.specs.Resolved.{Table, Offer, last_date, first_fault}
 use Rattle.biblatex_dates.specs.declared.date.Date.{Date}
 use Rattle.biblatex_inheritance.specs.declared.dated.Dated.{Dated}
-
--- the value under each name
-abbrev pub table_view : List Named → Table
-table_view fs name = value_named name fs
 
 -- what the entry of a number has to offer
 abbrev pub offer : ℕ → Entry → Offer
 offer n e = record { number = n; role = role_of (type_name e.entry_type); fields = table_view e.fields }
-
--- what is lacking comes where it is offered
-abbrev pub PassesOn : List Named → List Named → Table → Type 0
-PassesOn old new offers = (name : List ℕ) → value_named name new ≡ first (value_named name old) (offers name)
-
--- the fields that are borrowed one by one
-abbrev pub borrowed_fields_view : List (Bor (String Global) × Bor (Vec (Spanned Chunk) Global)) → List Named
-borrowed_fields_view es = map (λ e. (string_bytes e.0.now, field_value_view e.1.now.items)) es
 
 -- what references have to offer, as the entries stand
 abbrev pub offer_in : ℕ → Option Entry → List Offer

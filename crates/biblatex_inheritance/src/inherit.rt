@@ -11,11 +11,11 @@ ghost use Rattle.biblatex_inheritance.specs.Views.{table_view, PassesOn, IsTable
 
 use crate::dated::{Dated, dates_of, entry_at};
 use crate::error::DateFault;
-use crate::pass_on::pass_on;
 use biblatex_content::{Chunk, Chunks, Spanned};
 use biblatex_dates::Date;
 use biblatex_entries::{Entry, Role};
 use biblatex_fields::Fields;
+use biblatex_inherited_fields::pass_on;
 use std::alloc::{AllocError, Global};
 
 /// Makes the fields of an entry of the role those that it has once its references are resolved. Returns the fault of the first

@@ -4,9 +4,7 @@
 mod dated;
 mod error;
 mod inherit;
-mod pass_on;
 mod solution;
-mod table;
 
 pub use error::{DateFault, ResolveError};
 pub use solution::{Resolution, resolve};

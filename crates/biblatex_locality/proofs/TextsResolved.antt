@@ -13,7 +13,7 @@ use Rattle.biblatex_entries.specs.Entries.{Source}
 use Rattle.biblatex_entries.specs.Roles.{role_of}
 use Rattle.biblatex_entries.specs.declared.role.Role.{Role}
 use Rattle.biblatex_inheritance.specs.Resolved.{Table, Offer, characters_at, date_for, date_in, date_value, dated, first, first_offer, last_date, later, needs_date, of_date, offered, own, plain_in, readable, resolved, undated}
-use Rattle.biblatex_inheritance.specs.Table.{inherits, source_name}
+use Rattle.biblatex_inherited_fields.specs.Table.{inherits, source_name}
 use Rattle.biblatex_locality.specs.Reached.{SaysTheSame}
 
 -- the text of a value

@@ -9,7 +9,7 @@ use Rattle.biblatex_entries.specs.declared.role.Role.TheVariants.{Book}
 use Rattle.biblatex_fields.specs.Fields.{Named, value_named}
 use Rattle.biblatex_fields.specs.Value.{Value}
 use Rattle.biblatex_inheritance.specs.Resolved.{Offer, resolved}
-use Rattle.biblatex_inheritance.specs.Table.{renamed_in_part}
+use Rattle.biblatex_inherited_fields.specs.Table.{renamed_in_part}
 use Rattle.biblatex_writing.specs.Flat.{flat}
 use Rattle.interop.specs.SameFiles.{SayTheSame}
 use Rattle.interop.proofs.SameFilesExamples.{itself}

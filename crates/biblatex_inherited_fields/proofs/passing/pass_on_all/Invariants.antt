@@ -1,0 +1,9 @@
+use Rattle.std.proofs.Common.{◌≡◌, ◌++◌, None}
+use Rattle.std.specs.Prelude.{if◌then◌else◌}
+use Rattle.biblatex_fields.specs.Fields.{value_named, named_fields_view}
+use Rattle.biblatex_inherited_fields.specs.Table.{is_among, never}
+use Rattle.biblatex_inherited_fields.specs.Views.{PassesOn, borrowed_fields_view}
+use Rattle.biblatex_inherited_fields.proofs.passing.pass_on_all.Given as goal
+
+abbrev pub invariant-loop-name : goal.invariant-loop-name
+invariant-loop-name l = PassesOn l.fn.fields l.fields (λ name. if is_among never name then None else value_named name (borrowed_fields_view l.yielded)) × (l.from ≡ borrowed_fields_view l.yielded ++ named_fields_view l.name-iterator)

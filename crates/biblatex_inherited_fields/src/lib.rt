@@ -1,0 +1,7 @@
+//! What a reference passes on: which fields an entry inherits, and under which names of the reference.
+#![tactic(auto)]
+
+mod passing;
+mod table;
+
+pub use passing::pass_on;
