@@ -1,5 +1,0 @@
-use Rattle.biblatex_content_grammar.proofs.Tidied.{tidied-again, tidied-takes}
-use Rattle.biblatex_content_grammar.proofs.reading.tidied_is_what_is_related.Goals as goal
-
-pub returns : goal.returns
-returns c ms ns = (tidied-takes ms ns, tidied-again ms ns)

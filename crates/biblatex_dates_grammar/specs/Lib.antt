@@ -1,4 +1,0 @@
-pub mod Sides
-pub mod Calendar
-pub mod Meaning
-pub mod Laws

@@ -1,5 +1,0 @@
-use Rattle.biblatex_people_grammar.proofs.People.{is_related, is_read}
-use Rattle.biblatex_people_grammar.proofs.reading.people_are_what_is_related.Goals as goal
-
-pub returns : goal.returns
-returns c ss ns = (is_related ss ns, is_read ss ns)

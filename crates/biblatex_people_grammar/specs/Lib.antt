@@ -1,4 +1,0 @@
-pub mod Words
-pub mod Names
-pub mod People
-pub mod Laws

@@ -1,4 +1,0 @@
-pub mod Integers
-pub mod Marks
-pub mod Pages
-pub mod Answers

@@ -1,0 +1,17 @@
+pub mod NumberRuns
+pub mod NumbersAgain
+pub mod NumbersTakes
+pub mod Pages
+pub mod Answers
+pub mod NameRuns
+pub mod Delimiters
+pub mod InitialsLaws
+pub mod Texts
+pub mod Machine
+pub mod Same
+pub mod Unknown
+pub mod Again
+pub mod Takes
+pub mod Reached
+pub mod Below
+pub mod Refused

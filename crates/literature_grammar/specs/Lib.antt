@@ -1,0 +1,9 @@
+pub mod Numbers
+pub mod Pages
+pub mod Answers
+pub mod NumberLaws
+pub mod Initials
+pub mod InitialsLaws
+pub mod Texts
+pub mod Refusals
+pub mod SelectorLaws

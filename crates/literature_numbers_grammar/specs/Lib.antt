@@ -1,4 +1,0 @@
-pub mod Numbers
-pub mod Pages
-pub mod Answers
-pub mod Laws

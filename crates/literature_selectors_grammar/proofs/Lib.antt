@@ -1,9 +1,0 @@
-pub mod Texts
-pub mod Machine
-pub mod Same
-pub mod Unknown
-pub mod Again
-pub mod Takes
-pub mod Reached
-pub mod Below
-pub mod Refused

@@ -1,5 +1,0 @@
-use Rattle.literature_selectors_grammar.proofs.Refused.{read-refused, refused-read}
-use Rattle.literature_selectors_grammar.proofs.reading.refused_is_refusal.Goals as goal
-
-pub returns : goal.returns
-returns c cs fault = (read-refused cs fault, refused-read cs fault)

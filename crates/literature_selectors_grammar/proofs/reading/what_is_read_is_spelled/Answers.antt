@@ -1,5 +1,0 @@
-use Rattle.literature_selectors_grammar.proofs.Texts.{read-spelled, spelled-read}
-use Rattle.literature_selectors_grammar.proofs.reading.what_is_read_is_spelled.Goals as goal
-
-pub returns : goal.returns
-returns c cs x = (read-spelled cs x, spelled-read cs x)

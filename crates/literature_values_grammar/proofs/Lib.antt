@@ -1,3 +1,0 @@
-pub mod Runs
-pub mod Delimiters
-pub mod Laws

@@ -1,2 +1,0 @@
-pub mod Initials
-pub mod Laws
