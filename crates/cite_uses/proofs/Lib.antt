@@ -1,4 +1,5 @@
 pub mod Accepted
+pub mod PageErrors
 pub mod AlikeEach
 pub mod AlikeNames
 pub mod AlikePairs

@@ -1,5 +1,6 @@
 pub mod Titles
 pub mod Tasks
+pub mod Pages
 pub mod Hidden
 pub mod Flattened
 pub mod Alike
