@@ -7,7 +7,7 @@ use Rattle.biblatex.specs.Items.{raw_of}
 use Rattle.biblatex.specs.Fault.{Fault}
 use Rattle.biblatex.specs.Abbreviations.{Glossary}
 use Rattle.biblatex.specs.Entries.{Source}
-use Rattle.biblatex.specs.Bibliographies.{Listed}
+use Rattle.biblatex.specs.Listed.{Listed}
 use Rattle.biblatex.specs.Reading.{Loaded, Refusal, loaded}
 use Rattle.biblatex.specs.Resolved.{IsTextMeaningOf, Means, TextMeans}
 use Rattle.biblatex_writing.specs.Flat.{flat}

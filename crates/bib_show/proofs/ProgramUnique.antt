@@ -1,7 +1,7 @@
 -- A file is shown in one way, and written in one way without references.
 use Rattle.std.proofs.Common.{◌≡◌, ℕ, List, [], Result, Ok, Err, sym, ap, ◌∙◌}
 use Rattle.std.specs.Str.{chars}
-use Rattle.biblatex.specs.Bibliographies.{Listed}
+use Rattle.biblatex.specs.Listed.{Listed}
 use Rattle.biblatex.specs.Reading.{Refusal}
 use Rattle.biblatex.proofs.ResolvedUnique.{one_meaning}
 use Rattle.biblatex_writing.specs.Flat.{flat}

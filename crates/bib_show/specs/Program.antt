@@ -5,7 +5,7 @@ use Rattle.std.specs.Borrow.{Bor}
 use Rattle.programs.specs.Files.{Outcome}
 use Rattle.programs.specs.Programs.{line, no_memory, not_written}
 use Rattle.programs.specs.declared.files.ReadFault.TheVariants.{Memory, Unreadable}
-use Rattle.biblatex.specs.Bibliographies.{Listed}
+use Rattle.biblatex.specs.Listed.{Listed}
 use Rattle.biblatex.specs.Resolved.{TextMeans}
 use Rattle.biblatex_writing.specs.Flat.{flat}
 use Rattle.biblatex_writing.specs.Settled.{is_settled}

@@ -7,7 +7,7 @@ use Rattle.biblatex.specs.Items.{raw_of}
 use Rattle.biblatex.specs.Fault.{Fault}
 use Rattle.biblatex.specs.Fields.{Named}
 use Rattle.biblatex.specs.Entries.{Source}
-use Rattle.biblatex.specs.Bibliographies.{Listed}
+use Rattle.biblatex.specs.Listed.{Listed}
 use Rattle.biblatex.specs.Resolved.{TextMeans}
 use Rattle.biblatex_writing.specs.FieldNames.{written_name}
 use Rattle.biblatex_writing.specs.Flat.{flat}

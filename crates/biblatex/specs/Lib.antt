@@ -19,8 +19,9 @@ pub use Rattle.biblatex_entries.specs.Typed
 pub use Rattle.biblatex_bibliography.specs.Bibliographies
 pub use Rattle.biblatex_bibliography.specs.Lending
 pub use Rattle.biblatex_bibliography.specs.Keys
-pub use Rattle.biblatex_bibliography.specs.Reading
-pub use Rattle.biblatex_bibliography.specs.Resolved
+pub use Rattle.biblatex_meaning.specs.Listed
+pub use Rattle.biblatex_meaning.specs.Reading
+pub use Rattle.biblatex_meaning.specs.Resolved
 pub use Rattle.biblatex_bibliography.specs.Errors
 pub use Rattle.biblatex_fields.specs.declared.error.ParseError
 pub use Rattle.biblatex_bibliography.specs.Lines

@@ -3,7 +3,7 @@ use Rattle.std.proofs.Common.{◌≡◌, ℕ, ◌++◌, Bool, true, false, cond,
 use Rattle.std.specs.Prelude.{◌||◌, option_to_list, filter_map, IsOk, OnOk}
 use Rattle.std.specs.List.{list_any, cons_option}
 use Rattle.std.specs.Str.{bytes_eq}
-use Rattle.biblatex_bibliography.specs.Indices.{Meaning, bound}
+use Rattle.biblatex_meaning.specs.Listed.{Meaning, bound}
 
 -- what holds on Ok holds where a call returned Ok
 pub done : {A E : Type 0} (r : Result A E) (P : Type 0) → IsOk r → OnOk r P → P

@@ -7,7 +7,8 @@ use Rattle.std.specs.List.{insert, AllByRecursion}
 use Rattle.std.specs.List.Sorted.{IsStrictlySortedBy}
 use Rattle.std.proofs.lemmas.Slice.Eq.{bytes_eq-Decides}
 use Rattle.biblatex_bibliography.specs.declared.indices.NamedIndex.{NamedIndex}
-use Rattle.biblatex_bibliography.specs.Indices.{name_of, named_index, names_in, meaning_in, bound, index_without, without_index, named_down, AreInOrder}
+use Rattle.biblatex_meaning.specs.Listed.{bound}
+use Rattle.biblatex_bibliography.specs.Indices.{name_of, named_index, names_in, meaning_in, index_without, without_index, named_down, AreInOrder}
 use Rattle.biblatex_bibliography.proofs.IndicesOrder.{compared}
 use Rattle.biblatex_bibliography.proofs.IndicesPlaces.{greater_absent}
 

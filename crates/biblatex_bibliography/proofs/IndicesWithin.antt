@@ -8,8 +8,8 @@ use Rattle.std.proofs.lemmas.List.{take-map, drop-map, map-append}
 use Rattle.biblatex_entries.specs.declared.entry.Entry.{Entry}
 use Rattle.biblatex_entries.specs.Entries.{source_view, sources_view, parents_of}
 use Rattle.biblatex_bibliography.specs.declared.indices.NamedIndex.{NamedIndex}
-use Rattle.biblatex_bibliography.specs.Indices.{Meaning, meaning_in, names_in, AreWithin, bound, index_without, without_index}
-use Rattle.biblatex_bibliography.specs.Bibliographies.{references}
+use Rattle.biblatex_meaning.specs.Listed.{Meaning, bound, references}
+use Rattle.biblatex_bibliography.specs.Indices.{meaning_in, names_in, AreWithin, index_without, without_index}
 
 -- names are bound to an index below a count that is no less
 pub bound_within : (names : List (List ℕ)) (index n k : ℕ) (m f : Meaning) → f ≡ bound names index m → index < k → n < suc k → AreWithin m n → AreWithin f k
@@ -29,10 +29,6 @@ bound_or_same (Err e) names index count ns ms ok err lt within = subst (λ (xs :
 -- what a name that means something means
 pub known : (meaning : Option ℕ) (index count : ℕ) → Some index ≡ meaning → IfSome meaning (λ i. i < count) → index < count
 known meaning index count is within = subst (λ (o : Option ℕ). IfSome o (λ i. i < count)) (sym is) within
-
-pub length_last : {X : Type 0} (xs : List X) (x : X) → length (xs ++ x ∷ []) ≡ suc (length xs)
-length_last [] x = refl
-length_last (y ∷ xs) x = ap suc (length_last xs x)
 
 -- what follows where a call went well
 pub then_ok : {A E : Type 0} (r : Result A E) (P Q : Type 0) → OnOk r P → (P → Q) → OnOk r Q

@@ -4,7 +4,6 @@ pub mod IndicesPlaces
 pub mod IndicesChanges
 pub mod IndicesBinding
 pub mod IndicesWithin
-pub mod IndicesNames
 pub mod NamingEqual
 pub mod NamingOrder
 pub mod NamingSources
@@ -13,9 +12,8 @@ pub mod NamingApart
 pub mod LendingBorrowed
 pub mod LendingFlat
 pub mod ResolvedEntries
-pub mod ReadingLoaded
 pub mod ReadingOnce
 pub mod ReadingJoined
-pub mod ResolvedUnique
 pub mod Lines
 pub mod OneLine
+pub mod WrittenBack

@@ -7,7 +7,7 @@ use Rattle.std.proofs.lemmas.Slice.Eq.{bytes_eq-Decides}
 use Rattle.biblatex_entries.specs.declared.entry.Entry.{Entry}
 use Rattle.biblatex_entries.specs.Entries.{Source, sources_view}
 use Rattle.biblatex_writing.specs.Settled.{have_distinct_keys}
-use Rattle.biblatex_bibliography.specs.Indices.{Meaning}
+use Rattle.biblatex_meaning.specs.Listed.{Meaning}
 use Rattle.biblatex_bibliography.specs.Naming.{is_key_of, is_no_key, is_apart, are_apart}
 
 -- one more key is looked at

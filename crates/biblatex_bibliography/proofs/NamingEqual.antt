@@ -6,7 +6,8 @@ use Rattle.std.specs.List.{AllByRecursion}
 use Rattle.std.specs.List.Sorted.{IsStrictlySortedBy}
 use Rattle.std.proofs.lemmas.Slice.Eq.{bytes_eq-Decides}
 use Rattle.biblatex_bibliography.specs.declared.indices.NamedIndex.{NamedIndex}
-use Rattle.biblatex_bibliography.specs.Indices.{Names, Meaning, name_of, names_in, meaning_in, bound, AreInOrder}
+use Rattle.biblatex_meaning.specs.Listed.{Meaning, bound}
+use Rattle.biblatex_bibliography.specs.Indices.{Names, name_of, names_in, meaning_in, AreInOrder}
 use Rattle.biblatex_bibliography.specs.Naming.{equal_names, bound_each}
 use Rattle.biblatex_bibliography.proofs.IndicesOrder.{compared}
 use Rattle.biblatex_bibliography.proofs.IndicesPlaces.{greater_absent}

@@ -5,9 +5,10 @@ use Rattle.std.specs.Bool.{OnTrue}
 use Rattle.biblatex_entries.specs.declared.entry.Entry.{Entry}
 use Rattle.biblatex_entries.specs.Entries.{Source, sources_view}
 use Rattle.biblatex_bibliography.specs.declared.indices.NamedIndex.{NamedIndex}
-use Rattle.biblatex_bibliography.specs.Indices.{Names, Meaning, names_in, meaning_in, AreInOrder}
+use Rattle.biblatex_meaning.specs.Listed.{Meaning, last_named}
+use Rattle.biblatex_bibliography.specs.Indices.{Names, names_in, meaning_in, AreInOrder}
 use Rattle.biblatex_bibliography.specs.Naming.{names_from, equal_names, bound_each, is_below, first_repeated}
-use Rattle.biblatex_bibliography.specs.Bibliographies.{indexed, last_named, IsWithin}
+use Rattle.biblatex_bibliography.specs.Bibliographies.{indexed, IsWithin}
 use Rattle.biblatex_bibliography.proofs.NamingEqual.{meant_alike, bound_alike, bound_alone}
 use Rattle.biblatex_bibliography.proofs.NamingSources.{all_bound, last_within, none_repeated}
 

@@ -7,11 +7,10 @@ use Rattle.std.proofs.lemmas.Bool.Decides.{nat_tests}
 use Rattle.std.proofs.lemmas.Slice.Eq.{bytes_eq-Decides}
 use Rattle.biblatex_entries.specs.Names.{listed}
 use Rattle.biblatex_entries.specs.Entries.{Source, names_of, field_text}
-use Rattle.biblatex_bibliography.specs.Indices.{Names, Meaning, meaning_in, bound}
+use Rattle.biblatex_meaning.specs.Listed.{Meaning, bound, last_named, after_first}
+use Rattle.biblatex_bibliography.specs.Indices.{Names, meaning_in}
 use Rattle.biblatex_bibliography.specs.Naming.{numbered, names_from, bound_each, is_below, first_repeated}
-use Rattle.biblatex_bibliography.specs.Bibliographies.{last_named, after_first}
-use Rattle.biblatex_bibliography.proofs.IndicesWithin.{length_last}
-use Rattle.biblatex_bibliography.proofs.IndicesNames.{last_named-last}
+use Rattle.biblatex_meaning.proofs.ListedNames.{length_last, last_named-last}
 use Rattle.biblatex_bibliography.proofs.NamingOrder.{joined}
 use Rattle.biblatex_reading.proofs.ReadingSteps.{moved_over}
 

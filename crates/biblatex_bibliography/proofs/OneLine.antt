@@ -24,9 +24,9 @@ use Rattle.biblatex_entries.specs.TypeNames.{TypeName}
 use Rattle.biblatex_dates.specs.declared.error.TypeErrorKind.{TypeErrorKind}
 use Rattle.biblatex_inheritance.specs.declared.error.ResolveError.{ResolveError}
 use Rattle.biblatex_inheritance.specs.declared.error.ResolveError.TheVariants as errors
-use Rattle.biblatex_bibliography.specs.Bibliographies.{Listed}
-use Rattle.biblatex_bibliography.specs.Reading.{reference_cycle, unreadable_date, Refusal, refused_at, Loaded, nothing_loaded, source_of, unless_known, entry_after, entries_after, loaded}
-use Rattle.biblatex_bibliography.specs.Resolved.{head, unresolved_at, ComesTo, Means, IsMeaningOf, IsTextMeaningOf, TextMeans}
+use Rattle.biblatex_meaning.specs.Listed.{Listed}
+use Rattle.biblatex_meaning.specs.Reading.{reference_cycle, unreadable_date, Refusal, refused_at, Loaded, nothing_loaded, source_of, unless_known, entry_after, entries_after, loaded}
+use Rattle.biblatex_meaning.specs.Resolved.{head, unresolved_at, ComesTo, Means, IsMeaningOf, IsTextMeaningOf, TextMeans}
 use Rattle.biblatex_bibliography.specs.Errors.{fault_text, reason_text}
 use Rattle.biblatex_bibliography.specs.Lines.{HasNoLineFeed}
 use Rattle.biblatex_bibliography.proofs.Lines.{append, passing, spelled}

@@ -8,7 +8,7 @@ use Rattle.biblatex_fields.specs.Abbreviations.{Glossary}
 use Rattle.biblatex_fields.specs.Fields.{Named, fields_of, AreJoined}
 use Rattle.biblatex_fields.proofs.FieldsJoined.{fields_joined}
 use Rattle.biblatex_entries.specs.Entries.{Source, HaveJoinedFields}
-use Rattle.biblatex_bibliography.specs.Reading.{Refusal, Loaded, nothing_loaded, source_of, unless_known, entry_after, entries_after, loaded}
+use Rattle.biblatex_meaning.specs.Reading.{Refusal, Loaded, nothing_loaded, source_of, unless_known, entry_after, entries_after, loaded}
 
 abbrev inner : Loaded → Result Loaded Refusal → Loaded
 inner d (Ok l) = l

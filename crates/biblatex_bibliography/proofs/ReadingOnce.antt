@@ -14,11 +14,11 @@ use Rattle.biblatex_text.specs.Views.{spanned_text_view}
 use Rattle.biblatex_bibliography.specs.declared.indices.NamedIndex.{NamedIndex}
 use Rattle.biblatex_bibliography.specs.Indices.{names_in, meaning_in}
 use Rattle.biblatex_bibliography.specs.Naming.{names_from, is_below, first_repeated}
-use Rattle.biblatex_bibliography.specs.Bibliographies.{Indexed, indexed, pushed, last_named}
+use Rattle.biblatex_meaning.specs.Listed.{pushed, last_named}
+use Rattle.biblatex_bibliography.specs.Bibliographies.{Indexed, indexed}
 use Rattle.biblatex_bibliography.specs.Errors.{loaded_with_keys}
-use Rattle.biblatex_bibliography.specs.Reading.{Refusal, refused_at, duplicate_key, Loaded, nothing_loaded, source_of, unless_known, entries_after, loaded, entry_read, UpToFault, one_read, up_to_fault}
-use Rattle.biblatex_bibliography.proofs.IndicesWithin.{length_last}
-use Rattle.biblatex_bibliography.proofs.IndicesNames.{last_named-last}
+use Rattle.biblatex_meaning.specs.Reading.{Refusal, refused_at, duplicate_key, Loaded, nothing_loaded, source_of, unless_known, entries_after, loaded, entry_read, UpToFault, one_read, up_to_fault}
+use Rattle.biblatex_meaning.proofs.ListedNames.{length_last, last_named-last}
 use Rattle.biblatex_bibliography.proofs.NamingSources.{known_before}
 use Rattle.biblatex_reading.proofs.ReadingSteps.{moved_over}
 

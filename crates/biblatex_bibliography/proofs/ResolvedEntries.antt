@@ -11,8 +11,8 @@ use Rattle.biblatex_entries.specs.declared.entry.Entry.{Entry}
 use Rattle.biblatex_inheritance.specs.Resolved.{Table}
 use Rattle.biblatex_inheritance.specs.Solution.{Solves, IsOnly, NoneIsCircular, fault_at, tables_view, entry_table_view, HaveSameHeads, AreOrdered, IsRefusedAs}
 use Rattle.biblatex_inheritance.specs.declared.error.ResolveError.{ResolveError}
-use Rattle.biblatex_bibliography.specs.Bibliographies.{Listed, references}
-use Rattle.biblatex_bibliography.specs.Resolved.{head, table_of, tables, IsResolved}
+use Rattle.biblatex_meaning.specs.Listed.{Listed, references}
+use Rattle.biblatex_meaning.specs.Resolved.{head, table_of, tables, IsResolved}
 
 -- entries with the same heads, one by one
 pub heads_same : (old new : List Entry) → HaveSameHeads old new → map head (sources_view new) ≡ map head (sources_view old)

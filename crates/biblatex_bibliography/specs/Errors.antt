@@ -4,7 +4,7 @@ use Rattle.std.specs.Borrow.{Bor}
 use Rattle.biblatex_text.specs.Views.{spanned_text_view}
 use Rattle.biblatex_text.specs.declared.spanned.Spanned.{Spanned}
 use Rattle.biblatex_bibliography.specs.Bibliographies.{Indexed, listed_view}
-use Rattle.biblatex_bibliography.specs.Reading.{Loaded}
+use Rattle.biblatex_meaning.specs.Reading.{Loaded}
 use Rattle.biblatex_bibliography.specs.declared.reading.Loaded.{Loaded as Loads}
 pub use Rattle.biblatex_reading.specs.Views.{read_view}
 pub use Rattle.biblatex_fields.specs.Errors.{reason_view, refusal_of, fault_text, reason_text, error_text}

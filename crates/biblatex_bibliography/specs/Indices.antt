@@ -1,28 +1,20 @@
 -- What names mean: the indices of entries.
 use Rattle.std.specs.Prelude.{◌≡◌, ℕ, ◌-◌, ◌<◌, ◌==◌, true, false, Bool, IfSome, nat_lt, List, map, Option, Some, None, option_and_then, if◌then◌else◌, string_bytes}
-use Rattle.std.specs.List.{list_any}
 use Rattle.std.specs.List.Sorted.{IsSortedByKey, IsStrictlySortedBy, IsPartitionPoint}
 use Rattle.std.specs.Cmp.Lexicographic.{slice_cmp}
 use Rattle.std.specs.Ordering.{nat_cmp, is_lt}
 use Rattle.std.specs.Str.{bytes_eq}
 use Rattle.std.specs.Map.{lookup}
+use Rattle.biblatex_meaning.specs.Listed.{Meaning}
 use Rattle.biblatex_bibliography.specs.declared.indices.NamedIndex.{NamedIndex}
 
 -- names, as bytes, each with the index of the entry that it means; of equal names the first counts
 abbrev pub Names : Type 0
 Names = List (List ℕ × ℕ)
 
--- the index of the entry that a name means, if it means one
-abbrev pub Meaning : Type 0
-Meaning = List ℕ → Option ℕ
-
 -- what a name means by a list of names
 abbrev pub meaning_in : Names → Meaning
 meaning_in names name = lookup (bytes_eq name) names
-
--- what names mean once these names mean the entry at an index, and the others what they meant
-abbrev pub bound : List (List ℕ) → ℕ → Meaning → Meaning
-bound names index meaning name = if list_any (bytes_eq name) names then Some index else meaning name
 
 -- the index of an entry once the one at an index is taken out: those after it are one less
 abbrev pub index_without : ℕ → ℕ → Option ℕ

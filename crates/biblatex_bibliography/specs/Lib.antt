@@ -4,7 +4,5 @@ pub mod Bibliographies
 pub mod Naming
 pub mod Lending
 pub mod Keys
-pub mod Reading
-pub mod Resolved
 pub mod Errors
 pub mod Lines

@@ -3,7 +3,8 @@ use Rattle.std.specs.Prelude.{ℕ, suc, Bool, true, false, not, ◌&&◌, ◌||�
 use Rattle.std.specs.List.{list_any}
 use Rattle.std.specs.Str.{bytes_eq}
 use Rattle.biblatex_entries.specs.Entries.{Source, names_of}
-use Rattle.biblatex_bibliography.specs.Indices.{Names, Meaning, meaning_in, bound}
+use Rattle.biblatex_meaning.specs.Listed.{Meaning, bound}
+use Rattle.biblatex_bibliography.specs.Indices.{Names, meaning_in}
 
 -- names of the entry at an index
 abbrev pub with_index : ℕ → List ℕ → List ℕ × ℕ

@@ -1,6 +1,6 @@
 //! Bibliographies.
 
-ghost use Rattle.std.specs.Prelude.{◌≡◌, ◌==◌, ◌<◌, length, map, string_bytes, IfOk, IfErr, IfSome, OnOk, OnErr, Some, slice_get};
+ghost use Rattle.std.specs.Prelude.{◌≡◌, ◌==◌, ◌<◌, true, length, map, string_bytes, IfOk, IfErr, IfSome, OnOk, OnErr, Some, slice_get};
 ghost use Rattle.std.specs.Option.{option_map};
 ghost use Rattle.std.specs.Borrow.{sem};
 ghost use Rattle.std.specs.Io.KnownBytes.{Appends};
@@ -11,13 +11,15 @@ ghost use Rattle.sinks.specs.Sinks.{AppendsPrefix, HasFailed};
 ghost use Rattle.biblatex_writing.specs.Settled.{have_distinct_keys, is_settled};
 ghost use Rattle.biblatex_writing.specs.Written.{written_file};
 ghost use Rattle.biblatex_inheritance.specs.Solution.{IsRefusedAs};
+ghost use Rattle.biblatex_reading_back.specs.ReadingBack.{ReadsBack};
 ghost use Rattle.biblatex_bibliography.specs.Indices.{AreInOrder};
 ghost use Rattle.biblatex_bibliography.specs.Keys.{keys_left};
-ghost use Rattle.biblatex_bibliography.specs.Resolved.{IsResolved};
+ghost use Rattle.biblatex_meaning.specs.Resolved.{IsResolved};
 ghost use Rattle.biblatex_bibliography.specs.Lending.{LendsEntry, LendsEntries};
 ghost use Rattle.biblatex_entries.specs.declared.entry.Entry.{Entry};
 ghost use Rattle.biblatex_entries.specs.Entries.{source_view, sources_view, HaveJoinedFields};
-ghost use Rattle.biblatex_bibliography.specs.Bibliographies.{indexed, listed_view, IsWithin, IsAsRead, nothing, entry_named, pushed, inserted, removed, aliased, references, flattened};
+ghost use Rattle.biblatex_meaning.specs.Listed.{IsAsRead, nothing, pushed, references, entry_named};
+ghost use Rattle.biblatex_bibliography.specs.Bibliographies.{indexed, listed_view, IsWithin, inserted, removed, aliased, flattened};
 
 use crate::indexed::{key_alone, put_last, replace, take};
 use crate::indices::{NamedIndex, bind, index_in, indices_meant};
@@ -247,7 +249,9 @@ impl Bibliography {
         Ok((Bibliography { entries, names }, count))
     }
 
-    /// Writes the entries as a BibLaTeX file. Takes no memory. After an error the sink has taken a prefix of the file.
+    /// Writes the entries as a BibLaTeX file. Takes no memory. After an error the sink has taken a prefix of the file. The file of a
+    /// settled bibliography reads back as its entries: `parse` refuses it for no fault, and returns the same keys in order, the written
+    /// types, and unless two fields of an entry are written under one name, under each written name the text that was written.
     pub fn write_biblatex<W: Sink>(&self, sink: &mut W) -> Result<(), SinkFault>
         ensures ok { OnOk result (Appends (W.contents sink.old) (W.contents sink.new)
             (written_file self.now.entries)) }
@@ -258,13 +262,19 @@ impl Bibliography {
         ensures quiet { OnOk result (W.failures sink.new ≡ W.failures sink.old) }
         ensures once { OnErr result (W.failures sink.new ≡ next_count (W.failures sink.old)) }
         ensures fault { IfErr result (λ e. W.last_fault sink.new ≡ Some e) }
+        // What is written of a settled bibliography reads back.
+        ensures reads_back { OnOk result (is_settled self.now.entries ≡ true
+            → ReadsBack (written_file self.now.entries) self.now.entries) }
     {
         write_entries(self.entries.as_slice(), sink)
     }
 
-    /// The entries as a BibLaTeX file.
+    /// The entries as a BibLaTeX file. That of a settled bibliography reads back as its entries, as `write_biblatex` says.
     pub fn to_biblatex_string(&self, alloc: Global) -> Result<String, AllocError>
-        ensures { IfOk result (λ s. string_bytes s ≡ written_file self.now.entries) }
+        ensures file { IfOk result (λ s. string_bytes s ≡ written_file self.now.entries) }
+        // What is written of a settled bibliography reads back.
+        ensures reads_back { IfOk result (λ s. is_settled self.now.entries ≡ true
+            → ReadsBack (string_bytes s) self.now.entries) }
     {
         entries_text(alloc, self.entries.as_slice())
     }

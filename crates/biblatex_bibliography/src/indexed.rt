@@ -2,6 +2,7 @@
 
 ghost use Rattle.std.specs.Prelude.{◌≡◌, ◌<◌, ◌∷◌, [], Some, map, length, slice_get, slice_set, string_bytes, IfOk, OnOk, OnErr};
 ghost use Rattle.biblatex_entries.specs.Entries.{source_view, sources_view};
+ghost use Rattle.biblatex_meaning.specs.Listed as meaning;
 ghost use Rattle.biblatex_bibliography.specs.Indices.{AreInOrder};
 ghost use Rattle.biblatex_bibliography.specs.Bibliographies as specs;
 
@@ -28,7 +29,7 @@ pub(crate) fn put_last(
 ) -> Result<(), AllocError>
     requires { AreInOrder names.old.items }
     ensures ok { OnOk result (specs.listed_view (specs.indexed entries.new.items names.new.items)
-        ≡ specs.put_last (map string_bytes more.items) (source_view entry)
+        ≡ meaning.put_last (map string_bytes more.items) (source_view entry)
         (specs.listed_view (specs.indexed entries.old.items names.old.items))) }
     ensures within { specs.IsWithin (specs.indexed entries.old.items names.old.items)
         → specs.IsWithin (specs.indexed entries.new.items names.new.items) }

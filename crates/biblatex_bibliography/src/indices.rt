@@ -1,7 +1,8 @@
 //! The indices of entries by their names.
 
 ghost use Rattle.std.specs.Prelude.{◌≡◌, ◌<◌, ◌≤◌, ◌+◌, ◌-◌, ◌∷◌, ◌++◌, [], map, length, filter_map, option_to_list, slice_get, string_bytes, vec_len, vec_capacity, nat_lt, if◌then◌else◌, IfOk, IsOk, OnOk, OnErr};
-ghost use Rattle.biblatex_bibliography.specs.Indices.{meaning_in, names_in, named_down, named_index, bound, without_index, has_name, is_less, AreSorted, AreInOrder, IsPlace};
+ghost use Rattle.biblatex_meaning.specs.Listed.{bound};
+ghost use Rattle.biblatex_bibliography.specs.Indices.{meaning_in, names_in, named_down, named_index, without_index, has_name, is_less, AreSorted, AreInOrder, IsPlace};
 
 use crate::name::{Name, Sought};
 use std::alloc::{AllocError, Global};

@@ -5,8 +5,8 @@ ghost use Rattle.std.specs.Str.{chars};
 ghost use Rattle.laws.specs.Text.{text as text_of, lowered};
 ghost use Rattle.biblatex_text.specs.Views.{entry_view, piece_view, spanned_text_view};
 ghost use Rattle.biblatex_fields.specs.Value.{field_value_view, value_in};
-ghost use Rattle.biblatex_bibliography.specs.Reading as specs;
-ghost use Rattle.biblatex_bibliography.specs.Reading.{refused_at, duplicate_key};
+ghost use Rattle.biblatex_meaning.specs.Reading as specs;
+ghost use Rattle.biblatex_meaning.specs.Reading.{refused_at, duplicate_key};
 ghost use Rattle.biblatex_bibliography.specs.Errors.{loaded_view, refusal_of};
 ghost use Rattle.laws.specs.Results.{Gives};
 

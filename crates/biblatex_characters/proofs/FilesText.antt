@@ -23,14 +23,14 @@ use Rattle.biblatex_fields.specs.Fields.{Named, AreInOrder, fields_of, value_nam
 use Rattle.biblatex_fields.specs.Refusals.{Refusal}
 use Rattle.biblatex_fields.specs.Value.{Value}
 use Rattle.biblatex_entries.specs.Entries.{Source, parents_of}
-use Rattle.biblatex_entries.specs.TypeNames.{read_name, type_of}
+use Rattle.biblatex_entries.specs.TypeNames.{TypeName, is_one_of, known, read_name, type_of, written_type}
 use Rattle.biblatex_inheritance.specs.Resolved.{Offer, Table, offers, resolved}
-use Rattle.biblatex_bibliography.specs.Bibliographies.{Listed, references}
-use Rattle.biblatex_bibliography.specs.Reading.{Loaded, loaded, source_of}
-use Rattle.biblatex_bibliography.specs.Resolved.{IsResolved, IsTextMeaningOf, Means, TextMeans, head, table_of, tables}
-use Rattle.biblatex_existence.proofs.Depth.{depth, less_deep}
+use Rattle.biblatex_meaning.specs.Listed.{Listed, references}
+use Rattle.biblatex_meaning.specs.Reading.{Loaded, loaded, source_of}
+use Rattle.biblatex_meaning.specs.Resolved.{IsResolved, IsTextMeaningOf, Means, TextMeans, head, table_of, tables}
+use Rattle.biblatex_meaning.proofs.Depth.{depth, less_deep}
 use Rattle.biblatex_locality.proofs.FieldsAlike.{IsReadOf, read_each}
-use Rattle.biblatex_reading_back.specs.ReadingBack.{IsText}
+use Rattle.biblatex_writing.specs.Texts.{IsText}
 use Rattle.biblatex_characters.specs.Raw.{AreCharacters, AreFieldsText, IsEntryText, IsRawText}
 use Rattle.biblatex_characters.specs.Read.{EntriesReadAreText}
 use Rattle.biblatex_characters.specs.Values.{IsTableText, IsValueText}
@@ -159,14 +159,21 @@ contents_text : (t : Table) (fs : List Named) → IsTableText t → AllByRecursi
 contents_text t [] text are = tt
 contents_text t (f ∷ fs) text are = ((text f.0 f.1 are.0).text, contents_text t fs text are.1)
 
+written_type_text : (t : TypeName) → IsUtf8 t.name → IsUtf8 (written_type t).name
+written_type_text t utf8 = by_tests (is_one_of (codes "mastersthesis" ∷ codes "phdthesis" ∷ []) t) (is_one_of (codes "techreport" ∷ []) t)
+  where
+    by_tests : (a b : Bool) → IsUtf8 (if a then known (codes "thesis") else (if b then known (codes "report") else t)).name
+    by_tests true b = ascii_is_utf8 (codes "thesis") refl
+    by_tests false true = ascii_is_utf8 (codes "report") refl
+    by_tests false false = utf8
+
 entry_text : (e : Source) → IsHeadText e → FieldsText e → AreInOrder e.fields → IsText e
 entry_text e is fields sorted =
     let named = each_named e.fields sorted in
     record {
       key = is.key;
-      entry_type = is.entry_type;
-      names = names_text (λ name. value_named name e.fields) e.fields fields named;
-      contents = contents_text (λ name. value_named name e.fields) e.fields fields named;
+      entry_type = written_type_text e.entry_type is.entry_type;
+      fields = (names_text (λ name. value_named name e.fields) e.fields fields named, contents_text (λ name. value_named name e.fields) e.fields fields named);
     }
 
 all_text : (es : List Source) → AllByRecursion IsHeadText es → ((i : ℕ) → IsTableText (tables es i)) → ((i : ℕ) → IfSome (slice_get es i) (λ e. AreInOrder e.fields)) → AllByRecursion IsText es

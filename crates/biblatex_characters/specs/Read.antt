@@ -1,9 +1,9 @@
 -- What is read of characters is made of characters.
 use Rattle.std.specs.Prelude.{◌≡◌, ℕ, List, Ok}
 use Rattle.std.specs.List.{AllByRecursion}
-use Rattle.biblatex_bibliography.specs.Bibliographies.{Listed}
-use Rattle.biblatex_bibliography.specs.Resolved.{TextMeans}
-use Rattle.biblatex_reading_back.specs.ReadingBack.{IsText}
+use Rattle.biblatex_meaning.specs.Listed.{Listed}
+use Rattle.biblatex_meaning.specs.Resolved.{TextMeans}
+use Rattle.biblatex_writing.specs.Texts.{IsText}
 use Rattle.biblatex_characters.specs.Raw.{AreCharacters}
 
 -- Entries that characters mean are made of characters.

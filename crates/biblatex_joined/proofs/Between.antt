@@ -12,9 +12,9 @@ use Rattle.biblatex_text.specs.Items.{raw_of}
 use Rattle.biblatex_text.specs.declared.token.Fault.{Fault}
 use Rattle.biblatex_fields.specs.Abbreviations.{Glossary, AreFlags, index_of, later}
 use Rattle.biblatex_entries.specs.Entries.{Source}
-use Rattle.biblatex_bibliography.specs.Bibliographies.{Listed, entry_named}
-use Rattle.biblatex_bibliography.specs.Reading.{source_of}
-use Rattle.biblatex_bibliography.proofs.ReadingLoaded.{as_read}
+use Rattle.biblatex_meaning.specs.Listed.{Listed, entry_named}
+use Rattle.biblatex_meaning.specs.Reading.{source_of}
+use Rattle.biblatex_meaning.proofs.ReadingLoaded.{as_read}
 use Rattle.biblatex_locality.specs.Differing.{BareEntry, bare_entry, bare_field}
 use Rattle.biblatex_locality.specs.Files.{IsFileOf}
 use Rattle.biblatex_locality.specs.Opened.{DefineAlike, bare, definition_of}

@@ -6,7 +6,7 @@ use Rattle.std.specs.Option.{option_or}
 use Rattle.std.specs.Str.{bytes_eq}
 use Rattle.biblatex_entries.specs.Entries.{Source, names_of, text_in}
 use Rattle.biblatex_entries.specs.Names.{listed}
-use Rattle.biblatex_bibliography.specs.Bibliographies.{Listed, IsAsRead, after_first, entry_named, last_named}
+use Rattle.biblatex_meaning.specs.Listed.{Listed, IsAsRead, after_first, last_named, entry_named}
 use Rattle.biblatex_locality.specs.Reached.{SaysTheSame, SayTheSame}
 
 -- an entry, if it has the name

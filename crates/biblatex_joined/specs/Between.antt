@@ -4,7 +4,7 @@ use Rattle.std.specs.Option.{option_map}
 use Rattle.laws.specs.Text.{text}
 use Rattle.biblatex_text.specs.Raw.{At, Entry, Raw}
 use Rattle.biblatex_text.specs.Items.{raw_of}
-use Rattle.biblatex_bibliography.specs.Bibliographies.{Listed, entry_named}
+use Rattle.biblatex_meaning.specs.Listed.{Listed, entry_named}
 use Rattle.biblatex_locality.specs.Files.{IsFileOf}
 use Rattle.biblatex_locality.specs.Reached.{IsReached, SayTheSameOf}
 use Rattle.biblatex_joined.specs.Joined.{BeginsItem, HasWholeLines}

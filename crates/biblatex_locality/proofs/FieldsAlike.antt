@@ -13,8 +13,8 @@ use Rattle.biblatex_fields.specs.Value.{Value, value_in, value_of}
 use Rattle.biblatex_fields.proofs.FieldsLookUps.{put_found}
 use Rattle.biblatex_entries.specs.Entries.{Source}
 use Rattle.biblatex_entries.specs.TypeNames.{type_of}
-use Rattle.biblatex_bibliography.specs.Bibliographies.{pushed}
-use Rattle.biblatex_bibliography.specs.Reading.{Loaded, entries_after, entry_after, loaded, nothing_loaded, source_of, unless_known}
+use Rattle.biblatex_meaning.specs.Listed.{pushed}
+use Rattle.biblatex_meaning.specs.Reading.{Loaded, entries_after, entry_after, loaded, nothing_loaded, source_of, unless_known}
 use Rattle.biblatex_locality.specs.Differing.{bare_entry, bare_field}
 use Rattle.biblatex_locality.specs.Opened.{DefineAlike, bare}
 use Rattle.biblatex_locality.specs.Reached.{SaysTheSame}

@@ -11,10 +11,9 @@ use Rattle.biblatex_fields.specs.Abbreviations.{Glossary}
 use Rattle.biblatex_fields.specs.Fields.{Named, fields_of}
 use Rattle.biblatex_entries.specs.Entries.{Source, field_text, names_of}
 use Rattle.biblatex_entries.specs.Names.{listed}
-use Rattle.biblatex_bibliography.specs.Indices.{Meaning, bound}
-use Rattle.biblatex_bibliography.specs.Bibliographies.{Listed, pushed}
-use Rattle.biblatex_bibliography.specs.Reading.{Loaded, Refusal, entries_after, entry_after, loaded, nothing_loaded, source_of, unless_known}
-use Rattle.biblatex_bibliography.specs.Resolved.{head}
+use Rattle.biblatex_meaning.specs.Listed.{Meaning, bound, Listed, pushed}
+use Rattle.biblatex_meaning.specs.Reading.{Loaded, Refusal, entries_after, entry_after, loaded, nothing_loaded, source_of, unless_known}
+use Rattle.biblatex_meaning.specs.Resolved.{head}
 
 -- no entry has the key of one after it
 abbrev pub AreApart : List Source → Type 0

@@ -9,8 +9,8 @@ use Rattle.std.proofs.lemmas.Slice.Eq.{bytes_eq-Decides}
 use Rattle.laws.specs.Text.{text}
 use Rattle.biblatex_text.specs.Raw.{At, Entry, Field}
 use Rattle.biblatex_entries.specs.Entries.{Source}
-use Rattle.biblatex_bibliography.specs.Bibliographies.{Listed, entry_named}
-use Rattle.biblatex_bibliography.specs.Reading.{source_of}
+use Rattle.biblatex_meaning.specs.Listed.{Listed, entry_named}
+use Rattle.biblatex_meaning.specs.Reading.{source_of}
 use Rattle.biblatex_locality.specs.Differing.{BareEntry, HasOneMore, NoAbbreviationChanges, OneMoreEntryChangesNothing, OpensTheSame, bare_entry}
 use Rattle.biblatex_locality.specs.Files.{IsFileOf}
 use Rattle.biblatex_locality.specs.Reached.{IsReached, SaysTheSame, SayTheSame}

@@ -12,9 +12,9 @@ use Rattle.biblatex_entries.specs.Entries.{Source, parents_of, text_in}
 use Rattle.biblatex_entries.specs.Names.{listed, trimmed}
 use Rattle.biblatex_entries.specs.Roles.{role_of}
 use Rattle.biblatex_inheritance.specs.Resolved.{Table, Offer, offer_if, offers, resolved}
-use Rattle.biblatex_bibliography.specs.Bibliographies.{Listed, entry_named, references}
-use Rattle.biblatex_bibliography.specs.Resolved.{IsResolved, head, table_of, tables}
-use Rattle.biblatex_existence.proofs.Depth.{depth, less_deep}
+use Rattle.biblatex_meaning.specs.Listed.{Listed, references, entry_named}
+use Rattle.biblatex_meaning.specs.Resolved.{IsResolved, head, table_of, tables}
+use Rattle.biblatex_meaning.proofs.Depth.{depth, less_deep}
 use Rattle.biblatex_locality.specs.Reached.{IsReached, MeansTheSame, SaysTheSame, SayTheSame, SayTheSameOf, ReachedNamesMeanTheSame}
 use Rattle.biblatex_locality.proofs.TextsResolved.{OffersTheSame, SameTexts, resolved_same, text_of}
 

@@ -25,7 +25,7 @@ use Rattle.biblatex_fields.specs.Refusals.{Refusal}
 use Rattle.biblatex_fields.specs.Value.{Reading, Value, by_sense, in_order, members_of, read, spanned, text_read, value_from, value_in}
 use Rattle.biblatex_fields.proofs.AbbreviationsGraph.{contains_flat_map, index_within, refers}
 use Rattle.biblatex_fields.proofs.ValueStack.{by_the_rule}
-use Rattle.biblatex_existence.proofs.Depth.{depth, depth_upto, less_deep}
+use Rattle.biblatex_meaning.proofs.Depth.{depth, depth_upto, less_deep}
 use Rattle.biblatex_locality.specs.Opened.{DefineAlike, IsOpenedAt, abbreviations_in, bare, definition_of, name_in}
 
 -- what two readings gave, where neither was refused

@@ -4,7 +4,7 @@ use Rattle.std.specs.List.{AllByRecursion}
 use Rattle.std.specs.Option.{option_map}
 use Rattle.laws.specs.Text.{text}
 use Rattle.biblatex_text.specs.Raw.{At, Entry, Field, Piece, Raw}
-use Rattle.biblatex_bibliography.specs.Bibliographies.{Listed, entry_named}
+use Rattle.biblatex_meaning.specs.Listed.{Listed, entry_named}
 use Rattle.biblatex_locality.specs.Files.{IsFileOf}
 use Rattle.biblatex_locality.specs.Opened.{DefineAlike, bare}
 use Rattle.biblatex_locality.specs.Reached.{IsReached, SayTheSameOf}

@@ -3,9 +3,9 @@ use Rattle.std.specs.Prelude.{◌≡◌, ℕ, List, Ok}
 use Rattle.biblatex_text.specs.Raw.{At, Raw}
 use Rattle.biblatex_text.specs.Items.{raw_of}
 use Rattle.biblatex_fields.specs.Abbreviations.{Glossary, AreFlags}
-use Rattle.biblatex_bibliography.specs.Bibliographies.{Listed}
-use Rattle.biblatex_bibliography.specs.Reading.{loaded}
-use Rattle.biblatex_bibliography.specs.Resolved.{IsResolved}
+use Rattle.biblatex_meaning.specs.Listed.{Listed}
+use Rattle.biblatex_meaning.specs.Reading.{loaded}
+use Rattle.biblatex_meaning.specs.Resolved.{IsResolved}
 
 -- The characters of a text are read as this file: its entries have their abbreviations opened, and resolve to these.
 pub record IsFileOf (cs : List ℕ) (file resolved : Listed) : Type 0 where

@@ -2,8 +2,8 @@
 use Rattle.std.specs.Prelude.{◌≡◌, ℕ, zero, suc, List, Contains, Option, Some, None}
 use Rattle.biblatex_fields.specs.Fields.{text_named}
 use Rattle.biblatex_entries.specs.Entries.{Source, parents_of}
-use Rattle.biblatex_bibliography.specs.Bibliographies.{Listed, entry_named}
-use Rattle.biblatex_bibliography.specs.Resolved.{IsResolved}
+use Rattle.biblatex_meaning.specs.Listed.{Listed, entry_named}
+use Rattle.biblatex_meaning.specs.Resolved.{IsResolved}
 
 -- Two entries have one key, one type, and the same styled text under each name.
 pub record SaysTheSame (e f : Source) : Type 0 where

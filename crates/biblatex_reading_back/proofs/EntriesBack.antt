@@ -22,8 +22,8 @@ use Rattle.biblatex_writing.specs.FieldNames.{written_name}
 use Rattle.biblatex_writing.specs.Settled.{have_distinct_keys, naming_fields}
 use Rattle.biblatex_writing.specs.Written.{in_written_order}
 use Rattle.biblatex_writing.proofs.OrderNames.{other_way}
-use Rattle.biblatex_bibliography.specs.Bibliographies.{Listed, pushed}
-use Rattle.biblatex_bibliography.specs.Reading.{Loaded, source_of, unless_known, entries_after}
+use Rattle.biblatex_meaning.specs.Listed.{Listed, pushed}
+use Rattle.biblatex_meaning.specs.Reading.{Loaded, source_of, unless_known, entries_after}
 use Rattle.biblatex_reading_back.specs.ReadingBack.{named_texts, IsReadBack, AreReadBack}
 use Rattle.biblatex_reading_back.specs.Spelled.{SaysEntry, SayEntries}
 use Rattle.biblatex_reading_back.proofs.FieldsBack.{IsWrittenField, fields_read, fields_back}

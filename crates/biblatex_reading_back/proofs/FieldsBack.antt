@@ -15,7 +15,7 @@ use Rattle.biblatex_fields.specs.Abbreviations.{Glossary}
 use Rattle.biblatex_fields.specs.Fields.{Named, with_field, fields_after, AreInOrder}
 use Rattle.biblatex_fields.specs.Refusals.{Refusal}
 use Rattle.biblatex_fields.specs.Value.{Value}
-use Rattle.biblatex_existence.proofs.Sorted.{put_sorted}
+use Rattle.biblatex_meaning.proofs.Sorted.{put_sorted}
 use Rattle.biblatex_writing.specs.FieldNames.{written_name}
 use Rattle.biblatex_writing.specs.Settled.{is_lowered_identifier}
 use Rattle.biblatex_writing.specs.SettledContent.{is_settled_content}

@@ -22,6 +22,7 @@ use Rattle.biblatex_writing.specs.FieldNames.{written_name}
 use Rattle.biblatex_writing.specs.Written.{in_written_order, written_field, written_entry, written_file}
 use Rattle.biblatex_writing.proofs.Calls.{own_bytes}
 use Rattle.biblatex_writing.proofs.EntriesWritten.{after_line, file_is}
+use Rattle.biblatex_writing.proofs.MemoryTexts.{scalars_both}
 use Rattle.biblatex_reading_back.specs.Spelled.{Plain, field_then, fields_then, entry_then, entries_after, file_of}
 use Rattle.biblatex_reading_back.proofs.FieldsBack.{plain_field}
 
@@ -100,10 +101,6 @@ file_text (e ∷ es) all =
     entry_text e (entries_after (map plain_entry es)) all.0 ∙ (ap (λ (x : List ℕ). written_entry e ++ x) (entries_text es all.1) ∙ sym (file_is e es))
 
 -- All of a file are characters.
-pub scalars_both : (xs ys : List ℕ) → all_scalars xs ≡ true → all_scalars ys ≡ true → all_scalars (xs ++ ys) ≡ true
-scalars_both [] ys p q = q
-scalars_both (x ∷ xs) ys p q = both _ _ (first_of_two _ (all_scalars xs) p) (scalars_both xs ys (second_of_two _ (all_scalars xs) p) q)
-
 scalars_left : (xs ys : List ℕ) → all_scalars (xs ++ ys) ≡ true → all_scalars xs ≡ true
 scalars_left [] ys p = refl
 scalars_left (x ∷ xs) ys p = both _ _ (first_of_two _ (all_scalars (xs ++ ys)) p) (scalars_left xs ys (second_of_two _ (all_scalars (xs ++ ys)) p))

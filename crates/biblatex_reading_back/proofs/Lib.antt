@@ -19,4 +19,3 @@ pub mod FilesSpelled
 pub mod EntriesBack
 pub mod MeaningBack
 pub mod SettledBack
-pub mod MemoryTexts

@@ -17,10 +17,10 @@ use Rattle.biblatex_entries.specs.Names.{trimmed, listed}
 use Rattle.biblatex_entries.specs.Roles.{role_of}
 use Rattle.biblatex_inheritance.specs.Resolved.{own, first, undated, dated, resolved, needs_date, first_fault, offers}
 use Rattle.biblatex_inheritance.specs.Solution.{Solves, IsOnly, NoneIsCircular, fault_in, fault_at}
-use Rattle.biblatex_bibliography.specs.Bibliographies.{Listed, references}
-use Rattle.biblatex_bibliography.specs.Reading.{Loaded, loaded}
-use Rattle.biblatex_bibliography.specs.Resolved.{table_of, tables, IsResolved, Means, IsMeaningOf, IsTextMeaningOf, TextMeans}
-use Rattle.biblatex_existence.proofs.Reading.{read_well}
+use Rattle.biblatex_meaning.specs.Listed.{Listed, references}
+use Rattle.biblatex_meaning.specs.Reading.{Loaded, loaded}
+use Rattle.biblatex_meaning.specs.Resolved.{table_of, tables, IsResolved, Means, IsMeaningOf, IsTextMeaningOf, TextMeans}
+use Rattle.biblatex_meaning.proofs.Reading.{read_well}
 use Rattle.biblatex_reading_back.proofs.EntriesBack.{IsAlone, nothing_listed, nothing_trimmed, not_named, no_crossref, no_xdata}
 
 -- an entry that names no others has no parents

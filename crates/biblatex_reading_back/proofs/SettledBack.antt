@@ -9,13 +9,15 @@ use Rattle.biblatex_fields.specs.Fields.{Named, AreInOrder}
 use Rattle.biblatex_entries.specs.Entries.{Source}
 use Rattle.biblatex_entries.specs.TypeNames.{written_type}
 use Rattle.biblatex_grammar.proofs.Laws.{held-read}
-use Rattle.biblatex_bibliography.specs.Reading.{nothing_loaded}
-use Rattle.biblatex_bibliography.specs.Resolved.{TextMeans}
+use Rattle.biblatex_meaning.specs.Reading.{nothing_loaded}
+use Rattle.biblatex_meaning.specs.Resolved.{TextMeans}
+use Rattle.biblatex_meaning.proofs.ResolvedUnique.{one_meaning}
 use Rattle.biblatex_writing.specs.FieldNames.{other_names, written_name}
 use Rattle.biblatex_writing.specs.Settled.{is_lowered_identifier, naming_fields, is_settled_field, is_settled_key, is_settled_type, is_settled_entry, have_distinct_keys, is_settled}
 use Rattle.biblatex_writing.specs.SettledContent.{is_settled_content}
-use Rattle.biblatex_writing.specs.Written.{in_written_order}
-use Rattle.biblatex_reading_back.specs.ReadingBack.{AreReadBack, IsText, ReadsBack}
+use Rattle.biblatex_writing.specs.Texts.{IsText}
+use Rattle.biblatex_writing.specs.Written.{in_written_order, written_file}
+use Rattle.biblatex_reading_back.specs.ReadingBack.{AreReadBack, ReadsBack}
 use Rattle.biblatex_reading_back.specs.Spelled.{IsField, IsEntry, file_of}
 use Rattle.biblatex_reading_back.proofs.BalancedContents.{content_balanced}
 use Rattle.biblatex_reading_back.proofs.EntriesBack.{NamesNone, IsWrittenEntry, IsAlone, entries_read}
@@ -79,7 +81,7 @@ fine_entry e text settled =
     let fields = list_all is_settled_field e.fields in
     let front = first_of_two (key && typed) fields settled in
     let fs = in_written_order e.fields in
-    let all = all_ordered IsFineField e.fields (fine_fields e.fields text.names text.contents (second_of_two (key && typed) fields settled)) in
+    let all = all_ordered IsFineField e.fields (fine_fields e.fields text.fields.0 text.fields.1 (second_of_two (key && typed) fields settled)) in
     let type_read = written_type_read e.entry_type text.entry_type (second_of_two key typed front) in
     record {
       written = record {
@@ -120,7 +122,7 @@ nothing_known : (es : List Source) → AllByRecursion (λ e. nothing_loaded.list
 nothing_known [] = tt
 nothing_known (e ∷ es) = (refl, nothing_known es)
 
-pub reads_back : (es : List Source) → is_settled es ≡ true → AllByRecursion IsText es → ReadsBack es
+pub reads_back : (es : List Source) → is_settled es ≡ true → AllByRecursion IsText es → ReadsBack (written_file es) es
 reads_back es settled text =
     let distinct = first_of_two (have_distinct_keys es) (list_all is_settled_entry es) settled in
     let all = fine_entries es text (second_of_two (have_distinct_keys es) (list_all is_settled_entry es) settled) in
@@ -131,9 +133,11 @@ reads_back es settled text =
     let characters = file_characters es spelled in
     let alone = subst (AllByRecursion IsAlone) (sym read.whole) read.alone in
     let sorted = subst (AllByRecursion (λ e. AreInOrder e.fields)) (sym read.whole) read.sorted in
+    let means = subst (λ (cs : List ℕ). TextMeans cs (Ok read.loaded.listed)) (sym characters) (meant (file_of plains) file.raw read.loaded (held-read (file_of plains) file.raw file.held) file.says.none read.read alone sorted) in
     record {
       utf8 = file_utf8 es spelled;
       file = read.loaded.listed;
-      meant = subst (λ (cs : List ℕ). TextMeans cs (Ok read.loaded.listed)) (sym characters) (meant (file_of plains) file.raw read.loaded (held-read (file_of plains) file.raw file.held) file.says.none read.read alone sorted);
+      meant = means;
+      only = λ answer other. one_meaning (chars (written_file es)) answer (Ok read.loaded.listed) other means;
       entries = subst (AreReadBack es) (sym read.whole) read.back;
     }

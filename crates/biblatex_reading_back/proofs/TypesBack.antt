@@ -48,13 +48,13 @@ thesis = record { name = ascii_read (codes "thesis") refl refl; entry = refl; it
 report : IsReadType (known (codes "report"))
 report = record { name = ascii_read (codes "report") refl refl; entry = refl; itself = refl }
 
-pub written_type_read : (t : TypeName) → IsUtf8 t.name → is_settled_type t ≡ true → IsReadType (written_type t)
-written_type_read t utf8 is = by_tests (is_one_of (codes "mastersthesis" ∷ codes "phdthesis" ∷ []) t) (is_one_of (codes "techreport" ∷ []) t)
+pub written_type_read : (t : TypeName) → IsUtf8 (written_type t).name → is_settled_type t ≡ true → IsReadType (written_type t)
+written_type_read t utf8 is = by_tests (is_one_of (codes "mastersthesis" ∷ codes "phdthesis" ∷ []) t) (is_one_of (codes "techreport" ∷ []) t) utf8
   where
-    by_tests : (a b : Bool) → IsReadType (if a then known (codes "thesis") else (if b then known (codes "report") else t))
-    by_tests true b = thesis
-    by_tests false true = report
-    by_tests false false = settled_type t utf8 is
+    by_tests : (a b : Bool) → IsUtf8 (if a then known (codes "thesis") else (if b then known (codes "report") else t)).name → IsReadType (if a then known (codes "thesis") else (if b then known (codes "report") else t))
+    by_tests true b utf8 = thesis
+    by_tests false true utf8 = report
+    by_tests false false utf8 = settled_type t utf8 is
 
 -- a name that is read as it is written is a word where its characters are
 no_word : (word name : List ℕ) → IsRead name → list_all is_ascii word ≡ true → bytes_eq name word ≡ false → IsWord word (chars name) → ⊥

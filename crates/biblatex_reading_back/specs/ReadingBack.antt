@@ -1,15 +1,17 @@
 -- What a written file means.
-use Rattle.std.specs.Prelude.{◌≡◌, ℕ, true, List, [], ◌∷◌, map, Ok}
+use Rattle.std.specs.Prelude.{◌≡◌, ℕ, true, List, [], ◌∷◌, map, Result, Ok}
 use Rattle.std.specs.List.{AllByRecursion}
-use Rattle.std.specs.Str.{chars, IsUtf8, all_scalars}
-use Rattle.biblatex_content.specs.Styled.{Member, plain}
+use Rattle.std.specs.Str.{chars, IsUtf8}
+use Rattle.biblatex_content.specs.Styled.{Member}
 use Rattle.biblatex_fields.specs.Fields.{Named}
 use Rattle.biblatex_entries.specs.Entries.{Source}
 use Rattle.biblatex_entries.specs.TypeNames.{written_type}
-use Rattle.biblatex_bibliography.specs.Bibliographies.{Listed}
-use Rattle.biblatex_bibliography.specs.Resolved.{TextMeans}
+use Rattle.biblatex_meaning.specs.Listed.{Listed}
+use Rattle.biblatex_meaning.specs.Reading.{Refusal}
+use Rattle.biblatex_meaning.specs.Resolved.{TextMeans}
 use Rattle.biblatex_writing.specs.FieldNames.{written_name, HaveDistinctWrittenNames}
 use Rattle.biblatex_writing.specs.Settled.{is_settled}
+use Rattle.biblatex_writing.specs.Texts.{IsText}
 use Rattle.biblatex_writing.specs.Written.{in_written_order, written_file}
 
 -- names with the styled texts, spans left out
@@ -34,20 +36,14 @@ AreReadBack [] (f ∷ fs) = ⊥
 AreReadBack (e ∷ es) [] = ⊥
 AreReadBack (e ∷ es) (f ∷ fs) = IsReadBack e f × AreReadBack es fs
 
--- The written file of entries is a text, and means entries that were read back.
-pub record ReadsBack (es : List Source) : Type 0 where
-  pub utf8 : IsUtf8 (written_file es)
+-- Bytes are a text that means entries that were read back, and nothing else.
+pub record ReadsBack (bytes : List ℕ) (es : List Source) : Type 0 where
+  pub utf8 : IsUtf8 bytes
   pub file : Listed
-  pub meant : TextMeans (chars (written_file es)) (Ok file)
+  pub meant : TextMeans (chars bytes) (Ok file)
+  pub only : (answer : Result Listed Refusal) → TextMeans (chars bytes) answer → answer ≡ Ok file
   pub entries : AreReadBack es file.entries
 
--- Keys, types, names and contents are made of characters, as those of each entry in memory are.
-pub record IsText (e : Source) : Type 0 where
-  pub key : IsUtf8 e.key
-  pub entry_type : IsUtf8 e.entry_type.name
-  pub names : AllByRecursion (λ f. IsUtf8 f.0) e.fields
-  pub contents : AllByRecursion (λ f. all_scalars (plain f.1.text) ≡ true) e.fields
-
--- What is written of settled entries means these entries.
+-- What is written of settled entries reads back as these entries.
 abbrev pub SettledEntriesReadBack : Type 0
-SettledEntriesReadBack = (es : List Source) → is_settled es ≡ true → AllByRecursion IsText es → ReadsBack es
+SettledEntriesReadBack = (es : List Source) → is_settled es ≡ true → AllByRecursion IsText es → ReadsBack (written_file es) es

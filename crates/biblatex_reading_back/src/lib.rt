@@ -1,11 +1,10 @@
 //! Laws of written BibLaTeX files: what is written of settled contents reads back as these contents. Each function carries a law of
-//! definitions as its contract, and does nothing; the one of a bibliography in memory looks at each of its entries.
+//! definitions as its contract, and does nothing.
 #![tactic(auto)]
 
 mod contents;
 mod entries;
 mod files;
-mod memory;
 
 pub use contents::{
     ordinary_contents_read_back, tidy_texts_stay, verbatim_contents_read_back,
@@ -13,4 +12,3 @@ pub use contents::{
 };
 pub use entries::settled_entries_read_back;
 pub use files::files_are_read_as_spelled;
-pub use memory::settled_bibliography_reads_back;

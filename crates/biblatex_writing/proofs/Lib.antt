@@ -10,3 +10,4 @@ pub mod OrderFields
 pub mod EntriesWritten
 pub mod SettledParts
 pub mod MathRoom
+pub mod MemoryTexts

@@ -9,4 +9,5 @@ pub mod Settled
 pub mod SettledContent
 pub mod SettledNames
 pub mod Targets
+pub mod Texts
 pub mod Written

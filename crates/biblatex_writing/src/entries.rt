@@ -3,7 +3,7 @@
 ghost use Rattle.std.specs.Prelude.{◌≡◌, IfErr, IfOk, OnErr, OnOk, Some, map, string_bytes};
 ghost use Rattle.std.specs.Fmt.{WritesInCalls};
 ghost use Rattle.std.specs.Io.KnownBytes.{Appends};
-ghost use Rattle.std.specs.List.{flat_map};
+ghost use Rattle.std.specs.List.{AllByRecursion, flat_map};
 ghost use Rattle.laws.specs.Counts.{next_count};
 ghost use Rattle.sinks.specs.Sinks.{AppendsPrefix, HasFailed};
 ghost use Rattle.biblatex_fields.specs.Fields.{named_fields_view};
@@ -12,6 +12,7 @@ ghost use Rattle.biblatex_entries.specs.Entries.{source_view, sources_view};
 ghost use Rattle.biblatex_writing.specs.FieldPieces.{WritesField};
 ghost use Rattle.biblatex_writing.specs.Order.{field_there, moved, rows_after, rows_before};
 ghost use Rattle.biblatex_writing.specs.MovedFields.{row_view};
+ghost use Rattle.biblatex_writing.specs.Texts.{AreText, IsText};
 ghost use Rattle.biblatex_writing.specs.Written.{in_written_order, written_entry, written_field, written_file};
 
 use crate::content::push_content;
@@ -101,8 +102,9 @@ fn push_next<'r, T: Target>(
 /// Writes the fields in the order of written names: the fields are in the order of their own names, and the moved ones are
 /// looked up where their written names come.
 fn push_fields<T: Target>(target: &mut T, fields: &Fields)
-    ensures { WritesInCalls T.takes target.old
+    ensures written { WritesInCalls T.takes target.old
         (flat_map written_field (in_written_order fields.now)) target.new }
+    ensures text { AreText fields.now }
 {
     let mut rows = moved_fields();
     for (name, value) in fields.iter() {
@@ -113,8 +115,9 @@ fn push_fields<T: Target>(target: &mut T, fields: &Fields)
 
 /// Writes an entry: its type and key, its fields, and a line that closes it.
 fn push_entry<T: Target>(target: &mut T, entry: &Entry)
-    ensures { WritesInCalls T.takes target.old
+    ensures written { WritesInCalls T.takes target.old
         (written_entry (source_view entry.now)) target.new }
+    ensures text { IsText (source_view entry.now) }
 {
     target.push_str("@");
     target.push_str(entry.entry_type.written_name());
@@ -127,8 +130,9 @@ fn push_entry<T: Target>(target: &mut T, entry: &Entry)
 
 /// Writes entries in their order, with an empty line between them.
 fn push_entries<T: Target>(target: &mut T, entries: &[Entry])
-    ensures { WritesInCalls T.takes target.old
+    ensures written { WritesInCalls T.takes target.old
         (written_file (sources_view entries.now)) target.new }
+    ensures text { AllByRecursion IsText (sources_view entries.now) }
 {
     let Some((first, others)) = entries.split_first() else {
         return;
@@ -153,6 +157,8 @@ pub fn write_entries<W: Sink>(entries: &[Entry], sink: &mut W) -> Result<(), Sin
     ensures quiet { OnOk result (W.failures sink.new ≡ W.failures sink.old) }
     ensures once { OnErr result (W.failures sink.new ≡ next_count (W.failures sink.old)) }
     ensures fault { IfErr result (λ e. W.last_fault sink.new ≡ Some e) }
+    // Keys, types, names and contents are made of characters, whether or not all was written.
+    ensures text { AllByRecursion IsText (sources_view entries.now) }
 {
     let mut target = SinkTarget::new(sink);
     push_entries(&mut target, entries);
@@ -161,7 +167,8 @@ pub fn write_entries<W: Sink>(entries: &[Entry], sink: &mut W) -> Result<(), Sin
 
 /// The entries as a BibLaTeX file.
 pub fn entries_text(alloc: Global, entries: &[Entry]) -> Result<String, AllocError>
-    ensures { IfOk result (λ s. string_bytes s ≡ written_file (sources_view entries.now)) }
+    ensures file { IfOk result (λ s. string_bytes s ≡ written_file (sources_view entries.now)) }
+    ensures text { AllByRecursion IsText (sources_view entries.now) }
 {
     let mut target = StringTarget::new(alloc);
     push_entries(&mut target, entries);

@@ -5,7 +5,7 @@ use Rattle.std.specs.List.{enumerate_from}
 use Rattle.std.proofs.lemmas.List.Elements.{All-head, All-tail}
 use Rattle.laws.specs.Text.{text}
 use Rattle.laws.proofs.Results.{ok_is}
-use Rattle.biblatex.specs.Bibliographies.{entry_named}
+use Rattle.biblatex.specs.Listed.{entry_named}
 use Rattle.biblatex.specs.Entries.{Source}
 use Rattle.biblatex.specs.TypeNames.{written_type}
 use Rattle.literature.specs.Keys.{with_key}

@@ -15,9 +15,9 @@ use Rattle.biblatex_entries.specs.Entries.{Source, names_of, text_in}
 use Rattle.biblatex_entries.specs.Names.{listed}
 use Rattle.biblatex_entries.specs.Roles.{role_of}
 use Rattle.biblatex_inheritance.specs.Resolved.{Offer, Table, date_for, dated, first, first_offer, offers, own, resolved, undated}
-use Rattle.biblatex_bibliography.specs.Bibliographies.{Listed, after_first, last_named, references}
-use Rattle.biblatex_bibliography.specs.Reading.{Loaded, Refusal, loaded}
-use Rattle.biblatex_bibliography.specs.Resolved.{IsResolved, IsTextMeaningOf, Means, TextMeans, head, tables}
+use Rattle.biblatex.specs.Listed.{Listed, after_first, last_named, references}
+use Rattle.biblatex.specs.Reading.{Loaded, Refusal, loaded}
+use Rattle.biblatex.specs.Resolved.{IsResolved, IsTextMeaningOf, Means, TextMeans, head, tables}
 use Rattle.reference_graph.specs.References.{references_of}
 use Rattle.biblatex_reading_back.proofs.EntriesBack.{nothing_listed}
 

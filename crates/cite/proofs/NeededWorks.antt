@@ -1,7 +1,7 @@
 -- What a document comes to depends on those works alone that are needed.
 use Rattle.std.proofs.Common.{◌≡◌, ℕ, List, [], ◌∷◌, Result, refl, sym, ap, ◌∙◌}
 use Rattle.laws.specs.Results.{◌>>=◌}
-use Rattle.biblatex.specs.Bibliographies.{Listed}
+use Rattle.biblatex.specs.Listed.{Listed}
 use Rattle.literature_entries.specs.EntriesData.{EntryData}
 use Rattle.rendering_context.specs.Contexts.{StyleContext}
 use Rattle.cite_markers.specs.Document.{Piece}

@@ -1,7 +1,7 @@
 -- What is right of a bib text is right of its rewriting.
 use Rattle.std.proofs.Common.{◌≡◌, ℕ, List, Result, Ok, Err, sym, subst}
 use Rattle.std.specs.Prelude.{IfErr}
-use Rattle.biblatex.specs.Bibliographies.{Listed}
+use Rattle.biblatex.specs.Listed.{Listed}
 use Rattle.cite_requests.specs.Answers.{Answers, Writes, IsRefusal, IsRefusalUnlessWrite, UnlessWrite}
 use Rattle.cite.specs.Roads.{ForRewriting, IsSettledFile, rewritten}
 use Rattle.cite_requests.specs.Stages.{Refusal}

@@ -4,14 +4,16 @@ use Rattle.std.specs.List.{AllByRecursion}
 use Rattle.std.specs.Str.{all_scalars, bytes_eq, chars, is_utf8, IsUtf8}
 use Rattle.std.proofs.lemmas.Str.{IsUtf8-from_is_utf8, is_utf8-from_IsUtf8, scalars-chars}
 use Rattle.laws.proofs.Results.{ok_is}
-use Rattle.biblatex.specs.Bibliographies.{Listed}
+use Rattle.biblatex.specs.Listed.{Listed}
 use Rattle.biblatex.specs.Entries.{Source}
 use Rattle.biblatex.specs.Fields.{Named, without_field}
 use Rattle.biblatex.specs.Reading as reading
 use Rattle.biblatex.specs.Resolved.{TextMeans}
 use Rattle.biblatex_writing.specs.Flat.{flat}
 use Rattle.biblatex_content.specs.Styled.{plain}
-use Rattle.biblatex_reading_back.specs.ReadingBack.{IsText, ReadsBack}
+use Rattle.biblatex_writing.specs.Texts.{IsText}
+use Rattle.biblatex_writing.specs.Written.{written_file}
+use Rattle.biblatex_reading_back.specs.ReadingBack.{ReadsBack}
 use Rattle.biblatex_reading_back.proofs.SettledBack.{reads_back}
 use Rattle.biblatex_characters.proofs.FilesText.{file_is_text}
 use Rattle.literature_entries.specs.EntriesData.{EntryData}
@@ -54,7 +56,7 @@ all_without P (f ∷ fs) all = by (bytes_eq (codes "crossref") f.0) (all_without
 flat_text : (es : List Source) → AllByRecursion IsText es → AllByRecursion IsText (flat es)
 flat_text [] all = tt
 flat_text (e ∷ es) all = (
-  record { key = all.0.key; entry_type = all.0.entry_type; names = all_without (λ f. IsUtf8 f.0) e.fields all.0.names; contents = all_without (λ f. all_scalars (plain f.1.text) ≡ true) e.fields all.0.contents },
+  record { key = all.0.key; entry_type = all.0.entry_type; fields = (all_without (λ f. IsUtf8 f.0) e.fields all.0.fields.0, all_without (λ f. all_scalars (plain f.1.text) ≡ true) e.fields all.0.fields.1) },
   flat_text es all.1,
 )
 
@@ -68,7 +70,7 @@ same_verdicts bib file task h answer =
     let first = meant bib file h.read in
     let fine = file_is_text (chars bib) file (scalars-chars bib (IsUtf8-from_is_utf8 bib first.utf8)) first.means in
     let es = flat file.entries in
-    let back : ReadsBack es = reads_back es h.settled (flat_text file.entries fine) in
+    let back : ReadsBack (written_file es) es = reads_back es h.settled (flat_text file.entries fine) in
     let other = rewritten file in
     let means : IsRead other (Ok back.file) = subst (λ (b : Bool). IsReadIf b other (Ok back.file)) (sym (is_utf8-from_IsUtf8 other back.utf8)) (Ok back.file, back.meant, refl) in
     let libraries : library_of file.entries ≡ library_of back.file.entries = sym (back_library es back.file.entries back.entries h.apart ∙ flat_library file.entries) in

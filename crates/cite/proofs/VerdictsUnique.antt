@@ -2,7 +2,7 @@
 use Rattle.std.proofs.Common.{◌≡◌, ℕ, Bool, true, false, List, Result, sym, ap, ◌∙◌}
 use Rattle.std.specs.Str.{chars, is_utf8}
 use Rattle.laws.specs.Results.{◌>>=◌}
-use Rattle.biblatex.specs.Bibliographies.{Listed}
+use Rattle.biblatex.specs.Listed.{Listed}
 use Rattle.biblatex.proofs.ResolvedUnique.{one_meaning}
 use Rattle.cite_requests.specs.Stages.{Refusal, bib_refused, refused_as, IsReadIf, IsRead, library_stage, AreWorksOf}
 use Rattle.cite.specs.Verdict.{Task, verdict, IsVerdict}

@@ -9,11 +9,10 @@ use Rattle.biblatex_writing.specs.SettledContent.{is_settled_content}
 use Rattle.std.specs.Str.{chars}
 use Rattle.laws.specs.Results.{◌>>=◌}
 use Rattle.laws.specs.Text.{text}
-use Rattle.biblatex.specs.Bibliographies.{Listed}
+use Rattle.biblatex.specs.Listed.{Listed, after_first}
 use Rattle.biblatex.specs.Entries.{Source}
 use Rattle.biblatex.specs.Fields.{Named}
 use Rattle.biblatex.specs.TypeNames.{written_type}
-use Rattle.biblatex_bibliography.specs.Bibliographies.{after_first}
 use Rattle.biblatex_writing.specs.Flat.{flat, flat_entry}
 use Rattle.biblatex_writing.specs.Settled.{have_distinct_keys, is_lowered_identifier, is_settled, is_settled_entry, is_settled_field, is_settled_key, is_settled_type, naming_fields}
 use Rattle.biblatex_reading_back.specs.ReadingBack.{AreReadBack, IsReadBack}

@@ -1,6 +1,6 @@
 -- Two roads to one output: a bib text, and the text that is written of its entries without `crossref`.
 use Rattle.std.specs.Prelude.{◌≡◌, ◌↔◌, ℕ, true, List, Result, Ok}
-use Rattle.biblatex.specs.Bibliographies.{Listed}
+use Rattle.biblatex.specs.Listed.{Listed}
 use Rattle.biblatex_writing.specs.Flat.{flat}
 use Rattle.biblatex_writing.specs.Settled.{is_settled}
 use Rattle.biblatex_writing.specs.Written.{written_file}

@@ -7,7 +7,7 @@ use Rattle.std.proofs.lemmas.List.Elements.{All-nil, All-weaker}
 use Rattle.laws.specs.Text.{text}
 use Rattle.laws.proofs.Throughout.{bind_match}
 use Rattle.biblatex.specs.Lines.{HasNoLineFeed}
-use Rattle.biblatex.specs.Bibliographies.{Listed}
+use Rattle.biblatex.specs.Listed.{Listed}
 use Rattle.biblatex.specs.Entries.{Source}
 use Rattle.biblatex.specs.Reading as reading
 use Rattle.biblatex.specs.Errors.{reason_text}

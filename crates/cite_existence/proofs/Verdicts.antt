@@ -2,8 +2,8 @@
 use Rattle.std.proofs.Common.{ℕ, Bool, true, false, List, Result, Err, refl}
 use Rattle.std.specs.Str.{chars, is_utf8}
 use Rattle.laws.specs.Results.{◌>>=◌}
-use Rattle.biblatex.specs.Bibliographies.{Listed}
-use Rattle.biblatex_existence.proofs.Meaning.{text_meaning}
+use Rattle.biblatex.specs.Listed.{Listed}
+use Rattle.biblatex_meaning.proofs.Meaning.{text_meaning}
 use Rattle.cite_requests.specs.Works.{Works}
 use Rattle.cite_requests.specs.Stages.{Refusal, bib_not_utf8, bib_refused, refused_as, IsReadIf, IsRead, library_stage, AreWorksOf}
 use Rattle.cite.specs.Verdict.{Task, verdict, IsVerdict}

@@ -6,7 +6,7 @@ use Rattle.laws.proofs.Results.{ok_is}
 use Rattle.biblatex.specs.Raw.{Raw}
 use Rattle.biblatex.specs.Items.{raw_of}
 use Rattle.biblatex.specs.Fault as raw_faults
-use Rattle.biblatex.specs.Bibliographies.{Listed}
+use Rattle.biblatex.specs.Listed.{Listed}
 use Rattle.biblatex.specs.Reading as reading
 use Rattle.biblatex.specs.Reading.{Loaded, loaded}
 use Rattle.biblatex.specs.Resolved.{IsMeaningOf, IsTextMeaningOf, Means, TextMeans}

@@ -14,9 +14,9 @@ use Rattle.biblatex_entries.specs.declared.role.Role.{Role}
 use Rattle.biblatex_entries.specs.declared.role.Role.TheVariants.{Article, PartOfBook, PartOfOther, XData}
 use Rattle.biblatex_inheritance.specs.Resolved.{Table, Offer, date_for, dated, first, first_offer, offers, own, resolved, undated}
 use Rattle.biblatex_inherited_fields.specs.Table.{inherits, source_name}
-use Rattle.biblatex_bibliography.specs.Bibliographies.{Listed, IsAsRead, after_first, last_named, references}
-use Rattle.biblatex_bibliography.specs.Resolved.{IsResolved, head, tables}
-use Rattle.biblatex_bibliography.proofs.ReadingLoaded.{as_read}
+use Rattle.biblatex.specs.Listed.{Listed, IsAsRead, after_first, last_named, references}
+use Rattle.biblatex.specs.Resolved.{IsResolved, head, tables}
+use Rattle.biblatex_meaning.proofs.ReadingLoaded.{as_read}
 use Rattle.biblatex_locality.specs.Files.{IsFileOf}
 use Rattle.reference_graph.specs.References.{references_of}
 

@@ -17,8 +17,8 @@ use Rattle.biblatex_entries.specs.TypeNames.{written_type}
 use Rattle.biblatex_inheritance.specs.Resolved.{dated, last_date, needs_date, offers, own, resolved, undated}
 use Rattle.biblatex_writing.specs.FieldNames.{is_never_written, other_names}
 use Rattle.biblatex_writing.specs.Flat.{flat, flat_entry}
-use Rattle.biblatex_bibliography.specs.Bibliographies.{Listed, references}
-use Rattle.biblatex_bibliography.specs.Resolved.{IsResolved, head, tables}
+use Rattle.biblatex.specs.Listed.{Listed, references}
+use Rattle.biblatex.specs.Resolved.{IsResolved, head, tables}
 use Rattle.biblatex_reading_back.proofs.EntriesBack.{nothing_listed, nothing_trimmed}
 use Rattle.reference_graph.specs.References.{references_of}
 use Rattle.interop_values.specs.Values.{filled, values}

@@ -5,7 +5,7 @@ use Rattle.std.specs.List.{AllByRecursion, AllZip}
 use Rattle.std.specs.Str.{bytes_eq, chars}
 use Rattle.std.proofs.lemmas.List.{map-append}
 use Rattle.laws.specs.Text.{lowered, text}
-use Rattle.biblatex.specs.Bibliographies.{Listed}
+use Rattle.biblatex.specs.Listed.{Listed}
 use Rattle.biblatex.specs.Entries.{Source}
 use Rattle.biblatex.specs.Raw.{At, Entry}
 use Rattle.biblatex.specs.Abbreviations.{Glossary}

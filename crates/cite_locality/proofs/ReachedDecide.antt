@@ -4,7 +4,7 @@ use Rattle.std.specs.Prelude.{Contains}
 use Rattle.std.specs.List.{AllByRecursion}
 use Rattle.std.specs.Str.{chars}
 use Rattle.std.proofs.lemmas.List.Elements.{All-contains_itself, All-weaker, recursion_from_All}
-use Rattle.biblatex.specs.Bibliographies.{Listed, entry_named}
+use Rattle.biblatex.specs.Listed.{Listed, entry_named}
 use Rattle.biblatex_locality.specs.Files.{IsFileOf}
 use Rattle.biblatex_locality.specs.Reached.{MeansTheSame, SayTheSameOf}
 use Rattle.biblatex_locality.proofs.LoadedKeys.{AreApart, heads_apart, loaded_apart}

@@ -11,7 +11,7 @@ use Rattle.std.proofs.Math.Path.{fun_ext}
 use Rattle.laws.specs.Results.{◌>>=◌}
 use Rattle.laws.proofs.Results.{ok_is}
 use Rattle.biblatex_content.specs.Styled.{Member}
-use Rattle.biblatex.specs.Bibliographies.{Listed, entry_named}
+use Rattle.biblatex.specs.Listed.{Listed, entry_named}
 use Rattle.biblatex.specs.Fields.{text_named}
 use Rattle.biblatex.specs.Entries.{Source}
 use Rattle.biblatex.specs.TypeNames.{written_type}

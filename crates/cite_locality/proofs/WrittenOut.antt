@@ -7,7 +7,7 @@ use Rattle.std.specs.Str.{bytes_eq, chars}
 use Rattle.laws.specs.Results.{◌>>=◌}
 use Rattle.laws.specs.Text.{text}
 use Rattle.biblatex_content.specs.Styled.{Member}
-use Rattle.biblatex.specs.Bibliographies.{Listed, IsAsRead, after_first, last_named}
+use Rattle.biblatex.specs.Listed.{Listed, IsAsRead, after_first, last_named}
 use Rattle.biblatex.specs.Entries.{Source, field_text, names_of, text_in}
 use Rattle.biblatex.specs.Fields.{Named, text_named, without_field}
 use Rattle.biblatex.specs.Names.{listed}

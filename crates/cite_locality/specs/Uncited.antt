@@ -2,7 +2,7 @@
 use Rattle.std.specs.Prelude.{◌≡◌, ◌↔◌, ℕ, true, List, ◌++◌, Result}
 use Rattle.std.specs.Str.{chars, is_utf8}
 use Rattle.biblatex.specs.Raw.{At, Entry}
-use Rattle.biblatex.specs.Bibliographies.{Listed}
+use Rattle.biblatex.specs.Listed.{Listed}
 use Rattle.biblatex_joined.specs.Between.{ArePutBetween, AreUnreached}
 use Rattle.biblatex_locality.specs.Files.{IsFileOf}
 use Rattle.cite_markers.specs.Document.{Piece}

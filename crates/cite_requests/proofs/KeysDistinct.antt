@@ -8,7 +8,7 @@ use Rattle.biblatex.specs.Raw.{Raw}
 use Rattle.biblatex.specs.Items.{raw_of}
 use Rattle.biblatex.specs.Fault.{Fault}
 use Rattle.biblatex.specs.Entries.{Source}
-use Rattle.biblatex.specs.Bibliographies.{Listed}
+use Rattle.biblatex.specs.Listed.{Listed}
 use Rattle.biblatex.specs.Reading as reading
 use Rattle.biblatex.specs.Reading.{Loaded, loaded}
 use Rattle.biblatex.specs.Resolved.{IsMeaningOf, IsTextMeaningOf, Means, TextMeans}

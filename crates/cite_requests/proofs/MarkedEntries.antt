@@ -9,7 +9,7 @@ use Rattle.std.proofs.lemmas.List.Folds.{list_any-append}
 use Rattle.std.proofs.lemmas.Option.{same_Some}
 use Rattle.std.proofs.lemmas.Slice.Eq.{bytes_eq-Decides}
 use Rattle.laws.specs.Text.{text}
-use Rattle.biblatex.specs.Bibliographies.{Listed}
+use Rattle.biblatex.specs.Listed.{Listed}
 use Rattle.biblatex.specs.Entries.{Source}
 use Rattle.biblatex_locality.proofs.LoadedKeys.{AreApart}
 use Rattle.biblatex_writing.specs.Settled.{have_distinct_keys}

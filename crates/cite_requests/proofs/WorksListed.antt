@@ -6,7 +6,7 @@ use Rattle.std.specs.Str.{bytes_eq}
 use Rattle.std.proofs.lemmas.List.Elements.{Contains-append_right}
 use Rattle.laws.specs.Results.{◌>>=◌}
 use Rattle.laws.proofs.Results.{ok_is}
-use Rattle.biblatex.specs.Bibliographies.{Listed}
+use Rattle.biblatex.specs.Listed.{Listed}
 use Rattle.literature_entries.specs.EntriesData.{EntryData}
 use Rattle.literature.specs.Keys.{are_distinct, put, with_key}
 use Rattle.interop.specs.Bridge.{Fault, unless_faulty}

@@ -2,7 +2,7 @@
 use Rattle.std.specs.Prelude.{◌≡◌, ℕ, Bool, true, false, List, if◌then◌else◌, Result, Ok, Err}
 use Rattle.std.specs.Str.{chars, is_utf8}
 use Rattle.laws.specs.Results.{◌>>=◌}
-use Rattle.biblatex.specs.Bibliographies.{Listed}
+use Rattle.biblatex.specs.Listed.{Listed}
 use Rattle.biblatex.specs.Reading as reading
 use Rattle.biblatex.specs.Resolved.{TextMeans}
 use Rattle.literature_entries.specs.EntriesData.{EntryData}

@@ -4,7 +4,8 @@ use Rattle.std.specs.Borrow.{Bor}
 use Rattle.std.specs.BTreeSet.{BTreeSet}
 use Rattle.std.specs.List.{list_any}
 use Rattle.std.specs.Str.{bytes_eq}
-use Rattle.biblatex.specs.Bibliographies.{Listed, listed_view}
+use Rattle.biblatex.specs.Bibliographies.{listed_view}
+use Rattle.biblatex.specs.Listed.{Listed}
 use Rattle.interop.specs.Views.{library_view}
 use Rattle.literature.specs.declared.library.Library.{Library}
 use Rattle.literature_entries.specs.EntriesData.{EntryData, entry_view}

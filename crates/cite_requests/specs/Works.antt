@@ -1,7 +1,7 @@
 -- The entries of a file and the works that they are, and what the names of a document mean.
 use Rattle.std.specs.Prelude.{◌≡◌, ℕ, Bool, List, Option, None, if◌then◌else◌, option_and_then}
 use Rattle.std.specs.Str.{bytes_eq}
-use Rattle.biblatex.specs.Bibliographies.{Listed, entry_named}
+use Rattle.biblatex.specs.Listed.{Listed, entry_named}
 use Rattle.biblatex.specs.Entries.{Source}
 use Rattle.biblatex.specs.TypeNames.{written_type}
 use Rattle.literature_entries.specs.EntriesData.{EntryData}

@@ -5,7 +5,8 @@ use Rattle.std.specs.List.{list_all}
 use Rattle.std.specs.Str.{chars, IsUtf8}
 use Rattle.std.proofs.lemmas.Bool.{and_from, and_parts}
 use Rattle.std.proofs.lemmas.Str.{is_utf8-from_IsUtf8}
-use Rattle.biblatex.specs.Bibliographies.{Indexed, Listed, flattened, listed_view}
+use Rattle.biblatex.specs.Bibliographies.{Indexed, flattened, listed_view}
+use Rattle.biblatex.specs.Listed.{Listed}
 use Rattle.biblatex.specs.Reading as reading
 use Rattle.biblatex.specs.Resolved.{TextMeans}
 use Rattle.biblatex_writing.specs.Flat.{flat}

@@ -8,7 +8,7 @@ use Rattle.std.specs.Ordering.{MatchOrdering, ordering_then}
 use Rattle.std.proofs.lemmas.List.{get_or-take, get_or_default, length-take-le, take_all, take_more}
 use Rattle.std.proofs.lemmas.List.Elements.{Contains-get_or}
 use Rattle.std.proofs.lemmas.List.Sorted.{Contains-permutation, IsNonDecreasingBy-from_all_adjacent, IsNonDecreasingBy-push, IsNonDecreasingBy-short, IsPermutation-sym}
-use Rattle.biblatex.specs.Bibliographies.{Listed}
+use Rattle.biblatex.specs.Listed.{Listed}
 use Rattle.cite_uses.specs.Alike.{AreInOneOrder, both_indices, indices_of}
 use Rattle.cite_uses.specs.AlikePairs.{by_both}
 

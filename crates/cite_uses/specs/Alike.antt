@@ -2,7 +2,8 @@
 use Rattle.std.specs.Prelude.{◌≡◌, ◌<◌, ◌≤◌, ℕ, List, map, filter_map, Contains, Option, Some, None, Result, Ok}
 use Rattle.std.specs.Borrow.{Bor}
 use Rattle.std.specs.List.{AllByRecursion}
-use Rattle.biblatex.specs.Bibliographies.{Listed, listed_view}
+use Rattle.biblatex.specs.Bibliographies.{listed_view}
+use Rattle.biblatex.specs.Listed.{Listed}
 use Rattle.literature_entries.specs.EntriesData.{EntryData}
 use Rattle.literature.specs.Holding.{holds_at}
 use Rattle.literature.specs.Trees.{Tree}

@@ -2,8 +2,10 @@ use Rattle.std.proofs.Common.{◌≡◌, ◌++◌, ◌∷◌, [], ℕ, suc, leng
 use Rattle.std.proofs.lemmas.List.{map_push, length-map}
 use Rattle.biblatex_entries.specs.Entries.{source_view, sources_view}
 use Rattle.biblatex_bibliography.specs.Bibliographies.{IsWithin}
-use Rattle.biblatex_bibliography.specs.Indices.{bound, meaning_in, names_in}
-use Rattle.biblatex_bibliography.proofs.IndicesWithin.{bound_within, length_last}
+use Rattle.biblatex_meaning.specs.Listed.{bound}
+use Rattle.biblatex_bibliography.specs.Indices.{meaning_in, names_in}
+use Rattle.biblatex_meaning.proofs.ListedNames.{length_last}
+use Rattle.biblatex_bibliography.proofs.IndicesWithin.{bound_within}
 use Rattle.biblatex_bibliography.proofs.indexed.put_last.Goals as goal
 
 pub returns-clause-ok : goal.returns-clause-ok

@@ -1,5 +1,6 @@
 use Rattle.std.proofs.Common.{◌≡◌, map, length, suc, string_bytes, sym, ap, ◌∙◌, arith}
-use Rattle.biblatex_bibliography.specs.Indices.{Meaning, bound, meaning_in, names_in}
+use Rattle.biblatex_meaning.specs.Listed.{Meaning, bound}
+use Rattle.biblatex_bibliography.specs.Indices.{meaning_in, names_in}
 use Rattle.biblatex_bibliography.proofs.IndicesBinding.{done, bound_last, bound_none}
 use Rattle.biblatex_bibliography.proofs.indices.bind_all.Goals as goal
 

@@ -1,5 +1,6 @@
 use Rattle.std.proofs.Common.{◌≡◌, ◌≤◌, ◌+◌, map, length, string_bytes, vec_len, vec_capacity}
-use Rattle.biblatex_bibliography.specs.Indices.{bound, meaning_in, names_in, AreInOrder}
+use Rattle.biblatex_meaning.specs.Listed.{bound}
+use Rattle.biblatex_bibliography.specs.Indices.{meaning_in, names_in, AreInOrder}
 use Rattle.biblatex_bibliography.proofs.indices.bind_all.Given as goal
 
 abbrev pub invariant-loop-name : goal.invariant-loop-name

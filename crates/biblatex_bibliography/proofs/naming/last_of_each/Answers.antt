@@ -1,7 +1,8 @@
 use Rattle.std.proofs.Common.{List, [], ◌∷◌, None, sym, ap, subst, ◌∙◌}
 use Rattle.std.proofs.lemmas.List.{map_push}
 use Rattle.biblatex_bibliography.specs.declared.indices.NamedIndex.{NamedIndex}
-use Rattle.biblatex_bibliography.specs.Indices.{Names, name_of, named_index, names_in, meaning_in, bound, AreInOrder}
+use Rattle.biblatex_meaning.specs.Listed.{bound}
+use Rattle.biblatex_bibliography.specs.Indices.{Names, name_of, named_index, names_in, meaning_in, AreInOrder}
 use Rattle.biblatex_bibliography.specs.Naming.{bound_each}
 use Rattle.biblatex_bibliography.proofs.NamingEqual.{bound_alone, bound_more}
 use Rattle.biblatex_bibliography.proofs.NamingOrder.{order_nothing}

@@ -1,4 +1,4 @@
-use Rattle.std.proofs.Common.{ℕ, List, ◌∷◌, String, Vec, Global, map, ap, sym, ◌∙◌}
+use Rattle.std.proofs.Common.{ℕ, List, ◌∷◌, String, Vec, Global, map, ap, sym, subst, ◌∙◌}
 use Rattle.std.specs.List.{flat_map}
 use Rattle.std.specs.Map.Iter.{deref_pair}
 use Rattle.std.proofs.lemmas.Map.Iter.{rest_more, rest_all}
@@ -9,8 +9,10 @@ use Rattle.biblatex_fields.specs.Value.{field_value_view}
 use Rattle.biblatex_writing.specs.FieldNames.{other_names}
 use Rattle.biblatex_writing.specs.MovedFields.{row_view}
 use Rattle.biblatex_writing.specs.Order.{Row, merged}
+use Rattle.biblatex_writing.specs.Texts.{AreText}
 use Rattle.biblatex_writing.specs.Written.{written_field}
 use Rattle.biblatex_writing.proofs.Calls.{same}
+use Rattle.biblatex_writing.proofs.MemoryTexts.{fields_text}
 use Rattle.biblatex_writing.proofs.OrderFields.{order_fields}
 use Rattle.biblatex_writing.proofs.entries.push_fields.Goals as goal
 
@@ -44,6 +46,10 @@ returns g c =
     let fs = c.args.fields.now in
     let rows = map row_view c.loop-name.rows.now in
     let none = rest_all deref_pair c.loop-name.name-iterator c.next.new.self c.next.result c.in-None.is c.next.ensures.steps in
-    same took c.args.target.now _ _ c.push_moved.new.target (ap (flat_map written_field) (order_fields fs c.iter-name-items.ensures.ordered))
-    (c.loop-name.invariant c.push_moved.new.target
-    (same took c.loop-name.target _ _ c.push_moved.new.target (ap (λ (es : Entries). flat_map written_field (merged rows (named_fields_view es) fs)) (sym none)) c.push_moved.ensures))
+    record {
+      written =
+          same took c.args.target.now _ _ c.push_moved.new.target (ap (flat_map written_field) (order_fields fs c.iter-name-items.ensures.ordered))
+          (c.loop-name.invariant c.push_moved.new.target
+          (same took c.loop-name.target _ _ c.push_moved.new.target (ap (λ (es : Entries). flat_map written_field (merged rows (named_fields_view es) fs)) (sym none)) c.push_moved.ensures));
+      text = subst AreText c.iter-name-items.ensures.rest (fields_text c.iter-name-items.result);
+    }

@@ -12,6 +12,6 @@ returns g c =
     let contents = g.W.Sink.contents in
     let failures = g.W.Sink.failures in
     let last = g.W.Sink.last_fault in
-    let written = all_taken contents failures last itself c.new-target.result c.push_entries.new.target c.args.sink.now _ c.result.result _ c.new-target.ensures.result c.new-target.ensures.sink c.result.ensures (λ same. search rules) c.push_entries.ensures in
+    let written = all_taken contents failures last itself c.new-target.result c.push_entries.new.target c.args.sink.now _ c.result.result _ c.new-target.ensures.result c.new-target.ensures.sink c.result.ensures (λ same. search rules) c.push_entries.ensures.written in
     let all = answered contents failures last c.args.sink.now _ _ c.result.result written in
-    record { ok = all.ok; err = all.err; cause = all.cause; quiet = all.quiet; once = all.once; fault = all.fault }
+    record { ok = all.ok; err = all.err; cause = all.cause; quiet = all.quiet; once = all.once; fault = all.fault; text = c.push_entries.ensures.text }

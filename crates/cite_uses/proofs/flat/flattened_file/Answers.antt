@@ -28,7 +28,7 @@ returns-clause-text c =
     let b = c.in_ok-file.file in (
       listed_view b,
       settled_file c.args.bib.now c.utf8.bib b c.flatten.new.self c.in_ok-file.ensures.meaning c.flatten.ensures (sym c.reads_back.ensures ∙ c.if-not-reads_back.false),
-      c.in_ok-to_biblatex_string.ensures ∙ ap (λ (n : Indexed). written_file n.entries) c.flatten.ensures,
+      c.in_ok-to_biblatex_string.ensures.file ∙ ap (λ (n : Indexed). written_file n.entries) c.flatten.ensures,
     )
 
 pub returns-clause-same : goal.returns-clause-same
@@ -36,5 +36,5 @@ returns-clause-same c =
     let bib = c.args.bib.now in
     let b = c.in_ok-file.file in
     let settled = settled_file bib c.utf8.bib b c.flatten.new.self c.in_ok-file.ensures.meaning c.flatten.ensures (sym c.reads_back.ensures ∙ c.if-not-reads_back.false) in
-    let written : string_bytes c.in_ok-to_biblatex_string.field-0 ≡ rewritten (listed_view b) = c.in_ok-to_biblatex_string.ensures ∙ ap (λ (n : Indexed). written_file n.entries) c.flatten.ensures in
+    let written : string_bytes c.in_ok-to_biblatex_string.field-0 ≡ rewritten (listed_view b) = c.in_ok-to_biblatex_string.ensures.file ∙ ap (λ (n : Indexed). written_file n.entries) c.flatten.ensures in
     subst (HaveTheSameVerdicts bib) (sym written) (λ task answer. same_verdicts bib (listed_view b) task settled answer)

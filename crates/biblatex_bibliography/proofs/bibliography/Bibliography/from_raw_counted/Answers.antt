@@ -3,11 +3,12 @@ use Rattle.std.specs.Prelude.{IfSome}
 use Rattle.std.proofs.lemmas.List.{length-map}
 use Rattle.biblatex_text.specs.declared.spanned.Spanned.{Spanned}
 use Rattle.biblatex_text.specs.Views.{entry_view, spanned_text_view, field_view, raw_view as written}
-use Rattle.biblatex_bibliography.specs.Bibliographies.{references, listed_view}
-use Rattle.biblatex_bibliography.specs.Reading.{nothing_loaded}
-use Rattle.biblatex_bibliography.specs.Resolved.{number_of, unresolved_at}
+use Rattle.biblatex_meaning.specs.Listed.{references}
+use Rattle.biblatex_bibliography.specs.Bibliographies.{listed_view}
+use Rattle.biblatex_meaning.specs.Reading.{nothing_loaded}
+use Rattle.biblatex_meaning.specs.Resolved.{number_of, unresolved_at}
 use Rattle.biblatex_bibliography.specs.Errors.{loaded_view, refusal_of}
-use Rattle.biblatex_bibliography.proofs.ReadingLoaded.{loaded_more, number_within, meaning, meaning_refused}
+use Rattle.biblatex_meaning.proofs.ReadingLoaded.{loaded_more, number_within, meaning, meaning_refused}
 use Rattle.biblatex_bibliography.proofs.ReadingJoined.{loaded_joined}
 use Rattle.biblatex_bibliography.proofs.bibliography.Bibliography.from_raw_counted.Goals as goal
 

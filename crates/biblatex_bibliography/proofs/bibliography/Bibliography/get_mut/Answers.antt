@@ -5,7 +5,8 @@ use Rattle.std.proofs.lemmas.Option.{slice_get-map}
 use Rattle.std.specs.Option.{ghost_name_of}
 use borrow.Follows.Closed.{read_of}
 use Rattle.biblatex_entries.specs.Entries.{source_view, sources_view}
-use Rattle.biblatex_bibliography.specs.Bibliographies.{Indexed, listed_view, entry_named}
+use Rattle.biblatex_meaning.specs.Listed.{entry_named}
+use Rattle.biblatex_bibliography.specs.Bibliographies.{Indexed, listed_view}
 use Rattle.biblatex_bibliography.specs.Indices.{meaning_in, names_in, AreWithin}
 use Rattle.biblatex_bibliography.proofs.LendingBorrowed.{written, item}
 use Rattle.biblatex_bibliography.proofs.bibliography.Bibliography.get_mut.Goals as goal

@@ -1,8 +1,9 @@
 use Rattle.std.proofs.Common.{ℕ, List, sym, ap, subst, ◌∙◌}
 use Rattle.biblatex_entries.specs.Entries.{source_view}
-use Rattle.biblatex_bibliography.specs.Bibliographies.{Indexed, listed_view, indexed, IsAsRead, put_last}
+use Rattle.biblatex_meaning.specs.Listed.{IsAsRead, put_last}
+use Rattle.biblatex_bibliography.specs.Bibliographies.{Indexed, listed_view, indexed}
 use Rattle.biblatex_bibliography.proofs.IndicesWithin.{then_ok}
-use Rattle.biblatex_bibliography.proofs.IndicesNames.{pushed-read}
+use Rattle.biblatex_meaning.proofs.ListedNames.{pushed-read}
 use Rattle.biblatex_bibliography.proofs.bibliography.Bibliography.push.Goals as goal
 
 pub returns-clause-read : goal.returns-clause-read

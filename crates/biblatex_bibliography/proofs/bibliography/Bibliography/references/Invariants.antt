@@ -1,7 +1,8 @@
 use Rattle.std.proofs.Common.{◌≡◌, ◌++◌, map, length}
 use Rattle.biblatex_entries.specs.Entries.{sources_view}
 use Rattle.biblatex_bibliography.specs.Indices.{meaning_in}
-use Rattle.biblatex_bibliography.specs.Bibliographies.{references, listed_view}
+use Rattle.biblatex_meaning.specs.Listed.{references}
+use Rattle.biblatex_bibliography.specs.Bibliographies.{listed_view}
 use Rattle.biblatex_bibliography.proofs.bibliography.Bibliography.references.Given as goal
 
 abbrev pub invariant-loop-entry : goal.invariant-loop-entry

@@ -3,8 +3,9 @@ use Rattle.std.proofs.lemmas.Result.{err_from_is_err_and}
 use Rattle.reference_graph.specs.References.{lists}
 use Rattle.biblatex_entries.specs.Entries.{sources_view, HaveJoinedFields}
 use Rattle.biblatex_bibliography.specs.Indices.{meaning_in, names_in, AreWithin}
-use Rattle.biblatex_bibliography.specs.Bibliographies.{Indexed, Listed, listed_view, indexed, references}
-use Rattle.biblatex_bibliography.specs.Resolved.{IsResolved}
+use Rattle.biblatex_meaning.specs.Listed.{Listed, references}
+use Rattle.biblatex_bibliography.specs.Bibliographies.{Indexed, listed_view, indexed}
+use Rattle.biblatex_meaning.specs.Resolved.{IsResolved}
 use Rattle.biblatex_bibliography.proofs.ResolvedEntries.{references_long, resolved_is, refused_is, same_length}
 use Rattle.biblatex_bibliography.proofs.bibliography.Bibliography.resolved.Goals as goal
 

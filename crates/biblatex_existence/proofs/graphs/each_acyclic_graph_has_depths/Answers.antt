@@ -1,5 +1,0 @@
-use Rattle.biblatex_existence.proofs.Depth.{depth, depth_upto, less_deep}
-use Rattle.biblatex_existence.proofs.graphs.each_acyclic_graph_has_depths.Goals as goal
-
-pub returns : goal.returns
-returns c references none = (depth references, depth_upto references, λ i r has low. less_deep references i r (none r) has low)

@@ -1,5 +1,0 @@
-use Rattle.biblatex_existence.proofs.Meaning.{one_meaning_there}
-use Rattle.biblatex_existence.proofs.meanings.each_text_has_one_meaning.Goals as goal
-
-pub returns : goal.returns
-returns c = one_meaning_there

@@ -1,3 +1,0 @@
-pub mod Graphs
-pub mod Solutions
-pub mod Meanings

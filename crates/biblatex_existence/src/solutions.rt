@@ -1,8 +1,0 @@
-//! Entries with their references resolved.
-
-ghost use Rattle.biblatex_existence.specs.Solutions.{EachAcyclicFileHasResolvedEntries};
-
-/// Entries of which none reaches itself can be resolved, in one way.
-pub fn each_acyclic_file_has_resolved_entries()
-    ensures { EachAcyclicFileHasResolvedEntries }
-{}

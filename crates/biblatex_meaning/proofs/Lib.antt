@@ -1,0 +1,15 @@
+pub mod ListedNames
+pub mod ReadingLoaded
+pub mod ResolvedUnique
+pub mod Decided
+pub mod Walks
+pub mod Flags
+pub mod Depth
+pub mod Orders
+pub mod Equation
+pub mod Solving
+pub mod Sorted
+pub mod Names
+pub mod Entries
+pub mod Reading
+pub mod Meaning

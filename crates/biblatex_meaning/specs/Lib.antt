@@ -1,0 +1,6 @@
+pub mod Listed
+pub mod Reading
+pub mod Resolved
+pub mod Graphs
+pub mod Solutions
+pub mod Meanings
