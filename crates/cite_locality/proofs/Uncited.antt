@@ -18,7 +18,7 @@ use Rattle.cite_locality.proofs.OrderKept.{order_kept}
 use Rattle.cite_locality.proofs.ReachedDecide.{reached_decide}
 
 -- texts that are alike have the same verdicts
-same_verdicts : (bib other : List ℕ) (task : Task) → AreAlikeFor bib other task → (answer : Result (List ℕ) Refusal) → IsVerdict bib task answer ↔ IsVerdict other task answer
+pub same_verdicts : (bib other : List ℕ) (task : Task) → AreAlikeFor bib other task → (answer : Result (List ℕ) Refusal) → IsVerdict bib task answer ↔ IsVerdict other task answer
 same_verdicts bib other task alike answer = (alike_verdicts bib other task alike answer, back)
   where
     own : IsVerdict bib task (verdict (Ok alike.first.works) task)

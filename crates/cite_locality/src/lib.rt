@@ -2,19 +2,22 @@
 //! reference prints as if it stood in the entry. The functions do nothing, and carry the laws as their contracts.
 #![tactic(auto)]
 
-ghost use Rattle.cite_locality.specs.Local.{OneUnreachedEntryChangesNothing, ReachedEntriesDecide};
+ghost use Rattle.cite_locality.specs.Local.{OneUnreachedEntryChangesNothing, OneUnreachedEntryPrintsNothing, ReachedEntriesDecide, ReachedEntriesDecideTheOutput};
 ghost use Rattle.cite_locality.specs.Uncited.{UncitedEntriesChangeNothing};
 ghost use Rattle.cite_locality.specs.WrittenOut.{AuthorsMayWriteReferencesOut, ContentsMayBeWrittenOut, ReferencesMayBeWrittenOut};
 
-/// Bib texts that say the same of all that the names of a document reach, with the cited entries in one order, are alike for it.
+/// Bib texts that say the same of all that the names of a document reach, with the cited entries in one order, are alike for it, and have
+/// the same output.
 pub fn reached_entries_decide()
-    ensures { ReachedEntriesDecide }
+    ensures alike { ReachedEntriesDecide }
+    ensures bytes { ReachedEntriesDecideTheOutput }
 {}
 
-/// Bib texts of which one has one entry more are alike for a document that does not reach it, if no abbreviation changes that a field of a
-/// reached entry opens.
+/// Bib texts of which one has one entry more are alike for a document that does not reach it, and have the same output, if no abbreviation
+/// changes that a field of a reached entry opens.
 pub fn one_unreached_entry_changes_nothing()
-    ensures { OneUnreachedEntryChangesNothing }
+    ensures alike { OneUnreachedEntryChangesNothing }
+    ensures bytes { OneUnreachedEntryPrintsNothing }
 {}
 
 /// A bib text with more entries, put before, between or after others, has the same output for a document that reaches none of them, if no

@@ -9,6 +9,8 @@ use Rattle.literature_entries.specs.EntriesData.{EntryData, Holding}
 use Rattle.interop.specs.Library.{key_of}
 use Rattle.rendering_entries.specs.Library.{answers_of}
 use Rattle.rendering_style.specs.Styles.{Bibliography}
+use Rattle.rendering_context.specs.Answering.{of_count}
+use Rattle.rendering_context.specs.Cites.{CiteProperties}
 use Rattle.rendering_context.specs.Contexts.{StyleContext}
 use Rattle.driver_requests.specs.CitedEntries.{index_among, once}
 use Rattle.driver_requests.specs.Order.{is_index_in}
@@ -26,7 +28,7 @@ use Rattle.cite_requests.specs.Requests.{OwnLocator, is_same_own, item_of, reque
 use Rattle.cite.specs.Verdict.{Task}
 use Rattle.cite_requests.specs.Works.{is_same}
 use Rattle.cite_requests.proofs.KeyLists.{index_mapped, key_at_index, key_is}
-use Rattle.cite_names.specs.Printed.{NoneIsRefused, NumbersArePlaces, StandsOnceAt, all_prints, document_of}
+use Rattle.cite_names.specs.Printed.{NoneIsRefused, NumbersArePlaces, PrintedNumbersArePlaces, StandsOnceAt, all_prints, document_of}
 use Rattle.cite_names.proofs.PlacesListed.{made_there, member_there, number_there, only_there}
 use Rattle.cite_names.proofs.PrintedCites.{its_entry, its_key, its_state, works_among}
 
@@ -174,3 +176,11 @@ numbers_are_places bib task read b c f w style print means =
     let number = (its_state read c f print).0 in
     let entry = its_entry read c f print w means ∙ index_mapped key_of bytes_eq (works read) w in
     subst (StandsOnceAt read b w) (sym (number ∙ ap (number_of (document_of read)) entry)) (stands_once read b w style (its_key read c f print w means))
+
+-- and what is printed of them is the place from one
+pub printed_numbers_are_places : PrintedNumbersArePlaces
+printed_numbers_are_places bib task read b c f w style print means = (
+  f.properties.citation_number,
+  numbers_are_places bib task read b c f w style print means,
+  λ context same. ap (λ (p : CiteProperties). of_count (p.citation_number + 1)) same,
+)

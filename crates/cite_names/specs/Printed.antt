@@ -1,9 +1,12 @@
 -- The last prints of the cites of a document: which output they make, and what the prints of cites of one work share.
-use Rattle.std.specs.Prelude.{◌≡◌, ◌↔◌, ℕ, List, length, zip, slice_get, Contains, Some, Ok}
+use Rattle.std.specs.Prelude.{◌≡◌, ◌↔◌, ◌+◌, ℕ, List, length, zip, slice_get, Contains, Some, Ok}
 use Rattle.laws.specs.Text.{text}
 use Rattle.literature_entries.specs.EntriesData.{EntryData}
 use Rattle.interop.specs.Library.{key_of}
+use Rattle.rendering_context.specs.Answering.{number_answer, of_count}
+use Rattle.rendering_context.specs.Contexts.{Context}
 use Rattle.rendering_style.specs.Styles.{Bibliography}
+use Rattle.rendering_taxonomy.specs.declared.variable.NumberVariable.TheVariants.{CitationNumber}
 use Rattle.driver_requests.specs.CitedEntries.{index_among}
 use Rattle.driver_rounds.specs.Documents.{Document}
 use Rattle.driver_rounds.specs.FirstPrints.{flattened}
@@ -78,3 +81,11 @@ NumbersArePlaces =
     (bib : List ℕ) (task : Task) (read : NoneIsRefused bib task) (b : Bibliography) (c : Cite) (f : Final OwnLocator) (work : EntryData)
     → task.context.style.bibliography ≡ Some b → IsPrintOf read c f → meaning (text c.name) read.file.works ≡ Some work
     → StandsOnceAt read b work f.properties.citation_number
+
+-- And a cite answers to its style with that place, counted from one: what is printed of the variable `citation-number` is this answer.
+abbrev pub PrintedNumbersArePlaces : Type 0
+PrintedNumbersArePlaces =
+    (bib : List ℕ) (task : Task) (read : NoneIsRefused bib task) (b : Bibliography) (c : Cite) (f : Final OwnLocator) (work : EntryData)
+    → task.context.style.bibliography ≡ Some b → IsPrintOf read c f → meaning (text c.name) read.file.works ≡ Some work
+    → (place : ℕ) × StandsOnceAt read b work place
+    × ((context : Context) → context.properties ≡ f.properties → number_answer context CitationNumber ≡ of_count (place + 1))

@@ -4,7 +4,7 @@
 
 ghost use Rattle.cite_names.specs.Hidden.{HiddenMarkersPrintNothing};
 ghost use Rattle.cite_names.specs.OtherNames.{OtherNamesPrintTheSame};
-ghost use Rattle.cite_names.specs.Printed.{EachCiteIsPrinted, NamesOfOneWorkShareNumberAndState, NumbersArePlaces, OutputsAreOfPrints};
+ghost use Rattle.cite_names.specs.Printed.{EachCiteIsPrinted, NamesOfOneWorkShareNumberAndState, NumbersArePlaces, OutputsAreOfPrints, PrintedNumbersArePlaces};
 
 /// A document in whose cites other names stand has the same output, or is refused alike, if each means the same work as the one in its place,
 /// and each name of the document means a work.
@@ -29,7 +29,10 @@ pub fn names_of_one_work_share_number_and_state()
 
 /// Where the style has a bibliography, this has one item for the work of a cite, and the number of the cite is its place.
 pub fn numbers_are_places()
-    ensures { NumbersArePlaces }
+    // Both from zero.
+    ensures places { NumbersArePlaces }
+    // What a cite prints as its number is the place from one.
+    ensures printed { PrintedNumbersArePlaces }
 {}
 
 /// A marker of hidden cites alone prints nothing.
