@@ -8,10 +8,10 @@ not cited: N times one entry by its key, and N times one entry by as many aliase
 with titles of 40 to 60 characters, once each, in an order that is drawn, of a file of as many and of one of ten times as many. All come of a
 fixed seed.
 
-For N = 1,000 and 10,000 it prints the bytes of both files and the document, and the instructions (by `valgrind --tool=callgrind`) that
-`are_alike` takes with what makes the two libraries of the files. They are the difference of two runs of the program: the other one is over the
-same document with an opening without an end after it, which is refused once both files and the markers are read (docs/CASES.md). Then the
-growth exponent of these instructions over the bytes. It ends with status 1 where one is greater than is wanted.
+For N = 1,000 and 10,000 it prints the bytes of the document, and the instructions (by `valgrind --tool=callgrind`) that `are_alike` takes with
+what reads the markers. They are the difference of two runs of the program over the same two files, of which both libraries are made: the
+other one is over the same document with a brace in the place of each opening, so that it has no markers. Then the growth exponent of these
+instructions over those bytes. It ends with status 1 where one is greater than is wanted.
 """
 import json
 import os
@@ -94,11 +94,10 @@ class Questions:
         """What so many cites cost."""
         bib, keys = write(count)
         text = document(random.Random(count), keys)
-        refused = text + "[@"
+        bare = text.replace("[@", "{@")
         self.check(bib, text, "alike", True)
-        self.check(bib, refused, "refused", "Marker")
-        size = sum(len(part.encode()) for part in (bib, changed(bib), text))
-        row = {"N": count, "bytes": size, "instructions": self.instructions(bib, text) - self.instructions(bib, refused)}
+        self.check(bib, bare, "alike", True)
+        row = {"N": count, "bytes": len(text.encode()), "instructions": self.instructions(bib, text) - self.instructions(bib, bare)}
         print(f"{count:>7} {row['bytes']:>10} {row['instructions']:>14}", flush=True)
         return row
 

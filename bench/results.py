@@ -52,9 +52,10 @@ ALIKE_FILES = """## Files that were changed
 
     bench/alike_files.py
 
-What it takes `are_alike` of `cite_uses` to say that a document has to be rendered again or not once its file was changed, with what makes the
-libraries of the two files: a document of N markers, and a file that has one more entry afterwards, which is not cited. It cites one
-entry with a title of 10 N bytes, by its key or by N aliases, or N entries, of a file of as many or of ten times as many.
+What it takes `are_alike` of `cite_uses` to say that a document has to be rendered again or not once its file was changed, with what reads
+the markers, and without what reads the files and makes their libraries: a document of N markers, and a file that has one more entry
+afterwards, which is not cited. It cites one entry with a title of 10 N bytes, by its key or by N aliases, or N entries, of a file of as
+many or of ten times as many.
 """
 
 BLOCKS = """## Blocks of one citation
@@ -262,7 +263,7 @@ def alike_files_table(found):
             rows.append(f"| {name} | {number(row['N'])} | {number(row['bytes'])} | {number(row['instructions'])} | {growth} |")
     return "\n".join([
         ALIKE_FILES,
-        "| cited | N | bytes of both files and the document | instructions | growth exponent from the size before |",
+        "| cited | N | bytes of the document | instructions | growth exponent from the size before |",
         "|---|---|---|---|---|",
         *rows,
         "",
