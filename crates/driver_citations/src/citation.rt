@@ -152,7 +152,7 @@ pub(crate) fn append(more: ElemChildren, parts: &mut ElemChildren) -> Result<(),
     ensures { OnOk result (tree_view parts.new
         ≡ followed_by (tree_view parts.old) (tree_view more)) }
 {
-    for part in more.0 {
+    for part in more.into_vec() {
         parts.push(part)?;
     }
     Ok(())

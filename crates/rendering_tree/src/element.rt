@@ -16,7 +16,7 @@ pub struct Formatted {
 }
 
 /// What an element stands for.
-#[derive(Debug, PartialEq, Eq, Drop)]
+#[derive(Debug, PartialEq, Eq)]
 pub enum ElemMeta {
     /// A names node: its variables, each with all people that answer it.
     Names(Vec<(Vec<Person>, NameVariable)>),
@@ -40,6 +40,23 @@ pub enum ElemMeta {
     CitationLabel,
 }
 
+impl Drop for ElemMeta {
+    fn drop(self) {
+        match self {
+            ElemMeta::Names(_) => {}
+            ElemMeta::NameVariable(_) => {}
+            ElemMeta::Name(_, _) => {}
+            ElemMeta::Entry(_) => {}
+            ElemMeta::Date => {}
+            ElemMeta::Text => {}
+            ElemMeta::Number => {}
+            ElemMeta::Label => {}
+            ElemMeta::CitationNumber => {}
+            ElemMeta::CitationLabel => {}
+        }
+    }
+}
+
 /// An element with its display and what it stands for.
 #[cycle(element)]
 #[derive(Debug, PartialEq, Eq, Drop)]
@@ -52,8 +69,15 @@ pub struct Elem {
 /// A list of children. Comparing, dropping, `Debug` and every call that goes through a tree recurse as deep as elements are
 /// nested.
 #[cycle(element)]
-#[derive(Debug, PartialEq, Eq, Drop)]
+#[derive(Debug, PartialEq, Eq)]
 pub struct ElemChildren(pub Vec<ElemChild>);
+
+impl Drop for ElemChildren {
+    #[cycle(dropping)]
+    fn drop(self) {
+        let ElemChildren(_) = self;
+    }
+}
 
 /// A part of what was printed.
 #[cycle(element)]
@@ -84,6 +108,14 @@ impl ElemChildren {
         ensures { result ≡ is_nothing (tree_view self.now) }
     {
         self.0.is_empty()
+    }
+
+    /// The children.
+    pub fn into_vec(self) -> Vec<ElemChild>
+        ensures { result ≡ self.0 }
+    {
+        let ElemChildren(children) = self;
+        children
     }
 
     /// Appends a child. The list is as it was where there is no memory for it.

@@ -43,7 +43,7 @@ fn push_all(parts: ElemChildren, simple: &mut Vec<ElemChild>) -> Result<(), Allo
     ensures { OnOk result (Puts (flat (tree_view parts))
         (children_view simple.old.items) (children_view simple.new.items)) }
 {
-    for part in parts.0 {
+    for part in parts.into_vec() {
         push_child(part, simple)?;
     }
     Ok(())

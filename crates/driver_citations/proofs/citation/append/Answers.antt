@@ -1,17 +1,20 @@
-use Rattle.std.proofs.Common.{◌≡◌, [], ◌∷◌, length, sym, ap, ◌∙◌, arith}
+use Rattle.std.proofs.Common.{Vec, ◌≡◌, [], ◌∷◌, length, sym, ap, ◌∙◌, arith}
+use Rattle.std.specs.Global.{Global}
 use Rattle.std.specs.Vec.Iter.{into_iter_items}
 use Rattle.std.proofs.lemmas.List.{nil_from_length}
 use Rattle.rendering_tree.specs.Trees.{followed_by}
 use Rattle.rendering_tree.specs.Views.{children_view, tree_view}
+use Rattle.rendering_tree.specs.declared.element.ElemChild.{ElemChild}
 use Rattle.driver_citations.proofs.JoiningSteps.{child_put, none_left}
 use Rattle.driver_citations.proofs.citation.append.Goals as goal
 
 pub loop-part-init : goal.loop-part-init
 loop-part-init c =
     let e = c.into_iter-part-iterator.ensures.into_iter_gives in
+    let parts = c.into_vec-part-items in
     record {
-      same = ap (λ xs. followed_by (tree_view c.args.parts.now) (children_view xs)) e.0;
-      long = e.1 ∙ (c.args.more.0.ok.0 ∙ sym (ap length e.0));
+      same = ap (λ xs. followed_by (tree_view c.args.parts.now) (children_view xs)) (e.0 ∙ ap (λ (v : Vec ElemChild Global). v.items) parts.ensures);
+      long = e.1 ∙ (parts.result.ok.0 ∙ sym (ap length e.0));
     }
 
 pub loop-part-preserved : goal.loop-part-preserved
