@@ -43,11 +43,20 @@ struct FinalCitations<'r, T> {
 /// Requests in the order of the text, from which citations and a bibliography are made.
 ///
 /// Entries are of a type `T` and borrowed by the requests; `P` is the type of locators that the caller prints by itself.
-#[derive(Drop)]
 pub struct BibliographyDriver<'a, T, P: Drop> {
     alloc: Global,
     citations: Vec<CitationRequest<'a, T, P>>,
     offset: usize,
+}
+
+impl<'a, T, P: Drop> Drop for BibliographyDriver<'a, T, P> {
+    fn drop(self) {
+        let BibliographyDriver {
+            alloc: _,
+            citations: _,
+            offset: _,
+        } = self;
+    }
 }
 
 impl<'a, T, P: Drop> BibliographyDriver<'a, T, P> {
@@ -79,9 +88,14 @@ impl<'a, T, P: Drop> BibliographyDriver<'a, T, P> {
         ensures requests { result.citations.items ≡ self.entry.citations.items }
         ensures offset { result.offset ≡ offset }
     {
+        let BibliographyDriver {
+            alloc,
+            citations,
+            offset: _,
+        } = self;
         BibliographyDriver {
-            alloc: self.alloc,
-            citations: self.citations,
+            alloc,
+            citations,
             offset,
         }
     }

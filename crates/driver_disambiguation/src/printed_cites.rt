@@ -15,7 +15,6 @@ use std::collections::BTreeMap;
 
 /// Cites, each in the class of those that print the same text. The map from texts to classes is filled once; a cite that is printed again
 /// is taken out of its class and put into the one of its new text.
-#[derive(Drop)]
 pub struct PrintedCites {
     cites: Vec<Printed>,
     /// Of each cite the number of its class.
@@ -23,6 +22,16 @@ pub struct PrintedCites {
     /// The numbers of the classes of all texts.
     texts: BTreeMap<HashedText, usize>,
     ghost numbered: { AreNumbered texts numbers.items cites.items },
+}
+
+impl Drop for PrintedCites {
+    fn drop(self) {
+        let PrintedCites {
+            cites: _,
+            numbers: _,
+            texts: _,
+        } = self;
+    }
 }
 
 impl PrintedCites {
@@ -64,7 +73,12 @@ impl PrintedCites {
     pub fn into_cites(self) -> Vec<Printed>
         ensures { map printed_view result.items ≡ printed_cites_view self }
     {
-        self.cites
+        let PrintedCites {
+            cites,
+            numbers: _,
+            texts: _,
+        } = self;
+        cites
     }
 
     /// What a round gives to the entries of cites, class by class.

@@ -66,7 +66,7 @@ impl Candidate {
 }
 
 /// A cite at the start of a round.
-#[derive(Debug, Drop)]
+#[derive(Debug)]
 pub struct Printed {
     pub cite: Candidate,
     pub state: DisambiguateState,
@@ -74,6 +74,17 @@ pub struct Printed {
     pub tree: ElemChildren,
     /// That tree in plain text.
     pub text: String,
+}
+
+impl Drop for Printed {
+    fn drop(self) {
+        let Printed {
+            cite: _,
+            state: _,
+            tree: _,
+            text: _,
+        } = self;
+    }
 }
 
 impl Printed {

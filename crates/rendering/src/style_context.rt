@@ -28,7 +28,6 @@ use rendering_taxonomy::{CitePurpose, CollapseVerdict};
 use std::alloc::{AllocError, Global};
 
 /// A style with the language that is asked for, and the files with locales.
-#[derive(Drop)]
 pub struct StyleContext<'a> {
     alloc: Global,
     style: &'a Style,
@@ -45,6 +44,21 @@ pub struct StyleContext<'a> {
     ghost quotes: { quotes_view own_words.quotes.items ≡ close_quotes (locales_of (record { style = style_view style.now; locale = option_map borrowed_code_view locale; locale_files = map locale_view locale_files.now }) None) },
     ghost resolved: { resolved_options_view options ≡ citation_options (style_view style.now) },
     ghost suffix: { has_suffix_node ≡ prints_suffix (style_view style.now) },
+}
+
+impl Drop for StyleContext<'_> {
+    fn drop(self) {
+        let StyleContext {
+            alloc: _,
+            style: _,
+            locale: _,
+            locale_files: _,
+            has_suffix_node: _,
+            authors: _,
+            options: _,
+            own_words: _,
+        } = self;
+    }
 }
 
 impl<'a> StyleContext<'a> {

@@ -19,7 +19,6 @@ use std::mem;
 use texts::{has_text, owned, push_text};
 
 /// What was read of a page.
-#[derive(Drop)]
 pub(crate) struct Builder<'a> {
     /// The children of the elements that are being read, those of the innermost one last; of each the last child first.
     pub(crate) children: Vec<ElemChild>,
@@ -33,6 +32,19 @@ pub(crate) struct Builder<'a> {
     pub(crate) after: Vec<Words<'a>>,
     /// How that text looks.
     pub(crate) formatting: Formatting,
+}
+
+impl Drop for Builder<'_> {
+    fn drop(self) {
+        let Builder {
+            children: _,
+            start: _,
+            around: _,
+            words: _,
+            after: _,
+            formatting: _,
+        } = self;
+    }
 }
 
 /// The tree of a page. Texts of one formatting that stand beside each other are joined.

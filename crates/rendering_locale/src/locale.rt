@@ -52,7 +52,7 @@ pub struct LocalizedDate {
 }
 
 /// A locale of a language, or of all languages where none is named.
-#[derive(Debug, PartialEq, Eq, Drop)]
+#[derive(Debug, PartialEq, Eq)]
 pub struct Locale {
     pub lang: Option<LocaleCode>,
     /// Of equal names and forms the first counts.
@@ -62,4 +62,16 @@ pub struct Locale {
     pub ordinals: Option<Ordinals>,
     /// Whether punctuation goes inside quotes.
     pub punctuation_in_quote: Option<bool>,
+}
+
+impl Drop for Locale {
+    fn drop(self) {
+        let Locale {
+            lang: _,
+            terms: _,
+            dates: _,
+            ordinals: _,
+            punctuation_in_quote: _,
+        } = self;
+    }
 }

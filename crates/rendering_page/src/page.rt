@@ -42,12 +42,21 @@ use texts::{has_text, split_first};
 ///
 /// Texts are borrowed until the tree is made; those that were made are taken over. A text costs its own length, what it cuts, and
 /// the marks after the last text. After an error nothing is known of what stands on the page.
-#[derive(Drop)]
 pub struct Page<'a> {
     pieces: Vec<Piece<'a>>,
     after_quote: bool,
     /// Whether what was begun last is known to have printed something.
     is_known_to_print: bool,
+}
+
+impl Drop for Page<'_> {
+    fn drop(self) {
+        let Page {
+            pieces: _,
+            after_quote: _,
+            is_known_to_print: _,
+        } = self;
+    }
 }
 
 impl<'a> Model for Page<'a> {

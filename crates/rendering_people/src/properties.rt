@@ -23,12 +23,21 @@ pub struct PeopleCount {
 
 /// What is printed of the people of a names node: of each variable that has people how many are shown, and the form of each
 /// person.
-#[derive(Debug, Drop)]
+#[derive(Debug)]
 pub struct NameDisambiguationProperties {
     /// For each variable, in order, how many people it has and how many are shown.
     pub(crate) counts: Vec<PeopleCount>,
     /// The forms of all people, those of one variable after those of another.
     pub(crate) forms: Vec<DisambiguatedNameForm>,
+}
+
+impl Drop for NameDisambiguationProperties {
+    fn drop(self) {
+        let NameDisambiguationProperties {
+            counts: _,
+            forms: _,
+        } = self;
+    }
 }
 
 impl Model for NameDisambiguationProperties {

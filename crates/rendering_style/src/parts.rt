@@ -88,7 +88,7 @@ pub struct Bibliography {
 }
 
 /// What a style is made of.
-#[derive(Debug, PartialEq, Eq, Drop)]
+#[derive(Debug, PartialEq, Eq)]
 pub struct StyleParts {
     pub class: StyleClass,
     pub categories: Vec<StyleCategory>,
@@ -99,4 +99,19 @@ pub struct StyleParts {
     pub macros: Vec<Macro>,
     pub citation: Citation,
     pub bibliography: Option<Bibliography>,
+}
+
+impl Drop for StyleParts {
+    fn drop(self) {
+        let StyleParts {
+            class: _,
+            categories: _,
+            default_locale: _,
+            name_options: _,
+            locales: _,
+            macros: _,
+            citation: _,
+            bibliography: _,
+        } = self;
+    }
 }

@@ -1,4 +1,5 @@
-use Rattle.std.proofs.Common.{◌≡◌, List, [], ◌∷◌, length, refl, sym, ap, subst, ◌∙◌, arith}
+use Rattle.std.specs.Global.{Global}
+use Rattle.std.proofs.Common.{Vec, ◌≡◌, List, [], ◌∷◌, length, refl, sym, ap, subst, ◌∙◌, arith}
 use Rattle.std.specs.Vec.Iter.{into_iter_items}
 use Rattle.std.specs.Option.{option_map}
 use Rattle.std.proofs.lemmas.List.{nil_from_length}
@@ -13,9 +14,10 @@ use Rattle.rendering_tree.proofs.simplify.+simplify.Goals as goal
 pub push_all-loop-part-init : goal.push_all-loop-part-init
 push_all-loop-part-init t c =
     let e = c.into_iter-part-iterator.ensures.into_iter_gives in
+    let parts = c.into_vec-part-items in
     record {
-      same = λ new p. subst (λ (xs : List ElemChild). Puts (flat (children_view xs)) (children_view c.args.simple.now.items) new) e.0 p;
-      long = e.1 ∙ (c.args.parts.0.ok.0 ∙ sym (ap length e.0));
+      same = λ new p. subst (λ (xs : List ElemChild). Puts (flat (children_view xs)) (children_view c.args.simple.now.items) new) (e.0 ∙ ap (λ (v : Vec ElemChild Global). v.items) parts.ensures) p;
+      long = e.1 ∙ (parts.result.ok.0 ∙ sym (ap length e.0));
     }
 
 pub push_all-loop-part-preserved : goal.push_all-loop-part-preserved
