@@ -61,7 +61,7 @@ pub record IsShownOf (source output : List ℕ) : Type 0 where
   pub in_order : AreAllInOrder resolved.entries
   pub output_is : output ≡ shown resolved.entries
 
--- what is written of a text that means entries: these without references, as a file, which reads back
+-- what is written of a text that means entries: these without references, as a file, where they are settled
 pub record IsFlatOf (source output : List ℕ) : Type 0 where
   pub resolved : Listed
   pub is_text : is_utf8 source ≡ true

@@ -1,8 +1,7 @@
 //! Reading the entries of a text, before their references are resolved.
 
-ghost use Rattle.std.specs.Prelude.{◌≡◌, IfOk, IfErr, Some, None, map, length, string_bytes};
+ghost use Rattle.std.specs.Prelude.{◌≡◌, IfOk, Some, map, string_bytes};
 ghost use Rattle.std.specs.Str.{chars};
-ghost use Rattle.laws.specs.Text.{text as text_of, lowered};
 ghost use Rattle.biblatex_text.specs.Views.{entry_view, piece_view, spanned_text_view};
 ghost use Rattle.biblatex_fields.specs.Value.{field_value_view, value_in};
 ghost use Rattle.biblatex_meaning.specs.Reading as specs;

@@ -1,4 +1,4 @@
--- Entries that read back as they are.
+-- Settled entries. A file of them reads back as it is, unless an entry has two fields that are written under one name.
 use Rattle.std.specs.Prelude.{ℕ, nat_lt, Bool, true, false, not, ◌&&◌, List, [], ◌∷◌, map, codes}
 use Rattle.std.specs.List.{list_all, list_any}
 use Rattle.std.specs.Str.{bytes_eq, chars}
@@ -64,6 +64,6 @@ are_distinct (key ∷ keys) = not (list_any (bytes_eq key) keys) && are_distinct
 abbrev pub have_distinct_keys : List Source → Bool
 have_distinct_keys es = are_distinct (map (λ e. e.key) es)
 
--- a bibliography reads back as it is; one without entries does
+-- a bibliography is settled where its keys are distinct and each entry is settled; one without entries is
 abbrev pub is_settled : List Source → Bool
 is_settled es = have_distinct_keys es && list_all is_settled_entry es

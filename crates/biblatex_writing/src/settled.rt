@@ -1,4 +1,4 @@
-//! Entries that read back as they are.
+//! Settled entries. A file of them reads back as it is, unless an entry has two fields that are written under one name.
 
 ghost use Rattle.std.specs.Prelude.{◌≡◌, ℕ, false, List, map};
 ghost use Rattle.std.specs.List.{list_all, list_any};
