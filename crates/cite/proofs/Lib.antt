@@ -4,7 +4,6 @@ pub mod DocumentAsked
 pub mod Finishing
 pub mod NamesAreKeys
 pub mod NeededWorks
-pub mod OutputPieces
 pub mod OutputReplaced
 pub mod RenderedStages
 pub mod RequestsAlike

@@ -18,7 +18,7 @@ use Rattle.cite_markers.specs.Document.{Piece, Text, Marker, FollowInOrder, docu
 use Rattle.cite_markers.specs.Marker.{Cite}
 use Rattle.cite_markers.proofs.DocumentStands.{pieces_stand}
 use Rattle.cite_requests.specs.Markers.{CitedWork, cited_work, cited_works, markers_of}
-use Rattle.cite.specs.Output.{bibliography_text, document_text, output_text, tree_text}
+use Rattle.cite_output.specs.Output.{bibliography_text, document_text, output_text, tree_text}
 use Rattle.cite.specs.Replaced.{AreReplaced, CitationsDependOnMarkersAlone, IsOutputOf, TextsComeOutUnchanged}
 use Rattle.cite_requests.specs.Requests.{is_same_own, request_of, works_in}
 use Rattle.cite_requests.specs.Sections.{chosen}

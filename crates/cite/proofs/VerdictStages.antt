@@ -3,7 +3,7 @@ use Rattle.std.proofs.Common.{◌≡◌, ℕ, List, Ok, Err, refl, sym}
 use Rattle.laws.specs.Text.{text}
 use Rattle.driver.specs.Finish.{Rendered}
 use Rattle.cite_markers.specs.Document.{Piece}
-use Rattle.cite.specs.Output.{output_text}
+use Rattle.cite_output.specs.Output.{output_text}
 use Rattle.cite_requests.specs.Stages.{Refusal, AreWorksOf, document_stage}
 use Rattle.cite.specs.Verdict.{Task, rendered_stage, verdict, IsVerdict}
 use Rattle.cite_requests.specs.Works.{Works}

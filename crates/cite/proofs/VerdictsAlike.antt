@@ -22,7 +22,7 @@ use Rattle.driver_laws.proofs.DocumentsAlike.{alike_entries}
 use Rattle.cite_markers.specs.Document.{Piece}
 use Rattle.cite_requests.specs.Cited.{is_among}
 use Rattle.cite_requests.specs.Markers.{CitedWork, cited_works, markers_of}
-use Rattle.cite.specs.Output.{output_text}
+use Rattle.cite_output.specs.Output.{output_text}
 use Rattle.cite_requests.specs.Requests.{OwnLocator, is_same_own, requests_of, works_in}
 use Rattle.cite_requests.specs.Sections.{chosen}
 use Rattle.cite_requests.specs.Stages.{Refusal, document_stage, name_stage, overflow, refused_as, section_stage, unknown_name}

@@ -27,7 +27,7 @@ use Rattle.interop_roads.proofs.ReadBackAlike.{written_once}
 use Rattle.interop_roads.proofs.WrittenLookUps.{nothing_back}
 use Rattle.cite_markers.specs.Document.{Piece}
 use Rattle.cite_requests.specs.Markers.{names_cited}
-use Rattle.cite.specs.Output.{output_text}
+use Rattle.cite_output.specs.Output.{output_text}
 use Rattle.cite_requests.specs.Sections.{chosen}
 use Rattle.cite_requests.specs.Stages.{document_stage, section_stage, works_from}
 use Rattle.cite.specs.Verdict.{Task, driver_stage, rendered_stage, verdict}

@@ -1,5 +1,3 @@
-pub mod Output
-pub mod Pieces
 pub mod Verdict
 pub mod Alike
 pub mod Roads

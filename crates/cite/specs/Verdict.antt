@@ -10,7 +10,7 @@ use Rattle.cite_markers.specs.Document.{Piece}
 use Rattle.driver_rounds.specs.Documents.{Document}
 use Rattle.driver.specs.Finish.{Rendered, finish}
 use Rattle.cite_requests.specs.Markers.{CitedWork}
-use Rattle.cite.specs.Output.{output_text}
+use Rattle.cite_output.specs.Output.{output_text}
 use Rattle.cite_requests.specs.Requests.{OwnLocator, is_same_own, requests_of, works_in}
 use Rattle.cite_requests.specs.Sections.{chosen}
 use Rattle.cite_requests.specs.Stages.{Refusal, overflow, refused_as, AreWorksOf, document_stage, name_stage, section_stage}

@@ -15,13 +15,13 @@ ghost use Rattle.driver.specs.RenderedViews.{rendered_view};
 ghost use Rattle.cite.specs.Verdict.{IsVerdict, rendered_stage};
 ghost use Rattle.cite.specs.Alike.{ForAlike};
 ghost use Rattle.cite.specs.Roads.{ForRewriting};
-ghost use Rattle.cite.specs.Pieces.{output_of};
+ghost use Rattle.cite_output.specs.Pieces.{output_of};
 ghost use Rattle.cite_requests.specs.Views.{file_works};
 ghost use Rattle.cite.specs.Views.{task_of};
 ghost use Rattle.cite_requests.specs.Answers.{Answers, Gives, Writes, IsRefusalUnlessWrite, UnlessWrite, OnWrite, IsLastFault};
 
-use crate::output::Output;
 use cite_markers::Document;
+use cite_output::Output;
 use cite_requests::{
     BibFile, CiteError, CitingSetting, MarkerRequest, chosen, language, marker_requests,
     read_document, selectors,

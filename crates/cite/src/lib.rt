@@ -3,9 +3,7 @@
 #![tactic(auto)]
 
 mod engine;
-mod output;
 mod output_laws;
-mod printed;
 
 pub use cite_markers::{Cite, CiteLocator, Document, DocumentError, Piece};
 pub use cite_requests::{BibTextError, CiteError, DocumentTextError, cited_keys, work_of};

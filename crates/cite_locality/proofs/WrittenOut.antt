@@ -26,7 +26,7 @@ use Rattle.cite_requests.specs.Markers.{names_cited}
 use Rattle.cite_requests.specs.Sections.{chosen}
 use Rattle.cite_requests.specs.Stages.{document_stage, library_stage, section_stage, works_from}
 use Rattle.cite_requests.specs.Works.{Works, MeansOneWork, work_of}
-use Rattle.cite.specs.Output.{output_text}
+use Rattle.cite_output.specs.Output.{output_text}
 use Rattle.cite.specs.Verdict.{Task, IsVerdict, driver_stage, rendered_stage, verdict}
 use Rattle.cite.proofs.SameMarkers.{names_same}
 use Rattle.cite.proofs.VerdictsUnique.{one_verdict}

@@ -16,7 +16,7 @@ use Rattle.driver_laws.proofs.HiddenNothing.{all_hidden}
 use Rattle.cite_markers.specs.Document.{Piece}
 use Rattle.cite_markers.specs.Marker.{Cite}
 use Rattle.cite_requests.specs.Markers.{CitedWork, cited_works, markers_of}
-use Rattle.cite.specs.Output.{tree_text}
+use Rattle.cite_output.specs.Output.{tree_text}
 use Rattle.cite.specs.Replaced.{IsOutputOf}
 use Rattle.cite_requests.specs.Requests.{OwnLocator, is_same_own, item_of, request_of, works_in}
 use Rattle.cite_requests.specs.Stages.{Refusal, document_stage, unknown_name}

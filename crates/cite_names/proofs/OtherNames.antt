@@ -15,7 +15,7 @@ use Rattle.driver.specs.Finish.{Citation, Rendered, finish}
 use Rattle.cite_markers.specs.Document.{Piece, Text, Marker}
 use Rattle.cite_markers.specs.Marker.{Cite}
 use Rattle.cite_requests.specs.Markers.{CitedWork, cited_work, cited_works, markers_of, with_work}
-use Rattle.cite.specs.Output.{bibliography_text, document_text, output_text, tree_text}
+use Rattle.cite_output.specs.Output.{bibliography_text, document_text, output_text, tree_text}
 use Rattle.cite_requests.specs.Requests.{OwnLocator, is_same_own, item_of, request_of, requests_of, works_in}
 use Rattle.cite_requests.specs.Sections.{chosen}
 use Rattle.cite_requests.specs.Stages.{Refusal, document_stage, name_stage, overflow, refused_as, section_stage, unknown_name}

@@ -9,7 +9,7 @@ use Rattle.driver_rounds.specs.FirstPrints.{disambiguated_in, first_prints_in}
 use Rattle.driver.specs.Finish.{Rendered, finish, overflows, rendered_from}
 use Rattle.driver.specs.Stages.{finals_by_request}
 use Rattle.cite_markers.specs.Document.{Piece}
-use Rattle.cite.specs.Output.{output_text}
+use Rattle.cite_output.specs.Output.{output_text}
 use Rattle.cite_requests.specs.Requests.{OwnLocator, is_same_own}
 use Rattle.cite_requests.specs.Stages.{AreWorksOf, document_stage, name_stage, overflow, section_stage}
 use Rattle.cite.specs.Verdict.{Task, rendered_stage}

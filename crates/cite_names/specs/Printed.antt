@@ -15,7 +15,7 @@ use Rattle.driver.specs.Stages.{Final, cite_of, finals_by_request}
 use Rattle.cite_markers.specs.Marker.{Cite}
 use Rattle.cite.specs.Alike.{IsBibRead, IsTaskRead}
 use Rattle.cite_requests.specs.Markers.{markers_of}
-use Rattle.cite.specs.Output.{output_text}
+use Rattle.cite_output.specs.Output.{output_text}
 use Rattle.cite_requests.specs.Requests.{OwnLocator, is_same_own, works_in}
 use Rattle.cite_requests.specs.Sections.{chosen}
 use Rattle.cite.specs.Verdict.{Task, IsVerdict, driver_document}

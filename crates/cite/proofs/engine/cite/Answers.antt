@@ -1,6 +1,6 @@
 use Rattle.std.proofs.Common.{◌≡◌, Err, rules}
 use Rattle.std.specs.Io.KnownBytes.{Appends}
-use Rattle.cite.specs.Pieces.{output_of}
+use Rattle.cite_output.specs.Pieces.{output_of}
 use Rattle.cite.specs.Views.{task_of}
 use Rattle.cite.proofs.AlikeAnswers.{writes_alike}
 use Rattle.cite.proofs.RewrittenAnswers.{refused_rewritten, writes_rewritten}

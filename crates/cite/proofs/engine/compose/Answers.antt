@@ -2,12 +2,12 @@ use Rattle.std.proofs.Common.{◌≡◌, Result, Err, rules, sym, subst}
 use Rattle.driver.specs.RenderedViews.{rendered_view}
 use Rattle.cite_markers.specs.Views.{document_view}
 use Rattle.cite_requests.specs.Answers.{Answers}
-use Rattle.cite.specs.Pieces.{output_of}
+use Rattle.cite_output.specs.Pieces.{output_of}
 use Rattle.cite.specs.Verdict.{IsVerdict}
 use Rattle.cite_requests.specs.Views.{file_works}
 use Rattle.cite.specs.Views.{task_of}
 use Rattle.cite_requests.specs.declared.error.CiteError.{CiteError}
-use Rattle.cite.specs.declared.output.Output.{Output}
+use Rattle.cite_output.specs.declared.output.Output.{Output}
 use Rattle.cite_requests.proofs.AnswersWeaker.{refused_weaker}
 use Rattle.cite.proofs.VerdictStages.{works_stop, document_stops, rendering_stops, ends}
 use Rattle.cite.proofs.engine.compose.Goals as goal

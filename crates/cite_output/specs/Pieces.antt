@@ -7,8 +7,8 @@ use Rattle.driver.specs.RenderedViews.{rendered_view}
 use Rattle.cite_markers.specs.Document as document
 use Rattle.cite_markers.specs.Document.{Piece}
 use Rattle.cite_markers.specs.Views.{document_view}
-use Rattle.cite.specs.Output.{output_text, tree_text}
-use Rattle.cite.specs.declared.output.Output.{Output}
+use Rattle.cite_output.specs.Output.{output_text, tree_text}
+use Rattle.cite_output.specs.declared.output.Output.{Output}
 
 -- the bytes of an output
 abbrev pub output_of : Output → List ℕ

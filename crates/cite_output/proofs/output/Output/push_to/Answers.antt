@@ -3,9 +3,9 @@ use Rattle.std.specs.Option.{option_map, option_map_or}
 use Rattle.rendering_output.proofs.WritingCalls.{writes_more}
 use Rattle.driver.specs.RenderedViews.{rendered_bibliography_view, rendered_citation_view}
 use Rattle.cite_markers.specs.Views.{piece_view, document_view}
-use Rattle.cite.specs.Output.{bibliography_text, document_text}
-use Rattle.cite.proofs.OutputPieces.{writes_same}
-use Rattle.cite.proofs.output.Output.push_to.Goals as goal
+use Rattle.cite_output.specs.Output.{bibliography_text, document_text}
+use Rattle.cite_output.proofs.OutputPieces.{writes_same}
+use Rattle.cite_output.proofs.output.Output.push_to.Goals as goal
 
 pub returns : goal.returns
 returns g c =

@@ -10,8 +10,8 @@ use Rattle.rendering_output.proofs.WritingCalls.{writes_more, writes_nothing}
 use Rattle.driver_bibliography.specs.Items.{Fields}
 use Rattle.driver.specs.Finish.{Citation}
 use Rattle.cite_markers.specs.Document.{Piece, Text, Marker}
-use Rattle.cite.specs.Output.{document_text, field_text, item_end, item_opening, item_text, tree_text}
-use Rattle.cite.specs.Pieces.{citations_after, piece_text}
+use Rattle.cite_output.specs.Output.{document_text, field_text, item_end, item_opening, item_text, tree_text}
+use Rattle.cite_output.specs.Pieces.{citations_after, piece_text}
 
 -- a piece, before the others
 splits : (format : BufWriteFormat) (p : Piece) (ps : List Piece) (cs : List Citation) → document_text format (p ∷ ps) cs ≡ piece_text format p cs ++ document_text format ps (citations_after p cs)

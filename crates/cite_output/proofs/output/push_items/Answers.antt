@@ -1,14 +1,13 @@
-use Rattle.std.proofs.Common.{◌+◌, List, [], ◌∷◌, drop, map, refl, sym, ap, arith}
+use Rattle.std.proofs.Common.{◌+◌, List, [], ◌∷◌, drop, map, refl, sym, ap, ◌∙◌, arith}
 use Rattle.std.specs.List.{flat_map}
-use Rattle.std.proofs.lemmas.List.{drop_all}
+use Rattle.std.proofs.lemmas.List.{at_drop_more, drop_all}
 use Rattle.laws.specs.Characters.{line_feed}
 use Rattle.rendering_output.proofs.WritingCalls.{writes_ascii, writes_more}
 use Rattle.driver.specs.RenderedViews.{item_fields_view}
 use Rattle.driver.specs.declared.rendered.BibliographyItem.{BibliographyItem}
-use Rattle.cite.specs.Output.{item_text}
-use Rattle.cite.proofs.OutputPieces.{item_first, no_item, writes_same}
-use Rattle.cite_requests.proofs.StepsAfter.{at_item}
-use Rattle.cite.proofs.output.push_items.Goals as goal
+use Rattle.cite_output.specs.Output.{item_text}
+use Rattle.cite_output.proofs.OutputPieces.{item_first, no_item, writes_same}
+use Rattle.cite_output.proofs.output.push_items.Goals as goal
 
 pub loop-item-init : goal.loop-item-init
 loop-item-init g c = λ u written.
@@ -22,7 +21,8 @@ loop-item-preserved g c = λ u written.
     let format = c.args.format in
     let i = c.loop-item.item-index in
     let xs = c.args.items.now in
-    let cut = at_item (λ (ys : List BibliographyItem). flat_map (item_text format) (map item_fields_view ys)) xs i c.item-item.result c.loop-item-test.true c.item-item.is in
+    let items = λ (ys : List BibliographyItem). flat_map (item_text format) (map item_fields_view ys) in
+    let cut = at_drop_more items xs i c.item-item.result c.loop-item-test.true ∙ ap (λ (y : BibliographyItem). items (y ∷ drop (i + 1) xs)) (sym c.item-item.is) in
     c.loop-item.invariant u
     (writes_same took c.loop-item.target _ (flat_map (item_text format) (map item_fields_view (drop i xs))) u (sym cut)
     (item_first took format (item_fields_view c.item-item.result) (map item_fields_view (drop (i + 1) xs)) c.loop-item.target c.push_item.new.target u c.push_item.ensures written))

@@ -1,8 +1,8 @@
 use Rattle.std.proofs.Common.{rules}
 use Rattle.sinks.specs.declared.target.SinkTarget.{SinkTarget}
 use Rattle.sinks.proofs.TargetsTaken.{all_taken, answered}
-use Rattle.cite.specs.declared.printed.Printed.{Printed}
-use Rattle.cite.proofs.output.Output.write_to.Goals as goal
+use Rattle.cite_output.specs.declared.printed.Printed.{Printed}
+use Rattle.cite_output.proofs.output.Output.write_to.Goals as goal
 
 -- the sink of printed texts
 abbrev held : {W : Type 0} → Printed (SinkTarget W) → SinkTarget W

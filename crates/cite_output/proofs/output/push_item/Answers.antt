@@ -1,7 +1,7 @@
 use Rattle.driver.specs.RenderedViews.{item_fields_view}
-use Rattle.cite.specs.Output.{item_end, item_opening}
-use Rattle.cite.proofs.OutputPieces.{item_written, writes_spelled}
-use Rattle.cite.proofs.output.push_item.Goals as goal
+use Rattle.cite_output.specs.Output.{item_end, item_opening}
+use Rattle.cite_output.proofs.OutputPieces.{item_written, writes_spelled}
+use Rattle.cite_output.proofs.output.push_item.Goals as goal
 
 pub returns : goal.returns
 returns g c =

@@ -2,8 +2,8 @@ use Rattle.std.proofs.Common.{drop, map}
 use Rattle.rendering_output.specs.Writing.{WritesCharacters}
 use Rattle.cite_markers.specs.Views.{piece_view}
 use Rattle.driver.specs.RenderedViews.{rendered_citation_view}
-use Rattle.cite.specs.Output.{document_text}
-use Rattle.cite.proofs.output.push_document.Given as goal
+use Rattle.cite_output.specs.Output.{document_text}
+use Rattle.cite_output.proofs.output.push_document.Given as goal
 
 abbrev pub invariant-loop-piece : goal.invariant-loop-piece
 invariant-loop-piece g l =

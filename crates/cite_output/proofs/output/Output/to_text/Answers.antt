@@ -2,8 +2,8 @@ use Rattle.std.proofs.Common.{◌≡◌, ℕ, List, ◌++◌, ap, ◌∙◌}
 use Rattle.std.specs.Prelude.{String, string_bytes}
 use Rattle.std.specs.Global.{Global}
 use Rattle.std.proofs.lemmas.Fmt.{contents_after_writes}
-use Rattle.cite.specs.Pieces.{output_of}
-use Rattle.cite.proofs.output.Output.to_text.Goals as goal
+use Rattle.cite_output.specs.Pieces.{output_of}
+use Rattle.cite_output.proofs.output.Output.to_text.Goals as goal
 
 pub returns-in-Ok : goal.returns-in-Ok
 returns-in-Ok c =

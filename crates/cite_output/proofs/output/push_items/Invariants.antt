@@ -3,8 +3,8 @@ use Rattle.std.specs.List.{flat_map}
 use Rattle.laws.specs.Characters.{line_feed}
 use Rattle.rendering_output.specs.Writing.{WritesCharacters}
 use Rattle.driver.specs.RenderedViews.{item_fields_view}
-use Rattle.cite.specs.Output.{item_text}
-use Rattle.cite.proofs.output.push_items.Given as goal
+use Rattle.cite_output.specs.Output.{item_text}
+use Rattle.cite_output.proofs.output.push_items.Given as goal
 
 abbrev pub invariant-loop-item : goal.invariant-loop-item
 invariant-loop-item g l =

@@ -13,8 +13,8 @@ ghost use Rattle.rendering_output.specs.Writing.{WritesCharacters};
 ghost use Rattle.rendering_tree.specs.Views.{child_view};
 ghost use Rattle.cite_markers.specs.Views.{piece_view, document_view};
 ghost use Rattle.driver.specs.RenderedViews.{rendered_bibliography_view, rendered_citation_view, element_if, item_fields_view, rendered_view};
-ghost use Rattle.cite.specs.Output.{bibliography_text, document_text, field_text, item_text, item_opening, item_end, output_text};
-ghost use Rattle.cite.specs.Pieces.{citations_after, output_of, piece_text};
+ghost use Rattle.cite_output.specs.Output.{bibliography_text, document_text, field_text, item_text, item_opening, item_end, output_text};
+ghost use Rattle.cite_output.specs.Pieces.{citations_after, output_of, piece_text};
 
 use crate::printed::Printed;
 use cite_markers::{Document, Piece};
@@ -28,15 +28,18 @@ use std::fmt;
 /// An output of which all is known: a document, what it is rendered to, and the format. It is written piece by piece: nothing that takes
 /// memory is done then.
 #[derive(Drop)]
-pub(crate) struct Output<'d> {
-    pub(crate) document: Document<'d>,
-    pub(crate) rendered: Rendered,
-    pub(crate) format: BufWriteFormat,
+pub struct Output<'d> {
+    pub document: Document<'d>,
+    pub rendered: Rendered,
+    pub format: BufWriteFormat,
 }
 
 impl Output<'_> {
-    /// The output as one text.
-    pub(crate) fn to_text(&self, alloc: Global) -> Result<String, AllocError>
+    /// The output as one text, in UTF-8.
+    ///
+    /// # Errors
+    /// Where there is no memory for the text.
+    pub fn to_text(&self, alloc: Global) -> Result<String, AllocError>
         ensures { IfOk result (λ s. string_bytes s ≡ output_of self.now) }
     {
         let mut text = String::new(alloc);
@@ -48,7 +51,10 @@ impl Output<'_> {
 
     /// Writes the pieces in order. A call of `write` that fails or takes nothing ends it and is not tried again: the sink has then taken a
     /// prefix of the output.
-    pub(crate) fn write_to<W: Sink>(&self, sink: &mut W) -> Result<(), SinkFault>
+    ///
+    /// # Errors
+    /// What that call did.
+    pub fn write_to<W: Sink>(&self, sink: &mut W) -> Result<(), SinkFault>
         ensures ok { OnOk result
             (Appends (W.contents sink.old) (W.contents sink.new) (output_of self.now)) }
         ensures err { OnErr result
