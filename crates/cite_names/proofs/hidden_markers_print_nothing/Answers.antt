@@ -1,5 +1,0 @@
-use Rattle.cite_names.proofs.HiddenMarkers.{hidden_markers}
-use Rattle.cite_names.proofs.hidden_markers_print_nothing.Goals as goal
-
-pub returns : goal.returns
-returns c = hidden_markers

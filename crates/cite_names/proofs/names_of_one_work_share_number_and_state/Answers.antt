@@ -1,5 +1,0 @@
-use Rattle.cite_names.proofs.PrintedCites.{names_share}
-use Rattle.cite_names.proofs.names_of_one_work_share_number_and_state.Goals as goal
-
-pub returns : goal.returns
-returns c = names_share

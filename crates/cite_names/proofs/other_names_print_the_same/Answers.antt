@@ -1,5 +1,0 @@
-use Rattle.cite_names.proofs.OtherNames.{other_names}
-use Rattle.cite_names.proofs.other_names_print_the_same.Goals as goal
-
-pub returns : goal.returns
-returns c = other_names

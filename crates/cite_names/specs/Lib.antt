@@ -1,3 +1,0 @@
-pub mod Hidden
-pub mod OtherNames
-pub mod Printed
