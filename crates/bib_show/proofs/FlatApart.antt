@@ -12,7 +12,7 @@ use Rattle.biblatex.specs.Reading.{Loaded, Refusal, loaded}
 use Rattle.biblatex.specs.Resolved.{IsTextMeaningOf, Means, TextMeans}
 use Rattle.biblatex_writing.specs.Flat.{flat}
 use Rattle.biblatex_writing.specs.Settled.{have_distinct_keys}
-use Rattle.biblatex_locality.proofs.LoadedKeys.{AreApart, heads_apart, loaded_apart}
+use Rattle.biblatex_laws.proofs.LoadedKeys.{AreApart, heads_apart, loaded_apart}
 
 none_named : (key : List ℕ) (es : List Source) → AllByRecursion (λ e. bytes_eq key e.key ≡ false) es → list_any (bytes_eq key) (map (λ (e : Source). e.key) (flat es)) ≡ false
 none_named key [] h = refl

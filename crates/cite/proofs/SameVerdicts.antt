@@ -15,7 +15,7 @@ use Rattle.biblatex_writing.specs.Texts.{IsText}
 use Rattle.biblatex_writing.specs.Written.{written_file}
 use Rattle.biblatex_reading_back.specs.ReadingBack.{ReadsBack}
 use Rattle.biblatex_reading_back.proofs.SettledBack.{reads_back}
-use Rattle.biblatex_characters.proofs.FilesText.{file_is_text}
+use Rattle.biblatex_laws.proofs.FilesText.{file_is_text}
 use Rattle.literature_entries.specs.EntriesData.{EntryData}
 use Rattle.interop.specs.Bridge.{Fault}
 use Rattle.interop.specs.Library.{library_of}

@@ -10,7 +10,7 @@ use Rattle.biblatex.specs.Listed.{Listed}
 use Rattle.biblatex.specs.Reading as reading
 use Rattle.biblatex.specs.Reading.{Loaded, loaded}
 use Rattle.biblatex.specs.Resolved.{IsMeaningOf, IsTextMeaningOf, Means, TextMeans}
-use Rattle.biblatex_locality.specs.Files.{IsFileOf}
+use Rattle.biblatex_laws.specs.Files.{IsFileOf}
 use Rattle.literature_entries.specs.EntriesData.{EntryData}
 use Rattle.interop.specs.Bridge.{Fault}
 use Rattle.interop.specs.Library.{library_of}

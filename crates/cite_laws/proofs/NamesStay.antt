@@ -17,7 +17,7 @@ use Rattle.biblatex_inherited_fields.specs.Table.{inherits, source_name}
 use Rattle.biblatex.specs.Listed.{Listed, IsAsRead, after_first, last_named, references}
 use Rattle.biblatex.specs.Resolved.{IsResolved, head, tables}
 use Rattle.biblatex_meaning.proofs.ReadingLoaded.{as_read}
-use Rattle.biblatex_locality.specs.Files.{IsFileOf}
+use Rattle.biblatex_laws.specs.Files.{IsFileOf}
 use Rattle.reference_graph.specs.References.{references_of}
 
 -- no entry inherits aliases

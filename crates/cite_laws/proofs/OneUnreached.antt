@@ -1,8 +1,8 @@
 -- An entry more that a document does not reach changes nothing.
 use Rattle.std.proofs.Common.{[], ◌∷◌}
 use Rattle.std.specs.Str.{chars}
-use Rattle.biblatex_locality.specs.Reached.{SayTheSameOf}
-use Rattle.biblatex_locality.proofs.OneMore.{one_more}
+use Rattle.biblatex_laws.specs.Reached.{SayTheSameOf}
+use Rattle.biblatex_laws.proofs.OneMore.{one_more}
 use Rattle.cite_requests.specs.Markers.{names_cited}
 use Rattle.cite_laws.specs.Local.{OneUnreachedEntryChangesNothing}
 use Rattle.cite_laws.proofs.OrderKept.{order_kept}

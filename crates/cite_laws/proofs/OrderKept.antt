@@ -11,11 +11,11 @@ use Rattle.biblatex.specs.Raw.{At, Entry}
 use Rattle.biblatex.specs.Abbreviations.{Glossary}
 use Rattle.biblatex.specs.Resolved.{head}
 use Rattle.biblatex.specs.TypeNames.{type_of, written_type}
-use Rattle.biblatex_locality.specs.Differing.{BareEntry, bare_entry}
-use Rattle.biblatex_locality.specs.Files.{IsFileOf}
-use Rattle.biblatex_locality.specs.Reached.{SayTheSameOf}
-use Rattle.biblatex_locality.proofs.FieldsAlike.{IsReadOf, read_each}
-use Rattle.biblatex_locality.proofs.LoadedKeys.{AreApart, heads_apart, heads_other}
+use Rattle.biblatex_laws.specs.Differing.{BareEntry, bare_entry}
+use Rattle.biblatex_laws.specs.Files.{IsFileOf}
+use Rattle.biblatex_laws.specs.Reached.{SayTheSameOf}
+use Rattle.biblatex_laws.proofs.FieldsAlike.{IsReadOf, read_each}
+use Rattle.biblatex_laws.proofs.LoadedKeys.{AreApart, heads_apart, heads_other}
 use Rattle.literature_entries.specs.EntriesData.{EntryData}
 use Rattle.literature.specs.Keys.{put, with_key}
 use Rattle.driver.proofs.Members.{both_all, every_all, weaker_all}

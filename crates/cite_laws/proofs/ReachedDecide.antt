@@ -5,10 +5,10 @@ use Rattle.std.specs.List.{AllByRecursion}
 use Rattle.std.specs.Str.{chars}
 use Rattle.std.proofs.lemmas.List.Elements.{All-contains_itself, All-weaker, recursion_from_All}
 use Rattle.biblatex.specs.Listed.{Listed, entry_named}
-use Rattle.biblatex_locality.specs.Files.{IsFileOf}
-use Rattle.biblatex_locality.specs.Reached.{MeansTheSame, SayTheSameOf}
-use Rattle.biblatex_locality.proofs.LoadedKeys.{AreApart, heads_apart, loaded_apart}
-use Rattle.biblatex_locality.proofs.ReachedAlike.{alike_there}
+use Rattle.biblatex_laws.specs.Files.{IsFileOf}
+use Rattle.biblatex_laws.specs.Reached.{MeansTheSame, SayTheSameOf}
+use Rattle.biblatex_laws.proofs.LoadedKeys.{AreApart, heads_apart, loaded_apart}
+use Rattle.biblatex_laws.proofs.ReachedAlike.{alike_there}
 use Rattle.cite_requests.specs.Markers.{names_cited}
 use Rattle.cite.specs.Verdict.{Task}
 use Rattle.cite_requests.specs.Works.{Works, MeansOneWork}

@@ -2,9 +2,9 @@
 use Rattle.std.proofs.Common.{◌≡◌, ◌↔◌, ℕ, List, ◌++◌, map, Result, Ok, refl, ap, subst, ◌∙◌}
 use Rattle.std.specs.Str.{chars}
 use Rattle.std.proofs.lemmas.Str.{IsUtf8-from_is_utf8, chars-append}
-use Rattle.biblatex_joined.proofs.Between.{ahead, behind, longer_is, put_says, shorter_is}
-use Rattle.biblatex_locality.specs.Differing.{bare_entry}
-use Rattle.biblatex_locality.specs.Reached.{SayTheSameOf}
+use Rattle.biblatex_laws.specs.Differing.{bare_entry}
+use Rattle.biblatex_laws.specs.Reached.{SayTheSameOf}
+use Rattle.biblatex_laws.proofs.Between.{ahead, behind, longer_is, put_says, shorter_is}
 use Rattle.cite_requests.specs.Stages.{Refusal}
 use Rattle.cite.specs.Verdict.{Task, IsVerdict, verdict}
 use Rattle.cite.proofs.VerdictsUnique.{one_verdict}

@@ -15,8 +15,8 @@ use Rattle.biblatex.specs.Listed.{Listed, entry_named}
 use Rattle.biblatex.specs.Fields.{text_named}
 use Rattle.biblatex.specs.Entries.{Source}
 use Rattle.biblatex.specs.TypeNames.{written_type}
-use Rattle.biblatex_locality.specs.Reached.{SaysTheSame, SayTheSame}
-use Rattle.biblatex_locality.proofs.LoadedKeys.{AreApart}
+use Rattle.biblatex_laws.specs.Reached.{SaysTheSame, SayTheSame}
+use Rattle.biblatex_laws.proofs.LoadedKeys.{AreApart}
 use Rattle.biblatex_writing.specs.FieldNames.{is_never_written, other_names}
 use Rattle.interop_values.specs.Values.{Values, filled, values}
 use Rattle.literature_values.specs.declared.entry_type.EntryType.{EntryType}

@@ -2,9 +2,9 @@
 use Rattle.std.specs.Prelude.{◌≡◌, ◌↔◌, ℕ, List, Result}
 use Rattle.std.specs.Str.{chars}
 use Rattle.biblatex.specs.Listed.{Listed}
-use Rattle.biblatex_locality.specs.Differing.{BareEntry, HasOneMore, MeansOneKey, NoAbbreviationChanges}
-use Rattle.biblatex_locality.specs.Files.{IsFileOf}
-use Rattle.biblatex_locality.specs.Reached.{IsReached, SayTheSameOf}
+use Rattle.biblatex_laws.specs.Differing.{BareEntry, HasOneMore, MeansOneKey, NoAbbreviationChanges}
+use Rattle.biblatex_laws.specs.Files.{IsFileOf}
+use Rattle.biblatex_laws.specs.Reached.{IsReached, SayTheSameOf}
 use Rattle.cite_requests.specs.Markers.{names_cited}
 use Rattle.cite_requests.specs.Stages.{Refusal}
 use Rattle.cite.specs.Verdict.{Task, IsVerdict}

@@ -3,8 +3,8 @@ use Rattle.std.specs.Prelude.{◌≡◌, ◌↔◌, ℕ, true, List, ◌++◌, R
 use Rattle.std.specs.Str.{chars, is_utf8}
 use Rattle.biblatex.specs.Raw.{At, Entry}
 use Rattle.biblatex.specs.Listed.{Listed}
-use Rattle.biblatex_joined.specs.Between.{ArePutBetween, AreUnreached}
-use Rattle.biblatex_locality.specs.Files.{IsFileOf}
+use Rattle.biblatex_laws.specs.Between.{ArePutBetween, AreUnreached}
+use Rattle.biblatex_laws.specs.Files.{IsFileOf}
 use Rattle.cite_markers.specs.Document.{Piece}
 use Rattle.cite_requests.specs.Stages.{Refusal}
 use Rattle.cite.specs.Verdict.{Task, IsVerdict}

@@ -5,7 +5,7 @@ use Rattle.std.specs.Str.{chars}
 use Rattle.biblatex.specs.Listed.{Listed}
 use Rattle.biblatex.specs.Entries.{Source}
 use Rattle.biblatex.specs.Fields.{value_named}
-use Rattle.biblatex_locality.specs.Files.{IsFileOf}
+use Rattle.biblatex_laws.specs.Files.{IsFileOf}
 use Rattle.biblatex_writing.specs.Flat.{flat}
 use Rattle.interop.specs.Library.{AreAlike}
 use Rattle.interop.specs.SameFiles.{SayTheSame}

@@ -12,7 +12,7 @@ use Rattle.biblatex.specs.Listed.{Listed}
 use Rattle.biblatex.specs.Reading as reading
 use Rattle.biblatex.specs.Reading.{Loaded, loaded}
 use Rattle.biblatex.specs.Resolved.{IsMeaningOf, IsTextMeaningOf, Means, TextMeans}
-use Rattle.biblatex_locality.proofs.LoadedKeys.{AreApart, heads_apart, loaded_apart}
+use Rattle.biblatex_laws.proofs.LoadedKeys.{AreApart, heads_apart, loaded_apart}
 use Rattle.biblatex_writing.specs.Settled.{have_distinct_keys}
 use Rattle.cite_requests.specs.Stages.{Refusal, IsRead, IsReadIf, bib_refused, refused_as}
 

@@ -11,7 +11,7 @@ use Rattle.std.proofs.lemmas.Slice.Eq.{bytes_eq-Decides}
 use Rattle.laws.specs.Text.{text}
 use Rattle.biblatex.specs.Listed.{Listed}
 use Rattle.biblatex.specs.Entries.{Source}
-use Rattle.biblatex_locality.proofs.LoadedKeys.{AreApart}
+use Rattle.biblatex_laws.proofs.LoadedKeys.{AreApart}
 use Rattle.biblatex_writing.specs.Settled.{have_distinct_keys}
 use Rattle.cite_markers.specs.Document.{Piece, Text, Marker}
 use Rattle.cite_markers.specs.Marker.{Cite}

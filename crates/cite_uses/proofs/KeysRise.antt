@@ -10,7 +10,7 @@ use Rattle.biblatex.specs.Listed.{Listed}
 use Rattle.biblatex.specs.Entries.{Source}
 use Rattle.biblatex.specs.TypeNames.{written_type}
 use Rattle.biblatex_content.specs.Styled.{Member}
-use Rattle.biblatex_locality.proofs.LoadedKeys.{AreApart}
+use Rattle.biblatex_laws.proofs.LoadedKeys.{AreApart}
 use Rattle.literature_entries.specs.EntriesData.{EntryData}
 use Rattle.literature_values.specs.declared.entry_type.EntryType.{EntryType}
 use Rattle.literature.specs.Keys.{put}

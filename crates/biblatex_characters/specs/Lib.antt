@@ -1,4 +1,0 @@
-pub mod Raw
-pub mod Members
-pub mod Values
-pub mod Read

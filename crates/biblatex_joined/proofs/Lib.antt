@@ -1,4 +1,0 @@
-pub mod Moved
-pub mod Joined
-pub mod Found
-pub mod Between

@@ -1,0 +1,10 @@
+pub mod Reached
+pub mod Files
+pub mod Opened
+pub mod Differing
+pub mod Joined
+pub mod Between
+pub mod Raw
+pub mod Members
+pub mod Values
+pub mod Read

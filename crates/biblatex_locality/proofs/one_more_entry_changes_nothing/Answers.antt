@@ -1,5 +1,0 @@
-use Rattle.biblatex_locality.proofs.OneMore.{one_more}
-use Rattle.biblatex_locality.proofs.one_more_entry_changes_nothing.Goals as goal
-
-pub returns : goal.returns
-returns c = one_more

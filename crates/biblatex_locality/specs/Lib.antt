@@ -1,4 +1,0 @@
-pub mod Reached
-pub mod Files
-pub mod Opened
-pub mod Differing
