@@ -1,9 +1,9 @@
 -- The contents of fields as values of a library.
-use Rattle.std.specs.Prelude.{ℕ, Bool, List, [], ◌∷◌, ◌++◌, map, ◌==◌, ◌&&◌, ◌||◌, if◌then◌else◌, Option, Some, None, Result, Ok, Err, codes}
+use Rattle.std.specs.Prelude.{ℕ, Bool, List, [], ◌∷◌, ◌++◌, ◌==◌, ◌&&◌, ◌||◌, if◌then◌else◌, Option, Some, None, Result, Ok, Err, codes}
 use Rattle.std.specs.Option.{option_map, option_eq, option_or}
 use Rattle.std.specs.Ordering.{int_eq}
 use Rattle.laws.specs.Characters.{space, colon}
-use Rattle.laws.specs.Text.{text, if_filled}
+use Rattle.laws.specs.Text.{text}
 use Rattle.url.specs.Parser.{Parsed, parse_url}
 use Rattle.url.specs.Parts.{Parts, serialize}
 use Rattle.texts.specs.declared.reader.Unreadable.{Unreadable}
@@ -16,7 +16,6 @@ use Rattle.biblatex_dates.specs.declared.date.DateValue.{DateValue}
 use Rattle.biblatex_dates.specs.declared.date.DateValue.TheVariants.{At, After, Before, Between}
 use Rattle.biblatex_dates.specs.declared.datetime.Datetime.{Datetime}
 use Rattle.biblatex_dates.specs.declared.error.TypeErrorKind.{TypeErrorKind}
-use Rattle.biblatex_lists.specs.Reading.{Named as SourceName, people_in}
 use Rattle.literature_numbers.specs.Numerics.{Numeral, numeral_of}
 use Rattle.literature_numbers.specs.Pages.{Part, pages_of}
 use Rattle.literature_values.specs.declared.date.Date.{Date}
@@ -26,6 +25,7 @@ use Rattle.literature_values.specs.PersonViews.{Named}
 use Rattle.literature_values.specs.TextViews.{Format, Publishing}
 use Rattle.literature_values.specs.OtherViews.{Address}
 use Rattle.literature_values.specs.TypedViews.{ValueOrText, Value, Text}
+use Rattle.interop_people.specs.People.{people_of}
 use Rattle.interop_values.specs.Values.{Values, text_under}
 use Rattle.interop_values.specs.Pieces.{pieces_of}
 
@@ -45,15 +45,6 @@ title_of v = option_map (λ ms. record { value = pieces_of (with_subtitle ms (v 
 -- the text under a name
 abbrev pub format_under : List ℕ → Values → Option Format
 format_under name v = option_map format_of (v name)
-
--- a person as a library holds one; an empty part of the name is absent
-abbrev pub person_of : SourceName → Named
-person_of p = record { name = p.name; given_name = if_filled p.given_name; prefix = if_filled p.prefix; suffix = if_filled p.suffix }
-
--- the people that a content names
-abbrev pub people_of : Option (List Member) → Option (List Named)
-people_of None = None
-people_of (Some ms) = if_filled (map person_of (people_in ms))
 
 -- the people under a name
 abbrev pub people_under : List ℕ → Values → Option (List Named)

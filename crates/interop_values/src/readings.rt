@@ -1,16 +1,14 @@
 //! The contents of fields as values of a library.
 
-ghost use Rattle.std.specs.Prelude.{◌≡◌, ◌++◌, [], map, codes, IfOk, OnOk, Some, None, string_bytes};
+ghost use Rattle.std.specs.Prelude.{◌≡◌, ◌++◌, [], codes, IfOk, OnOk, None, string_bytes};
 ghost use Rattle.std.specs.Option.{option_map, option_or};
 ghost use Rattle.url.specs.Parser.{parse_url};
 ghost use Rattle.url.specs.Parts.{serialize};
 ghost use Rattle.biblatex_content.specs.Styled.{letters};
 ghost use Rattle.biblatex_content.specs.Views.{styled};
-ghost use Rattle.biblatex_lists.specs.Views.{named_view};
 ghost use Rattle.literature_numbers.specs.PageViews.{pages_view};
 ghost use Rattle.literature_numbers.specs.Views.{numeral_view};
-ghost use Rattle.laws.specs.Text.{characters, if_filled};
-ghost use Rattle.literature_values.specs.PersonViews.{person_view};
+ghost use Rattle.laws.specs.Text.{characters};
 ghost use Rattle.literature_values.specs.TextViews.{chunks_view, format_view, publishing_view};
 ghost use Rattle.literature_entries.specs.Views.{people_view};
 ghost use Rattle.literature_values.specs.OtherViews.{address_view};
@@ -18,20 +16,19 @@ ghost use Rattle.literature_values.specs.TypedViews.{typed_view};
 ghost use Rattle.interop_values.specs.Values.{values};
 ghost use Rattle.interop_values.specs.Pieces.{pieces_of};
 ghost use Rattle.interop_values.specs.Views.{Grows};
-ghost use Rattle.interop_values.specs.Readings.{format_of, with_subtitle, title_of, format_under, person_of, people_of, people_under, number_of, number_under, pages_under, bytes_of, bytes_under, publishing_of, publisher_of, url_or, address_of};
+ghost use Rattle.interop_values.specs.Readings.{format_of, with_subtitle, title_of, format_under, people_under, number_of, number_under, pages_under, bytes_of, bytes_under, publishing_of, publisher_of, url_or, address_of};
 
 use crate::pieces::Pieces;
 use crate::values::{text, value};
 use biblatex_content::{Chunk, Spanned};
 use biblatex_fields::Fields;
-use biblatex_lists::{Person as SourcePerson, read_people};
 use biblatex_values::plain_text;
+use interop_people::people_in;
 use literature_values::{
     ChunkedString, Date, FormatString, MaybeTyped, Numeric, PageRanges, Person, Publisher,
     QualifiedUrl,
 };
 use std::alloc::{AllocError, Global};
-use texts::has_text;
 use url::{ParseError, Url};
 
 /// The content in pieces.
@@ -148,52 +145,6 @@ pub fn people_under(
         Some(value) => people_in(alloc, value),
         None => Ok(None),
     }
-}
-
-/// The people that a content names, if there are any.
-#[inline(never)]
-fn people_in(alloc: Global, value: &[Spanned<Chunk>]) -> Result<Option<Vec<Person>>, AllocError>
-    ensures { IfOk result (λ p. option_map (λ v. people_view v.items) p
-        ≡ people_of (Some (styled value.now))) }
-{
-    let people = read_people(alloc, value)?;
-    if people.is_empty() {
-        return Ok(None);
-    }
-    Ok(Some(people_of(alloc, people)?))
-}
-
-/// People as a library holds them.
-fn people_of(alloc: Global, read: Vec<SourcePerson>) -> Result<Vec<Person>, AllocError>
-    ensures { IfOk result (λ v. people_view v.items ≡ map person_of (map named_view read.items)) }
-{
-    let mut all = Vec::with_capacity(alloc, read.len())?;
-    for person in read {
-        all.push(person_of(person))?;
-    }
-    Ok(all)
-}
-
-/// A person as a library holds one.
-fn person_of(read: SourcePerson) -> Person
-    ensures { person_view result ≡ person_of (named_view read) }
-{
-    Person {
-        name: read.name,
-        given_name: part(read.given_name),
-        prefix: part(read.prefix),
-        suffix: part(read.suffix),
-    }
-}
-
-/// A part of a name; an empty one is absent.
-fn part(text: String) -> Option<String>
-    ensures { option_map characters result ≡ if_filled (characters text) }
-{
-    if has_text(text.as_str()) {
-        return Some(text);
-    }
-    None
 }
 
 /// The numbers under a name, or the text where it spells none.

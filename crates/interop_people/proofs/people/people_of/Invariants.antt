@@ -2,8 +2,8 @@ use Rattle.std.proofs.Common.{◌≡◌, ◌++◌, map, length}
 use Rattle.std.specs.Vec.Iter.{into_iter_items, into_iter_len}
 use Rattle.biblatex_lists.specs.Views.{named_view}
 use Rattle.literature_entries.specs.Views.{people_view}
-use Rattle.interop_values.specs.Readings.{person_of}
-use Rattle.interop_values.proofs.readings.people_of.Given as goal
+use Rattle.interop_people.specs.People.{person_of}
+use Rattle.interop_people.proofs.people.people_of.Given as goal
 
 abbrev pub invariant-loop-person : goal.invariant-loop-person
 invariant-loop-person l = record {
