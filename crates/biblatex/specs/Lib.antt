@@ -1,3 +1,11 @@
+pub mod Fronts
+pub mod Indices
+pub mod Bibliographies
+pub mod Naming
+pub mod Lending
+pub mod Keys
+pub mod Errors
+pub mod Lines
 pub use Rattle.biblatex_text.specs.Token
 pub use Rattle.biblatex_text.specs.Raw
 pub use Rattle.biblatex_text.specs.Items
@@ -16,12 +24,7 @@ pub use Rattle.biblatex_entries.specs.TypeNames
 pub use Rattle.biblatex_entries.specs.Names
 pub use Rattle.biblatex_entries.specs.Entries
 pub use Rattle.biblatex_entries.specs.Typed
-pub use Rattle.biblatex_bibliography.specs.Bibliographies
-pub use Rattle.biblatex_bibliography.specs.Lending
-pub use Rattle.biblatex_bibliography.specs.Keys
 pub use Rattle.biblatex_meaning.specs.Listed
 pub use Rattle.biblatex_meaning.specs.Reading
 pub use Rattle.biblatex_meaning.specs.Resolved
-pub use Rattle.biblatex_bibliography.specs.Errors
 pub use Rattle.biblatex_fields.specs.declared.error.ParseError
-pub use Rattle.biblatex_bibliography.specs.Lines

@@ -1,9 +1,17 @@
-//! Reads BibLaTeX files. This crate is a table of contents: it re-exports what its members make public, so that crates above it
-//! name it alone. Impls are not re-exported: who writes `for entry in &bibliography` names `biblatex_bibliography` too, but not
-//! who calls `iter`.
+//! Reads BibLaTeX files: bibliographies, which are entries in file order, found by their names. What the crates below make public of
+//! texts, contents, dates, fields and entries is re-exported, so that crates above name this one alone.
 #![tactic(auto)]
 
-pub use biblatex_bibliography::{Bibliography, Counted, Keys, parse_field};
+mod bibliography;
+mod indexed;
+mod indices;
+mod iterators;
+mod keys;
+mod name;
+mod naming;
+mod parsing;
+mod reading;
+
 pub use biblatex_content::{
     Chunk, Chunks, ChunksExt, Span, is_escapable, is_verbatim_field, push_biblatex,
 };
@@ -19,3 +27,7 @@ pub use biblatex_text::{
     Token, is_id_continue, is_id_start, is_key,
 };
 pub use biblatex_writing::{is_settled_content, written_name};
+pub use bibliography::Bibliography;
+pub use keys::Keys;
+pub use parsing::Counted;
+pub use reading::parse_field;

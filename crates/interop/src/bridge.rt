@@ -22,7 +22,7 @@ use crate::error::{BridgeError, FieldFault};
 use crate::fields::{own_entry, set_container_fields};
 use crate::kinds::{Container, row_of};
 use crate::parents::{container_entry, push_further};
-use biblatex_bibliography::Bibliography;
+use biblatex::Bibliography;
 use biblatex_content::{Chunk, Spanned};
 use biblatex_entries::{Entry as SourceEntry, EntryType as SourceType};
 use biblatex_fields::Fields;

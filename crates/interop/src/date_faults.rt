@@ -11,7 +11,7 @@ ghost use Rattle.laws.specs.Results.{Gives};
 use crate::bridge::{is_xdata, push_all};
 use crate::dates::read_dates;
 use crate::error::{BridgeError, FieldFault};
-use biblatex_bibliography::Bibliography;
+use biblatex::Bibliography;
 use biblatex_entries::Entry as SourceEntry;
 use std::alloc::{AllocError, Global};
 

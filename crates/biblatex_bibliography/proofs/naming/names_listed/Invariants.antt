@@ -1,8 +1,0 @@
-use Rattle.std.proofs.Common.{◌≡◌, take}
-use Rattle.biblatex_entries.specs.Entries.{sources_view}
-use Rattle.biblatex_bibliography.specs.Indices.{names_in}
-use Rattle.biblatex_bibliography.specs.Naming.{names_from}
-use Rattle.biblatex_bibliography.proofs.naming.names_listed.Given as goal
-
-abbrev pub invariant-loop-index : goal.invariant-loop-index
-invariant-loop-index l = names_in l.names.items ≡ names_from 0 (sources_view (take l.index l.entries))
