@@ -1,5 +1,5 @@
 -- Lists of characters.
-use Rattle.std.proofs.Common.{◌≡◌, ℕ, ◌<◌, Bool, true, false, ◌&&◌, List, [], ◌∷◌, ◌++◌, flat_map, refl}
+use Rattle.std.proofs.Common.{◌≡◌, ℕ, Bool, true, false, ◌&&◌, List, [], ◌∷◌, ◌++◌, flat_map, refl}
 use Rattle.std.specs.Str.{all_scalars}
 use lib.Utf8.{scalar}
 

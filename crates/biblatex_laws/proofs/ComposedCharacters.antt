@@ -1,7 +1,7 @@
 -- What characters are composed to are characters.
-use Rattle.std.proofs.Common.{◌≡◌, ℕ, zero, suc, ◌+◌, ◌-◌, ◌/◌, ◌%◌, ◌<◌, ◌≤◌, Bool, true, false, cond, List, [], ◌∷◌, ◌++◌, Option, Some, None, inl, inr, ◌⊎◌, flat_map, refl, sym, ap, subst, ◌∙◌, arith, true≢false}
+use Rattle.std.proofs.Common.{◌≡◌, ℕ, zero, suc, ◌+◌, ◌-◌, ◌/◌, ◌%◌, Bool, true, false, cond, List, [], ◌∷◌, ◌++◌, Some, inl, inr, ◌⊎◌, flat_map, refl, ap, ◌∙◌, arith}
 use Rattle.std.specs.Str.{all_scalars}
-use Rattle.std.proofs.lemmas.Bool.{cases_Bool, cases_eq}
+use Rattle.std.proofs.lemmas.Bool.{cases_eq}
 use lib.Utf8.{scalar, low_scalar}
 use Rattle.ucd_table.proofs.Computing.{tables}
 use Rattle.ucd_table.proofs.RangedFacts.{points_ok, values_ok, Stepped-at_points, Stepped-at_values}
@@ -16,9 +16,9 @@ use Rattle.unicode_normalization.specs.Forms.{decomposed, normalize, nfc}
 use Rattle.unicode_normalization.specs.Hangul.{is_syllable, decompose_hangul}
 use Rattle.unicode_normalization.specs.Order.{canonical_order, is_reorderable, is_starter, sink}
 use Rattle.unicode_normalization.proofs.ComposeLemmas.{compose_after-cases, compose_after-nil}
-use Rattle.unicode_normalization.proofs.DecomposeLemmas.{primary_composite-some, is_syllable-IsLv, is_syllable-IsLvt, decompose-syllable}
+use Rattle.unicode_normalization.proofs.DecomposeLemmas.{primary_composite-some, is_syllable-IsLv, is_syllable-IsLvt}
 use Rattle.unicode_normalization.proofs.HangulLemmas.{IsLv, IsLvt, is_syllable-true, decompose_hangul-two, decompose_hangul-three}
-use Rattle.biblatex_laws.proofs.CharacterLists.{append, both_of, first_of, gives, head, left, one, right, second_of, tail}
+use Rattle.biblatex_laws.proofs.CharacterLists.{append, both_of, first_of, gives, one, tail}
 
 -- the table
 mapping_characters : (c : ℕ) → all_scalars (if_canonical (decomposition c)) ≡ true

@@ -1,5 +1,5 @@
 -- Contents of characters are made of characters.
-use Rattle.std.proofs.Common.{◌≡◌, ℕ, zero, suc, ◌-◌, ◌/◌, ◌%◌, ◌==◌, ◌&&◌, ◌||◌, Bool, true, false, cond, List, [], ◌∷◌, ◌++◌, length, take, drop, map, replicate, Option, Some, None, Result, Ok, Err, codes, refl, sym, ap, subst, ◌∙◌, arith}
+use Rattle.std.proofs.Common.{◌≡◌, ℕ, zero, suc, ◌-◌, ◌/◌, ◌%◌, ◌==◌, ◌&&◌, ◌||◌, Bool, true, false, cond, List, [], ◌∷◌, ◌++◌, length, take, drop, map, replicate, Option, Some, None, Result, Ok, refl, sym, subst, arith}
 use Rattle.std.specs.Prelude.{IfOk, IfSome, if◌then◌else◌}
 use Rattle.std.specs.List.{AllByRecursion}
 use Rattle.std.specs.Option.{option_or}
@@ -7,15 +7,13 @@ use Rattle.std.proofs.lemmas.List.{take-append-drop}
 use lib.Utf8.{scalar}
 use Rattle.laws.specs.Characters.{space, dollar_sign, hyphen, backslash, comma, slash, no_break_space, dotless_i, dotless_j, lower_i, lower_j, en_dash, em_dash, thin_space}
 use Rattle.laws.specs.Results.{◌>>=◌}
-use Rattle.laws.specs.Runs.{after}
 use Rattle.laws.specs.Text.{text}
 use Rattle.laws.proofs.Results.{bind_if_ok}
 use Rattle.unicode_normalization.specs.Forms.{nfc}
 use Rattle.biblatex_tex.specs.Accent.{dotted, marked, with_mark}
 use Rattle.biblatex_tex.specs.Character.{is_blank, passes}
-use Rattle.biblatex_tex.specs.Command.{letter, letter_character, letter_mark, ligature, listed, sign_mark, sign_text, symbol, text_symbol}
+use Rattle.biblatex_tex.specs.Command.{letter, letter_character, letter_mark, ligature, sign_mark, sign_text, symbol, text_symbol}
 use Rattle.biblatex_tex.specs.declared.character.Class.TheVariants.{Blank}
-use Rattle.biblatex_tex.specs.declared.error.ContentError.{ContentError}
 use Rattle.biblatex_tex.specs.Token.{Token, Text, Hyphens, Tie, Open, Close, Dollar, Sign, Command, paired_of, written}
 use Rattle.biblatex_content.specs.declared.chunk.Kind.{Kind}
 use Rattle.biblatex_content.specs.declared.chunk.Kind.TheVariants.{Verbatim}
@@ -26,7 +24,7 @@ use Rattle.biblatex_content.specs.Tidy.{is_space, spaced, squeezed, tidied, with
 use Rattle.biblatex_content.specs.Verbatim.{is_brace, is_escapable, is_verbatim_escape, verbatim_from, verbatim_piece, verbatim_text}
 use Rattle.biblatex_laws.specs.Members.{AreMembersText, IsMemberText}
 use Rattle.biblatex_laws.specs.Raw.{AreCharacters}
-use Rattle.biblatex_laws.proofs.CharacterLists.{append, both_of, first_of, head, left, one, right, tail}
+use Rattle.biblatex_laws.proofs.CharacterLists.{append, both_of, first_of, head, left, one, tail}
 use Rattle.biblatex_laws.proofs.ComposedCharacters.{nfc_characters}
 use Rattle.biblatex_laws.proofs.TokenCharacters.{IsTokenText, after_characters, paired_characters}
 

@@ -1,12 +1,12 @@
 -- Dates are written in characters.
-use Rattle.std.proofs.Common.{◌≡◌, ℕ, ℤ, zero, suc, ◌+◌, ◌-◌, ◌/◌, ◌%◌, ◌==◌, Bool, true, false, List, [], ◌∷◌, ◌++◌, length, replicate, Option, Some, None, codes, refl, ap, arith}
+use Rattle.std.proofs.Common.{◌≡◌, ℕ, ℤ, zero, suc, ◌+◌, ◌-◌, ◌/◌, ◌%◌, ◌==◌, Bool, true, false, List, [], ◌∷◌, ◌++◌, length, replicate, Option, Some, None, codes, refl, arith}
 use Rattle.std.specs.Prelude.{if◌then◌else◌, nat_lt, unsigned_abs}
 use Rattle.std.specs.Fmt.{decimal, digit_glyph, digits, digits_onto, sign_text}
 use Rattle.std.specs.Int.{is_negative}
 use lib.Utf8.{scalar, low_scalar}
 use Rattle.laws.specs.Characters.{colon, digit_zero, upper_t}
 use Rattle.date_parts.specs.Written.{padded, counted_text, year_text}
-use Rattle.biblatex_dates.specs.Written.{following, sign, offset_text, clock_text, time_text, day_text, month_text, datetime_text, sides_text, end_text, mark_text, date_text}
+use Rattle.biblatex_dates.specs.Written.{following, sign, offset_text, time_text, day_text, month_text, datetime_text, sides_text, end_text, mark_text, date_text}
 use Rattle.biblatex_dates.specs.declared.date.Date.{Date}
 use Rattle.biblatex_dates.specs.declared.date.DateValue.{DateValue}
 use Rattle.biblatex_dates.specs.declared.date.DateValue.TheVariants.{At, After, Before, Between}

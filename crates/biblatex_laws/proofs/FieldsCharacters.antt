@@ -1,12 +1,11 @@
 -- Fields that are read of characters are made of characters.
-use Rattle.std.proofs.Common.{◌≡◌, ℕ, zero, suc, Bool, true, false, cond, List, [], ◌∷◌, ◌++◌, map, length, get_or, slice_get, Option, Some, None, Result, Ok, Err, codes, refl, sym, ap, subst, ◌∙◌, arith}
+use Rattle.std.proofs.Common.{◌≡◌, ℕ, zero, suc, Bool, true, false, cond, List, [], ◌∷◌, ◌++◌, length, get_or, Option, Some, None, Result, Ok, Err, refl, sym, subst, ◌∙◌, arith}
 use Rattle.std.specs.Prelude.{IfOk, IfSome, if◌then◌else◌}
 use Rattle.std.specs.Char.{is_ascii}
 use Rattle.std.specs.List.{AllByRecursion, list_all}
-use Rattle.std.specs.Str.{bytes_eq, chars, IsUtf8}
+use Rattle.std.specs.Str.{bytes_eq, IsUtf8}
 use Rattle.std.proofs.lemmas.Option.{none-some, same_Some}
 use Rattle.std.proofs.lemmas.Slice.Eq.{bytes_eq-Decides}
-use Rattle.laws.specs.Results.{◌>>=◌}
 use Rattle.laws.specs.Text.{lowered}
 use Rattle.laws.proofs.Results.{bind_if_ok}
 use Rattle.biblatex_text.specs.Raw.{At, Piece, normal, abbreviation, Field}

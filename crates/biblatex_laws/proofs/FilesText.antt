@@ -1,5 +1,5 @@
 -- The entries that characters mean are made of characters.
-use Rattle.std.proofs.Common.{◌≡◌, ℕ, zero, suc, ◌<◌, ◌||◌, Bool, true, false, true≢false, cond, List, [], ◌∷◌, drop, get_or, length, map, slice_get, Option, Some, None, Result, Ok, Err, codes, refl, sym, ap, subst, ◌∙◌, arith, Less, nat_cmp}
+use Rattle.std.proofs.Common.{◌≡◌, ℕ, zero, suc, ◌<◌, ◌||◌, Bool, true, false, cond, List, [], ◌∷◌, drop, get_or, length, map, slice_get, Option, Some, None, Result, Ok, Err, codes, refl, sym, ap, subst, ◌∙◌, arith, Less, nat_cmp}
 use Rattle.std.specs.Prelude.{Contains, IfSome, filter_map, if◌then◌else◌}
 use Rattle.std.specs.Cmp.Lexicographic.{slice_cmp}
 use Rattle.std.specs.List.{AllByRecursion, AllZip}
@@ -15,24 +15,23 @@ use Rattle.laws.specs.Text.{lowered, text}
 use Rattle.laws.proofs.Results.{if_ok_at}
 use Rattle.reference_graph.specs.References.{references_of}
 use Rattle.biblatex_text.specs.Items.{raw_of}
-use Rattle.biblatex_text.specs.Raw.{At, Entry, Field, Raw}
+use Rattle.biblatex_text.specs.Raw.{At, Entry, Raw}
 use Rattle.biblatex_text.specs.declared.token.Fault.{Fault}
 use Rattle.biblatex_content.specs.Styled.{plain}
 use Rattle.biblatex_fields.specs.Abbreviations.{Glossary}
 use Rattle.biblatex_fields.specs.Fields.{Named, AreInOrder, fields_of, value_named}
 use Rattle.biblatex_fields.specs.Refusals.{Refusal}
-use Rattle.biblatex_fields.specs.Value.{Value}
 use Rattle.biblatex_entries.specs.Entries.{Source, parents_of}
-use Rattle.biblatex_entries.specs.TypeNames.{TypeName, is_one_of, known, read_name, type_of, written_type}
-use Rattle.biblatex_inheritance.specs.Resolved.{Offer, Table, offers, resolved}
+use Rattle.biblatex_entries.specs.TypeNames.{TypeName, is_one_of, known, read_name, written_type}
+use Rattle.biblatex_inheritance.specs.Resolved.{Table, offers, resolved}
 use Rattle.biblatex_meaning.specs.Listed.{Listed, references}
-use Rattle.biblatex_meaning.specs.Reading.{Loaded, loaded, source_of}
-use Rattle.biblatex_meaning.specs.Resolved.{IsResolved, IsTextMeaningOf, Means, TextMeans, head, table_of, tables}
+use Rattle.biblatex_meaning.specs.Reading.{Loaded, loaded}
+use Rattle.biblatex_meaning.specs.Resolved.{IsResolved, IsTextMeaningOf, Means, head, table_of, tables}
 use Rattle.biblatex_meaning.proofs.Depth.{depth, less_deep}
 use Rattle.biblatex_writing.specs.Texts.{IsText}
 use Rattle.biblatex_laws.specs.Raw.{AreCharacters, AreFieldsText, IsEntryText, IsRawText}
 use Rattle.biblatex_laws.specs.Read.{EntriesReadAreText}
-use Rattle.biblatex_laws.specs.Values.{IsTableText, IsValueText}
+use Rattle.biblatex_laws.specs.Values.{IsTableText}
 use Rattle.biblatex_laws.proofs.FieldsAlike.{IsReadOf, read_each}
 use Rattle.biblatex_laws.proofs.FieldsCharacters.{fields_are_text}
 use Rattle.biblatex_laws.proofs.OffersCharacters.{all_offers, resolved_text}

@@ -1,13 +1,13 @@
 -- What an entry of characters inherits from others is made of characters.
-use Rattle.std.proofs.Common.{◌≡◌, ℕ, suc, Bool, true, false, true≢false, cond, ◌||◌, ◌⊎◌, inl, inr, List, [], ◌∷◌, ◌++◌, slice_get, Option, Some, None, codes, refl, sym, ap, subst, ◌∙◌, arith}
+use Rattle.std.proofs.Common.{◌≡◌, ℕ, Bool, true, false, true≢false, ◌||◌, ◌⊎◌, inl, inr, List, [], ◌∷◌, ◌++◌, slice_get, Option, Some, None, codes, refl, sym, ap, subst, arith}
 use Rattle.std.specs.Prelude.{Contains, if◌then◌else◌}
 use Rattle.std.specs.Char.{is_ascii}
-use Rattle.std.specs.List.{AllByRecursion, list_all, list_any}
+use Rattle.std.specs.List.{AllByRecursion, list_all}
 use Rattle.std.specs.Str.{bytes_eq, IsUtf8}
 use Rattle.std.proofs.lemmas.List.Elements.{Contains-append_right}
 use Rattle.std.proofs.lemmas.Option.{none-some, same_Some}
 use Rattle.std.proofs.lemmas.Slice.Eq.{bytes_eq-Decides}
-use Rattle.biblatex_content.specs.Styled.{letters, plain}
+use Rattle.biblatex_content.specs.Styled.{letters}
 use Rattle.biblatex_content.specs.declared.chunk.Kind.TheVariants.{Normal}
 use Rattle.biblatex_dates.specs.Date.{date_without_time}
 use Rattle.biblatex_dates.specs.Written.{date_text}
@@ -19,7 +19,7 @@ use Rattle.biblatex_entries.specs.Roles.{role_of}
 use Rattle.biblatex_entries.specs.declared.role.Role.{Role}
 use Rattle.biblatex_entries.specs.declared.role.Role.TheVariants.{Article, PartOfBook, PartOfOther, XData}
 use Rattle.biblatex_inheritance.specs.Resolved.{Table, Offer, date_for, date_value, dated, first, first_offer, offer_if, offered, offers, own, resolved, undated, with_date}
-use Rattle.biblatex_inherited_fields.specs.Table.{inherits, is_among, is_xdata, never, of_all, of_articles, of_parts, renamed, source_name}
+use Rattle.biblatex_inherited_fields.specs.Table.{inherits, is_among, is_xdata, of_all, of_articles, of_parts, renamed, source_name}
 use Rattle.biblatex_laws.specs.Values.{IsTableText, IsValueText}
 use Rattle.biblatex_laws.proofs.CharacterLists.{first_of, second_of}
 use Rattle.biblatex_laws.proofs.ContentCharacters.{letters_characters, plain_characters}

@@ -1,13 +1,13 @@
 -- What a text of characters holds is made of characters.
-use Rattle.std.proofs.Common.{◌≡◌, ℕ, Bool, true, List, [], ◌∷◌, ◌++◌, ◌⊎◌, inl, inr, Ok, refl, sym, ap, subst, flat_map}
+use Rattle.std.proofs.Common.{◌≡◌, ℕ, Bool, List, [], ◌∷◌, ◌++◌, inl, inr, Ok, refl, sym, ap, subst, flat_map}
 use Rattle.std.specs.List.{AllByRecursion}
 use Rattle.laws.specs.Characters.{open_parenthesis, open_brace, close_brace, double_quote, number_sign, percent_sign, line_feed, equals_sign, at_sign, comma}
 use Rattle.biblatex_text.specs.Items.{raw_of}
-use Rattle.biblatex_text.specs.Raw.{At, Piece, normal, abbreviation, Field, Entry, Item, nothing, definitions, an_entry, Raw, abbreviations_of, entries_of, gathered}
+use Rattle.biblatex_text.specs.Raw.{At, Piece, normal, abbreviation, Field, Item, nothing, definitions, an_entry, Raw, abbreviations_of, entries_of}
 use Rattle.biblatex_grammar.specs.Balanced.{Inside, Braces, Quotes, Remark, IsBalanced}
 use Rattle.biblatex_grammar.specs.Characters.{IsRun}
 use Rattle.biblatex_grammar.specs.Gaps.{Part, character, hidden, AreParts, EndsLine, IsAfterGap, IsGap, IsPart}
-use Rattle.biblatex_grammar.specs.Items.{AreFields, AreItems, Closes, EndsOrGoesOn, IsBody, IsComment, IsEntry, IsField, IsItem, IsOpened, IsPreamble}
+use Rattle.biblatex_grammar.specs.Items.{AreFields, AreItems, EndsOrGoesOn, IsBody, IsComment, IsField, IsItem, IsOpened, IsPreamble}
 use Rattle.biblatex_grammar.specs.Values.{AreFurther, ArePieces, IsBare, IsBraced, IsIdentifier, IsPiece, IsQuoted, IsValue}
 use Rattle.biblatex_grammar.proofs.Laws.{read-held}
 use Rattle.biblatex_laws.specs.Raw.{AreCharacters, AreFieldsText, ArePiecesText, IsEntryText, IsFieldText, IsItemText, IsPieceText, IsRawText}

@@ -1,17 +1,15 @@
 -- The tokens of characters are made of characters.
-use Rattle.std.proofs.Common.{◌≡◌, ℕ, zero, suc, Bool, true, false, cond, eqb, List, [], ◌∷◌, ◌++◌, length, Option, Some, None, Result, Ok, Err, refl, sym, ap, subst, ◌∙◌}
+use Rattle.std.proofs.Common.{◌≡◌, ℕ, zero, suc, Bool, true, false, cond, eqb, List, [], ◌∷◌, length, Option, Some, None, Result, Ok, refl, sym, subst}
 use Rattle.std.specs.Prelude.{IfOk, IfSome}
 use Rattle.std.specs.List.{AllByRecursion}
 use Rattle.laws.specs.Characters.{dollar_sign, hyphen, backslash, open_brace, close_brace, tilde}
-use Rattle.laws.specs.Results.{◌>>=◌}
 use Rattle.laws.specs.Runs.{prefix_of, after}
 use Rattle.laws.specs.Steps.{Step, each, each_below, go_on}
 use Rattle.laws.proofs.Results.{bind_if_ok}
 use Rattle.laws.proofs.Runs.{prefix-after}
 use Rattle.biblatex_tex.specs.Character.{passes}
 use Rattle.biblatex_tex.specs.declared.character.Class.TheVariants.{Blank, Letter, Hyphen, Plain}
-use Rattle.biblatex_tex.specs.declared.error.ContentError.{ContentError}
-use Rattle.biblatex_tex.specs.Token.{Token, Text, Hyphens, Tie, Open, Close, Dollar, Sign, Command, written, begins_command, named_at, command_at, token_at, tokens_of, dollars_in, partnered, paired, paired_of}
+use Rattle.biblatex_tex.specs.Token.{Token, Text, Hyphens, Tie, Open, Close, Dollar, Sign, Command, written, named_at, command_at, token_at, tokens_of, dollars_in, partnered, paired, paired_of}
 use Rattle.biblatex_laws.specs.Raw.{AreCharacters}
 use Rattle.biblatex_laws.proofs.CharacterLists.{append, head, left, right, tail}
 

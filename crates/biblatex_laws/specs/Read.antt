@@ -1,5 +1,5 @@
 -- What is read of characters is made of characters.
-use Rattle.std.specs.Prelude.{◌≡◌, ℕ, List, Ok}
+use Rattle.std.specs.Prelude.{ℕ, List, Ok}
 use Rattle.std.specs.List.{AllByRecursion}
 use Rattle.biblatex_meaning.specs.Listed.{Listed}
 use Rattle.biblatex_meaning.specs.Resolved.{TextMeans}
