@@ -1,6 +1,5 @@
 pub mod ShownMembers
 pub mod ProgramFaults
-pub mod PositionLines
 pub mod ShownPlain
 pub mod ProgramUnique
 pub mod FlatApart

@@ -9,7 +9,8 @@ use Rattle.programs.specs.Programs.{no_memory, IsReason, Says}
 use Rattle.biblatex.specs.Errors.{reason_text}
 use Rattle.biblatex.specs.Reading.{Refusal}
 use Rattle.biblatex.specs.Resolved.{TextMeans}
-use Rattle.bib_show.specs.Refusals.{refusal_lines, IsSourceFault}
+use Rattle.bib_show.specs.Refusals.{IsSourceFault}
+use Rattle.source_positions.specs.Messages.{refusal_lines}
 use Rattle.bib_show.specs.Program.{IsFaultOf}
 use Rattle.bib_show.specs.declared.program.Form.{Form}
 

@@ -1,18 +1,11 @@
--- The message for a source that is refused.
-use Rattle.std.specs.Prelude.{◌≡◌, ℕ, true, false, List, [], ◌∷◌, ◌++◌, codes, ◌⊎◌, Err}
+-- Which sources are refused, and the message for each.
+use Rattle.std.specs.Prelude.{◌≡◌, ℕ, true, false, List, codes, ◌⊎◌, Err}
 use Rattle.std.specs.Str.{chars, is_utf8}
 use Rattle.std.specs.Str.Lossy.{utf8_valid_len}
-use Rattle.std.specs.Fmt.{decimal}
-use Rattle.laws.specs.Characters.{line_feed, colon}
 use Rattle.biblatex.specs.Errors.{reason_text}
 use Rattle.biblatex.specs.Reading.{Refusal}
 use Rattle.biblatex.specs.Resolved.{TextMeans}
-use Rattle.bib_show.specs.Position.{line_at, mark_at, line_number, column_number}
-
--- FILE:LINE:COLUMN: and why, then the line, then the mark below the position
-abbrev pub refusal_lines : List ℕ → List ℕ → ℕ → List ℕ → List ℕ
-refusal_lines path source at why =
-    path ++ (colon ∷ (decimal (line_number source at) ++ (colon ∷ (decimal (column_number source at) ++ (codes ": " ++ (why ++ (line_feed ∷ (line_at source at ++ (line_feed ∷ (mark_at source at ++ line_feed ∷ []))))))))))
+use Rattle.source_positions.specs.Messages.{refusal_lines}
 
 -- bytes that are no text, at the first one that is not of a character
 abbrev pub IsNoText : List ℕ → List ℕ → List ℕ → Type 0

@@ -13,7 +13,7 @@ use Rattle.biblatex_writing.specs.FieldNames.{written_name}
 use Rattle.biblatex_writing.specs.Flat.{flat}
 use Rattle.biblatex_writing.specs.Settled.{has_touching_hyphens, is_settled_entry, is_settled_field, is_settled_key, is_settled_type, naming_fields}
 use Rattle.biblatex_writing.specs.Written.{is_less}
-use Rattle.bib_show.specs.Refusals.{refusal_lines}
+use Rattle.source_positions.specs.Messages.{refusal_lines}
 
 -- the first entry that is not settled, and its index, where those before it are so many
 abbrev pub first_unsettled : ℕ → List Source → Option (ℕ × Source)

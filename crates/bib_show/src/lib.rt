@@ -2,11 +2,8 @@
 //! first mistake stands. `show` is the library's call, `run` is the program over files that were read and any writers.
 #![tactic(auto)]
 
-mod escape;
 mod member;
-mod position;
 mod program;
-mod refusal;
 mod shown;
 mod unsettled;
 

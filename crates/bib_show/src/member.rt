@@ -8,8 +8,8 @@ ghost use Rattle.biblatex.specs.Contents.{members, styled};
 ghost use Rattle.biblatex.specs.Styled.{Member, Math, letters};
 ghost use Rattle.bib_show.specs.Shown.{is_marked, is_plain, kind_of, shown_characters, turning, shown_from};
 
-use crate::escape::push_escape;
 use biblatex::{Chunk, Spanned};
+use source_positions::push_escape;
 use std::alloc::AllocError;
 use texts::{CharacterClass, has_text, split_first, split_run};
 

@@ -12,17 +12,17 @@ ghost use Rattle.biblatex.specs.Entries.{source_view};
 ghost use Rattle.biblatex.specs.Resolved.{TextMeans};
 ghost use Rattle.biblatex_writing.specs.Flat.{flat};
 ghost use Rattle.biblatex_writing.specs.Written.{written_file};
-ghost use Rattle.bib_show.specs.Refusals.{refusal_lines};
+ghost use Rattle.source_positions.specs.Messages.{refusal_lines};
 ghost use Rattle.bib_show.specs.Unsettled.{first_unsettled, unsettled_lines, IsFirstUnsettled};
 ghost use Rattle.bib_show.specs.Program.{information, is_flat, is_option, asked, IsOutputOf, IsFileOutput, IsWordOutput, IsLoneOutput, IsFlatOutput, IsOutput, Serves, IsFaultOf, IsFileFault, IsWordFault, IsLoneFault, IsFlatFault, IsFault, message_of};
 ghost use Rattle.bib_show.specs.declared.program.RunFault.TheVariants.{Memory};
 
-use crate::refusal::refusal_lines;
 use crate::shown::show;
 use crate::unsettled::{first_unsettled, key_start, unsettled_reason};
 use biblatex::{Bibliography, Entry, ParseError, ParseErrorKind};
 use programs::{FileRead, ReadFault, bytes_at, line_of, say};
 use sinks::{Sink, write_all};
+use source_positions::refusal_lines;
 use std::alloc::{AllocError, Global};
 
 /// The name of the program.

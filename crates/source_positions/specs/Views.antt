@@ -1,7 +1,7 @@
 -- What the code holds, as plain data.
 use Rattle.std.specs.Prelude.{[]}
-use Rattle.bib_show.specs.Position as position
-use Rattle.bib_show.specs.declared.position.Position.{Position}
+use Rattle.source_positions.specs.Position as position
+use Rattle.source_positions.specs.declared.position.Position.{Position}
 
 -- where reading has come to
 abbrev pub position_view : Position → position.Position

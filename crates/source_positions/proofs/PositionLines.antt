@@ -3,7 +3,7 @@ use Rattle.std.proofs.Common.{◌≡◌, ℕ, List, [], ◌∷◌, ◌++◌, map
 use Rattle.std.specs.Str.{chars, IsUtf8}
 use Rattle.laws.specs.Text.{text}
 use Rattle.laws.proofs.Text.{text_of_chars, text-append}
-use Rattle.bib_show.specs.Position.{shown_in_line, blank}
+use Rattle.source_positions.specs.Position.{shown_in_line, blank}
 
 -- a text is spelled by the characters that were put together
 pub spelled : (bs cs : List ℕ) → IsUtf8 bs → chars bs ≡ cs → bs ≡ text cs

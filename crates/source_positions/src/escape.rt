@@ -7,8 +7,11 @@ ghost use Rattle.laws.specs.Text.{characters, text as text_of};
 use std::alloc::AllocError;
 use texts::push_character;
 
-/// Shows the number of a character, as `\u{..}`.
-pub(crate) fn push_escape(out: &mut String, c: char) -> Result<(), AllocError>
+/// Appends the number of a character, as `\u{..}`.
+///
+/// # Errors
+/// Where a request for memory was refused.
+pub fn push_escape(out: &mut String, c: char) -> Result<(), AllocError>
     ensures characters { OnOk result (characters out.new ≡ characters out.old ++ escape_unicode c) }
     ensures bytes { OnOk result (string_bytes out.new
         ≡ string_bytes out.old ++ text_of (escape_unicode c)) }

@@ -2,9 +2,9 @@ use Rattle.std.proofs.Common.{◌≡◌, ◌++◌, rules}
 use Rattle.std.specs.Prelude.{string_bytes}
 use Rattle.std.proofs.lemmas.Str.{IsUtf8-string_bytes}
 use Rattle.laws.specs.Text.{characters}
-use Rattle.bib_show.specs.Position.{line_before, line_after, shown_line}
-use Rattle.bib_show.proofs.PositionLines.{spelled}
-use Rattle.bib_show.proofs.position.ShownPosition.new.Goals as goal
+use Rattle.source_positions.specs.Position.{line_before, line_after, shown_line}
+use Rattle.source_positions.proofs.PositionLines.{spelled}
+use Rattle.source_positions.proofs.position.ShownPosition.new.Goals as goal
 
 pub returns-clause-line : goal.returns-clause-line
 returns-clause-line c =

@@ -1,8 +1,8 @@
 use Rattle.std.proofs.Common.{rules}
 use Rattle.std.specs.Str.{chars}
 use Rattle.laws.specs.Text.{characters}
-use Rattle.bib_show.proofs.PositionLines.{put_shown}
-use Rattle.bib_show.proofs.position.push_shown.Goals as goal
+use Rattle.source_positions.proofs.PositionLines.{put_shown}
+use Rattle.source_positions.proofs.position.push_shown.Goals as goal
 
 pub loop-c-preserved : goal.loop-c-preserved
 loop-c-preserved c =

@@ -3,8 +3,8 @@ use Rattle.std.specs.Prelude.{string_bytes}
 use Rattle.std.specs.Char.Escape.{escape_unicode}
 use Rattle.std.proofs.lemmas.Str.{IsUtf8-string_bytes}
 use Rattle.laws.specs.Text.{characters}
-use Rattle.bib_show.proofs.PositionLines.{put_characters}
-use Rattle.bib_show.proofs.escape.push_escape.Goals as goal
+use Rattle.source_positions.proofs.PositionLines.{put_characters}
+use Rattle.source_positions.proofs.escape.push_escape.Goals as goal
 
 pub returns-clause-bytes : goal.returns-clause-bytes
 returns-clause-bytes c =

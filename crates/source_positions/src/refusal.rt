@@ -3,14 +3,18 @@
 ghost use Rattle.std.specs.Prelude.{◌≡◌, ◌++◌, ◌∷◌, [], IfOk, OnOk, string_bytes, codes};
 ghost use Rattle.std.specs.Fmt.{decimal};
 ghost use Rattle.laws.specs.Characters.{line_feed, colon};
-ghost use Rattle.bib_show.specs.Refusals.{refusal_lines};
+ghost use Rattle.source_positions.specs.Messages.{refusal_lines};
 
 use crate::position::ShownPosition;
 use std::alloc::{AllocError, Global};
 use std::fmt::Write;
 
-/// The message for a source that is refused at a position: `FILE:LINE:COLUMN:` and why, the line, and a caret below the position.
-pub(crate) fn refusal_lines(
+/// The message for a source that is refused after so many bytes of it: `FILE:LINE:COLUMN:` and why, the line, and a caret below the
+/// position.
+///
+/// # Errors
+/// Where a request for memory was refused.
+pub fn refusal_lines(
     alloc: Global,
     path: &str,
     source: &[u8],

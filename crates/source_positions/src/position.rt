@@ -6,8 +6,8 @@ ghost use Rattle.std.specs.Str.Lines.{strip_carriage_return};
 ghost use Rattle.laws.specs.Characters.{line_feed, circumflex};
 ghost use Rattle.laws.specs.Runs.{prefix_of};
 ghost use Rattle.laws.specs.Text.{characters};
-ghost use Rattle.bib_show.specs.Position.{next_position, position_from, line_at, mark_at, line_number, column_number, is_escaped, shown_in_line, shown_line, blank};
-ghost use Rattle.bib_show.specs.Views.{position_view, nothing_read};
+ghost use Rattle.source_positions.specs.Position.{next_position, position_from, line_at, mark_at, line_number, column_number, is_escaped, shown_in_line, shown_line, blank};
+ghost use Rattle.source_positions.specs.Views.{position_view, nothing_read};
 
 use crate::escape::push_escape;
 use std::alloc::{AllocError, Global};
@@ -22,20 +22,24 @@ struct Position {
 
 /// A position in a source: its line and its column, that line as it is shown, and a line with a caret below the position.
 #[derive(Drop)]
-pub(crate) struct ShownPosition {
+pub struct ShownPosition {
     /// The number of the line, from one.
-    pub(crate) number: usize,
+    pub number: usize,
     /// The number of the column, from one: a column is a character of the source.
-    pub(crate) column: usize,
+    pub column: usize,
     /// The line as it is shown, without its line feed.
-    pub(crate) line: String,
+    pub line: String,
     /// A blank for each character that is shown before the position, and a caret.
-    pub(crate) mark: String,
+    pub mark: String,
 }
 
 impl ShownPosition {
-    /// The position after so many bytes of the source; past its end, its end.
-    pub(crate) fn new(alloc: Global, source: &[u8], at: usize) -> Result<ShownPosition, AllocError>
+    /// The position after so many bytes of the source; past its end, its end. Bytes that are of no character are shown as U+FFFD, and
+    /// control characters other than a tab by their numbers.
+    ///
+    /// # Errors
+    /// Where a request for memory was refused.
+    pub fn new(alloc: Global, source: &[u8], at: usize) -> Result<ShownPosition, AllocError>
         ensures number { IfOk result (λ p. p.number ≡ line_number source.now at) }
         ensures column { IfOk result (λ p. p.column ≡ column_number source.now at) }
         ensures line { IfOk result (λ p. string_bytes p.line ≡ line_at source.now at) }

@@ -1,6 +1,6 @@
 use Rattle.std.proofs.Common.{rules}
 use Rattle.std.proofs.lemmas.Str.{chars_from_encodes}
-use Rattle.bib_show.proofs.position.char_count.Goals as goal
+use Rattle.source_positions.proofs.position.char_count.Goals as goal
 
 pub returns-clause-count : goal.returns-clause-count
 returns-clause-count c = search (rules, chars_from_encodes)

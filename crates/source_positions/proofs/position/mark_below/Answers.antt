@@ -1,8 +1,8 @@
 use Rattle.std.proofs.Common.{rules}
 use Rattle.std.specs.Prelude.{string_bytes}
 use Rattle.std.specs.Str.{chars}
-use Rattle.bib_show.proofs.PositionLines.{put_blank}
-use Rattle.bib_show.proofs.position.mark_below.Goals as goal
+use Rattle.source_positions.proofs.PositionLines.{put_blank}
+use Rattle.source_positions.proofs.position.mark_below.Goals as goal
 
 pub loop-c-preserved : goal.loop-c-preserved
 loop-c-preserved c =

@@ -3,8 +3,8 @@ use denote.Text.{Utf8}
 use denote.Shadow.{shadow}
 use Rattle.std.specs.Prelude.{string_bytes}
 use Rattle.std.specs.Str.{chars}
-use Rattle.bib_show.specs.Position.{blank}
-use Rattle.bib_show.proofs.position.mark_below.Given as goal
+use Rattle.source_positions.specs.Position.{blank}
+use Rattle.source_positions.proofs.position.mark_below.Given as goal
 
 abbrev pub invariant-loop-c : goal.invariant-loop-c
 invariant-loop-c l = (string_bytes l.mark ++ map blank (chars l.rest) ≡ map blank (chars l.shown)) × shadow (Utf8 l.rest)

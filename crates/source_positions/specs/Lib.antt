@@ -1,0 +1,3 @@
+pub mod Position
+pub mod Messages
+pub mod Views
