@@ -1,4 +1,5 @@
 pub mod Shown
 pub mod Refusals
 pub mod Unsettled
+pub mod Views
 pub mod Program

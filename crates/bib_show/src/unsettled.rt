@@ -7,6 +7,7 @@ ghost use Rattle.biblatex.specs.Items.{raw_of};
 ghost use Rattle.biblatex.specs.RawViews.{entry_view};
 ghost use Rattle.biblatex.specs.Value.{field_value_view};
 ghost use Rattle.biblatex.specs.Entries.{source_view, sources_view};
+ghost use Rattle.bib_show.specs.Views.{borrowed_field_view};
 ghost use Rattle.bib_show.specs.Unsettled.{field_fault, field_reason, first_unsettled, key_start, key_start_of, reason, unsettled_field, unsettled_reason, written_first};
 
 use biblatex::{Chunks, Entry, Fields, RawBibliography, RawEntry, RawError, Spanned};
@@ -52,7 +53,7 @@ fn reason(alloc: Global, part: &str, name: &str) -> Result<String, AllocError>
 /// Why a field does not read back, by its name and its content.
 fn field_reason(alloc: Global, field: Option<(&str, &Chunks)>) -> Result<String, AllocError>
     ensures { IfOk result (λ why. string_bytes why ≡ field_reason
-        (option_map (λ f. (f.0.now, field_value_view f.1.now.items)) field.entry)) }
+        (option_map borrowed_field_view field.entry)) }
 {
     match field {
         Some((name, content)) => {
@@ -78,8 +79,7 @@ fn field_fault(name: &str, content: &Chunks) -> &'static str
 
 /// The field that is written first among those that do not read back.
 fn unsettled_field(fields: &Fields) -> Option<(&str, &Chunks)>
-    ensures { option_map (λ f. (f.0.now, field_value_view f.1.now.items)) result
-        ≡ unsettled_field None fields.now }
+    ensures { option_map borrowed_field_view result ≡ unsettled_field None fields.now }
 {
     let mut found = None;
     for (name, content) in fields.iter() {
@@ -95,9 +95,8 @@ fn written_first<'f>(
     found: Option<(&'f str, &'f Chunks)>,
     field: (&'f str, &'f Chunks),
 ) -> (&'f str, &'f Chunks)
-    ensures { (result.0.now, field_value_view result.1.now.items) ≡ written_first
-        (option_map (λ f. (f.0.now, field_value_view f.1.now.items)) found.entry)
-        (field.entry.0.now, field_value_view field.entry.1.now.items) }
+    ensures { borrowed_field_view result ≡ written_first
+        (option_map borrowed_field_view found.entry) (borrowed_field_view field.entry) }
 {
     match found {
         Some(found) => {
