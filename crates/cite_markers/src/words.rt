@@ -21,7 +21,7 @@ pub(crate) fn purpose_of(word: &str) -> Option<CitePurpose>
     }
 }
 
-/// Every label of a locator.
+/// The labels that a marker names.
 const LABELS: [Locator; 18] = [
     Locator::Book,
     Locator::Chapter,
@@ -62,13 +62,20 @@ fn first_called(word: &str, labels: &[Locator]) -> Option<Locator>
     None
 }
 
+/// The word of a label.
 fn label_word(label: Locator) -> &'static str
     ensures { result.now ≡ label_word label }
 {
     match label {
+        Locator::Act => "act",
+        Locator::Appendix => "appendix",
+        Locator::ArticleLocator => "article-locator",
         Locator::Book => "book",
+        Locator::Canon => "canon",
         Locator::Chapter => "chapter",
         Locator::Column => "column",
+        Locator::Elocation => "elocation",
+        Locator::Equation => "equation",
         Locator::Figure => "figure",
         Locator::Folio => "folio",
         Locator::Issue => "issue",
@@ -78,11 +85,17 @@ fn label_word(label: Locator) -> &'static str
         Locator::Page => "page",
         Locator::Paragraph => "paragraph",
         Locator::Part => "part",
+        Locator::Rule => "rule",
+        Locator::Scene => "scene",
         Locator::Section => "section",
         Locator::SubVerbo => "sub-verbo",
-        Locator::Verse => "verse",
-        Locator::Volume => "volume",
         Locator::Supplement => "supplement",
+        Locator::Table => "table",
+        Locator::Timestamp => "timestamp",
+        Locator::TitleLocator => "title-locator",
+        Locator::Verse => "verse",
+        Locator::Version => "version",
+        Locator::Volume => "volume",
         Locator::Custom => "custom",
     }
 }

@@ -17,12 +17,12 @@ use Rattle.cite_markers.specs.Words.{purpose_of, label_of}
 use Rattle.cite_markers.specs.Marker.{CiteLocator, Cite, Beginning, passing, word_at, purpose_at, purpose_if_no_sign, beginning_at, is_value, locator_at, locator_if_space, cite_at, further_cite_at, cite_if_semicolon, next_cite_at, cites_at, marker_at}
 use Rattle.cite_markers.proofs.MarkerLeaving.{cites_shorten}
 use Rattle.cite_markers_grammar.specs.Characters.{is_of_name, is_of_value, IsRun, IsOptional, IsTight}
-use Rattle.cite_markers_grammar.specs.Words.{written_purpose, written_label}
+use Rattle.cite_markers_grammar.specs.Words.{written_purpose, written_label, is_named}
 use Rattle.cite_markers_grammar.specs.Markers.{IsPurpose, IsBeginning, IsLocator, IsCite, AreCites, IsMarker}
 use Rattle.cite_markers_grammar.proofs.Classes.{of_name, of_value}
 use Rattle.cite_markers_grammar.proofs.Steps.{Again, Takes, given, read_same, head_same, tail_same, never_empty, token-takes, taken-again, taken-takes, run-prefix, run-after, run-takes, passing-ok, ok_or-ok}
 use Rattle.cite_markers_grammar.proofs.Trims.{value-again, value-takes}
-use Rattle.cite_markers_grammar.proofs.Words.{purpose_read, label_read, label_found, purpose-takes, label-takes}
+use Rattle.cite_markers_grammar.proofs.Words.{purpose_read, label_read, label_found, label_named, purpose-takes, label-takes}
 
 abbrev Read : Type 0 → Type 0
 Read X = Result (X × List ℕ) Unreadable
@@ -112,16 +112,17 @@ valued-again word l cs rest run tight =
     ∙ (ap (λ b. passing b l.value >>= located (word, cs) l.label) (value-again l.value run.3 tight)
     ∙ ap (λ (x : List ℕ). Ok (Some l, x)) (value-after cs l.value rest run))
 
-locator_at-again : (l : CiteLocator) (cs rest : List ℕ) → IsRun is_of_value cs l.value rest → IsTight l.value → locator_at (written_label l.label ++ 32 ∷ cs) ≡ Ok (Some l, rest)
+locator_at-again : (l : CiteLocator) (cs rest : List ℕ) → is_named l.label ≡ true → IsRun is_of_value cs l.value rest → IsTight l.value
+    → locator_at (written_label l.label ++ 32 ∷ cs) ≡ Ok (Some l, rest)
 unfolding locator_at
-locator_at-again l cs rest run tight =
+locator_at-again l cs rest named run tight =
     ap (λ (r : Read (List ℕ)). r >>= labelled) (label_read l.label cs)
-    ∙ (ap (λ (o : Option Locator). ok_or o NotThere >>= valued (written_label l.label, cs)) (label_found l.label)
+    ∙ (ap (λ (o : Option Locator). ok_or o NotThere >>= valued (written_label l.label, cs)) (label_found l.label named)
     ∙ valued-again (written_label l.label) l cs rest run tight)
 
 locator-again : (l : Option CiteLocator) (cs rest : List ℕ) → IsLocator cs l rest → locator_if_space (taken 32 cs) ≡ Ok (l, rest)
 locator-again None cs rest is = ap locator_if_space (taken-again 32 false cs rest is)
-locator-again (Some l) cs rest (a, e, run, tight) = ap (λ (x : List ℕ). locator_if_space (taken 32 x)) e ∙ locator_at-again l a rest run tight
+locator-again (Some l) cs rest (named, a, e, run, tight) = ap (λ (x : List ℕ). locator_if_space (taken 32 x)) e ∙ locator_at-again l a rest named run tight
 
 locator_at-takes : (cs : List ℕ) (q : Option CiteLocator × List ℕ) → locator_at cs ≡ Ok q → IsLocator (32 ∷ cs) q.0 q.1
 unfolding locator_at
@@ -132,9 +133,10 @@ locator_at-takes cs q e =
     let passed = passing-ok (is_value (text_of (value_of word.0))) (value_of word.0) value.0 value.1 in
     let fine = value-takes (value_of word.0) passed.0 in
     let run = value_run-takes word.0.1 fine.0 in
-    let stands : cs ≡ written_label label.0 ++ 32 ∷ word.0.1 = label-takes cs word.0 label.0 word.1 (ok_or-ok (label_of word.0.0) label.0 label.1) in
+    let found : label_of word.0.0 ≡ Some label.0 = ok_or-ok (label_of word.0.0) label.0 label.1 in
+    let stands : cs ≡ written_label label.0 ++ 32 ∷ word.0.1 = label-takes cs word.0 label.0 word.1 found in
     given (λ p. IsLocator (32 ∷ cs) p.0 p.1) (Some (record { label = label.0; value = value.0 })) (after (passes of_value) word.0.1) q value.2
-    (word.0.1, ap (λ (x : List ℕ). 32 ∷ x) stands, subst (λ v. IsRun is_of_value word.0.1 v (after (passes of_value) word.0.1)) passed.1 run, subst IsTight passed.1 fine.1)
+    (label_named word.0.0 label.0 found, word.0.1, ap (λ (x : List ℕ). 32 ∷ x) stands, subst (λ v. IsRun is_of_value word.0.1 v (after (passes of_value) word.0.1)) passed.1 run, subst IsTight passed.1 fine.1)
 
 locator-takes : (cs : List ℕ) (q : Option CiteLocator × List ℕ) → locator_if_space (taken 32 cs) ≡ Ok q → IsLocator cs q.0 q.1
 locator-takes cs q e = by_taken (taken 32 cs).0 (taken 32 cs).1 (taken-takes 32 cs) e

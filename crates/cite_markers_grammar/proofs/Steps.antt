@@ -1,8 +1,8 @@
 -- What steps of the reader give, against relations of what is spelled.
 use Rattle.std.proofs.Common.{◌≡◌, ℕ, Bool, true, false, true≢false, cond, eqb, List, [], ◌∷◌, Option, Some, None, Result, Ok, refl, sym, ap, ◌∙◌, subst}
 use Rattle.std.specs.Option.{ok_or}
-use Rattle.std.specs.List.{find}
-use Rattle.std.proofs.lemmas.Bool.{eqb-true, eq-eqb}
+use Rattle.std.specs.List.{find, list_all}
+use Rattle.std.proofs.lemmas.Bool.{and_parts, eqb-true, eq-eqb}
 use Rattle.laws.specs.Runs.{prefix_of, after}
 use Rattle.laws.specs.Text.{is_filled}
 use Rattle.laws.proofs.Results.{ok_is, test_ok}
@@ -98,3 +98,15 @@ find-passes {X} test (y ∷ xs) x e = by_test (find-passes test xs x) (test y) r
     by_test : (find test xs ≡ Some x → test x ≡ true) → (b : Bool) → test y ≡ b → cond b (Some y) (find test xs) ≡ Some x → test x ≡ true
     by_test more true is f = ap test (sym (some_is y x f)) ∙ is
     by_test more false is f = more f
+
+-- it passes each test that all pass
+pub find-holds : {X : Type 0} (holds test : X → Bool) (xs : List X) (x : X) → list_all holds xs ≡ true → find test xs ≡ Some x → holds x ≡ true
+find-holds holds test [] x all e = absurd cc
+find-holds {X} holds test (y ∷ xs) x all e = by_test both.0 (find-holds holds test xs x both.1) (test y) e
+  where
+    both : (holds y ≡ true) × (list_all holds xs ≡ true)
+    both = and_parts (holds y) (list_all holds xs) all
+
+    by_test : holds y ≡ true → (find test xs ≡ Some x → holds x ≡ true) → (b : Bool) → cond b (Some y) (find test xs) ≡ Some x → holds x ≡ true
+    by_test first more true f = ap holds (sym (some_is y x f)) ∙ first
+    by_test first more false f = more f

@@ -1,5 +1,5 @@
 -- The words of the grammar are those that the reader looks up.
-use Rattle.std.proofs.Common.{◌≡◌, ℕ, List, ◌∷◌, ◌++◌, Some, Ok, refl, sym, ap, ◌∙◌}
+use Rattle.std.proofs.Common.{◌≡◌, ℕ, true, true≢false, List, ◌∷◌, ◌++◌, Some, Ok, refl, sym, ap, ◌∙◌}
 use Rattle.std.specs.Str.{bytes_eq}
 use Rattle.std.proofs.lemmas.Slice.Eq.{bytes_eq-Decides}
 use Rattle.std.proofs.lemmas.Str.{encodes_same}
@@ -16,9 +16,9 @@ use Rattle.rendering_taxonomy.specs.declared.locator.Locator.TheVariants as labe
 use Rattle.cite_markers.specs.Character.{passes}
 use Rattle.cite_markers.specs.Words.{purpose_word, all_purposes, purpose_of, label_word, all_labels, label_of}
 use Rattle.cite_markers.specs.Marker.{word_at, purpose_at, purpose_if_no_sign}
-use Rattle.cite_markers_grammar.specs.Words.{written_purpose, written_label}
+use Rattle.cite_markers_grammar.specs.Words.{written_purpose, written_label, is_named}
 use Rattle.cite_markers_grammar.proofs.Classes.{of_word}
-use Rattle.cite_markers_grammar.proofs.Steps.{token-takes, find-passes}
+use Rattle.cite_markers_grammar.proofs.Steps.{token-takes, find-passes, find-holds}
 
 -- the word of each purpose and of each label is read, looked up, and written as it is
 pub purpose_read : (p : CitePurpose) (rest : List ℕ) → purpose_if_no_sign (taken 64 (written_purpose p ++ 32 ∷ 64 ∷ rest)) ≡ Ok (Some p, rest)
@@ -43,86 +43,39 @@ purpose_bytes purposes.Prose = refl
 
 pub label_read : (l : Locator) (rest : List ℕ) → word_at (written_label l ++ 32 ∷ rest) ≡ Ok (written_label l, rest)
 unfolding word_at passes lib.Utf8.encode
-label_read labels.Book rest = refl
-label_read labels.Chapter rest = refl
-label_read labels.Column rest = refl
-label_read labels.Figure rest = refl
-label_read labels.Folio rest = refl
-label_read labels.Issue rest = refl
-label_read labels.Line rest = refl
-label_read labels.Note rest = refl
-label_read labels.Opus rest = refl
-label_read labels.Page rest = refl
-label_read labels.Paragraph rest = refl
-label_read labels.Part rest = refl
-label_read labels.Section rest = refl
-label_read labels.SubVerbo rest = refl
-label_read labels.Verse rest = refl
-label_read labels.Volume rest = refl
-label_read labels.Supplement rest = refl
-label_read labels.Custom rest = refl
+label_read labels.Act rest = refl
+label_read l rest = refl
 
-pub label_found : (l : Locator) → label_of (written_label l) ≡ Some l
+-- a label that markers name is found by its word
+pub label_found : (l : Locator) → is_named l ≡ true → label_of (written_label l) ≡ Some l
 unfolding label_of
-label_found labels.Book = refl
-label_found labels.Chapter = refl
-label_found labels.Column = refl
-label_found labels.Figure = refl
-label_found labels.Folio = refl
-label_found labels.Issue = refl
-label_found labels.Line = refl
-label_found labels.Note = refl
-label_found labels.Opus = refl
-label_found labels.Page = refl
-label_found labels.Paragraph = refl
-label_found labels.Part = refl
-label_found labels.Section = refl
-label_found labels.SubVerbo = refl
-label_found labels.Verse = refl
-label_found labels.Volume = refl
-label_found labels.Supplement = refl
-label_found labels.Custom = refl
+label_found labels.Act named = absurd (true≢false (sym named))
+label_found labels.Appendix named = absurd (true≢false (sym named))
+label_found labels.ArticleLocator named = absurd (true≢false (sym named))
+label_found labels.Canon named = absurd (true≢false (sym named))
+label_found labels.Elocation named = absurd (true≢false (sym named))
+label_found labels.Equation named = absurd (true≢false (sym named))
+label_found labels.Rule named = absurd (true≢false (sym named))
+label_found labels.Scene named = absurd (true≢false (sym named))
+label_found labels.Table named = absurd (true≢false (sym named))
+label_found labels.Timestamp named = absurd (true≢false (sym named))
+label_found labels.TitleLocator named = absurd (true≢false (sym named))
+label_found labels.Version named = absurd (true≢false (sym named))
+label_found l named = refl
+
+-- markers name what is found
+pub label_named : (word : List ℕ) (l : Locator) → label_of word ≡ Some l → is_named l ≡ true
+unfolding label_of
+label_named word l e = find-holds is_named (λ m. bytes_eq word (label_word m)) all_labels l refl e
 
 label_same : (l : Locator) → label_word l ≡ written_label l
-label_same labels.Book = refl
-label_same labels.Chapter = refl
-label_same labels.Column = refl
-label_same labels.Figure = refl
-label_same labels.Folio = refl
-label_same labels.Issue = refl
-label_same labels.Line = refl
-label_same labels.Note = refl
-label_same labels.Opus = refl
-label_same labels.Page = refl
-label_same labels.Paragraph = refl
-label_same labels.Part = refl
-label_same labels.Section = refl
-label_same labels.SubVerbo = refl
-label_same labels.Verse = refl
-label_same labels.Volume = refl
-label_same labels.Supplement = refl
-label_same labels.Custom = refl
+label_same labels.Act = refl
+label_same l = refl
 
 label_bytes : (l : Locator) → text_of (written_label l) ≡ written_label l
 unfolding lib.Utf8.encode
-label_bytes labels.Book = refl
-label_bytes labels.Chapter = refl
-label_bytes labels.Column = refl
-label_bytes labels.Figure = refl
-label_bytes labels.Folio = refl
-label_bytes labels.Issue = refl
-label_bytes labels.Line = refl
-label_bytes labels.Note = refl
-label_bytes labels.Opus = refl
-label_bytes labels.Page = refl
-label_bytes labels.Paragraph = refl
-label_bytes labels.Part = refl
-label_bytes labels.Section = refl
-label_bytes labels.SubVerbo = refl
-label_bytes labels.Verse = refl
-label_bytes labels.Volume = refl
-label_bytes labels.Supplement = refl
-label_bytes labels.Custom = refl
+label_bytes labels.Act = refl
+label_bytes l = refl
 
 -- a word that was read stands there, with a space after it
 word-takes : (cs word : List ℕ) (w : List ℕ × List ℕ) → word_at cs ≡ Ok w → w.0 ≡ word → text_of word ≡ word → cs ≡ word ++ 32 ∷ w.1

@@ -1,11 +1,11 @@
 -- Markers as a grammar by cases. Each relation takes a text, what is spelled from its first character on, and the text that follows.
 -- Characters are numbers.
-use Rattle.std.specs.Prelude.{◌≡◌, ◌⊎◌, ℕ, false, List, [], ◌∷◌, ◌++◌, Option, Some, None}
+use Rattle.std.specs.Prelude.{◌≡◌, ◌⊎◌, ℕ, true, false, List, [], ◌∷◌, ◌++◌, Option, Some, None}
 use Rattle.laws.specs.Characters.{space, hyphen, semicolon, at_sign, open_bracket, close_bracket}
 use Rattle.rendering_taxonomy.specs.declared.cite.CitePurpose.{CitePurpose}
 use Rattle.cite_markers.specs.Marker.{Cite, CiteLocator, Beginning}
 use Rattle.cite_markers_grammar.specs.Characters.{is_of_name, is_of_value, IsRun, IsOptional, IsTight}
-use Rattle.cite_markers_grammar.specs.Words.{written_purpose, written_label}
+use Rattle.cite_markers_grammar.specs.Words.{written_purpose, written_label, is_named}
 
 -- a text, what it spells, and the text that follows
 abbrev pub Spells : Type 0 → Type 1
@@ -20,10 +20,11 @@ IsPurpose cs (Some p) rest = cs ≡ written_purpose p ++ space ∷ rest
 abbrev pub IsBeginning : Spells Beginning
 IsBeginning cs b rest = (a : List ℕ) × IsOptional hyphen cs b.hidden a × IsPurpose a b.purpose (at_sign ∷ rest)
 
--- A locator is a space, its label, a space and its value; there is none where no space stands.
+-- A locator is a space, a label that markers name, a space and its value; there is none where no space stands.
 abbrev pub IsLocator : Spells (Option CiteLocator)
 IsLocator cs None rest = IsOptional space cs false rest
-IsLocator cs (Some l) rest = (a : List ℕ) × (cs ≡ space ∷ (written_label l.label ++ space ∷ a)) × IsRun is_of_value a l.value rest × IsTight l.value
+IsLocator cs (Some l) rest =
+    (is_named l.label ≡ true) × (a : List ℕ) × (cs ≡ space ∷ (written_label l.label ++ space ∷ a)) × IsRun is_of_value a l.value rest × IsTight l.value
 
 -- A cite is its beginning, a name, and a locator or none.
 abbrev pub IsCite : Spells Cite

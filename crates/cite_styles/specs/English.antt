@@ -24,6 +24,10 @@ row name form one more = record { name = name; form = form; single = Some one; m
 abbrev pub word : OtherTerm → TermForm → List ℕ → LocalizedTerm
 word w form text = row (terms.Other w) form text text
 
+-- a month, which counts from zero
+abbrev pub month : ℕ → TermForm → List ℕ → LocalizedTerm
+month m form text = row (terms.Month m) form text text
+
 -- a label of a locator
 abbrev pub label : Locator → TermForm → List ℕ → List ℕ → LocalizedTerm
 label l form one more = row (terms.Locator l) form one more
@@ -93,30 +97,30 @@ labels =
 -- the months, which count from zero
 unfoldable pub months : List LocalizedTerm
 months =
-    word (others.Month 0) forms.Long (codes "January")
-    ∷ word (others.Month 0) forms.Short (codes "Jan.")
-    ∷ word (others.Month 1) forms.Long (codes "February")
-    ∷ word (others.Month 1) forms.Short (codes "Feb.")
-    ∷ word (others.Month 2) forms.Long (codes "March")
-    ∷ word (others.Month 2) forms.Short (codes "Mar.")
-    ∷ word (others.Month 3) forms.Long (codes "April")
-    ∷ word (others.Month 3) forms.Short (codes "Apr.")
-    ∷ word (others.Month 4) forms.Long (codes "May")
-    ∷ word (others.Month 4) forms.Short (codes "May")
-    ∷ word (others.Month 5) forms.Long (codes "June")
-    ∷ word (others.Month 5) forms.Short (codes "June")
-    ∷ word (others.Month 6) forms.Long (codes "July")
-    ∷ word (others.Month 6) forms.Short (codes "July")
-    ∷ word (others.Month 7) forms.Long (codes "August")
-    ∷ word (others.Month 7) forms.Short (codes "Aug.")
-    ∷ word (others.Month 8) forms.Long (codes "September")
-    ∷ word (others.Month 8) forms.Short (codes "Sep.")
-    ∷ word (others.Month 9) forms.Long (codes "October")
-    ∷ word (others.Month 9) forms.Short (codes "Oct.")
-    ∷ word (others.Month 10) forms.Long (codes "November")
-    ∷ word (others.Month 10) forms.Short (codes "Nov.")
-    ∷ word (others.Month 11) forms.Long (codes "December")
-    ∷ word (others.Month 11) forms.Short (codes "Dec.")
+    month 0 forms.Long (codes "January")
+    ∷ month 0 forms.Short (codes "Jan.")
+    ∷ month 1 forms.Long (codes "February")
+    ∷ month 1 forms.Short (codes "Feb.")
+    ∷ month 2 forms.Long (codes "March")
+    ∷ month 2 forms.Short (codes "Mar.")
+    ∷ month 3 forms.Long (codes "April")
+    ∷ month 3 forms.Short (codes "Apr.")
+    ∷ month 4 forms.Long (codes "May")
+    ∷ month 4 forms.Short (codes "May")
+    ∷ month 5 forms.Long (codes "June")
+    ∷ month 5 forms.Short (codes "June")
+    ∷ month 6 forms.Long (codes "July")
+    ∷ month 6 forms.Short (codes "July")
+    ∷ month 7 forms.Long (codes "August")
+    ∷ month 7 forms.Short (codes "Aug.")
+    ∷ month 8 forms.Long (codes "September")
+    ∷ month 8 forms.Short (codes "Sep.")
+    ∷ month 9 forms.Long (codes "October")
+    ∷ month 9 forms.Short (codes "Oct.")
+    ∷ month 10 forms.Long (codes "November")
+    ∷ month 10 forms.Short (codes "Nov.")
+    ∷ month 11 forms.Long (codes "December")
+    ∷ month 11 forms.Short (codes "Dec.")
     ∷ []
 
 -- all its terms

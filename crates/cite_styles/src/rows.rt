@@ -4,7 +4,7 @@ ghost use Rattle.std.specs.Prelude.{◌≡◌, map};
 ghost use Rattle.cite_styles.specs.English.{words, counted, labels, months};
 ghost use Rattle.cite_styles.specs.Rows.{term_row_view};
 
-use rendering_taxonomy::Term::{Locator as Label, Other};
+use rendering_taxonomy::Term::{Locator as Label, Month, Other};
 use rendering_taxonomy::TermForm::{Long, Short};
 use rendering_taxonomy::{
     Locator, NameVariable, NumberVariable, OtherTerm, Term, TermForm, Variable,
@@ -78,30 +78,30 @@ const LABELS: &[Row] = &[
 
 /// The months.
 const MONTHS: &[Row] = &[
-    (Other(OtherTerm::Month(0)), Long, "January", "January"),
-    (Other(OtherTerm::Month(0)), Short, "Jan.", "Jan."),
-    (Other(OtherTerm::Month(1)), Long, "February", "February"),
-    (Other(OtherTerm::Month(1)), Short, "Feb.", "Feb."),
-    (Other(OtherTerm::Month(2)), Long, "March", "March"),
-    (Other(OtherTerm::Month(2)), Short, "Mar.", "Mar."),
-    (Other(OtherTerm::Month(3)), Long, "April", "April"),
-    (Other(OtherTerm::Month(3)), Short, "Apr.", "Apr."),
-    (Other(OtherTerm::Month(4)), Long, "May", "May"),
-    (Other(OtherTerm::Month(4)), Short, "May", "May"),
-    (Other(OtherTerm::Month(5)), Long, "June", "June"),
-    (Other(OtherTerm::Month(5)), Short, "June", "June"),
-    (Other(OtherTerm::Month(6)), Long, "July", "July"),
-    (Other(OtherTerm::Month(6)), Short, "July", "July"),
-    (Other(OtherTerm::Month(7)), Long, "August", "August"),
-    (Other(OtherTerm::Month(7)), Short, "Aug.", "Aug."),
-    (Other(OtherTerm::Month(8)), Long, "September", "September"),
-    (Other(OtherTerm::Month(8)), Short, "Sep.", "Sep."),
-    (Other(OtherTerm::Month(9)), Long, "October", "October"),
-    (Other(OtherTerm::Month(9)), Short, "Oct.", "Oct."),
-    (Other(OtherTerm::Month(10)), Long, "November", "November"),
-    (Other(OtherTerm::Month(10)), Short, "Nov.", "Nov."),
-    (Other(OtherTerm::Month(11)), Long, "December", "December"),
-    (Other(OtherTerm::Month(11)), Short, "Dec.", "Dec."),
+    (Month(0), Long, "January", "January"),
+    (Month(0), Short, "Jan.", "Jan."),
+    (Month(1), Long, "February", "February"),
+    (Month(1), Short, "Feb.", "Feb."),
+    (Month(2), Long, "March", "March"),
+    (Month(2), Short, "Mar.", "Mar."),
+    (Month(3), Long, "April", "April"),
+    (Month(3), Short, "Apr.", "Apr."),
+    (Month(4), Long, "May", "May"),
+    (Month(4), Short, "May", "May"),
+    (Month(5), Long, "June", "June"),
+    (Month(5), Short, "June", "June"),
+    (Month(6), Long, "July", "July"),
+    (Month(6), Short, "July", "July"),
+    (Month(7), Long, "August", "August"),
+    (Month(7), Short, "Aug.", "Aug."),
+    (Month(8), Long, "September", "September"),
+    (Month(8), Short, "Sep.", "Sep."),
+    (Month(9), Long, "October", "October"),
+    (Month(9), Short, "Oct.", "Oct."),
+    (Month(10), Long, "November", "November"),
+    (Month(10), Short, "Nov.", "Nov."),
+    (Month(11), Long, "December", "December"),
+    (Month(11), Short, "Dec.", "Dec."),
 ];
 
 /// The words that are not counted.

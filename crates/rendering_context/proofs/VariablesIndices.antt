@@ -33,32 +33,17 @@ use Rattle.rendering_taxonomy.specs.contracts.variable.VariablePartialEq.TheImpl
 -- the labels in the order of their indices
 abbrev labels : List Locator
 labels =
-    locators.Book ∷ locators.Chapter ∷ locators.Column ∷ locators.Figure ∷ locators.Folio ∷ locators.Issue ∷ locators.Line ∷ locators.Note ∷ locators.Opus
-    ∷ locators.Page ∷ locators.Paragraph ∷ locators.Part ∷ locators.Section ∷ locators.SubVerbo ∷ locators.Verse ∷ locators.Volume ∷ locators.Supplement
-    ∷ locators.Custom ∷ []
+    locators.Act ∷ locators.Appendix ∷ locators.ArticleLocator ∷ locators.Book ∷ locators.Canon ∷ locators.Chapter ∷ locators.Column
+    ∷ locators.Elocation ∷ locators.Equation ∷ locators.Figure ∷ locators.Folio ∷ locators.Issue ∷ locators.Line ∷ locators.Note ∷ locators.Opus
+    ∷ locators.Page ∷ locators.Paragraph ∷ locators.Part ∷ locators.Rule ∷ locators.Scene ∷ locators.Section ∷ locators.SubVerbo ∷ locators.Supplement
+    ∷ locators.Table ∷ locators.Timestamp ∷ locators.TitleLocator ∷ locators.Verse ∷ locators.Version ∷ locators.Volume ∷ locators.Custom ∷ []
 
 abbrev label_at : ℕ → Locator
 label_at n = get_or labels n locators.Custom
 
 label_back : (l : Locator) → label_at (locator_index l) ≡ l
-label_back locators.Book = refl
-label_back locators.Chapter = refl
-label_back locators.Column = refl
-label_back locators.Figure = refl
-label_back locators.Folio = refl
-label_back locators.Issue = refl
-label_back locators.Line = refl
-label_back locators.Note = refl
-label_back locators.Opus = refl
-label_back locators.Page = refl
-label_back locators.Paragraph = refl
-label_back locators.Part = refl
-label_back locators.Section = refl
-label_back locators.SubVerbo = refl
-label_back locators.Verse = refl
-label_back locators.Volume = refl
-label_back locators.Supplement = refl
-label_back locators.Custom = refl
+label_back locators.Act = refl
+label_back l = refl
 
 -- the variables in the order of their indices; pages stand at the indices of none
 abbrev all_variables : List Variable

@@ -10,7 +10,6 @@ use Rattle.rendering_taxonomy.specs.declared.date.DateDayForm.TheVariants as day
 use Rattle.rendering_taxonomy.specs.declared.date.DateMonthForm.TheVariants as months
 use Rattle.rendering_taxonomy.specs.declared.date.DatePartForm.TheVariants.{Day, Month, Year}
 use Rattle.rendering_taxonomy.specs.declared.date.LongShortForm.TheVariants as lengths
-use Rattle.rendering_taxonomy.specs.declared.term.OtherTerm.TheVariants as others
 use Rattle.rendering_taxonomy.specs.declared.term.Term.TheVariants as terms
 use Rattle.rendering_taxonomy.specs.declared.term.TermForm.TheVariants as forms
 
@@ -18,7 +17,7 @@ use Rattle.rendering_taxonomy.specs.declared.term.TermForm.TheVariants as forms
 abbrev english : Locale
 english = record {
   lang = None;
-  terms = record { name = terms.Other (others.Month 0); form = forms.Short; single = Some (codes "Jan."); multiple = None } ∷ [];
+  terms = record { name = terms.Month 0; form = forms.Short; single = Some (codes "Jan."); multiple = None } ∷ [];
   dates = [];
   ordinals = Some (record { endings = (1, codes "st") ∷ (2, codes "nd") ∷ []; default = codes "th" });
   punctuation_in_quote = None;

@@ -57,8 +57,8 @@ day_by ls days.Ordinal d = ordinal_text (ordinals_of ls) (pos (d + 1))
 
 -- a month by its form; months count from zero, and one without a term is empty
 abbrev pub month_by : List Locale → DateMonthForm → ℕ → List ℕ
-month_by ls months.Long m = term_text ls (terms.Other (others.Month m)) forms.Long false
-month_by ls months.Short m = term_text ls (terms.Other (others.Month m)) forms.Short false
+month_by ls months.Long m = term_text ls (terms.Month m) forms.Long false
+month_by ls months.Short m = term_text ls (terms.Month m) forms.Short false
 month_by ls months.Numeric m = decimal (m + 1)
 month_by ls months.TwoDigits m = padded 2 (m + 1)
 

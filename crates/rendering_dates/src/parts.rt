@@ -14,9 +14,7 @@ use crate::years::push_year_by;
 use literature_values::Date;
 use rendering_locale::AskedLocales;
 use rendering_numbers::{push_digits, push_ordinal, push_two_digits};
-use rendering_taxonomy::{
-    DateDayForm, DateMonthForm, DatePartForm, LongShortForm, OtherTerm, Term, TermForm,
-};
+use rendering_taxonomy::{DateDayForm, DateMonthForm, DatePartForm, LongShortForm, Term, TermForm};
 use std::alloc::{AllocError, Global};
 use texts::{empty_text, has_text};
 
@@ -102,9 +100,9 @@ fn month_text<'a>(
 /// The locale's word for a month.
 fn month_word<'a>(locales: &AskedLocales<'a>, form: TermForm, month: u8) -> PartText<'a>
     ensures { part_text_view result
-        ≡ term_text locales.now (Term.Other (OtherTerm.Month month)) form false }
+        ≡ term_text locales.now (Term.Month month) form false }
 {
-    PartText::Word(locales.term_text(Term::Other(OtherTerm::Month(month)), form, false))
+    PartText::Word(locales.term_text(Term::Month(month), form, false))
 }
 
 fn year_text<'a>(

@@ -3,7 +3,7 @@
 ghost use Rattle.std.specs.Prelude.{◌≡◌, ◌+◌};
 ghost use Rattle.rendering_taxonomy.specs.Variables.{standard_index, number_index, name_index, date_index, variable_index};
 ghost use Rattle.rendering_taxonomy.specs.Kinds.{locator_index};
-ghost use Rattle.rendering_taxonomy.specs.Terms.{label_index, other_index, term_index, is_term, form_index, is_form, forms_from};
+ghost use Rattle.rendering_taxonomy.specs.Terms.{other_index, canonical, term_index, is_term, form_index, is_form, forms_from};
 
 use rendering_taxonomy::{
     DateVariable, Locator, NameVariable, NumberVariable, OtherTerm, StandardVariable, Term,
@@ -14,22 +14,38 @@ use rendering_taxonomy::{
 pub(crate) fn is_term(term: Term, name: Term) -> bool
     ensures { result ≡ is_term term name }
 {
-    term_index(term) == term_index(name)
+    term_index(canonical(term)) == term_index(canonical(name))
 }
 
-/// The index of the term among all words.
-fn term_index(term: Term) -> u16
+/// Of the terms that have one word the one that stands for all of them: a variable.
+fn canonical(term: Term) -> Term
+    ensures { result ≡ canonical term }
+{
+    match term {
+        Term::Locator(Locator::Issue) => Term::Variable(Variable::Number(NumberVariable::Issue)),
+        Term::Locator(Locator::Note) => Term::Variable(Variable::Standard(StandardVariable::Note)),
+        Term::Locator(Locator::Page) => Term::Variable(Variable::Page),
+        Term::Locator(Locator::Volume) => Term::Variable(Variable::Number(NumberVariable::Volume)),
+        _ => term,
+    }
+}
+
+/// The index of the term among all of them.
+fn term_index(term: Term) -> u64
     ensures { result ≡ term_index term }
 {
     match term {
         Term::Variable(variable) => variable_index(variable),
-        Term::Locator(locator) => label_index(locator),
-        Term::Other(other) => other_index(other),
+        Term::Locator(locator) => 200 + locator_index(locator) as u64,
+        Term::Other(other) => 400 + other_index(other) as u64,
+        Term::Month(month) => 500 + month as u64,
+        Term::Season(season) => 800 + season as u64,
+        Term::Word(number) => 2000 + number as u64,
     }
 }
 
 /// The index of a variable that is a text.
-fn standard_index(variable: StandardVariable) -> u16
+fn standard_index(variable: StandardVariable) -> u64
     ensures { result ≡ standard_index variable }
 {
     match variable {
@@ -50,7 +66,7 @@ fn standard_index(variable: StandardVariable) -> u16
     }
 }
 
-fn number_index(variable: NumberVariable) -> u16
+fn number_index(variable: NumberVariable) -> u64
     ensures { result ≡ number_index variable }
 {
     match variable {
@@ -69,7 +85,7 @@ fn number_index(variable: NumberVariable) -> u16
 }
 
 /// The index of a variable that is people.
-fn name_index(variable: NameVariable) -> u16
+fn name_index(variable: NameVariable) -> u64
     ensures { result ≡ name_index variable }
 {
     match variable {
@@ -80,7 +96,7 @@ fn name_index(variable: NameVariable) -> u16
     }
 }
 
-fn date_index(variable: DateVariable) -> u16
+fn date_index(variable: DateVariable) -> u64
     ensures { result ≡ date_index variable }
 {
     match variable {
@@ -93,7 +109,7 @@ fn date_index(variable: DateVariable) -> u16
     }
 }
 
-fn variable_index(variable: Variable) -> u16
+fn variable_index(variable: Variable) -> u64
     ensures { result ≡ variable_index variable }
 {
     match variable {
@@ -105,51 +121,18 @@ fn variable_index(variable: Variable) -> u16
     }
 }
 
-/// The index of the word of a label: a variable's where the label has its name, else one after all of theirs.
-fn label_index(locator: Locator) -> u16
-    ensures { result ≡ label_index locator }
+/// The index of a label in its list.
+fn locator_index(locator: Locator) -> u8
+    ensures { result ≡ locator_index locator }
 {
-    match locator {
-        Locator::Issue => number_index(NumberVariable::Issue),
-        Locator::Note => standard_index(StandardVariable::Note),
-        Locator::Page => variable_index(Variable::Page),
-        Locator::Volume => number_index(NumberVariable::Volume),
-        Locator::Book => 100,
-        Locator::Chapter => 101,
-        Locator::Column => 102,
-        Locator::Figure => 103,
-        Locator::Folio => 104,
-        Locator::Line => 106,
-        Locator::Opus => 108,
-        Locator::Paragraph => 110,
-        Locator::Part => 111,
-        Locator::Section => 112,
-        Locator::SubVerbo => 113,
-        Locator::Verse => 114,
-        Locator::Supplement => 116,
-        Locator::Custom => 117,
-    }
+    locator as u8
 }
 
-/// The index of another word.
-fn other_index(term: OtherTerm) -> u16
+/// The index of another word in its list.
+fn other_index(term: OtherTerm) -> u8
     ensures { result ≡ other_index term }
 {
-    match term {
-        OtherTerm::And => 200,
-        OtherTerm::EtAl => 201,
-        OtherTerm::AndOthers => 202,
-        OtherTerm::Ibid => 203,
-        OtherTerm::In => 204,
-        OtherTerm::NoDate => 205,
-        OtherTerm::Ad => 206,
-        OtherTerm::Bc => 207,
-        OtherTerm::OpenQuote => 208,
-        OtherTerm::CloseQuote => 209,
-        OtherTerm::OpenInnerQuote => 210,
-        OtherTerm::CloseInnerQuote => 211,
-        OtherTerm::Month(month) => 300 + month as u16,
-    }
+    term as u8
 }
 
 fn form_index(form: TermForm) -> u8

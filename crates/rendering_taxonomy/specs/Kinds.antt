@@ -5,24 +5,36 @@ use Rattle.rendering_taxonomy.specs.declared.locator.Locator.TheVariants as loca
 
 -- the indices of labels in their list
 abbrev pub locator_index : Locator → ℕ
-locator_index locators.Book = 0
-locator_index locators.Chapter = 1
-locator_index locators.Column = 2
-locator_index locators.Figure = 3
-locator_index locators.Folio = 4
-locator_index locators.Issue = 5
-locator_index locators.Line = 6
-locator_index locators.Note = 7
-locator_index locators.Opus = 8
-locator_index locators.Page = 9
-locator_index locators.Paragraph = 10
-locator_index locators.Part = 11
-locator_index locators.Section = 12
-locator_index locators.SubVerbo = 13
-locator_index locators.Verse = 14
-locator_index locators.Volume = 15
-locator_index locators.Supplement = 16
-locator_index locators.Custom = 17
+locator_index locators.Act = 0
+locator_index locators.Appendix = 1
+locator_index locators.ArticleLocator = 2
+locator_index locators.Book = 3
+locator_index locators.Canon = 4
+locator_index locators.Chapter = 5
+locator_index locators.Column = 6
+locator_index locators.Elocation = 7
+locator_index locators.Equation = 8
+locator_index locators.Figure = 9
+locator_index locators.Folio = 10
+locator_index locators.Issue = 11
+locator_index locators.Line = 12
+locator_index locators.Note = 13
+locator_index locators.Opus = 14
+locator_index locators.Page = 15
+locator_index locators.Paragraph = 16
+locator_index locators.Part = 17
+locator_index locators.Rule = 18
+locator_index locators.Scene = 19
+locator_index locators.Section = 20
+locator_index locators.SubVerbo = 21
+locator_index locators.Supplement = 22
+locator_index locators.Table = 23
+locator_index locators.Timestamp = 24
+locator_index locators.TitleLocator = 25
+locator_index locators.Verse = 26
+locator_index locators.Version = 27
+locator_index locators.Volume = 28
+locator_index locators.Custom = 29
 
 -- whether two labels are one
 abbrev pub is_locator : Locator → Locator → Bool

@@ -3,9 +3,15 @@
 /// The part of a work that a locator counts.
 #[derive(Clone, Copy, Debug, PartialEq, Eq, Hash)]
 pub enum Locator {
+    Act,
+    Appendix,
+    ArticleLocator,
     Book,
+    Canon,
     Chapter,
     Column,
+    Elocation,
+    Equation,
     Figure,
     Folio,
     Issue,
@@ -15,10 +21,17 @@ pub enum Locator {
     Page,
     Paragraph,
     Part,
+    Rule,
+    Scene,
     Section,
     SubVerbo,
-    Verse,
-    Volume,
     Supplement,
+    Table,
+    Timestamp,
+    TitleLocator,
+    Verse,
+    Version,
+    Volume,
+    /// A label without a word.
     Custom,
 }

@@ -2,22 +2,68 @@
 
 use crate::{Locator, Variable};
 
-/// A term that is neither a variable nor the label of a locator. Months count from zero.
+/// A word of locales that is no variable, no label of a locator, no month and no season.
 #[derive(Clone, Copy, Debug, PartialEq, Eq, Hash)]
 pub enum OtherTerm {
+    Ad,
+    AdvanceOnlinePublication,
+    Album,
     And,
-    EtAl,
     AndOthers,
+    Anonymous,
+    At,
+    AudioRecording,
+    AvailableAt,
+    Bc,
+    Bce,
+    By,
+    Ce,
+    Circa,
+    Cited,
+    CloseInnerQuote,
+    CloseQuote,
+    Colon,
+    Comma,
+    EditorTranslator,
+    EtAl,
+    Film,
+    Forthcoming,
+    From,
+    Henceforth,
     Ibid,
     In,
+    InPress,
+    Internet,
+    Letter,
+    LocCit,
     NoDate,
-    Ad,
-    Bc,
-    OpenQuote,
-    CloseQuote,
+    NoPlace,
+    NoPublisher,
+    On,
+    Online,
+    OpCit,
     OpenInnerQuote,
-    CloseInnerQuote,
-    Month(u8),
+    OpenQuote,
+    OriginalWorkPublished,
+    PageRangeDelimiter,
+    PersonalCommunication,
+    Podcast,
+    PodcastEpisode,
+    Preprint,
+    PresentedAt,
+    RadioBroadcast,
+    RadioSeries,
+    RadioSeriesEpisode,
+    Reference,
+    Retrieved,
+    Semicolon,
+    SpecialIssue,
+    SpecialSection,
+    TelevisionBroadcast,
+    TelevisionSeries,
+    TelevisionSeriesEpisode,
+    Video,
+    WorkingPaper,
 }
 
 /// A term.
@@ -26,6 +72,12 @@ pub enum Term {
     Variable(Variable),
     Locator(Locator),
     Other(OtherTerm),
+    /// A month, counted from zero.
+    Month(u8),
+    /// A season, counted from zero.
+    Season(u8),
+    /// A word that is none of these, by the number that the reader of a style or of a locale gives it.
+    Word(u32),
 }
 
 /// A form of a term.

@@ -28,9 +28,15 @@ pub(crate) const PLURALS: &[(&str, LabelPluralize)] = &[
 
 /// Labels of locators.
 pub const LOCATORS: &[(&str, Locator)] = &[
+    ("act", Locator::Act),
+    ("appendix", Locator::Appendix),
+    ("article-locator", Locator::ArticleLocator),
     ("book", Locator::Book),
+    ("canon", Locator::Canon),
     ("chapter", Locator::Chapter),
     ("column", Locator::Column),
+    ("elocation", Locator::Elocation),
+    ("equation", Locator::Equation),
     ("figure", Locator::Figure),
     ("folio", Locator::Folio),
     ("issue", Locator::Issue),
@@ -40,56 +46,122 @@ pub const LOCATORS: &[(&str, Locator)] = &[
     ("page", Locator::Page),
     ("paragraph", Locator::Paragraph),
     ("part", Locator::Part),
+    ("rule", Locator::Rule),
+    ("scene", Locator::Scene),
     ("section", Locator::Section),
     ("sub-verbo", Locator::SubVerbo),
-    ("verse", Locator::Verse),
-    ("volume", Locator::Volume),
     ("supplement", Locator::Supplement),
+    ("table", Locator::Table),
+    ("timestamp", Locator::Timestamp),
+    ("title-locator", Locator::TitleLocator),
+    ("verse", Locator::Verse),
+    ("version", Locator::Version),
+    ("volume", Locator::Volume),
     ("custom", Locator::Custom),
 ];
 
-/// Terms that are neither variables nor labels.
+/// Terms that are neither variables nor labels, nor months or seasons.
 const OTHERS: &[(&str, OtherTerm)] = &[
+    ("ad", OtherTerm::Ad),
+    (
+        "advance-online-publication",
+        OtherTerm::AdvanceOnlinePublication,
+    ),
+    ("album", OtherTerm::Album),
     ("and", OtherTerm::And),
-    ("et-al", OtherTerm::EtAl),
     ("and-others", OtherTerm::AndOthers),
+    ("anonymous", OtherTerm::Anonymous),
+    ("at", OtherTerm::At),
+    ("audio-recording", OtherTerm::AudioRecording),
+    ("available-at", OtherTerm::AvailableAt),
+    ("bc", OtherTerm::Bc),
+    ("bce", OtherTerm::Bce),
+    ("by", OtherTerm::By),
+    ("ce", OtherTerm::Ce),
+    ("circa", OtherTerm::Circa),
+    ("cited", OtherTerm::Cited),
+    ("close-inner-quote", OtherTerm::CloseInnerQuote),
+    ("close-quote", OtherTerm::CloseQuote),
+    ("colon", OtherTerm::Colon),
+    ("comma", OtherTerm::Comma),
+    ("editortranslator", OtherTerm::EditorTranslator),
+    ("et-al", OtherTerm::EtAl),
+    ("film", OtherTerm::Film),
+    ("forthcoming", OtherTerm::Forthcoming),
+    ("from", OtherTerm::From),
+    ("henceforth", OtherTerm::Henceforth),
     ("ibid", OtherTerm::Ibid),
     ("in", OtherTerm::In),
+    ("in-press", OtherTerm::InPress),
+    ("internet", OtherTerm::Internet),
+    ("letter", OtherTerm::Letter),
+    ("loc-cit", OtherTerm::LocCit),
     ("no-date", OtherTerm::NoDate),
-    ("ad", OtherTerm::Ad),
-    ("bc", OtherTerm::Bc),
-    ("open-quote", OtherTerm::OpenQuote),
-    ("close-quote", OtherTerm::CloseQuote),
+    ("no-place", OtherTerm::NoPlace),
+    ("no-publisher", OtherTerm::NoPublisher),
+    ("on", OtherTerm::On),
+    ("online", OtherTerm::Online),
+    ("op-cit", OtherTerm::OpCit),
     ("open-inner-quote", OtherTerm::OpenInnerQuote),
-    ("close-inner-quote", OtherTerm::CloseInnerQuote),
+    ("open-quote", OtherTerm::OpenQuote),
+    ("original-work-published", OtherTerm::OriginalWorkPublished),
+    ("page-range-delimiter", OtherTerm::PageRangeDelimiter),
+    ("personal-communication", OtherTerm::PersonalCommunication),
+    ("podcast", OtherTerm::Podcast),
+    ("podcast-episode", OtherTerm::PodcastEpisode),
+    ("preprint", OtherTerm::Preprint),
+    ("presented-at", OtherTerm::PresentedAt),
+    ("radio-broadcast", OtherTerm::RadioBroadcast),
+    ("radio-series", OtherTerm::RadioSeries),
+    ("radio-series-episode", OtherTerm::RadioSeriesEpisode),
+    ("reference", OtherTerm::Reference),
+    ("retrieved", OtherTerm::Retrieved),
+    ("semicolon", OtherTerm::Semicolon),
+    ("special-issue", OtherTerm::SpecialIssue),
+    ("special-section", OtherTerm::SpecialSection),
+    ("television-broadcast", OtherTerm::TelevisionBroadcast),
+    ("television-series", OtherTerm::TelevisionSeries),
+    (
+        "television-series-episode",
+        OtherTerm::TelevisionSeriesEpisode,
+    ),
+    ("video", OtherTerm::Video),
+    ("working-paper", OtherTerm::WorkingPaper),
 ];
 
-/// Months, which count from zero.
-const MONTHS: &[(&str, OtherTerm)] = &[
-    ("month-01", OtherTerm::Month(0)),
-    ("month-02", OtherTerm::Month(1)),
-    ("month-03", OtherTerm::Month(2)),
-    ("month-04", OtherTerm::Month(3)),
-    ("month-05", OtherTerm::Month(4)),
-    ("month-06", OtherTerm::Month(5)),
-    ("month-07", OtherTerm::Month(6)),
-    ("month-08", OtherTerm::Month(7)),
-    ("month-09", OtherTerm::Month(8)),
-    ("month-10", OtherTerm::Month(9)),
-    ("month-11", OtherTerm::Month(10)),
-    ("month-12", OtherTerm::Month(11)),
+/// Months and seasons, which count from zero.
+const COUNTED: &[(&str, Term)] = &[
+    ("month-01", Term::Month(0)),
+    ("month-02", Term::Month(1)),
+    ("month-03", Term::Month(2)),
+    ("month-04", Term::Month(3)),
+    ("month-05", Term::Month(4)),
+    ("month-06", Term::Month(5)),
+    ("month-07", Term::Month(6)),
+    ("month-08", Term::Month(7)),
+    ("month-09", Term::Month(8)),
+    ("month-10", Term::Month(9)),
+    ("month-11", Term::Month(10)),
+    ("month-12", Term::Month(11)),
+    ("season-01", Term::Season(0)),
+    ("season-02", Term::Season(1)),
+    ("season-03", Term::Season(2)),
+    ("season-04", Term::Season(3)),
 ];
 
 /// The term of a word that is no variable and no label.
-fn other(word: &str) -> Option<OtherTerm> {
-    value_of(OTHERS, word).or(value_of(MONTHS, word))
+fn other(word: &str) -> Option<Term> {
+    match value_of(OTHERS, word) {
+        Some(other) => Some(Term::Other(other)),
+        None => value_of(COUNTED, word),
+    }
 }
 
 /// The term of a word that is no variable.
 fn unanswered(word: &str) -> Option<Term> {
     match value_of(LOCATORS, word) {
         Some(locator) => Some(Term::Locator(locator)),
-        None => other(word).map(Term::Other),
+        None => other(word),
     }
 }
 
