@@ -18,7 +18,6 @@ mod terms;
 mod variables;
 
 use cases::{Session, Value};
-pub use conditions::KINDS;
 pub use date_words::PARTS;
 pub use dates::date_parts;
 pub use given_locales::{locale, locales, maybe_code, maybe_ordinals};
@@ -26,7 +25,7 @@ pub use leaves::NUMBER_FORMS;
 pub use looks::{DISPLAYS, formatting, is_plain, put_formatting};
 pub use parts::ALIGNS;
 pub use styles::{accepted, style_of};
-pub use terms::{LOCATORS, form_of};
+pub use terms::{KINDS, LOCATORS, form_of};
 pub use variables::{NAMES, variable_of};
 
 /// Writes the members of the answer to a case of this kind; false where the kind is none of these.

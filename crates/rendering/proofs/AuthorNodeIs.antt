@@ -50,13 +50,9 @@ no_look_is l e =
 authors_are : (vs : List NameVariable) → are_authors vs ≡ true → vs ≡ name.Author ∷ []
 authors_are [] e = absurd (true≢false (sym e))
 authors_are (name.Author ∷ []) e = refl
-authors_are (name.ContainerAuthor ∷ []) e = absurd (true≢false (sym e))
-authors_are (name.Editor ∷ []) e = absurd (true≢false (sym e))
-authors_are (name.Translator ∷ []) e = absurd (true≢false (sym e))
-authors_are (name.Author ∷ v ∷ vs) e = absurd (true≢false (sym e))
-authors_are (name.ContainerAuthor ∷ v ∷ vs) e = absurd (true≢false (sym e))
-authors_are (name.Editor ∷ v ∷ vs) e = absurd (true≢false (sym e))
-authors_are (name.Translator ∷ v ∷ vs) e = absurd (true≢false (sym e))
+authors_are (name.Author ∷ w ∷ vs) e = absurd (true≢false (sym e))
+authors_are (v ∷ []) e = absurd (true≢false (sym e))
+authors_are (v ∷ w ∷ vs) e = absurd (true≢false (sym e))
 
 node_is : (h : NamesNode) → is_author_node h ≡ true → h ≡ author_node
 node_is h e =

@@ -1,11 +1,11 @@
--- Variables with one index are one, as labels of locators are, and `==` says so.
-use Rattle.std.proofs.Common.{◌≡◌, ℕ, ◌++◌, List, [], ◌∷◌, map, get_or, replicate, refl, sym, ap, arith, rules}
+-- Labels of locators with one index are one, as variables of one kind are, and `==` says so.
+use Rattle.std.proofs.Common.{◌≡◌, ℕ, Bool, ◌==◌, List, [], ◌∷◌, get_or, refl, sym, rules}
 use denote.Enum.Bare.{same_true, true_same}
 use Rattle.std.specs.Bool.{Decides}
-use Rattle.laws.proofs.Equality.{Decides-moved, Decides-never}
+use Rattle.laws.proofs.Equality.{Decides-moved}
 use Rattle.rendering_taxonomy.specs.Kinds.{locator_index, is_locator}
-use Rattle.rendering_taxonomy.specs.Variables.{variable_index, is_variable}
-use Rattle.rendering_taxonomy.proofs.Indices.{Decides-indices, Decides-names}
+use Rattle.rendering_taxonomy.specs.Variables.{standard_index, number_index, date_index, is_variable, is_name_variable}
+use Rattle.rendering_taxonomy.proofs.Indices.{Decides-indices, Decides-is_name_variable, Decides-names}
 use Rattle.rendering_tree.proofs.ViewsEquality.{agreed}
 use Rattle.rendering_taxonomy.specs.declared.locator.Locator.{Locator}
 use Rattle.rendering_taxonomy.specs.declared.locator.Locator.TheVariants as locators
@@ -14,7 +14,6 @@ use Rattle.rendering_taxonomy.specs.declared.variable.StandardVariable.TheVarian
 use Rattle.rendering_taxonomy.specs.declared.variable.NumberVariable.{NumberVariable}
 use Rattle.rendering_taxonomy.specs.declared.variable.NumberVariable.TheVariants as number
 use Rattle.rendering_taxonomy.specs.declared.variable.NameVariable.{NameVariable}
-use Rattle.rendering_taxonomy.specs.declared.variable.NameVariable.TheVariants as name
 use Rattle.rendering_taxonomy.specs.declared.variable.DateVariable.{DateVariable}
 use Rattle.rendering_taxonomy.specs.declared.variable.DateVariable.TheVariants as date
 use Rattle.rendering_taxonomy.specs.declared.variable.Variable.{Variable}
@@ -45,61 +44,6 @@ label_back : (l : Locator) → label_at (locator_index l) ≡ l
 label_back locators.Act = refl
 label_back l = refl
 
--- the variables in the order of their indices; pages stand at the indices of none
-abbrev all_variables : List Variable
-all_variables =
-    map variables.Standard (standard.CitationLabel ∷ standard.CollectionTitle ∷ standard.ContainerTitle ∷ standard.Doi ∷ standard.EventTitle ∷ standard.Isbn
-    ∷ standard.Issn ∷ standard.Note ∷ standard.Publisher ∷ standard.PublisherPlace ∷ standard.Title ∷ standard.TitleShort ∷ standard.Url
-    ∷ standard.YearSuffix ∷ [])
-    ++ (replicate 6 variables.Page
-    ++ (map variables.Number (number.ChapterNumber ∷ number.CitationNumber ∷ number.Edition ∷ number.FirstReferenceNoteNumber ∷ number.Issue
-    ∷ number.Locator ∷ number.Number ∷ number.NumberOfPages ∷ number.NumberOfVolumes ∷ number.PageFirst ∷ number.Volume ∷ [])
-    ++ (replicate 9 variables.Page
-    ++ (map variables.Name (name.Author ∷ name.ContainerAuthor ∷ name.Editor ∷ name.Translator ∷ [])
-    ++ (replicate 6 variables.Page
-    ++ map variables.Date (date.Accessed ∷ date.AvailableDate ∷ date.EventDate ∷ date.Issued ∷ date.OriginalDate ∷ date.Submitted ∷ []))))))
-
-abbrev variable_at : ℕ → Variable
-variable_at n = get_or all_variables n variables.Page
-
-variable_back : (v : Variable) → variable_at (variable_index v) ≡ v
-variable_back (variables.Standard standard.CitationLabel) = refl
-variable_back (variables.Standard standard.CollectionTitle) = refl
-variable_back (variables.Standard standard.ContainerTitle) = refl
-variable_back (variables.Standard standard.Doi) = refl
-variable_back (variables.Standard standard.EventTitle) = refl
-variable_back (variables.Standard standard.Isbn) = refl
-variable_back (variables.Standard standard.Issn) = refl
-variable_back (variables.Standard standard.Note) = refl
-variable_back (variables.Standard standard.Publisher) = refl
-variable_back (variables.Standard standard.PublisherPlace) = refl
-variable_back (variables.Standard standard.Title) = refl
-variable_back (variables.Standard standard.TitleShort) = refl
-variable_back (variables.Standard standard.Url) = refl
-variable_back (variables.Standard standard.YearSuffix) = refl
-variable_back (variables.Number number.ChapterNumber) = refl
-variable_back (variables.Number number.CitationNumber) = refl
-variable_back (variables.Number number.Edition) = refl
-variable_back (variables.Number number.FirstReferenceNoteNumber) = refl
-variable_back (variables.Number number.Issue) = refl
-variable_back (variables.Number number.Locator) = refl
-variable_back (variables.Number number.Number) = refl
-variable_back (variables.Number number.NumberOfPages) = refl
-variable_back (variables.Number number.NumberOfVolumes) = refl
-variable_back (variables.Number number.PageFirst) = refl
-variable_back (variables.Number number.Volume) = refl
-variable_back (variables.Name name.Author) = refl
-variable_back (variables.Name name.ContainerAuthor) = refl
-variable_back (variables.Name name.Editor) = refl
-variable_back (variables.Name name.Translator) = refl
-variable_back (variables.Date date.Accessed) = refl
-variable_back (variables.Date date.AvailableDate) = refl
-variable_back (variables.Date date.EventDate) = refl
-variable_back (variables.Date date.Issued) = refl
-variable_back (variables.Date date.OriginalDate) = refl
-variable_back (variables.Date date.Submitted) = refl
-variable_back variables.Page = refl
-
 Decides-labels : (l m : Locator) → Decides (locator_eq.ghosts.eq l m) (l ≡ m)
 Decides-labels l m = (same_true locator_type (search rules) l m, true_same locator_type l m)
 
@@ -107,53 +51,74 @@ Decides-labels l m = (same_true locator_type (search rules) l m, true_same locat
 pub same_label : (l m : Locator) → locator_eq.ghosts.eq l m ≡ is_locator l m
 same_label l m = agreed (locator_eq.ghosts.eq l m) (is_locator l m) (Decides-labels l m) (Decides-indices locator_index label_at label_back l m)
 
+-- the variables that are texts, in the order of their indices; `==` says whether they are one
+abbrev standards_in_order : List StandardVariable
+standards_in_order =
+    standard.Abstract ∷ standard.Annote ∷ standard.Archive ∷ standard.ArchiveCollection ∷ standard.ArchiveLocation ∷ standard.ArchivePlace
+    ∷ standard.Authority ∷ standard.CallNumber ∷ standard.CitationKey ∷ standard.CitationLabel ∷ standard.CollectionTitle ∷ standard.ContainerTitle
+    ∷ standard.ContainerTitleShort ∷ standard.Dimensions ∷ standard.Division ∷ standard.Doi ∷ standard.Event ∷ standard.EventPlace
+    ∷ standard.EventTitle ∷ standard.Genre ∷ standard.Isbn ∷ standard.Issn ∷ standard.Jurisdiction ∷ standard.Keyword ∷ standard.Language
+    ∷ standard.License ∷ standard.Medium ∷ standard.Note ∷ standard.OriginalPublisher ∷ standard.OriginalPublisherPlace ∷ standard.OriginalTitle
+    ∷ standard.PartTitle ∷ standard.Pmcid ∷ standard.Pmid ∷ standard.Publisher ∷ standard.PublisherPlace ∷ standard.References
+    ∷ standard.ReviewedGenre ∷ standard.ReviewedTitle ∷ standard.Scale ∷ standard.Source ∷ standard.Status ∷ standard.Title ∷ standard.TitleShort
+    ∷ standard.Url ∷ standard.VolumeTitle ∷ standard.YearSuffix ∷ []
+
+abbrev standard_at : ℕ → StandardVariable
+standard_at n = get_or standards_in_order n standard.YearSuffix
+
+standard_back : (v : StandardVariable) → standard_at (standard_index v) ≡ v
+standard_back standard.Abstract = refl
+standard_back v = refl
+
 Decides-standards : (v w : StandardVariable) → Decides (standard_eq.ghosts.eq v w) (v ≡ w)
 Decides-standards v w = (same_true standard_type (search rules) v w, true_same standard_type v w)
+
+-- the same of numbers
+abbrev numbers_in_order : List NumberVariable
+numbers_in_order =
+    number.ChapterNumber ∷ number.CitationNumber ∷ number.CollectionNumber ∷ number.Edition ∷ number.FirstReferenceNoteNumber ∷ number.Issue
+    ∷ number.Locator ∷ number.Number ∷ number.NumberOfPages ∷ number.NumberOfVolumes ∷ number.PageFirst ∷ number.PartNumber ∷ number.PrintingNumber
+    ∷ number.Section ∷ number.SupplementNumber ∷ number.Version ∷ number.Volume ∷ []
+
+abbrev number_at : ℕ → NumberVariable
+number_at n = get_or numbers_in_order n number.Volume
+
+number_back : (v : NumberVariable) → number_at (number_index v) ≡ v
+number_back number.ChapterNumber = refl
+number_back v = refl
 
 Decides-numbers : (v w : NumberVariable) → Decides (number_eq.ghosts.eq v w) (v ≡ w)
 Decides-numbers v w = (same_true number_type (search rules) v w, true_same number_type v w)
 
+-- the same of dates
+abbrev dates_in_order : List DateVariable
+dates_in_order =
+    date.Accessed ∷ date.AvailableDate ∷ date.EventDate ∷ date.Issued ∷ date.OriginalDate ∷ date.Submitted ∷ []
+
+abbrev date_at : ℕ → DateVariable
+date_at n = get_or dates_in_order n date.Submitted
+
+date_back : (v : DateVariable) → date_at (date_index v) ≡ v
+date_back date.Accessed = refl
+date_back v = refl
+
 Decides-dates : (v w : DateVariable) → Decides (date_eq.ghosts.eq v w) (v ≡ w)
 Decides-dates v w = (same_true date_type (search rules) v w, true_same date_type v w)
 
--- the variable that is a text, or else one of them
-abbrev standard_of : Variable → StandardVariable
-standard_of (variables.Standard v) = v
-standard_of v = standard.Url
+-- where `==` says whether values are one, and each index leads back to its value, it says whether the indices are one
+same_by : {A : Type 0} (same : A → A → Bool) (index : A → ℕ) (value : ℕ → A) → ((a b : A) → Decides (same a b) (a ≡ b)) → ((a : A) → value (index a) ≡ a)
+    → (v w : A) → same w v ≡ (index v == index w)
+same_by same index value decides back v w = agreed (same w v) (index v == index w) (Decides-moved (same w v) (decides w v) sym sym) (Decides-indices index value back v w)
 
--- the same of numbers
-abbrev number_of : Variable → NumberVariable
-number_of (variables.Number v) = v
-number_of v = number.Volume
-
--- the same of people
-abbrev name_of : Variable → NameVariable
-name_of (variables.Name v) = v
-name_of v = name.Author
-
--- the same of dates
-abbrev date_of : Variable → DateVariable
-date_of (variables.Date v) = v
-date_of v = date.Issued
-
--- the kinds of variables in order
-abbrev kind_of : Variable → ℕ
-kind_of (variables.Standard v) = 0
-kind_of (variables.Number v) = 1
-kind_of variables.Page = 2
-kind_of (variables.Name v) = 3
-kind_of (variables.Date v) = 4
-
-Decides-variables : (v w : Variable) → Decides (variable_eq.ghosts.eq v w) (v ≡ w)
-Decides-variables (variables.Standard v) (variables.Standard w) = Decides-moved (standard_eq.ghosts.eq v w) (Decides-standards v w) (ap variables.Standard) (ap standard_of)
-Decides-variables (variables.Number v) (variables.Number w) = Decides-moved (number_eq.ghosts.eq v w) (Decides-numbers v w) (ap variables.Number) (ap number_of)
-Decides-variables variables.Page variables.Page = (λ h. refl, λ e. refl)
-Decides-variables (variables.Name v) (variables.Name w) = Decides-moved (name_eq.ghosts.eq v w) (Decides-names v w) (ap variables.Name) (ap name_of)
-Decides-variables (variables.Date v) (variables.Date w) = Decides-moved (date_eq.ghosts.eq v w) (Decides-dates v w) (ap variables.Date) (ap date_of)
-Decides-variables v w = Decides-never (λ e. omega (arith, ap kind_of e))
+-- people
+same_name : (v w : NameVariable) → name_eq.ghosts.eq w v ≡ is_name_variable v w
+same_name v w = agreed (name_eq.ghosts.eq w v) (is_name_variable v w) (Decides-moved (name_eq.ghosts.eq w v) (Decides-names w v) sym sym) (Decides-is_name_variable v w)
 
 -- `==` of variables says whether they are one
 pub same_variable : (v w : Variable) → variable_eq.ghosts.eq w v ≡ is_variable v w
-same_variable v w =
-    agreed (variable_eq.ghosts.eq w v) (is_variable v w) (Decides-moved (variable_eq.ghosts.eq w v) (Decides-variables w v) sym sym)
-    (Decides-indices variable_index variable_at variable_back v w)
+same_variable (variables.Standard v) (variables.Standard w) = same_by standard_eq.ghosts.eq standard_index standard_at Decides-standards standard_back v w
+same_variable (variables.Number v) (variables.Number w) = same_by number_eq.ghosts.eq number_index number_at Decides-numbers number_back v w
+same_variable (variables.Name v) (variables.Name w) = same_name v w
+same_variable (variables.Date v) (variables.Date w) = same_by date_eq.ghosts.eq date_index date_at Decides-dates date_back v w
+same_variable variables.Page variables.Page = refl
+same_variable v w = refl

@@ -1,5 +1,5 @@
 -- What an entry of a library answers: each variable has its path through the works that the entry is part of.
-use Rattle.std.specs.Prelude.{ℕ, Bool, not, nat_eq, ◌&&◌, ◌||◌, List, [], ◌∷◌, option_and_then, Option, Some, None, Result, Ok, Err, codes}
+use Rattle.std.specs.Prelude.{ℕ, Bool, false, not, nat_eq, ◌&&◌, ◌||◌, List, [], ◌∷◌, option_and_then, Option, Some, None, Result, Ok, Err, codes}
 use Rattle.std.specs.List.{flat_map, starts_with}
 use Rattle.std.specs.Option.{option_map, option_map_or, unwrap_or}
 use Rattle.std.specs.Str.{chars}
@@ -95,26 +95,25 @@ people_or_none ps = unwrap_or ps []
 abbrev pub is_english : List ℕ → Bool
 is_english code = starts_with nat_eq code (codes "en")
 
--- Numbers. Those of a cite, as its number, are not the entry's.
+-- Numbers. Entries of a library have none for other variables. Those of a cite, as its number, are not the entry's.
 abbrev pub number_answer : Ancestry → NumberVariable → Option (ValueOrText Numeral)
 number_answer s number.ChapterNumber = s.own.chapter
-number_answer s number.CitationNumber = None
 number_answer s number.Edition = nearest (λ fs. fs.edition) s
-number_answer s number.FirstReferenceNoteNumber = None
 number_answer s number.Issue = nearest (λ fs. fs.issue) s
-number_answer s number.Locator = None
 number_answer s number.Number = option_map read_number (serial (codes "serial") s.own)
 number_answer s number.NumberOfPages = s.own.page_total
 number_answer s number.NumberOfVolumes = nearest (λ fs. fs.volume_total) s
 number_answer s number.PageFirst = option_and_then first_page s.own.page_range
 number_answer s number.Volume = nearest (λ fs. fs.volume) s
+number_answer s v = None
 
--- people
+-- People. Entries of a library have none for other variables.
 abbrev pub people_answer : Ancestry → NameVariable → List Named
 people_answer s name.Author = people_or_none s.own.author
 people_answer s name.ContainerAuthor = people_or_none (option_and_then (λ fs. fs.author) (container s))
 people_answer s name.Editor = people_or_none (nearest (λ fs. fs.editor) s)
 people_answer s name.Translator = people_or_none s.own.translator
+people_answer s v = []
 
 -- the label of an entry, with so many letters of one name
 abbrev pub label_of : ℕ → Ancestry → List ℕ
@@ -122,7 +121,7 @@ label_of letters s =
     citation_label letters (people_answer s name.Author) (people_answer s name.Editor)
     (option_map_or characters_of (long_text s.own.title) []) (option_map (λ d. d.year) s.own.date)
 
--- Texts. Only the title has a short form; the year suffix is the cite's.
+-- Texts. Only the title has a short form. Entries of a library have none for other variables; the year suffix is the cite's.
 abbrev pub standard_answer : Ancestry → LongShortForm → StandardVariable → Option (List Chunk)
 standard_answer s form standard.CitationLabel = Some (one_chunk (label_of 3 s))
 standard_answer s form standard.CollectionTitle = title_of (collection s)
@@ -137,7 +136,7 @@ standard_answer s form standard.PublisherPlace = long_text (nearest publisher_pl
 standard_answer s form standard.Title = option_map (text_in form) s.own.title
 standard_answer s form standard.TitleShort = short_text s.own.title
 standard_answer s form standard.Url = option_map (λ u. one_chunk (address_text u.value)) s.own.url
-standard_answer s form standard.YearSuffix = None
+standard_answer s form v = None
 
 -- dates
 abbrev pub date_answer : Ancestry → DateVariable → Option Date
@@ -148,7 +147,7 @@ date_answer s date.Issued = s.own.date
 date_answer s date.OriginalDate = option_and_then (λ fs. fs.date) (first_parent (types.Original ∷ []) s)
 date_answer s date.Submitted = None
 
--- kinds
+-- Kinds. Entries of a library are of no other kind.
 abbrev pub kind_answer : Ancestry → Kind → Bool
 kind_answer s kinds.Article = is_one_of (types.Article ∷ []) s.own && not (is_article_in types.Periodical s || is_article_in types.Proceedings s)
 kind_answer s kinds.ArticleJournal = is_article_in types.Periodical s
@@ -164,6 +163,7 @@ kind_answer s kinds.Report = is_one_of (types.Report ∷ []) s.own
 kind_answer s kinds.Software = is_one_of (types.Repository ∷ []) s.own
 kind_answer s kinds.Thesis = is_one_of (types.Thesis ∷ []) s.own
 kind_answer s kinds.Webpage = is_one_of (types.Web ∷ []) s.own
+kind_answer s k = false
 
 -- all that an entry answers which stands so among works
 abbrev pub answers_among : Ancestry → Answers

@@ -9,6 +9,7 @@ use literature_entries::Entry;
 use literature_values::EntryType;
 use rendering_taxonomy::Kind;
 
+/// Whether the entry is of the kind. No entry is of the other kinds.
 pub(crate) fn kind_answer(entry: &Entry, kind: Kind) -> bool
     ensures { result ≡ kind_answer (entry_ancestry entry.now) kind }
 {
@@ -27,6 +28,7 @@ pub(crate) fn kind_answer(entry: &Entry, kind: Kind) -> bool
         Kind::Software => is_one_of(entry, &[EntryType::Repository]),
         Kind::Thesis => is_one_of(entry, &[EntryType::Thesis]),
         Kind::Webpage => is_one_of(entry, &[EntryType::Web]),
+        _ => false,
     }
 }
 

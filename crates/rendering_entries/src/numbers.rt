@@ -16,7 +16,7 @@ use rendering_taxonomy::NumberVariable;
 use std::alloc::{AllocError, Global};
 use std::borrow::Cow;
 
-/// The number of a variable.
+/// The number of a variable. Entries have none for other variables; those of a cite are not theirs.
 ///
 /// # Errors
 /// Out of memory.
@@ -30,16 +30,14 @@ pub(crate) fn number_answer(
 {
     match variable {
         NumberVariable::ChapterNumber => borrowed_number(entry.chapter()),
-        NumberVariable::CitationNumber => Ok(None),
         NumberVariable::Edition => borrowed_number(nearest_edition(entry)?),
-        NumberVariable::FirstReferenceNoteNumber => Ok(None),
         NumberVariable::Issue => borrowed_number(nearest_issue(entry)?),
-        NumberVariable::Locator => Ok(None),
         NumberVariable::Number => serial_number(alloc, entry),
         NumberVariable::NumberOfPages => borrowed_number(entry.page_total()),
         NumberVariable::NumberOfVolumes => borrowed_number(nearest_volume_total(entry)?),
         NumberVariable::PageFirst => Ok(first_page(entry)),
         NumberVariable::Volume => borrowed_number(nearest_volume(entry)?),
+        _ => Ok(None),
     }
 }
 

@@ -15,7 +15,7 @@ use rendering_taxonomy::NameVariable;
 use std::alloc::{AllocError, Global};
 use std::borrow::Cow;
 
-/// The people of a variable.
+/// The people of a variable. Entries have none for other variables.
 ///
 /// # Errors
 /// Out of memory.
@@ -32,6 +32,7 @@ pub(crate) fn people_answer(
         NameVariable::ContainerAuthor => borrowed_people(alloc, container_author(entry)),
         NameVariable::Editor => borrowed_people(alloc, nearest_editor(entry)?),
         NameVariable::Translator => borrowed_people(alloc, entry.translator()),
+        _ => Ok(Vec::new(alloc)),
     }
 }
 

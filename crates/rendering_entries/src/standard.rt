@@ -22,7 +22,7 @@ use std::alloc::{AllocError, Global};
 use std::borrow::Cow;
 use texts::owned;
 
-/// The text of a variable in a form.
+/// The text of a variable in a form. Entries have none for other variables; the year suffix is a cite's.
 ///
 /// # Errors
 /// Out of memory.
@@ -49,7 +49,7 @@ pub(crate) fn standard_answer(
         StandardVariable::Title => Ok(text_in(form, entry.title())),
         StandardVariable::TitleShort => Ok(short_text(entry.title())),
         StandardVariable::Url => url_text(alloc, entry),
-        StandardVariable::YearSuffix => Ok(None),
+        _ => Ok(None),
     }
 }
 

@@ -2,11 +2,11 @@
 
 ghost use Rattle.std.specs.Prelude.{◌≡◌, ◌+◌};
 ghost use Rattle.rendering_taxonomy.specs.Variables.{standard_index, number_index, name_index, date_index, variable_index};
-ghost use Rattle.rendering_taxonomy.specs.Kinds.{locator_index};
+ghost use Rattle.rendering_taxonomy.specs.Kinds.{locator_index, kind_index};
 ghost use Rattle.rendering_taxonomy.specs.Terms.{other_index, canonical, term_index, is_term, form_index, is_form, forms_from};
 
 use rendering_taxonomy::{
-    DateVariable, Locator, NameVariable, NumberVariable, OtherTerm, StandardVariable, Term,
+    DateVariable, Kind, Locator, NameVariable, NumberVariable, OtherTerm, StandardVariable, Term,
     TermForm, Variable,
 };
 
@@ -17,7 +17,7 @@ pub(crate) fn is_term(term: Term, name: Term) -> bool
     term_index(canonical(term)) == term_index(canonical(name))
 }
 
-/// Of the terms that have one word the one that stands for all of them: a variable.
+/// Of the terms that have one word the one that stands for all of them: a variable, or else a label.
 fn canonical(term: Term) -> Term
     ensures { result ≡ canonical term }
 {
@@ -25,7 +25,17 @@ fn canonical(term: Term) -> Term
         Term::Locator(Locator::Issue) => Term::Variable(Variable::Number(NumberVariable::Issue)),
         Term::Locator(Locator::Note) => Term::Variable(Variable::Standard(StandardVariable::Note)),
         Term::Locator(Locator::Page) => Term::Variable(Variable::Page),
+        Term::Locator(Locator::Section) => Term::Variable(Variable::Number(
+            NumberVariable::Section,
+        )),
+        Term::Locator(Locator::Version) => Term::Variable(Variable::Number(
+            NumberVariable::Version,
+        )),
         Term::Locator(Locator::Volume) => Term::Variable(Variable::Number(NumberVariable::Volume)),
+        Term::Kind(Kind::Book) => Term::Locator(Locator::Book),
+        Term::Kind(Kind::Chapter) => Term::Locator(Locator::Chapter),
+        Term::Kind(Kind::Event) => Term::Variable(Variable::Standard(StandardVariable::Event)),
+        Term::Kind(Kind::Figure) => Term::Locator(Locator::Figure),
         _ => term,
     }
 }
@@ -37,6 +47,7 @@ fn term_index(term: Term) -> u64
     match term {
         Term::Variable(variable) => variable_index(variable),
         Term::Locator(locator) => 200 + locator_index(locator) as u64,
+        Term::Kind(kind) => 300 + kind_index(kind) as u64,
         Term::Other(other) => 400 + other_index(other) as u64,
         Term::Month(month) => 500 + month as u64,
         Term::Season(season) => 800 + season as u64,
@@ -44,81 +55,49 @@ fn term_index(term: Term) -> u64
     }
 }
 
-/// The index of a variable that is a text.
-fn standard_index(variable: StandardVariable) -> u64
-    ensures { result ≡ standard_index variable }
-{
-    match variable {
-        StandardVariable::CitationLabel => 0,
-        StandardVariable::CollectionTitle => 1,
-        StandardVariable::ContainerTitle => 2,
-        StandardVariable::Doi => 3,
-        StandardVariable::EventTitle => 4,
-        StandardVariable::Isbn => 5,
-        StandardVariable::Issn => 6,
-        StandardVariable::Note => 7,
-        StandardVariable::Publisher => 8,
-        StandardVariable::PublisherPlace => 9,
-        StandardVariable::Title => 10,
-        StandardVariable::TitleShort => 11,
-        StandardVariable::Url => 12,
-        StandardVariable::YearSuffix => 13,
-    }
-}
-
-fn number_index(variable: NumberVariable) -> u64
-    ensures { result ≡ number_index variable }
-{
-    match variable {
-        NumberVariable::ChapterNumber => 20,
-        NumberVariable::CitationNumber => 21,
-        NumberVariable::Edition => 22,
-        NumberVariable::FirstReferenceNoteNumber => 23,
-        NumberVariable::Issue => 24,
-        NumberVariable::Locator => 25,
-        NumberVariable::Number => 26,
-        NumberVariable::NumberOfPages => 27,
-        NumberVariable::NumberOfVolumes => 28,
-        NumberVariable::PageFirst => 29,
-        NumberVariable::Volume => 30,
-    }
-}
-
-/// The index of a variable that is people.
-fn name_index(variable: NameVariable) -> u64
-    ensures { result ≡ name_index variable }
-{
-    match variable {
-        NameVariable::Author => 40,
-        NameVariable::ContainerAuthor => 41,
-        NameVariable::Editor => 42,
-        NameVariable::Translator => 43,
-    }
-}
-
-fn date_index(variable: DateVariable) -> u64
-    ensures { result ≡ date_index variable }
-{
-    match variable {
-        DateVariable::Accessed => 50,
-        DateVariable::AvailableDate => 51,
-        DateVariable::EventDate => 52,
-        DateVariable::Issued => 53,
-        DateVariable::OriginalDate => 54,
-        DateVariable::Submitted => 55,
-    }
-}
-
 fn variable_index(variable: Variable) -> u64
     ensures { result ≡ variable_index variable }
 {
     match variable {
-        Variable::Standard(variable) => standard_index(variable),
-        Variable::Number(variable) => number_index(variable),
-        Variable::Name(variable) => name_index(variable),
-        Variable::Date(variable) => date_index(variable),
-        Variable::Page => 60,
+        Variable::Standard(variable) => standard_index(variable) as u64,
+        Variable::Number(variable) => 50 + number_index(variable) as u64,
+        Variable::Name(variable) => 70 + name_index(variable) as u64,
+        Variable::Date(variable) => 100 + date_index(variable) as u64,
+        Variable::Page => 110,
     }
+}
+
+/// The index of a variable that is a text in its list.
+fn standard_index(variable: StandardVariable) -> u8
+    ensures { result ≡ standard_index variable }
+{
+    variable as u8
+}
+
+fn number_index(variable: NumberVariable) -> u8
+    ensures { result ≡ number_index variable }
+{
+    variable as u8
+}
+
+/// The index of a variable that is people in its list.
+fn name_index(variable: NameVariable) -> u8
+    ensures { result ≡ name_index variable }
+{
+    variable as u8
+}
+
+fn date_index(variable: DateVariable) -> u8
+    ensures { result ≡ date_index variable }
+{
+    variable as u8
+}
+
+/// The index of a kind in its list.
+fn kind_index(kind: Kind) -> u8
+    ensures { result ≡ kind_index kind }
+{
+    kind as u8
 }
 
 /// The index of a label in its list.

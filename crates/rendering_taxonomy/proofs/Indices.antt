@@ -1,5 +1,5 @@
 -- What is equal: values with one index in their list are one, and `==` says so.
-use Rattle.std.proofs.Common.{◌≡◌, ℕ, zero, suc, Bool, cond, ◌==◌, ◌&&◌, refl, sym, ap, ◌∙◌, rules}
+use Rattle.std.proofs.Common.{◌≡◌, ℕ, zero, suc, Bool, ◌==◌, ◌&&◌, List, [], ◌∷◌, get_or, refl, sym, ap, ◌∙◌, rules}
 use denote.Enum.Bare.{same_true, true_same}
 use Rattle.std.specs.Bool.{Decides}
 use Rattle.std.proofs.lemmas.Bool.Decides.{Decides-eqb, Decides-like, Decides-and}
@@ -85,14 +85,19 @@ align_back aligns.None = refl
 align_back aligns.Sup = refl
 align_back aligns.Sub = refl
 
+abbrev names_in_order : List NameVariable
+names_in_order =
+    name.Author ∷ name.Chair ∷ name.CollectionEditor ∷ name.Compiler ∷ name.Composer ∷ name.ContainerAuthor ∷ name.Contributor ∷ name.Curator
+    ∷ name.Director ∷ name.Editor ∷ name.EditorTranslator ∷ name.EditorialDirector ∷ name.ExecutiveProducer ∷ name.Guest ∷ name.Host
+    ∷ name.Illustrator ∷ name.Interviewer ∷ name.Narrator ∷ name.Organizer ∷ name.OriginalAuthor ∷ name.Performer ∷ name.Producer ∷ name.Recipient
+    ∷ name.ReviewedAuthor ∷ name.ScriptWriter ∷ name.SeriesCreator ∷ name.Translator ∷ []
+
 abbrev name_at : ℕ → NameVariable
-name_at n = cond (n == 40) name.Author (cond (n == 41) name.ContainerAuthor (cond (n == 42) name.Editor name.Translator))
+name_at n = get_or names_in_order n name.Translator
 
 name_back : (v : NameVariable) → name_at (name_index v) ≡ v
 name_back name.Author = refl
-name_back name.ContainerAuthor = refl
-name_back name.Editor = refl
-name_back name.Translator = refl
+name_back v = refl
 
 -- one fact and another
 both : {b c : Bool} {P R : Type 0} → Decides b P → Decides c R → Decides (b && c) (P × R)

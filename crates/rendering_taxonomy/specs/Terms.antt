@@ -1,7 +1,9 @@
--- Which terms are the same. A term is known by its word: the label `page` of a locator and the variable `page` have one term.
+-- Which terms are the same. A term is known by its word: the label `page` of a locator and the variable `page` have one term, and so have
+-- the kind `book` and the label `book`.
 use Rattle.std.specs.Prelude.{ℕ, ◌+◌, Bool, ◌==◌, List, [], ◌∷◌}
 use Rattle.rendering_taxonomy.specs.Variables.{variable_index}
-use Rattle.rendering_taxonomy.specs.Kinds.{locator_index}
+use Rattle.rendering_taxonomy.specs.Kinds.{locator_index, kind_index}
+use Rattle.rendering_taxonomy.specs.declared.kind.Kind.TheVariants as kinds
 use Rattle.rendering_taxonomy.specs.declared.locator.Locator.TheVariants as locators
 use Rattle.rendering_taxonomy.specs.declared.variable.Variable.TheVariants as variables
 use Rattle.rendering_taxonomy.specs.declared.variable.NumberVariable.TheVariants as number
@@ -75,18 +77,25 @@ other_index others.TelevisionSeriesEpisode = 56
 other_index others.Video = 57
 other_index others.WorkingPaper = 58
 
--- of the terms that have one word the one that stands for all of them: a variable
+-- of the terms that have one word the one that stands for all of them: a variable, or else a label
 abbrev pub canonical : Term → Term
 canonical (terms.Locator locators.Issue) = terms.Variable (variables.Number number.Issue)
 canonical (terms.Locator locators.Note) = terms.Variable (variables.Standard standard.Note)
 canonical (terms.Locator locators.Page) = terms.Variable variables.Page
+canonical (terms.Locator locators.Section) = terms.Variable (variables.Number number.Section)
+canonical (terms.Locator locators.Version) = terms.Variable (variables.Number number.Version)
 canonical (terms.Locator locators.Volume) = terms.Variable (variables.Number number.Volume)
+canonical (terms.Kind kinds.Book) = terms.Locator locators.Book
+canonical (terms.Kind kinds.Chapter) = terms.Locator locators.Chapter
+canonical (terms.Kind kinds.Event) = terms.Variable (variables.Standard standard.Event)
+canonical (terms.Kind kinds.Figure) = terms.Locator locators.Figure
 canonical t = t
 
 -- the indices of terms among all of them
 abbrev pub term_index : Term → ℕ
 term_index (terms.Variable v) = variable_index v
 term_index (terms.Locator l) = 200 + locator_index l
+term_index (terms.Kind k) = 300 + kind_index k
 term_index (terms.Other t) = 400 + other_index t
 term_index (terms.Month m) = 500 + m
 term_index (terms.Season s) = 800 + s

@@ -1,8 +1,8 @@
 //! The terms of locales.
 
-use crate::{Locator, Variable};
+use crate::{Kind, Locator, Variable};
 
-/// A word of locales that is no variable, no label of a locator, no month and no season.
+/// A word of locales that is no variable, no label of a locator, no kind, no month and no season.
 #[derive(Clone, Copy, Debug, PartialEq, Eq, Hash)]
 pub enum OtherTerm {
     Ad,
@@ -71,6 +71,7 @@ pub enum OtherTerm {
 pub enum Term {
     Variable(Variable),
     Locator(Locator),
+    Kind(Kind),
     Other(OtherTerm),
     /// A month, counted from zero.
     Month(u8),

@@ -1,28 +1,10 @@
 //! Conditions of branches.
 
-use crate::styles::terms::LOCATORS;
+use crate::styles::terms::{KINDS, LOCATORS};
 use crate::styles::variables::{DATES, any, printed};
 use cases::{Session, Value, value_of};
 use rendering_style::{ChooseTest, Condition};
-use rendering_taxonomy::{ChooseMatch, Kind, TestPosition};
-
-/// The words of the kinds, in alphabetical order.
-pub const KINDS: &[(&str, Kind)] = &[
-    ("article", Kind::Article),
-    ("article-journal", Kind::ArticleJournal),
-    ("book", Kind::Book),
-    ("chapter", Kind::Chapter),
-    ("document", Kind::Document),
-    ("entry-encyclopedia", Kind::EntryEncyclopedia),
-    ("manuscript", Kind::Manuscript),
-    ("paper-conference", Kind::PaperConference),
-    ("patent", Kind::Patent),
-    ("periodical", Kind::Periodical),
-    ("report", Kind::Report),
-    ("software", Kind::Software),
-    ("thesis", Kind::Thesis),
-    ("webpage", Kind::Webpage),
-];
+use rendering_taxonomy::{ChooseMatch, TestPosition};
 
 const POSITIONS: &[(&str, TestPosition)] = &[
     ("first", TestPosition::First),

@@ -1,8 +1,8 @@
-//! The words of terms, of their forms and of the labels of locators.
+//! The words of terms, of their forms, of the labels of locators and of kinds.
 
 use crate::styles::variables::any;
 use cases::{Session, Value, value_of};
-use rendering_taxonomy::{LabelPluralize, Locator, LongShortForm, OtherTerm, Term, TermForm};
+use rendering_taxonomy::{Kind, LabelPluralize, Locator, LongShortForm, OtherTerm, Term, TermForm};
 
 /// Forms of terms.
 pub(crate) const FORMS: &[(&str, TermForm)] = &[
@@ -60,7 +60,56 @@ pub const LOCATORS: &[(&str, Locator)] = &[
     ("custom", Locator::Custom),
 ];
 
-/// Terms that are neither variables nor labels, nor months or seasons.
+/// The words of the kinds, in alphabetical order.
+pub const KINDS: &[(&str, Kind)] = &[
+    ("article", Kind::Article),
+    ("article-journal", Kind::ArticleJournal),
+    ("article-magazine", Kind::ArticleMagazine),
+    ("article-newspaper", Kind::ArticleNewspaper),
+    ("bill", Kind::Bill),
+    ("book", Kind::Book),
+    ("broadcast", Kind::Broadcast),
+    ("chapter", Kind::Chapter),
+    ("classic", Kind::Classic),
+    ("collection", Kind::Collection),
+    ("dataset", Kind::Dataset),
+    ("document", Kind::Document),
+    ("entry", Kind::Entry),
+    ("entry-dictionary", Kind::EntryDictionary),
+    ("entry-encyclopedia", Kind::EntryEncyclopedia),
+    ("event", Kind::Event),
+    ("figure", Kind::Figure),
+    ("graphic", Kind::Graphic),
+    ("hearing", Kind::Hearing),
+    ("interview", Kind::Interview),
+    ("legal_case", Kind::LegalCase),
+    ("legislation", Kind::Legislation),
+    ("manuscript", Kind::Manuscript),
+    ("map", Kind::Map),
+    ("motion_picture", Kind::MotionPicture),
+    ("musical_score", Kind::MusicalScore),
+    ("pamphlet", Kind::Pamphlet),
+    ("paper-conference", Kind::PaperConference),
+    ("patent", Kind::Patent),
+    ("performance", Kind::Performance),
+    ("periodical", Kind::Periodical),
+    ("personal_communication", Kind::PersonalCommunication),
+    ("post", Kind::Post),
+    ("post-weblog", Kind::PostWeblog),
+    ("regulation", Kind::Regulation),
+    ("report", Kind::Report),
+    ("review", Kind::Review),
+    ("review-book", Kind::ReviewBook),
+    ("software", Kind::Software),
+    ("song", Kind::Song),
+    ("speech", Kind::Speech),
+    ("standard", Kind::Standard),
+    ("thesis", Kind::Thesis),
+    ("treaty", Kind::Treaty),
+    ("webpage", Kind::Webpage),
+];
+
+/// Terms that are no variables, no labels, no kinds, no months and no seasons.
 const OTHERS: &[(&str, OtherTerm)] = &[
     ("ad", OtherTerm::Ad),
     (
@@ -149,7 +198,7 @@ const COUNTED: &[(&str, Term)] = &[
     ("season-04", Term::Season(3)),
 ];
 
-/// The term of a word that is no variable and no label.
+/// The term of a word that is no variable, no label and no kind.
 fn other(word: &str) -> Option<Term> {
     match value_of(OTHERS, word) {
         Some(other) => Some(Term::Other(other)),
@@ -157,11 +206,19 @@ fn other(word: &str) -> Option<Term> {
     }
 }
 
+/// The term of a word that is no variable and no label.
+fn unlabelled(word: &str) -> Option<Term> {
+    match value_of(KINDS, word) {
+        Some(kind) => Some(Term::Kind(kind)),
+        None => other(word),
+    }
+}
+
 /// The term of a word that is no variable.
 fn unanswered(word: &str) -> Option<Term> {
     match value_of(LOCATORS, word) {
         Some(locator) => Some(Term::Locator(locator)),
-        None => other(word),
+        None => unlabelled(word),
     }
 }
 

@@ -4,80 +4,114 @@ use cases::{Session, Value, value_of};
 use rendering_taxonomy::{DateVariable, NameVariable, NumberVariable, StandardVariable, Variable};
 
 /// Variables whose answer is a text.
-const STANDARD: &[(&str, Variable)] = &[
+const STANDARD: &[(&str, StandardVariable)] = &[
+    ("abstract", StandardVariable::Abstract),
+    ("annote", StandardVariable::Annote),
+    ("archive", StandardVariable::Archive),
+    ("archive_collection", StandardVariable::ArchiveCollection),
+    ("archive_location", StandardVariable::ArchiveLocation),
+    ("archive-place", StandardVariable::ArchivePlace),
+    ("authority", StandardVariable::Authority),
+    ("call-number", StandardVariable::CallNumber),
+    ("citation-key", StandardVariable::CitationKey),
+    ("citation-label", StandardVariable::CitationLabel),
+    ("collection-title", StandardVariable::CollectionTitle),
+    ("container-title", StandardVariable::ContainerTitle),
     (
-        "citation-label",
-        Variable::Standard(StandardVariable::CitationLabel),
+        "container-title-short",
+        StandardVariable::ContainerTitleShort,
     ),
+    ("dimensions", StandardVariable::Dimensions),
+    ("division", StandardVariable::Division),
+    ("doi", StandardVariable::Doi),
+    ("event", StandardVariable::Event),
+    ("event-place", StandardVariable::EventPlace),
+    ("event-title", StandardVariable::EventTitle),
+    ("genre", StandardVariable::Genre),
+    ("isbn", StandardVariable::Isbn),
+    ("issn", StandardVariable::Issn),
+    ("jurisdiction", StandardVariable::Jurisdiction),
+    ("keyword", StandardVariable::Keyword),
+    ("language", StandardVariable::Language),
+    ("license", StandardVariable::License),
+    ("medium", StandardVariable::Medium),
+    ("note", StandardVariable::Note),
+    ("original-publisher", StandardVariable::OriginalPublisher),
     (
-        "collection-title",
-        Variable::Standard(StandardVariable::CollectionTitle),
+        "original-publisher-place",
+        StandardVariable::OriginalPublisherPlace,
     ),
-    (
-        "container-title",
-        Variable::Standard(StandardVariable::ContainerTitle),
-    ),
-    ("doi", Variable::Standard(StandardVariable::Doi)),
-    (
-        "event-title",
-        Variable::Standard(StandardVariable::EventTitle),
-    ),
-    ("isbn", Variable::Standard(StandardVariable::Isbn)),
-    ("issn", Variable::Standard(StandardVariable::Issn)),
-    ("note", Variable::Standard(StandardVariable::Note)),
-    ("publisher", Variable::Standard(StandardVariable::Publisher)),
-    (
-        "publisher-place",
-        Variable::Standard(StandardVariable::PublisherPlace),
-    ),
-    ("title", Variable::Standard(StandardVariable::Title)),
-    (
-        "title-short",
-        Variable::Standard(StandardVariable::TitleShort),
-    ),
-    ("url", Variable::Standard(StandardVariable::Url)),
-    (
-        "year-suffix",
-        Variable::Standard(StandardVariable::YearSuffix),
-    ),
+    ("original-title", StandardVariable::OriginalTitle),
+    ("part-title", StandardVariable::PartTitle),
+    ("pmcid", StandardVariable::Pmcid),
+    ("pmid", StandardVariable::Pmid),
+    ("publisher", StandardVariable::Publisher),
+    ("publisher-place", StandardVariable::PublisherPlace),
+    ("references", StandardVariable::References),
+    ("reviewed-genre", StandardVariable::ReviewedGenre),
+    ("reviewed-title", StandardVariable::ReviewedTitle),
+    ("scale", StandardVariable::Scale),
+    ("source", StandardVariable::Source),
+    ("status", StandardVariable::Status),
+    ("title", StandardVariable::Title),
+    ("title-short", StandardVariable::TitleShort),
+    ("url", StandardVariable::Url),
+    ("volume-title", StandardVariable::VolumeTitle),
+    ("year-suffix", StandardVariable::YearSuffix),
 ];
 
-/// Variables whose answer is a number, and the pages.
-const NUMBERS: &[(&str, Variable)] = &[
-    (
-        "chapter-number",
-        Variable::Number(NumberVariable::ChapterNumber),
-    ),
-    (
-        "citation-number",
-        Variable::Number(NumberVariable::CitationNumber),
-    ),
-    ("edition", Variable::Number(NumberVariable::Edition)),
+/// Variables whose answer is a number.
+const NUMBERS: &[(&str, NumberVariable)] = &[
+    ("chapter-number", NumberVariable::ChapterNumber),
+    ("citation-number", NumberVariable::CitationNumber),
+    ("collection-number", NumberVariable::CollectionNumber),
+    ("edition", NumberVariable::Edition),
     (
         "first-reference-note-number",
-        Variable::Number(NumberVariable::FirstReferenceNoteNumber),
+        NumberVariable::FirstReferenceNoteNumber,
     ),
-    ("issue", Variable::Number(NumberVariable::Issue)),
-    ("locator", Variable::Number(NumberVariable::Locator)),
-    ("number", Variable::Number(NumberVariable::Number)),
-    (
-        "number-of-pages",
-        Variable::Number(NumberVariable::NumberOfPages),
-    ),
-    (
-        "number-of-volumes",
-        Variable::Number(NumberVariable::NumberOfVolumes),
-    ),
-    ("page-first", Variable::Number(NumberVariable::PageFirst)),
-    ("volume", Variable::Number(NumberVariable::Volume)),
-    ("page", Variable::Page),
+    ("issue", NumberVariable::Issue),
+    ("locator", NumberVariable::Locator),
+    ("number", NumberVariable::Number),
+    ("number-of-pages", NumberVariable::NumberOfPages),
+    ("number-of-volumes", NumberVariable::NumberOfVolumes),
+    ("page-first", NumberVariable::PageFirst),
+    ("part-number", NumberVariable::PartNumber),
+    ("printing-number", NumberVariable::PrintingNumber),
+    ("section", NumberVariable::Section),
+    ("supplement-number", NumberVariable::SupplementNumber),
+    ("version", NumberVariable::Version),
+    ("volume", NumberVariable::Volume),
 ];
 
 /// Variables whose answer is people.
 pub const NAMES: &[(&str, NameVariable)] = &[
     ("author", NameVariable::Author),
+    ("chair", NameVariable::Chair),
+    ("collection-editor", NameVariable::CollectionEditor),
+    ("compiler", NameVariable::Compiler),
+    ("composer", NameVariable::Composer),
     ("container-author", NameVariable::ContainerAuthor),
+    ("contributor", NameVariable::Contributor),
+    ("curator", NameVariable::Curator),
+    ("director", NameVariable::Director),
     ("editor", NameVariable::Editor),
+    ("editor-translator", NameVariable::EditorTranslator),
+    ("editorial-director", NameVariable::EditorialDirector),
+    ("executive-producer", NameVariable::ExecutiveProducer),
+    ("guest", NameVariable::Guest),
+    ("host", NameVariable::Host),
+    ("illustrator", NameVariable::Illustrator),
+    ("interviewer", NameVariable::Interviewer),
+    ("narrator", NameVariable::Narrator),
+    ("organizer", NameVariable::Organizer),
+    ("original-author", NameVariable::OriginalAuthor),
+    ("performer", NameVariable::Performer),
+    ("producer", NameVariable::Producer),
+    ("recipient", NameVariable::Recipient),
+    ("reviewed-author", NameVariable::ReviewedAuthor),
+    ("script-writer", NameVariable::ScriptWriter),
+    ("series-creator", NameVariable::SeriesCreator),
     ("translator", NameVariable::Translator),
 ];
 
@@ -93,12 +127,18 @@ pub(crate) const DATES: &[(&str, DateVariable)] = &[
 
 /// The variable of a word whose answer is a number, or the pages.
 fn numbered(word: &str) -> Option<Variable> {
-    value_of(NUMBERS, word)
+    match word {
+        "page" => Some(Variable::Page),
+        _ => value_of(NUMBERS, word).map(Variable::Number),
+    }
 }
 
 /// The variable of a word whose answer is a text, a number, or the pages.
 pub(crate) fn printed(word: &str) -> Option<Variable> {
-    value_of(STANDARD, word).or(numbered(word))
+    match value_of(STANDARD, word) {
+        Some(text) => Some(Variable::Standard(text)),
+        None => numbered(word),
+    }
 }
 
 /// The variable of a word whose answer is people or a date.
