@@ -1,5 +1,5 @@
 -- How English prints dates and ordinal numbers.
-use Rattle.std.specs.Prelude.{ℕ, false, List, [], ◌∷◌, codes}
+use Rattle.std.specs.Prelude.{ℕ, false, List, [], ◌∷◌, None, codes}
 use Rattle.rendering_locale.specs.Locales.{DatePart, LocalizedDate, Ordinals}
 use Rattle.rendering_taxonomy.specs.Formats.{unchanged}
 use Rattle.rendering_taxonomy.specs.declared.date.DateForm.{DateForm}
@@ -12,7 +12,7 @@ use Rattle.rendering_taxonomy.specs.declared.date.DatePartForm.TheVariants as pa
 
 -- a part of a date, and what stands after it
 abbrev pub part : DatePartForm → List ℕ → DatePart
-part form suffix = record { form = form; strips_periods = false; formatting = unchanged; prefix = []; suffix = suffix }
+part form suffix = record { form = form; strips_periods = false; text_case = None; formatting = unchanged; prefix = []; suffix = suffix; range_delimiter = None }
 
 -- the parts of a date in words
 unfoldable pub text_parts : List DatePart

@@ -4,6 +4,7 @@ use Rattle.rendering_style.specs.Nodes.{Node}
 use Rattle.rendering_style.specs.Options.{open_options}
 use Rattle.rendering_style.specs.Styles.{Layout, Citation, Bibliography, Style}
 use Rattle.rendering_taxonomy.specs.Formats.{unchanged}
+use Rattle.rendering_taxonomy.specs.declared.page.PageRule.TheVariants as page_rules
 use Rattle.rendering_taxonomy.specs.declared.style.StyleCategory.{StyleCategory}
 use Rattle.rendering_taxonomy.specs.declared.style.StyleClass.{StyleClass}
 use Rattle.rendering_taxonomy.specs.declared.style.SubsequentAuthorSubstituteRule.TheVariants as substitutes
@@ -39,9 +40,13 @@ style_of class category citation bibliography = record {
   class = class;
   categories = category ∷ [];
   default_locale = None;
+  page_ranges = None;
+  page_rule = page_rules.AsWritten;
   name_options = open_options;
   locales = [];
   macros = [];
   citation = citation;
   bibliography = bibliography;
+  citation_sort = [];
+  bibliography_sort = [];
 }

@@ -25,7 +25,7 @@ use Rattle.rendering_taxonomy.specs.declared.variable.Variable.TheVariants as va
 
 -- a text for whose look nothing is specified
 abbrev pub plain_text : TextLook
-plain_text = record { look = plain_look; quotes = false; strips_periods = false }
+plain_text = record { look = plain_look; quotes = false; strips_periods = false; text_case = None }
 
 -- a text in italics
 abbrev pub italic_text : TextLook
@@ -41,7 +41,7 @@ grouped delimiter xs = group (record { delimiter = Some delimiter; look = plain_
 
 -- the number of the entry among those cited
 abbrev pub citation_number : Look → Node
-citation_number look = leaf (number (record { variable = variables.Number numbers.CitationNumber; form = number_forms.Numeric; look = look }))
+citation_number look = leaf (number (record { variable = variables.Number numbers.CitationNumber; form = number_forms.Numeric; text_case = None; look = look }))
 
 -- the number of an item, in square brackets
 unfoldable pub item_number : Node
@@ -57,7 +57,7 @@ ibid = leaf (text (of_term (terms.Other words.Ibid) term_forms.Long false) plain
 
 -- the short term for the label of the locator
 abbrev pub locator_label : Node
-locator_label = leaf (label (variables.Number numbers.Locator) (record { form = term_forms.Short; plural = plurals.Contextual; strips_periods = false; look = plain_look }))
+locator_label = leaf (label (variables.Number numbers.Locator) (record { form = term_forms.Short; plural = plurals.Contextual; strips_periods = false; text_case = None; look = plain_look }))
 
 -- the locator after its label
 unfoldable pub locator : Node
@@ -65,19 +65,29 @@ locator = grouped (codes " ") (locator_label ∷ answer (variables.Number number
 
 -- the year of a date
 abbrev pub year_part : DatePart
-year_part = record { form = parts.Year lengths.Long; strips_periods = false; formatting = unchanged; prefix = []; suffix = [] }
+year_part = record { form = parts.Year lengths.Long; strips_periods = false; text_case = None; formatting = unchanged; prefix = []; suffix = []; range_delimiter = None }
 
 -- the year in which the entry appeared
 unfoldable pub year : Node
-year = leaf (date (record { variable = dates.Issued; form = None; parts = cuts.YearMonthDay; own_parts = year_part ∷ []; delimiter = None; look = plain_look }))
+year =
+    leaf (date (record {
+      variable = dates.Issued;
+      form = None;
+      parts = cuts.YearMonthDay;
+      own_parts = year_part ∷ [];
+      overrides_form = false;
+      delimiter = None;
+      text_case = None;
+      look = plain_look;
+    }))
 
 -- single names with these options
 abbrev pub name_with : NameOptions → NameLook
-name_with options = record { options = options; formatting = unchanged; prefix = []; suffix = [] }
+name_with options = record { options = options; formatting = unchanged; prefix = []; suffix = []; given = None; family = None }
 
 -- the people of a variable
 abbrev pub people_of : NameVariable → Option NameLook → NamesNode
-people_of v name = record { variables = v ∷ []; name = name; et_al = None; label = None; label_is_first = false; delimiter = None; look = plain_look }
+people_of v name = record { variables = v ∷ []; name = name; et_al = None; label = None; label_is_first = false; merges_editor_translator = false; delimiter = None; look = plain_look }
 
 -- the editors
 abbrev pub editors : Node

@@ -83,8 +83,10 @@ fn part(alloc: Global, row: &Row) -> Result<DatePart, AllocError>
     Ok(DatePart {
         form,
         strip_periods: false,
+        text_case: None,
         formatting: FormattingChanges::default(),
         prefix: empty_text(alloc),
         suffix,
+        range_delimiter: None,
     })
 }

@@ -12,7 +12,7 @@ use rendering_style::{
     Bibliography, Citation, Layout, NameOptions, Node, Style, StyleError, StyleParts,
 };
 use rendering_taxonomy::{
-    FormattingChanges, StyleCategory, StyleClass, SubsequentAuthorSubstituteRule,
+    FormattingChanges, PageRule, StyleCategory, StyleClass, SubsequentAuthorSubstituteRule,
 };
 use std::alloc::{AllocError, Global};
 use std::num::NonZeroI16;
@@ -101,11 +101,15 @@ pub(crate) fn style_of(
         class,
         categories,
         default_locale: None,
+        page_ranges: None,
+        page_rule: PageRule::AsWritten,
         name_options: NameOptions::default(),
         locales: Vec::new(alloc),
         macros: Vec::new(alloc),
         citation,
         bibliography,
+        citation_sort: Vec::new(alloc),
+        bibliography_sort: Vec::new(alloc),
     })
 }
 

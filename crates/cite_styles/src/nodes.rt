@@ -29,6 +29,7 @@ fn plain_text(alloc: Global) -> TextLook
         look: Look::plain(alloc),
         quotes: false,
         strip_periods: false,
+        text_case: None,
     }
 }
 
@@ -56,6 +57,7 @@ pub(crate) fn citation_number(look: Look) -> Node
     Node::Number(Number {
         variable: Variable::Number(NumberVariable::CitationNumber),
         form: NumberForm::Numeric,
+        text_case: None,
         look,
     })
 }
@@ -116,6 +118,7 @@ fn locator_label(alloc: Global) -> Node
             form: TermForm::Short,
             plural: LabelPluralize::Contextual,
             strip_periods: false,
+            text_case: None,
             look: Look::plain(alloc),
         },
     })
@@ -136,9 +139,11 @@ fn year_part(alloc: Global) -> DatePart
     DatePart {
         form: DatePartForm::Year(LongShortForm::Long),
         strip_periods: false,
+        text_case: None,
         formatting: FormattingChanges::default(),
         prefix: empty_text(alloc),
         suffix: empty_text(alloc),
+        range_delimiter: None,
     }
 }
 
@@ -153,7 +158,9 @@ pub(crate) fn year(alloc: Global) -> Result<Node, AllocError>
         form: None,
         parts: DateParts::YearMonthDay,
         own_parts,
+        overrides_form: false,
         delimiter: None,
+        text_case: None,
         look: Look::plain(alloc),
     }))
 }

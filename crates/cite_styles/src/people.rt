@@ -19,6 +19,8 @@ fn name_with(alloc: Global, options: NameOptions) -> Name
         formatting: FormattingChanges::default(),
         prefix: empty_text(alloc),
         suffix: empty_text(alloc),
+        given: None,
+        family: None,
     }
 }
 
@@ -33,6 +35,7 @@ fn people_of(alloc: Global, variable: NameVariable, name: Option<Name>) -> Resul
         et_al: None,
         label: None,
         label_is_first: false,
+        merges_editor_translator: false,
         delimiter: None,
         look: Look::plain(alloc),
     })

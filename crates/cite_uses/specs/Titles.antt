@@ -7,6 +7,7 @@ use Rattle.rendering_style.specs.Options.{open_options}
 use Rattle.rendering_style.specs.Styles.{Layout, Macro, Style, plain_citation}
 use Rattle.rendering_taxonomy.specs.Formats.{unchanged}
 use Rattle.rendering_taxonomy.specs.declared.formatting.FontStyle.{FontStyle}
+use Rattle.rendering_taxonomy.specs.declared.page.PageRule.TheVariants.{AsWritten}
 use Rattle.rendering_taxonomy.specs.declared.style.StyleClass.TheVariants.{InText}
 use Rattle.rendering_taxonomy.specs.declared.variable.StandardVariable.TheVariants.{Title}
 use Rattle.rendering_taxonomy.specs.declared.variable.Variable.TheVariants.{Standard}
@@ -29,9 +30,13 @@ titles = record {
   class = InText;
   categories = [];
   default_locale = None;
+  page_ranges = None;
+  page_rule = AsWritten;
   name_options = open_options;
   locales = [];
   macros = title_macro ∷ [];
   citation = plain_citation title_layout;
   bibliography = None;
+  citation_sort = [];
+  bibliography_sort = [];
 }

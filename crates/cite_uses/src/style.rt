@@ -10,7 +10,7 @@ use rendering_style::{
     TextLook, TextTarget,
 };
 use rendering_taxonomy::{
-    FontStyle, FormattingChanges, LongShortForm, StandardVariable, StyleClass, Variable,
+    FontStyle, FormattingChanges, LongShortForm, PageRule, StandardVariable, StyleClass, Variable,
 };
 use std::alloc::{AllocError, Global};
 use texts::owned;
@@ -41,11 +41,15 @@ fn parts(alloc: Global) -> Result<StyleParts, AllocError>
         class: StyleClass::InText,
         categories: Vec::new(alloc),
         default_locale: None,
+        page_ranges: None,
+        page_rule: PageRule::AsWritten,
         name_options: NameOptions::default(),
         locales: Vec::new(alloc),
         macros,
         citation: Citation::new(layout),
         bibliography: None,
+        citation_sort: Vec::new(alloc),
+        bibliography_sort: Vec::new(alloc),
     })
 }
 
@@ -96,6 +100,7 @@ fn text(alloc: Global, target: TextTarget, font_style: Option<FontStyle>) -> Nod
             look,
             quotes: false,
             strip_periods: false,
+            text_case: None,
         },
     })
 }

@@ -56,7 +56,10 @@ authors_are (v ∷ w ∷ vs) e = absurd (true≢false (sym e))
 
 node_is : (h : NamesNode) → is_author_node h ≡ true → h ≡ author_node
 node_is h e =
-    let p = and_parts (are_authors h.variables && is_none h.name && is_none h.et_al && is_none h.label && not h.label_is_first && is_none h.delimiter) (says_no_look h.look) e in
+    let o = and_parts
+    (are_authors h.variables && is_none h.name && is_none h.et_al && is_none h.label && not h.label_is_first && is_none h.delimiter && says_no_look h.look)
+    (not h.merges_editor_translator) e in
+    let p = and_parts (are_authors h.variables && is_none h.name && is_none h.et_al && is_none h.label && not h.label_is_first && is_none h.delimiter) (says_no_look h.look) o.0 in
     let q = and_parts (are_authors h.variables && is_none h.name && is_none h.et_al && is_none h.label && not h.label_is_first) (is_none h.delimiter) p.0 in
     let r = and_parts (are_authors h.variables && is_none h.name && is_none h.et_al && is_none h.label) (not h.label_is_first) q.0 in
     let s = and_parts (are_authors h.variables && is_none h.name && is_none h.et_al) (is_none h.label) r.0 in
@@ -68,6 +71,7 @@ node_is h e =
       et_al = none_is h.et_al t.1 i;
       label = none_is h.label s.1 i;
       label_is_first = not_is h.label_is_first r.1 i;
+      merges_editor_translator = not_is h.merges_editor_translator o.1 i;
       delimiter = none_is h.delimiter q.1 i;
       look = no_look_is h.look p.1 i;
     }

@@ -23,6 +23,7 @@ are_authors vs = false
 abbrev pub is_author_node : NamesNode → Bool
 is_author_node h =
     are_authors h.variables && is_none h.name && is_none h.et_al && is_none h.label && not h.label_is_first && is_none h.delimiter && says_no_look h.look
+    && not h.merges_editor_translator
 
 -- whether nodes are this one alone, with no substitute for the authors
 abbrev pub is_made : List Node → Bool

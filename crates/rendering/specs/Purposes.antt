@@ -150,6 +150,7 @@ author_node = record {
   et_al = None;
   label = None;
   label_is_first = false;
+  merges_editor_translator = false;
   delimiter = None;
   look = plain_look;
 }

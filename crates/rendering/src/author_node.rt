@@ -48,6 +48,7 @@ fn author_names(alloc: Global) -> Result<Names, AllocError>
         et_al: None,
         label: None,
         label_is_first: false,
+        merges_editor_translator: false,
         delimiter: None,
         look: Look::plain(alloc),
     })

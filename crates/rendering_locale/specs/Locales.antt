@@ -5,6 +5,7 @@ use Rattle.rendering_taxonomy.specs.declared.date.DateForm.{DateForm}
 use Rattle.rendering_taxonomy.specs.declared.date.DatePartForm.{DatePartForm}
 use Rattle.rendering_taxonomy.specs.declared.term.Term.{Term}
 use Rattle.rendering_taxonomy.specs.declared.term.TermForm.{TermForm}
+use Rattle.rendering_taxonomy.specs.declared.text_case.TextCase.{TextCase}
 
 -- a term in a form, with its texts for one and for more than one
 pub record LocalizedTerm : Type 0 where
@@ -18,13 +19,16 @@ pub record Ordinals : Type 0 where
   pub endings : List (ℕ × List ℕ)
   pub default : List ℕ
 
--- a part of a date: which and how it is printed, its look, its affixes, and whether its full stops go
+-- a part of a date: which and how it is printed, its look, its affixes, whether its full stops go, the case of its letters, and what stands
+-- between the sides of a range that differ in it
 pub record DatePart : Type 0 where
   pub form : DatePartForm
   pub strips_periods : Bool
+  pub text_case : Option TextCase
   pub formatting : Changes
   pub prefix : List ℕ
   pub suffix : List ℕ
+  pub range_delimiter : Option (List ℕ)
 
 -- a form of a language's dates: the parts in order, and what stands between them
 pub record LocalizedDate : Type 0 where

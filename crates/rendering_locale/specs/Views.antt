@@ -30,9 +30,11 @@ abbrev pub part_view : DatePart → locales.DatePart
 part_view p = record {
   form = p.form;
   strips_periods = p.strip_periods;
+  text_case = p.text_case;
   formatting = changes_view p.formatting;
   prefix = characters p.prefix;
   suffix = characters p.suffix;
+  range_delimiter = option_map characters p.range_delimiter;
 }
 
 -- a form of dates

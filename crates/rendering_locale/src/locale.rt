@@ -1,7 +1,7 @@
 //! Locales as they are written down.
 
 use crate::code::LocaleCode;
-use rendering_taxonomy::{DateForm, DatePartForm, FormattingChanges, Term, TermForm};
+use rendering_taxonomy::{DateForm, DatePartForm, FormattingChanges, Term, TermForm, TextCase};
 
 /// A term in a form.
 #[derive(Debug, PartialEq, Eq, Drop)]
@@ -36,9 +36,12 @@ pub struct DatePart {
     pub form: DatePartForm,
     /// Whether its full stops are left out.
     pub strip_periods: bool,
+    pub text_case: Option<TextCase>,
     pub formatting: FormattingChanges,
     pub prefix: String,
     pub suffix: String,
+    /// The text between the two sides of a range that differ in this part.
+    pub range_delimiter: Option<String>,
 }
 
 /// A form of a language's dates.

@@ -206,7 +206,7 @@ variable_pieces s h (p, a) =
 
 -- the look of single names where nothing is specified for them
 abbrev pub no_look : NameLook
-no_look = record { options = open_options; formatting = unchanged; prefix = []; suffix = [] }
+no_look = record { options = open_options; formatting = unchanged; prefix = []; suffix = []; given = None; family = None }
 
 -- the term for others where nothing is specified for it
 abbrev pub plain_et_al : EtAl

@@ -38,6 +38,10 @@ resolved_options_view o = record {
   name_as_sort_order = o.name_as_sort_order;
   sort_separator = option_map spelled o.sort_separator;
   demote = o.demote_non_dropping_particle;
+  delimiter_precedes_et_al = o.delimiter_precedes_et_al;
+  initialize = o.initialize;
+  initialize_with_hyphen = o.initialize_with_hyphen;
+  names_delimiter = option_map spelled o.names_delimiter;
 }
 
 -- what is specified for single names, where something is
@@ -56,6 +60,7 @@ names_parts_view n = record {
   et_al = lent_et_al_view n.et_al;
   label = option_map (λ b. label_look_view b.now) n.label;
   label_is_first = n.label_is_first;
+  merges_editor_translator = n.merges_editor_translator;
   delimiter = option_map spelled n.delimiter;
   look = look_view n.look.now;
 }

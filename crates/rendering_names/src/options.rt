@@ -44,6 +44,14 @@ pub struct ResolvedNameOptions<'a> {
     pub sort_separator: Option<&'a str>,
     /// Whether the particle of a family name goes after the given name.
     pub demote_non_dropping_particle: Option<bool>,
+    /// Whether the delimiter stands before the term for the names left out.
+    pub delimiter_precedes_et_al: Option<DelimiterBehavior>,
+    /// Whether whole given names are cut to initials; else only what stands behind initials changes.
+    pub initialize: Option<bool>,
+    /// Whether hyphens stay between initials.
+    pub initialize_with_hyphen: Option<bool>,
+    /// The text between the people of two variables, where their node says none.
+    pub names_delimiter: Option<&'a str>,
 }
 
 impl<'a> ResolvedNameOptions<'a> {
@@ -65,6 +73,10 @@ impl<'a> ResolvedNameOptions<'a> {
             name_as_sort_order: options.name_as_sort_order,
             sort_separator: borrowed_text(&options.sort_separator),
             demote_non_dropping_particle: options.demote_non_dropping_particle,
+            delimiter_precedes_et_al: options.delimiter_precedes_et_al,
+            initialize: options.initialize,
+            initialize_with_hyphen: options.initialize_with_hyphen,
+            names_delimiter: borrowed_text(&options.names_delimiter),
         }
     }
 
@@ -94,6 +106,14 @@ impl<'a> ResolvedNameOptions<'a> {
             demote_non_dropping_particle: self
                 .demote_non_dropping_particle
                 .or(around.demote_non_dropping_particle),
+            delimiter_precedes_et_al: self
+                .delimiter_precedes_et_al
+                .or(around.delimiter_precedes_et_al),
+            initialize: self.initialize.or(around.initialize),
+            initialize_with_hyphen: self
+                .initialize_with_hyphen
+                .or(around.initialize_with_hyphen),
+            names_delimiter: first_text(self.names_delimiter, around.names_delimiter),
         }
     }
 

@@ -23,6 +23,8 @@ pub struct NamesParts<'a> {
     pub label: Option<&'a LabelLook>,
     /// Whether the label stands before the names.
     pub label_is_first: bool,
+    /// Whether editors who are the translators too are printed once.
+    pub merges_editor_translator: bool,
     /// The text between the people of two variables.
     pub delimiter: Option<&'a str>,
     pub look: &'a Look,
@@ -39,6 +41,7 @@ impl<'a> NamesParts<'a> {
             et_al: node.et_al.as_ref(),
             label: node.label.as_ref(),
             label_is_first: node.label_is_first,
+            merges_editor_translator: node.merges_editor_translator,
             delimiter: borrowed_text(&node.delimiter),
             look: &node.look,
         }

@@ -1,5 +1,6 @@
 pub mod Options
 pub mod Nodes
+pub mod Sorting
 pub mod Styles
 pub mod Opening
 pub mod Levels

@@ -16,6 +16,7 @@ use Rattle.rendering_taxonomy.specs.declared.number.NumberForm.{NumberForm}
 use Rattle.rendering_taxonomy.specs.declared.number.LabelPluralize.{LabelPluralize}
 use Rattle.rendering_taxonomy.specs.declared.term.Term.{Term}
 use Rattle.rendering_taxonomy.specs.declared.term.TermForm.{TermForm}
+use Rattle.rendering_taxonomy.specs.declared.text_case.TextCase.{TextCase}
 use Rattle.rendering_taxonomy.specs.declared.variable.DateVariable.{DateVariable}
 use Rattle.rendering_taxonomy.specs.declared.variable.NameVariable.{NameVariable}
 use Rattle.rendering_taxonomy.specs.declared.variable.Variable.{Variable}
@@ -31,11 +32,12 @@ pub record Look : Type 0 where
 abbrev pub plain_look : Look
 plain_look = record { formatting = unchanged; prefix = []; suffix = []; display = None }
 
--- a text node's look, whether what it prints stands in quotes, and whether its full stops go
+-- a text node's look, whether what it prints stands in quotes, whether its full stops go, and the case of its letters
 pub record TextLook : Type 0 where
   pub look : Look
   pub quotes : Bool
   pub strips_periods : Bool
+  pub text_case : Option TextCase
 
 -- the answer to a variable in a form, a term in a form for one or more than one, or a text of the style's own
 pub data TextSource : Type 0 where
@@ -47,6 +49,7 @@ pub data TextSource : Type 0 where
 pub record NumberNode : Type 0 where
   pub variable : Variable
   pub form : NumberForm
+  pub text_case : Option TextCase
   pub look : Look
 
 -- the term of a variable, in a form; in the plural or not
@@ -54,23 +57,36 @@ pub record LabelLook : Type 0 where
   pub form : TermForm
   pub plural : LabelPluralize
   pub strips_periods : Bool
+  pub text_case : Option TextCase
   pub look : Look
 
--- The answer to a date variable: in parts of the style's own, or in those of the locale's dates of a form; cut to so much of it.
+-- The answer to a date variable: in parts of the style's own, or in those of the locale's dates of a form; cut to so much of it. Own parts
+-- may say how the locale's are printed.
 pub record DateNode : Type 0 where
   pub variable : DateVariable
   pub form : Option DateForm
   pub parts : DateParts
   pub own_parts : List DatePart
+  pub overrides_form : Bool
   pub delimiter : Option (List ℕ)
+  pub text_case : Option TextCase
   pub look : Look
 
--- the options of single names, their look and affixes
+-- how given names or family names look by themselves, the case of their letters, and their affixes
+pub record NamePart : Type 0 where
+  pub formatting : Changes
+  pub text_case : Option TextCase
+  pub prefix : List ℕ
+  pub suffix : List ℕ
+
+-- the options of single names, their look and affixes, and what is specified for their parts
 pub record NameLook : Type 0 where
   pub options : NameOptions
   pub formatting : Changes
   pub prefix : List ℕ
   pub suffix : List ℕ
+  pub given : Option NamePart
+  pub family : Option NamePart
 
 -- the term for the names left out, and its look
 pub record EtAl : Type 0 where
@@ -78,13 +94,15 @@ pub record EtAl : Type 0 where
   pub formatting : Changes
 
 -- Names: the variables whose people are printed; what is specified for single names, of the term for those left out, and of a label, which
--- stands before or after the names; what stands between the people of two variables.
+-- stands before or after the names; whether editors who are the translators too are printed once; what stands between the people of two
+-- variables.
 pub record NamesNode : Type 0 where
   pub variables : List NameVariable
   pub name : Option NameLook
   pub et_al : Option EtAl
   pub label : Option LabelLook
   pub label_is_first : Bool
+  pub merges_editor_translator : Bool
   pub delimiter : Option (List ℕ)
   pub look : Look
 

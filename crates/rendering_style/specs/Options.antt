@@ -9,7 +9,8 @@ use Rattle.rendering_taxonomy.specs.declared.name.NameAsSortOrder.{NameAsSortOrd
 -- Whether and what stands before the last name; what stands between names, and whether it stands before the last; from how many
 -- names on so many of them are shown, in the first and in subsequent cites, and whether the last is shown too; the form; what
 -- stands after initials; which names are inverted, and what stands in them after the family name; whether the particle of a
--- family name goes after the given name.
+-- family name goes after the given name; whether the delimiter stands before the term for those left out; whether whole given names are
+-- cut to initials, and hyphens stay between these; what stands between the people of two variables.
 pub record NameOptions : Type 0 where
   pub and_term : Option NameAnd
   pub delimiter : Option (List ℕ)
@@ -24,6 +25,10 @@ pub record NameOptions : Type 0 where
   pub name_as_sort_order : Option NameAsSortOrder
   pub sort_separator : Option (List ℕ)
   pub demote : Option Bool
+  pub delimiter_precedes_et_al : Option DelimiterBehavior
+  pub initialize : Option Bool
+  pub initialize_with_hyphen : Option Bool
+  pub names_delimiter : Option (List ℕ)
 
 -- all is left open
 abbrev pub open_options : NameOptions
@@ -41,6 +46,10 @@ open_options = record {
   name_as_sort_order = None;
   sort_separator = None;
   demote = None;
+  delimiter_precedes_et_al = None;
+  initialize = None;
+  initialize_with_hyphen = None;
+  names_delimiter = None;
 }
 
 -- each option of the first, or else of the second
@@ -59,4 +68,8 @@ options_over o p = record {
   name_as_sort_order = option_or o.name_as_sort_order p.name_as_sort_order;
   sort_separator = option_or o.sort_separator p.sort_separator;
   demote = option_or o.demote p.demote;
+  delimiter_precedes_et_al = option_or o.delimiter_precedes_et_al p.delimiter_precedes_et_al;
+  initialize = option_or o.initialize p.initialize;
+  initialize_with_hyphen = option_or o.initialize_with_hyphen p.initialize_with_hyphen;
+  names_delimiter = option_or o.names_delimiter p.names_delimiter;
 }

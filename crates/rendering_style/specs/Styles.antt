@@ -4,6 +4,9 @@ use Rattle.rendering_taxonomy.specs.Formats.{Changes}
 use Rattle.rendering_locale.specs.Locales.{Locale}
 use Rattle.rendering_style.specs.Options.{NameOptions, open_options}
 use Rattle.rendering_style.specs.Nodes.{Node}
+use Rattle.rendering_style.specs.Sorting.{SortKey}
+use Rattle.rendering_taxonomy.specs.declared.page.PageRangeFormat.{PageRangeFormat}
+use Rattle.rendering_taxonomy.specs.declared.page.PageRule.{PageRule}
 use Rattle.rendering_taxonomy.specs.declared.style.StyleClass.{StyleClass}
 use Rattle.rendering_taxonomy.specs.declared.style.StyleCategory.{StyleCategory}
 use Rattle.rendering_taxonomy.specs.declared.style.Collapse.{Collapse}
@@ -39,6 +42,11 @@ pub record Citation : Type 0 where
   pub after_collapse_delimiter : Option (List ℕ)
   pub year_suffix_delimiter : Option (List ℕ)
   pub near_note_distance : ℕ
+  pub first_chooses_too : Bool
+  pub ibid_after_one : Bool
+  pub same_entry_is_no_rival : Bool
+  pub suffixes_by_number : Bool
+  pub raises_names_first : Bool
 
 -- cites that are not disambiguated, not gathered and not collapsed
 abbrev pub plain_citation : Layout → Citation
@@ -54,6 +62,11 @@ plain_citation l = record {
   after_collapse_delimiter = None;
   year_suffix_delimiter = None;
   near_note_distance = 5;
+  first_chooses_too = false;
+  ibid_after_one = false;
+  same_entry_is_no_rival = false;
+  suffixes_by_number = false;
+  raises_names_first = false;
 }
 
 -- how the items of a bibliography are printed
@@ -72,8 +85,12 @@ pub record Style : Type 0 where
   pub class : StyleClass
   pub categories : List StyleCategory
   pub default_locale : Option (List ℕ)
+  pub page_ranges : Option PageRangeFormat
+  pub page_rule : PageRule
   pub name_options : NameOptions
   pub locales : List Locale
   pub macros : List Macro
   pub citation : Citation
   pub bibliography : Option Bibliography
+  pub citation_sort : List SortKey
+  pub bibliography_sort : List SortKey

@@ -9,6 +9,7 @@ use Rattle.rendering_taxonomy.specs.Views.{changes_view}
 use Rattle.rendering_locale.specs.Views.{part_view, locale_view}
 use Rattle.rendering_style.specs.Options as options
 use Rattle.rendering_style.specs.Nodes as nodes
+use Rattle.rendering_style.specs.Sorting as sorting
 use Rattle.rendering_style.specs.Styles as styles
 use Rattle.rendering_style.specs.declared.options.NameOptions.{NameOptions}
 use Rattle.rendering_style.specs.declared.node.Look.{Look}
@@ -19,6 +20,7 @@ use Rattle.rendering_style.specs.declared.node.Number.{Number}
 use Rattle.rendering_style.specs.declared.node.LabelLook.{LabelLook}
 use Rattle.rendering_style.specs.declared.node.Date.{Date}
 use Rattle.rendering_style.specs.declared.node.Name.{Name}
+use Rattle.rendering_style.specs.declared.node.NamePart.{NamePart}
 use Rattle.rendering_style.specs.declared.node.EtAl.{EtAl}
 use Rattle.rendering_style.specs.declared.node.Names.{Names}
 use Rattle.rendering_style.specs.declared.node.Group.{Group}
@@ -33,6 +35,9 @@ use Rattle.rendering_style.specs.declared.parts.Macro.{Macro}
 use Rattle.rendering_style.specs.declared.parts.Citation.{Citation}
 use Rattle.rendering_style.specs.declared.parts.Bibliography.{Bibliography}
 use Rattle.rendering_style.specs.declared.parts.StyleParts.{StyleParts}
+use Rattle.rendering_style.specs.declared.sort.SortKey.{SortKey}
+use Rattle.rendering_style.specs.declared.sort.SortTarget.{SortTarget}
+use Rattle.rendering_style.specs.declared.sort.SortTarget.TheVariants as sort_targets
 
 -- what is specified for names
 abbrev pub options_view : NameOptions → options.NameOptions
@@ -50,6 +55,10 @@ options_view o = record {
   name_as_sort_order = o.name_as_sort_order;
   sort_separator = option_map characters o.sort_separator;
   demote = o.demote_non_dropping_particle;
+  delimiter_precedes_et_al = o.delimiter_precedes_et_al;
+  initialize = o.initialize;
+  initialize_with_hyphen = o.initialize_with_hyphen;
+  names_delimiter = option_map characters o.names_delimiter;
 }
 
 -- a look
@@ -58,7 +67,7 @@ look_view l = record { formatting = changes_view l.formatting; prefix = characte
 
 -- the look of a text
 abbrev pub text_look_view : TextLook → nodes.TextLook
-text_look_view l = record { look = look_view l.look; quotes = l.quotes; strips_periods = l.strip_periods }
+text_look_view l = record { look = look_view l.look; quotes = l.quotes; strips_periods = l.strip_periods; text_case = l.text_case }
 
 -- a text by what it prints
 abbrev pub text_node_view : TextTarget → nodes.TextLook → nodes.Node
@@ -69,11 +78,11 @@ text_node_view (targets.Value s) look = nodes.leaf (nodes.text (nodes.of_value (
 
 -- a number
 abbrev pub number_node_view : Number → nodes.NumberNode
-number_node_view n = record { variable = n.variable; form = n.form; look = look_view n.look }
+number_node_view n = record { variable = n.variable; form = n.form; text_case = n.text_case; look = look_view n.look }
 
 -- the look of a label
 abbrev pub label_look_view : LabelLook → nodes.LabelLook
-label_look_view l = record { form = l.form; plural = l.plural; strips_periods = l.strip_periods; look = look_view l.look }
+label_look_view l = record { form = l.form; plural = l.plural; strips_periods = l.strip_periods; text_case = l.text_case; look = look_view l.look }
 
 -- a date
 abbrev pub date_node_view : Date → nodes.DateNode
@@ -82,13 +91,26 @@ date_node_view d = record {
   form = d.form;
   parts = d.parts;
   own_parts = map part_view d.own_parts.items;
+  overrides_form = d.overrides_form;
   delimiter = option_map characters d.delimiter;
+  text_case = d.text_case;
   look = look_view d.look;
 }
 
+-- what is specified for a part of single names
+abbrev pub name_part_view : NamePart → nodes.NamePart
+name_part_view p = record { formatting = changes_view p.formatting; text_case = p.text_case; prefix = characters p.prefix; suffix = characters p.suffix }
+
 -- what is specified for single names
 abbrev pub name_look_view : Name → nodes.NameLook
-name_look_view n = record { options = options_view n.options; formatting = changes_view n.formatting; prefix = characters n.prefix; suffix = characters n.suffix }
+name_look_view n = record {
+  options = options_view n.options;
+  formatting = changes_view n.formatting;
+  prefix = characters n.prefix;
+  suffix = characters n.suffix;
+  given = option_map name_part_view n.given;
+  family = option_map name_part_view n.family;
+}
 
 -- the term for those left out
 abbrev pub et_al_view : EtAl → nodes.EtAl
@@ -102,6 +124,7 @@ names_node_view n = record {
   et_al = option_map et_al_view n.et_al;
   label = option_map label_look_view n.label;
   label_is_first = n.label_is_first;
+  merges_editor_translator = n.merges_editor_translator;
   delimiter = option_map characters n.delimiter;
   look = look_view n.look;
 }
@@ -173,6 +196,21 @@ layout_view l = record {
 abbrev pub macro_view : Macro → styles.Macro
 macro_view m = record { name = string_bytes m.name; nodes = map node_view m.nodes.items }
 
+-- what the key of an item is
+abbrev pub sort_target_view : SortTarget → sorting.SortTarget
+sort_target_view (sort_targets.Variable v) = sorting.by_variable v
+sort_target_view (sort_targets.Macro name) = sorting.by_macro (string_bytes name)
+
+-- a key
+abbrev pub sort_key_view : SortKey → sorting.SortKey
+sort_key_view k = record {
+  target = sort_target_view k.target;
+  direction = k.direction;
+  names_min = k.names_min;
+  names_use_first = k.names_use_first;
+  names_use_last = k.names_use_last;
+}
+
 -- what is specified for citations
 abbrev pub citation_layout_view : Citation → styles.Citation
 citation_layout_view c = record {
@@ -187,6 +225,11 @@ citation_layout_view c = record {
   after_collapse_delimiter = option_map characters c.after_collapse_delimiter;
   year_suffix_delimiter = option_map characters c.year_suffix_delimiter;
   near_note_distance = c.near_note_distance;
+  first_chooses_too = c.first_chooses_too;
+  ibid_after_one = c.ibid_after_one;
+  same_entry_is_no_rival = c.same_entry_is_no_rival;
+  suffixes_by_number = c.suffixes_by_number;
+  raises_names_first = c.raises_names_first;
 }
 
 -- what is specified for the bibliography
@@ -208,11 +251,15 @@ style_parts_view p = record {
   class = p.class;
   categories = p.categories.items;
   default_locale = option_map code_view p.default_locale;
+  page_ranges = p.page_ranges;
+  page_rule = p.page_rule;
   name_options = options_view p.name_options;
   locales = map locale_view p.locales.items;
   macros = map macro_view p.macros.items;
   citation = citation_layout_view p.citation;
   bibliography = option_map bibliography_layout_view p.bibliography;
+  citation_sort = map sort_key_view p.citation_sort.items;
+  bibliography_sort = map sort_key_view p.bibliography_sort.items;
 }
 
 -- the macros among them

@@ -8,14 +8,16 @@ mod node;
 mod opening;
 mod options;
 mod parts;
+mod sort;
 mod style;
 
 pub use error::StyleError;
 pub use node::{
-    ChooseBranch, ChooseTest, Condition, Date, EtAl, Group, Label, LabelLook, Look, Name, Names,
-    Node, Number, Text, TextLook, TextTarget,
+    ChooseBranch, ChooseTest, Condition, Date, EtAl, Group, Label, LabelLook, Look, Name, NamePart,
+    Names, Node, Number, Text, TextLook, TextTarget,
 };
 pub use opening::opening_deeper_changes_nothing;
 pub use options::NameOptions;
 pub use parts::{Bibliography, Citation, Layout, Macro, StyleParts};
+pub use sort::{SortKey, SortTarget};
 pub use style::Style;

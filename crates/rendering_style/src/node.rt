@@ -5,7 +5,7 @@ use rendering_locale::DatePart;
 use rendering_taxonomy::{
     ChooseMatch, DateForm, DateParts, DateVariable, Display, EtAlTerm, FormattingChanges, Kind,
     LabelPluralize, Locator, LongShortForm, NameVariable, NumberForm, Term, TermForm, TestPosition,
-    Variable,
+    TextCase, Variable,
 };
 use std::alloc::Global;
 use texts::empty_text;
@@ -45,6 +45,8 @@ pub struct TextLook {
     pub quotes: bool,
     /// Whether its full stops are left out.
     pub strip_periods: bool,
+    /// Which letters of what it prints are made small or capitals.
+    pub text_case: Option<TextCase>,
 }
 
 /// What a text node prints.
@@ -72,6 +74,8 @@ pub struct Text {
 pub struct Number {
     pub variable: Variable,
     pub form: NumberForm,
+    /// Which letters of what it prints are made small or capitals.
+    pub text_case: Option<TextCase>,
     pub look: Look,
 }
 
@@ -83,6 +87,8 @@ pub struct LabelLook {
     pub plural: LabelPluralize,
     /// Whether its full stops are left out.
     pub strip_periods: bool,
+    /// Which letters of what it prints are made small or capitals.
+    pub text_case: Option<TextCase>,
     pub look: Look,
 }
 
@@ -103,9 +109,22 @@ pub struct Date {
     pub parts: DateParts,
     /// The parts that are printed instead of the locale's, where there are any.
     pub own_parts: Vec<DatePart>,
+    /// Whether its own parts say how the locale's parts are printed, instead of standing for them.
+    pub overrides_form: bool,
     /// The text between its parts.
     pub delimiter: Option<String>,
+    /// Which letters of what it prints are made small or capitals.
+    pub text_case: Option<TextCase>,
     pub look: Look,
+}
+
+/// What is specified for a part of single names.
+#[derive(Debug, PartialEq, Eq, Drop)]
+pub struct NamePart {
+    pub formatting: FormattingChanges,
+    pub text_case: Option<TextCase>,
+    pub prefix: String,
+    pub suffix: String,
 }
 
 /// What is specified for single names.
@@ -115,6 +134,9 @@ pub struct Name {
     pub formatting: FormattingChanges,
     pub prefix: String,
     pub suffix: String,
+    /// What is specified for given names and for family names by themselves.
+    pub given: Option<NamePart>,
+    pub family: Option<NamePart>,
 }
 
 /// The term for the names left out.
@@ -133,6 +155,8 @@ pub struct Names {
     pub label: Option<LabelLook>,
     /// Whether the label stands before the names.
     pub label_is_first: bool,
+    /// Whether editors who are the translators too are printed once.
+    pub merges_editor_translator: bool,
     /// The text between the people of two variables.
     pub delimiter: Option<String>,
     pub look: Look,

@@ -29,4 +29,12 @@ pub struct NameOptions {
     pub sort_separator: Option<String>,
     /// Whether the particle of a family name goes after the given name.
     pub demote_non_dropping_particle: Option<bool>,
+    /// Whether the delimiter stands before the term for the names left out.
+    pub delimiter_precedes_et_al: Option<DelimiterBehavior>,
+    /// Whether whole given names are cut to initials; else only what stands behind initials changes.
+    pub initialize: Option<bool>,
+    /// Whether hyphens stay between initials.
+    pub initialize_with_hyphen: Option<bool>,
+    /// The text between the people of two variables, where their node says none.
+    pub names_delimiter: Option<String>,
 }

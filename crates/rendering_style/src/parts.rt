@@ -2,10 +2,11 @@
 
 use crate::node::Node;
 use crate::options::NameOptions;
+use crate::sort::SortKey;
 use rendering_locale::{Locale, LocaleCode};
 use rendering_taxonomy::{
-    Collapse, DisambiguationRule, FormattingChanges, SecondFieldAlign, StyleCategory, StyleClass,
-    SubsequentAuthorSubstituteRule,
+    Collapse, DisambiguationRule, FormattingChanges, PageRangeFormat, PageRule, SecondFieldAlign,
+    StyleCategory, StyleClass, SubsequentAuthorSubstituteRule,
 };
 use std::num::NonZeroI16;
 
@@ -44,6 +45,16 @@ pub struct Citation {
     pub year_suffix_delimiter: Option<String>,
     /// Up to how many notes back a note is near.
     pub near_note_distance: u32,
+    /// Whether the first of alike cites takes the branch for alike ones too.
+    pub first_chooses_too: bool,
+    /// Whether only a citation of one cite is repeated by ibid.
+    pub ibid_after_one: bool,
+    /// Whether names are compared with those of other entries alone.
+    pub same_entry_is_no_rival: bool,
+    /// Whether year suffixes go by the numbers of entries, and not by first cites.
+    pub suffixes_by_number: bool,
+    /// Whether given names are added by the rule before cites are compared.
+    pub raises_names_first: bool,
 }
 
 impl Citation {
@@ -67,6 +78,11 @@ impl Citation {
             after_collapse_delimiter: None,
             year_suffix_delimiter: None,
             near_note_distance: 5,
+            first_chooses_too: false,
+            ibid_after_one: false,
+            same_entry_is_no_rival: false,
+            suffixes_by_number: false,
+            raises_names_first: false,
         }
     }
 }
@@ -93,12 +109,18 @@ pub struct StyleParts {
     pub class: StyleClass,
     pub categories: Vec<StyleCategory>,
     pub default_locale: Option<LocaleCode>,
+    /// How ranges of pages are shortened, and how a text meets the one before it.
+    pub page_ranges: Option<PageRangeFormat>,
+    pub page_rule: PageRule,
     pub name_options: NameOptions,
     /// The style's own locales.
     pub locales: Vec<Locale>,
     pub macros: Vec<Macro>,
     pub citation: Citation,
     pub bibliography: Option<Bibliography>,
+    /// By what the cites of a citation are sorted, and the items of the bibliography; those without keys stay in their order.
+    pub citation_sort: Vec<SortKey>,
+    pub bibliography_sort: Vec<SortKey>,
 }
 
 impl Drop for StyleParts {
@@ -107,11 +129,15 @@ impl Drop for StyleParts {
             class: _,
             categories: _,
             default_locale: _,
+            page_ranges: _,
+            page_rule: _,
             name_options: _,
             locales: _,
             macros: _,
             citation: _,
             bibliography: _,
+            citation_sort: _,
+            bibliography_sort: _,
         } = self;
     }
 }

@@ -9,8 +9,10 @@ mod kind;
 mod locator;
 mod name;
 mod number;
+mod page;
 mod style;
 mod term;
+mod text_case;
 mod variable;
 
 pub use choose::{ChooseMatch, TestPosition};
@@ -26,9 +28,11 @@ pub use name::{
     DelimiterBehavior, DisambiguatedNameForm, EtAlTerm, NameAnd, NameAsSortOrder, NameForm,
 };
 pub use number::{LabelPluralize, NumberForm};
+pub use page::{PageRangeFormat, PageRule};
 pub use style::{
-    Collapse, DisambiguationRule, SecondFieldAlign, StyleCategory, StyleClass,
+    Collapse, DisambiguationRule, SecondFieldAlign, SortDirection, StyleCategory, StyleClass,
     SubsequentAuthorSubstituteRule,
 };
 pub use term::{OtherTerm, Term, TermForm};
+pub use text_case::TextCase;
 pub use variable::{DateVariable, NameVariable, NumberVariable, StandardVariable, Variable};

@@ -51,3 +51,11 @@ pub enum SecondFieldAlign {
     Margin,
     Flush,
 }
+
+/// The direction in which items are sorted by a key. Ascending by default.
+#[derive(Clone, Copy, Debug, Default, PartialEq, Eq, Hash)]
+pub enum SortDirection {
+    #[default]
+    Ascending,
+    Descending,
+}

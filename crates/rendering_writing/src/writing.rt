@@ -239,5 +239,9 @@ fn open_options<'a>() -> ResolvedNameOptions<'a>
         name_as_sort_order: None,
         sort_separator: None,
         demote_non_dropping_particle: None,
+        delimiter_precedes_et_al: None,
+        initialize: None,
+        initialize_with_hyphen: None,
+        names_delimiter: None,
     }
 }

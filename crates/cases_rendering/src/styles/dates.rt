@@ -20,9 +20,11 @@ fn date_part(session: &mut Session, part: &Value<'_>) -> DatePart {
     DatePart {
         form: part_form(session, part),
         strip_periods: session.is_set(part, "strip_periods"),
+        text_case: None,
         formatting: changes(session, part),
         prefix: session.text_or_empty(part, "prefix"),
         suffix: session.text_or_empty(part, "suffix"),
+        range_delimiter: None,
     }
 }
 

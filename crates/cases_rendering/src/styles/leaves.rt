@@ -83,6 +83,7 @@ fn text_node(session: &mut Session, node: &Value<'_>) -> Node {
             look: look(session, node),
             quotes: session.is_set(node, "quotes"),
             strip_periods: session.is_set(node, "strip_periods"),
+            text_case: None,
         },
     })
 }
@@ -104,6 +105,7 @@ fn number_node(session: &mut Session, node: &Value<'_>) -> Node {
     Node::Number(Number {
         variable: numbered_of(session, node),
         form: session.word_or(node, "form", NUMBER_FORMS, NumberForm::Numeric),
+        text_case: None,
         look: look(session, node),
     })
 }
@@ -151,7 +153,9 @@ fn date_node(session: &mut Session, node: &Value<'_>) -> Node {
         form: session.maybe_word(node, "form", DATE_FORMS),
         parts: session.word_or(node, "parts", PARTS, DateParts::YearMonthDay),
         own_parts: date_parts(session, node),
+        overrides_form: false,
         delimiter: session.maybe_owned_text(node, "delimiter"),
+        text_case: None,
         look: look(session, node),
     })
 }

@@ -61,6 +61,7 @@ pub(crate) fn options(session: &mut Session, given: &Value<'_>) -> NameOptions {
         name_as_sort_order: session.maybe_word(given, "name_as_sort_order", ORDERS),
         sort_separator: session.maybe_owned_text(given, "sort_separator"),
         demote_non_dropping_particle: session.maybe_bool(given, "demote"),
+        ..NameOptions::default()
     }
 }
 

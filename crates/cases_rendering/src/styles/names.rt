@@ -19,6 +19,7 @@ pub(crate) fn label_look(session: &mut Session, given: &Value<'_>) -> LabelLook 
         form: session.word_or(given, "form", FORMS, TermForm::Long),
         plural: session.word_or(given, "plural", PLURALS, LabelPluralize::Contextual),
         strip_periods: session.is_set(given, "strip_periods"),
+        text_case: None,
         look: look(session, given),
     }
 }
@@ -53,6 +54,8 @@ fn name(session: &mut Session, node: &Value<'_>) -> Option<Name> {
         formatting: changes(session, given),
         prefix: session.text_or_empty(given, "prefix"),
         suffix: session.text_or_empty(given, "suffix"),
+        given: None,
+        family: None,
     })
 }
 
@@ -102,6 +105,7 @@ pub(crate) fn names_of(session: &mut Session, node: &Value<'_>) -> Names {
         et_al: et_al(session, node),
         label: label(session, node),
         label_is_first: session.is_set(node, "label_before"),
+        merges_editor_translator: false,
         delimiter: session.maybe_owned_text(node, "delimiter"),
         look: look(session, node),
     }

@@ -116,6 +116,11 @@ fn citation_in(session: &mut Session, given: &Value<'_>) -> Citation {
         year_suffix_delimiter: session.maybe_owned_text(given, "year_suffix_delimiter"),
         name_options: name_options(session, given),
         layout: layout(session, given),
+        first_chooses_too: false,
+        ibid_after_one: false,
+        same_entry_is_no_rival: false,
+        suffixes_by_number: false,
+        raises_names_first: false,
     }
 }
 

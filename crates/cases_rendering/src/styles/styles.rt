@@ -6,7 +6,7 @@ use crate::styles::nodes::nodes_of;
 use crate::styles::parts::{citation, maybe_bibliography};
 use cases::{Refusal, Session, Value, member};
 use rendering_style::{Macro, Style, StyleError, StyleParts};
-use rendering_taxonomy::{StyleCategory, StyleClass};
+use rendering_taxonomy::{PageRule, StyleCategory, StyleClass};
 
 const CLASSES: &[(&str, StyleClass)] = &[
     ("in-text", StyleClass::InText),
@@ -57,11 +57,15 @@ pub fn parts_of(session: &mut Session, style: &Value<'_>) -> StyleParts {
         class: session.word_or(style, "class", CLASSES, StyleClass::InText),
         categories: session.words(style, "categories", CATEGORIES),
         default_locale: maybe_code(session, style, "default_locale"),
+        page_ranges: None,
+        page_rule: PageRule::AsWritten,
         name_options: name_options(session, style),
         locales: locales(session, style, "locales"),
         macros: macros(session, style),
         bibliography: maybe_bibliography(session, style),
         citation: citation(session, style),
+        citation_sort: Vec::new(session.alloc),
+        bibliography_sort: Vec::new(session.alloc),
     }
 }
 
