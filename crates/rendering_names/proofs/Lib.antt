@@ -6,3 +6,4 @@ pub mod IndexedSteps
 pub mod CountsOwn
 pub mod OwnSteps
 pub mod PeopleSteps
+pub mod LeftOpenHolds

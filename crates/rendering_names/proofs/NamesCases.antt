@@ -6,9 +6,8 @@ use Rattle.rendering_page.specs.Pages.{Manner}
 use Rattle.rendering_page.specs.Pieces.{normal}
 use Rattle.rendering_style.specs.Options.{NameOptions}
 use Rattle.rendering_taxonomy.specs.Formats.{changed}
-use Rattle.rendering_names.specs.Names.{NameStyle, before_last_by, delimiter_by, delimits_last, et_al_by}
+use Rattle.rendering_names.specs.Names.{NameStyle, before_last_by, delimiter_by, delimits_last, delimits_et_al, et_al_by}
 use Rattle.rendering_taxonomy.specs.declared.name.DelimiterBehavior.TheVariants as behaviors
-use Rattle.std.specs.Prelude.{nat_le}
 use Rattle.laws.specs.Characters.{space}
 
 -- without a word there is the delimiter
@@ -31,6 +30,8 @@ et_al-none s shown (c ∷ cs) e = absurd cc
 -- before a term there is the delimiter or a space
 pub et_al-some : (s : NameStyle) (shown : ℕ) (cs : List ℕ) → is_filled cs ≡ true
     → et_al_by s shown cs
-    ≡ normal s.manner (cond (nat_le 2 shown) (delimiter_by s.options) (space ∷ [])) ∷ normal (record s.manner { formatting = changed s.et_al.formatting s.manner.formatting }) cs ∷ []
+    ≡ normal s.manner
+    (cond (delimits_et_al s.options shown (unwrap_or s.options.delimiter_precedes_et_al behaviors.Contextual)) (delimiter_by s.options) (space ∷ []))
+    ∷ normal (record s.manner { formatting = changed s.et_al.formatting s.manner.formatting }) cs ∷ []
 et_al-some s shown [] e = absurd cc
 et_al-some s shown (c ∷ cs) e = refl

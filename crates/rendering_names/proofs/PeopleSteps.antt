@@ -71,7 +71,7 @@ pub people-more : (quotes : Quotes) (s : NameStyle) (h : NamesNode) (cs : List P
     (start old before new : Page)
     → i < length cs → i < length people → a ≡ get_or people i a → own ≡ take (get_or cs i d).people rest → drop i (cut cs fs) ≡ cut (drop i cs) rest
     → old ≡ append_pieces quotes (flat_map (indexed_variable s h) (take i (enumerate_from 0 (zip (cut cs fs) (all_lent_answered_view people))))) start
-    → before ≡ append_pieces quotes (before_people s.manner h i) old
+    → before ≡ append_pieces quotes (before_people s.manner s.options h i) old
     → new ≡ append_pieces quotes (variable_pieces s h (of_count (get_or cs i d) own, lent_answered_view a)) before
     → new ≡ append_pieces quotes (flat_map (indexed_variable s h) (take (i + 1) (enumerate_from 0 (zip (cut cs fs) (all_lent_answered_view people))))) start
 people-more quotes s h cs fs rest people i d a own start old before new low high is_a is_own same x y z =
@@ -82,7 +82,7 @@ people-more quotes s h cs fs rest people i d a own start old before new low high
     let is_q : get_or (cut cs fs) i q ≡ q = cut_at cs fs rest i d q low same ∙ ap (of_count (get_or cs i d)) (sym is_own) in
     let is_b : get_or (all_lent_answered_view people) i b ≡ b = get_or-map lent_answered_view people i a b high ∙ ap lent_answered_view (sym is_a) in
     run_more quotes (indexed_variable s h) (cut cs fs) (all_lent_answered_view people) i q b start old new low_cut high_view is_q is_b x
-    (append-both quotes (before_people s.manner h i) (variable_pieces s h (q, b)) old before new y z)
+    (append-both quotes (before_people s.manner s.options h i) (variable_pieces s h (q, b)) old before new y z)
 
 -- and what remains are the others
 pub others-remain : (cs : List PeopleCount) (fs rest others : Forms) (i : ℕ) (d : PeopleCount) → i < length cs → others ≡ drop (get_or cs i d).people rest → drop i (cut cs fs) ≡ cut (drop i cs) rest

@@ -2,3 +2,4 @@ pub mod Persons
 pub mod Names
 pub mod Counts
 pub mod Views
+pub mod LeftOpen

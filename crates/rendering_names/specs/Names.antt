@@ -138,11 +138,19 @@ abbrev pub et_al_term : EtAlTerm → OtherTerm
 et_al_term et_al_terms.EtAl = others.EtAl
 et_al_term et_al_terms.AndOthers = others.AndOthers
 
--- The term for those left out, after the delimiter where two or more are shown, else after a space. Without a term there is neither.
+-- whether the delimiter stands before the term for those left out, where so many are shown
+abbrev pub delimits_et_al : NameOptions → ℕ → DelimiterBehavior → Bool
+delimits_et_al o shown behaviors.Contextual = nat_le 2 shown
+delimits_et_al o shown behaviors.Always = true
+delimits_et_al o shown behaviors.Never = false
+delimits_et_al o shown behaviors.AfterInvertedName = nat_lt 0 shown && inverts o.name_as_sort_order (shown - 1)
+
+-- The term for those left out, after the delimiter or a space. Without a term there is neither.
 abbrev pub et_al_by : NameStyle → ℕ → List ℕ → List Piece
 et_al_by s shown [] = []
 et_al_by s shown (c ∷ cs) =
-    normal s.manner (if nat_le 2 shown then delimiter_by s.options else space ∷ [])
+    normal s.manner
+    (if delimits_et_al s.options shown (unwrap_or s.options.delimiter_precedes_et_al behaviors.Contextual) then delimiter_by s.options else space ∷ [])
     ∷ normal (record s.manner { formatting = changed s.et_al.formatting s.manner.formatting }) (c ∷ cs) ∷ []
 
 -- what stands for those left out
@@ -231,13 +239,17 @@ abbrev pub is_count : Option NameForm → Bool
 is_count (Some name_forms.Count) = true
 is_count f = false
 
--- what stands before the people of the variable at an index: the node's delimiter, but before the first nothing
-abbrev pub before_people : Manner → NamesNode → ℕ → List Piece
-before_people m h i = if i == 0 then [] else normal m (unwrap_or h.delimiter comma_and_space) ∷ []
+-- what stands between the people of two variables: what the node says, or else the options
+abbrev pub people_delimiter : NameOptions → NamesNode → List ℕ
+people_delimiter o h = unwrap_or (option_or h.delimiter o.names_delimiter) comma_and_space
+
+-- what stands before the people of the variable at an index: the delimiter, but before the first nothing
+abbrev pub before_people : Manner → NameOptions → NamesNode → ℕ → List Piece
+before_people m o h i = if i == 0 then [] else normal m (people_delimiter o h) ∷ []
 
 -- the people of the variable at an index, after what stands before them
 abbrev pub indexed_variable : NameStyle → NamesNode → ℕ × (VariableProperties × Answered) → List Piece
-indexed_variable s h p = before_people s.manner h p.0 ++ variable_pieces s h p.1
+indexed_variable s h p = before_people s.manner s.options h p.0 ++ variable_pieces s h p.1
 
 -- the people of each variable, or only how many are shown
 abbrev pub people_pieces : NameStyle → NamesNode → Properties → List Answered → List Piece

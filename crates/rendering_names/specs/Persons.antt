@@ -38,9 +38,10 @@ prefix_of p = unwrap_or p.prefix []
 abbrev pub suffix_of : Named → List ℕ
 suffix_of p = unwrap_or p.suffix []
 
--- the initials of the given name, with hyphens; after each what the options say, or else a full stop and a space
+-- the initials of the given name, with hyphens if the options do not drop them; after each what the options say, or else a full stop and a
+-- space
 abbrev pub initials_by : NameOptions → Named → List ℕ
-initials_by o p = initials_of (style (unwrap_or o.initialize_with stop_and_space) true) (given_of p)
+initials_by o p = initials_of (style (unwrap_or o.initialize_with stop_and_space) (unwrap_or o.initialize_with_hyphen true)) (given_of p)
 
 -- particle and family name
 abbrev pub short_text : Named → List ℕ

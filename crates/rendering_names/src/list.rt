@@ -216,8 +216,7 @@ impl<'s, 'a> NameStyle<'s, 'a> {
         self.push_name(page, variable, last, forms[last], &people[last])
     }
 
-    /// Appends the term for those left out, after the delimiter where two or more are shown, else after a space. Without a
-    /// term there is neither.
+    /// Appends the term for those left out, after the delimiter or a space. Without a term there is neither.
     fn push_et_al(&self, page: &mut Page<'a>, shown: usize) -> Result<(), AllocError>
         ensures { OnOk result (page.new
             ≡ append_here self.now (et_al_pieces (name_style_view self.now) shown) page.old) }
@@ -240,7 +239,7 @@ impl<'s, 'a> NameStyle<'s, 'a> {
         if !has_text(text) {
             return Ok(());
         }
-        self.push_delimiter_or_space(page, 2 <= shown)?;
+        self.push_delimiter_or_space(page, self.options.delimits_et_al(shown))?;
         page.push_text(self.setting.quotes, self.et_al_manner(), text)
     }
 }

@@ -3,9 +3,9 @@
 ghost use Rattle.std.specs.Prelude.{◌≡◌, ◌∷◌, ◌++◌, [], IfOk, OnOk, None, length, zip};
 ghost use Rattle.std.specs.Fmt.{decimal};
 ghost use Rattle.std.specs.List.{enumerate_from, flat_map};
-ghost use Rattle.laws.specs.Text.{characters};
+ghost use Rattle.laws.specs.Text.{characters, spelled};
 ghost use Rattle.rendering_people.specs.Counts.{cut};
-ghost use Rattle.rendering_names.specs.Names.{before_people, beside, label_pieces, list_pieces, names_frame, names_manner, names_pieces, node_options, people_pieces, indexed_variable, variable_frame, variable_pieces};
+ghost use Rattle.rendering_names.specs.Names.{before_people, people_delimiter, beside, label_pieces, list_pieces, names_frame, names_manner, names_pieces, node_options, people_pieces, indexed_variable, variable_frame, variable_pieces};
 ghost use Rattle.rendering_people.specs.Views.{all_lent_answered_view, lent_answered_view};
 ghost use Rattle.rendering_names.specs.Views.{append_here, names_parts_view, resolved_options_view, indexed, name_style_view};
 ghost use Rattle.rendering_page.specs.Pieces.{append_pieces, normal};
@@ -15,6 +15,7 @@ ghost use Rattle.rendering_page.specs.Views.{quotes_view, manner_view, frame_vie
 use crate::options::ResolvedNameOptions;
 use crate::parts::NamesParts;
 use crate::style::{NameSetting, NameStyle, changed_manner};
+use crate::words::comma_and_space;
 use rendering_page::{Frame, Manner, Page};
 use rendering_people::{
     Answered, NameDisambiguationProperties, PeopleCount, names_meta, split_forms,
@@ -23,7 +24,7 @@ use rendering_taxonomy::{DisambiguatedNameForm, NameVariable};
 use rendering_tree::ElemMeta;
 use std::alloc::{AllocError, Global};
 use std::fmt::Write;
-use texts::{empty_text, no_text};
+use texts::{empty_text, first_text, no_text, text_or};
 
 /// Appends the people of a names node in an element that stands for them: of each variable the names that the properties
 /// show, each in its form, with the label of the variable; or only how many are shown, where the options say so. The options are those
@@ -116,7 +117,7 @@ impl<'s, 'a> NameStyle<'s, 'a> {
         page.push_made(self.setting.quotes, self.setting.manner, text)
     }
 
-    /// Appends the people of each variable, with the node's delimiter between those of two.
+    /// Appends the people of each variable, with a delimiter between those of two.
     fn push_variables(
         &self,
         page: &mut Page<'a>,
@@ -148,13 +149,26 @@ impl<'s, 'a> NameStyle<'s, 'a> {
         node: &NamesParts<'a>,
         index: usize,
     ) -> Result<(), AllocError>
-        ensures { OnOk result (page.new ≡ append_here self.now (before_people
-            (name_style_view self.now).manner (names_parts_view node.now) index) page.old) }
+        ensures { OnOk result (page.new
+            ≡ append_here self.now (before_people (name_style_view self.now).manner
+            (resolved_options_view self.now.options) (names_parts_view node.now) index) page.old) }
     {
         if index == 0 {
             return Ok(());
         }
-        page.push_text(self.setting.quotes, self.setting.manner, node.delimiter())
+        let text = self.people_delimiter(node);
+        page.push_text(self.setting.quotes, self.setting.manner, text)
+    }
+
+    /// The text between the people of two variables.
+    fn people_delimiter(&self, node: &NamesParts<'a>) -> &'a str
+        ensures { spelled result ≡ people_delimiter
+            (resolved_options_view self.now.options) (names_parts_view node.now) }
+    {
+        text_or(
+            first_text(node.delimiter, self.options.names_delimiter),
+            comma_and_space(),
+        )
     }
 
     /// Appends the people of a variable in an element, with the label.

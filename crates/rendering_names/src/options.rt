@@ -1,9 +1,9 @@
 //! What is specified for names by a node, the layout and the style.
 
-ghost use Rattle.std.specs.Prelude.{◌≡◌, ◌&&◌, nat_le, nat_lt, if◌then◌else◌};
+ghost use Rattle.std.specs.Prelude.{◌≡◌, ◌&&◌, nat_le, nat_lt, if◌then◌else◌, true};
 ghost use Rattle.std.specs.Option.{option_map, unwrap_or};
 ghost use Rattle.laws.specs.Text.{spelled};
-ghost use Rattle.rendering_names.specs.Names.{form_by, base_form, shown_by, shown_of, delimiter_by, inverts, delimits_last, is_count};
+ghost use Rattle.rendering_names.specs.Names.{form_by, base_form, shown_by, shown_of, delimiter_by, inverts, delimits_last, delimits_et_al, is_count};
 ghost use Rattle.rendering_names.specs.Persons.{comma_and_space, stop_and_space};
 ghost use Rattle.rendering_names.specs.Views.{resolved_options_view};
 ghost use Rattle.rendering_style.specs.Options.{options_over};
@@ -189,6 +189,29 @@ impl<'a> ResolvedNameOptions<'a> {
             DelimiterBehavior::Never => false,
             DelimiterBehavior::AfterInvertedName => self.inverts(count.saturating_sub(2)),
         }
+    }
+
+    /// Whether the delimiter stands before the term for those left out, where so many are shown.
+    pub(crate) fn delimits_et_al(&self, shown: usize) -> bool
+        ensures { result ≡ delimits_et_al (resolved_options_view self.now) shown
+            (unwrap_or self.now.delimiter_precedes_et_al DelimiterBehavior.Contextual) }
+    {
+        match self
+            .delimiter_precedes_et_al
+            .unwrap_or(DelimiterBehavior::Contextual)
+        {
+            DelimiterBehavior::Contextual => 2 <= shown,
+            DelimiterBehavior::Always => true,
+            DelimiterBehavior::Never => false,
+            DelimiterBehavior::AfterInvertedName => 0 < shown && self.inverts(shown - 1),
+        }
+    }
+
+    /// Whether hyphens stay between initials.
+    pub(crate) fn keeps_hyphens(&self) -> bool
+        ensures { result ≡ unwrap_or self.now.initialize_with_hyphen true }
+    {
+        self.initialize_with_hyphen.unwrap_or(true)
     }
 
     /// Whether only the number of people is printed.

@@ -1,18 +1,15 @@
 //! The parts of a names node.
 
 ghost use Rattle.std.specs.Prelude.{◌≡◌, ◌||◌, is_some, if◌then◌else◌};
-ghost use Rattle.std.specs.Option.{option_map, option_or, unwrap_or};
-ghost use Rattle.laws.specs.Text.{spelled};
-ghost use Rattle.rendering_names.specs.Persons.{comma_and_space};
+ghost use Rattle.std.specs.Option.{option_map, option_or};
 ghost use Rattle.rendering_names.specs.Names.{completed, node_options};
 ghost use Rattle.rendering_names.specs.Views.{names_parts_view, resolved_options_view};
 ghost use Rattle.rendering_style.specs.Views.{names_node_view, label_look_view};
 
 use crate::options::ResolvedNameOptions;
-use crate::words::comma_and_space;
 use rendering_style::{EtAl, LabelLook, Look, Name, Names};
 use rendering_taxonomy::NameVariable;
-use texts::{borrowed_text, text_or};
+use texts::borrowed_text;
 
 /// What a names node says: its own, and, where it is a substitute for another one, what it takes from that.
 #[derive(Clone, Copy)]
@@ -85,14 +82,6 @@ impl<'a> NamesParts<'a> {
             Some(_) => self.label_is_first,
             None => other,
         }
-    }
-
-    /// The text between the people of two variables.
-    pub(crate) fn delimiter(&self) -> &'a str
-        ensures { spelled result
-            ≡ unwrap_or (option_map spelled self.now.delimiter) comma_and_space }
-    {
-        text_or(self.delimiter, comma_and_space())
     }
 
     /// What it says of names, and where it says nothing what is specified around it.

@@ -75,7 +75,8 @@ fn initials(
         ≡ initials_by (resolved_options_view options.now) (person_view person.now)) }
 {
     let mut out = empty_text(alloc);
-    match person.initials(&mut out, Some(options.after_initials()), true) {
+    let hyphens = options.keeps_hyphens();
+    match person.initials(&mut out, Some(options.after_initials()), hyphens) {
         Ok(()) => Ok(out),
         Err(_) => Err(AllocError),
     }

@@ -23,7 +23,7 @@ use Rattle.rendering_style.specs.Nodes.{LabelLook, TextSource, of_variable, of_t
 use Rattle.rendering_style.specs.Nodes as nodes
 use Rattle.rendering_names.specs.Names as names
 use Rattle.rendering_names.specs.Names.{NameStyle, IndexedPerson, names_pieces}
-use Rattle.rendering_names.specs.Persons.{comma_and_space, person_text}
+use Rattle.rendering_names.specs.Persons.{person_text}
 use Rattle.rendering_people.specs.Properties.{VariableProperties, Properties, all_shown}
 use Rattle.rendering_context.specs.Contexts.{Context}
 use Rattle.rendering_context.specs.Answering.{Answer, no_answer, pieces, address, count, ranges, own, answer_to, asked_for, ranges_text, date_answer, is_plural_variable}
@@ -227,14 +227,14 @@ ends_variable s h (p, a) =
     ends_framed (names.variable_frame s.manner a.1) (names.beside h.label_is_first label people)
     (ends_beside h.label_is_first label people (ends_name_label s.locales s.manner a.1 (length a.0) h.label) (ends_list s a.1 p.shown (enumerate_from 0 (zip p.forms a.0))))
 
-ends_before_people : (m : Manner) (h : NamesNode) (i : ℕ) → EndAll (names.before_people m h i)
-ends_before_people m h i =
-    let cs = unwrap_or h.delimiter comma_and_space in
+ends_before_people : (m : Manner) (o : NameOptions) (h : NamesNode) (i : ℕ) → EndAll (names.before_people m o h i)
+ends_before_people m o h i =
+    let cs = names.people_delimiter o h in
     ends_either (i == 0) [] (normal m cs ∷ []) ends_none (ends_normal m cs)
 
 ends_indexed_variable : (s : NameStyle) (h : NamesNode) (p : ℕ × (VariableProperties × Answered)) → EndAll (names.indexed_variable s h p)
 ends_indexed_variable s h p =
-    ends_both (names.before_people s.manner h p.0) (names.variable_pieces s h p.1) (ends_before_people s.manner h p.0) (ends_variable s h p.1)
+    ends_both (names.before_people s.manner s.options h p.0) (names.variable_pieces s h p.1) (ends_before_people s.manner s.options h p.0) (ends_variable s h p.1)
 
 ends_people : (s : NameStyle) (h : NamesNode) (ps : Properties) (people : List Answered) → EndAll (names.people_pieces s h ps people)
 ends_people s h ps people =

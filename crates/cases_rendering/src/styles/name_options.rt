@@ -26,7 +26,7 @@ const ORDERS: &[(&str, NameAsSortOrder)] = &[
 ];
 
 /// The members of options of names, and of a name, whose options stand beside them.
-pub(crate) const NAME_MEMBERS: [&str; 16] = [
+pub(crate) const NAME_MEMBERS: [&str; 19] = [
     "and",
     "delimiter",
     "delimiter_precedes_last",
@@ -40,6 +40,9 @@ pub(crate) const NAME_MEMBERS: [&str; 16] = [
     "name_as_sort_order",
     "sort_separator",
     "demote",
+    "delimiter_precedes_et_al",
+    "initialize_with_hyphen",
+    "names_delimiter",
     "formatting",
     "prefix",
     "suffix",
@@ -61,7 +64,10 @@ pub(crate) fn options(session: &mut Session, given: &Value<'_>) -> NameOptions {
         name_as_sort_order: session.maybe_word(given, "name_as_sort_order", ORDERS),
         sort_separator: session.maybe_owned_text(given, "sort_separator"),
         demote_non_dropping_particle: session.maybe_bool(given, "demote"),
-        ..NameOptions::default()
+        delimiter_precedes_et_al: session.maybe_word(given, "delimiter_precedes_et_al", BEHAVIORS),
+        initialize: None,
+        initialize_with_hyphen: session.maybe_bool(given, "initialize_with_hyphen"),
+        names_delimiter: session.maybe_owned_text(given, "names_delimiter"),
     }
 }
 
@@ -70,6 +76,6 @@ pub(crate) fn name_options(session: &mut Session, object: &Value<'_>) -> NameOpt
     let Some(given) = member(object, "name_options") else {
         return NameOptions::default();
     };
-    session.only(given, &NAME_MEMBERS[..13]);
+    session.only(given, &NAME_MEMBERS[..16]);
     options(session, given)
 }

@@ -1,4 +1,4 @@
-use Rattle.std.proofs.Common.{◌≡◌, ℕ, ◌++◌, List, String, true, refl, ap, ◌∙◌}
+use Rattle.std.proofs.Common.{◌≡◌, ℕ, ◌++◌, List, String, refl, ap, ◌∙◌}
 use Rattle.std.specs.Prelude.{string_bytes}
 use Rattle.std.specs.Global.{Global}
 use Rattle.std.specs.Str.{chars}
@@ -13,7 +13,7 @@ use Rattle.rendering_names.proofs.person.initials.Goals as goal
 pub returns-in-Ok : goal.returns-in-Ok
 returns-in-Ok c =
     let new = c.initials.new.writer in
-    let cs : List ℕ = initials_of (style (chars c.after_initials.result.now) true) (given_name_view c.args.person.now) in
+    let cs : List ℕ = initials_of (style (chars c.after_initials.result.now) c.keeps_hyphens-hyphens.result) (given_name_view c.args.person.now) in
     let wrote = contents_after_writes (λ (s : String Global) (bs : List ℕ) (t : String Global). string_bytes t ≡ string_bytes s ++ bs) string_bytes (λ s bs t e. e) _ _ _ (c.in-Ok.ensures refl) in
     chars-text (string_bytes new) cs (IsUtf8-string_bytes new) (wrote ∙ ap (λ (bs : List ℕ). bs ++ text cs) c.empty_text-out.ensures.bytes)
-    ∙ (λ i. initials_of (style (c.after_initials.ensures i) true) (given_name_view c.args.person.now))
+    ∙ (λ i. initials_of (style (c.after_initials.ensures i) (c.keeps_hyphens-hyphens.ensures i)) (given_name_view c.args.person.now))

@@ -1,0 +1,30 @@
+-- What is left open changes nothing of how names are printed.
+use Rattle.std.proofs.Common.{◌≡◌, ℕ, Bool, true, List, [], ◌∷◌, Option, Some, None, refl, ap, ◌∙◌}
+use Rattle.std.specs.Prelude.{if◌then◌else◌}
+use Rattle.std.specs.Option.{option_or, unwrap_or}
+use Rattle.laws.specs.Characters.{space}
+use Rattle.literature_values.specs.Initials.{style, initials_of}
+use Rattle.rendering_taxonomy.specs.Formats.{changed}
+use Rattle.rendering_page.specs.Pieces.{normal}
+use Rattle.rendering_names.specs.LeftOpen.{TermIsDelimitedFromTwo, HyphensStay, NodeDelimitsPeople}
+use Rattle.rendering_names.specs.Names.{delimiter_by, delimits_et_al}
+use Rattle.rendering_names.specs.Persons.{comma_and_space, stop_and_space, given_of}
+use Rattle.rendering_taxonomy.specs.declared.name.DelimiterBehavior.{DelimiterBehavior}
+use Rattle.rendering_taxonomy.specs.declared.name.DelimiterBehavior.TheVariants as behaviors
+
+pub term_delimited : TermIsDelimitedFromTwo
+term_delimited s shown [] e = refl
+term_delimited s shown (c ∷ cs) e =
+    ap (λ (b : Option DelimiterBehavior).
+    normal s.manner (if delimits_et_al s.options shown (unwrap_or b behaviors.Contextual) then delimiter_by s.options else space ∷ [])
+    ∷ normal (record s.manner { formatting = changed s.et_al.formatting s.manner.formatting }) (c ∷ cs) ∷ []) e
+
+pub hyphens_stay : HyphensStay
+hyphens_stay o p e = ap (λ (b : Option Bool). initials_of (style (unwrap_or o.initialize_with stop_and_space) (unwrap_or b true)) (given_of p)) e
+
+or_none : (d : Option (List ℕ)) → unwrap_or (option_or d None) comma_and_space ≡ unwrap_or d comma_and_space
+or_none None = refl
+or_none (Some cs) = refl
+
+pub node_delimits : NodeDelimitsPeople
+node_delimits o h e = ap (λ (d : Option (List ℕ)). unwrap_or (option_or h.delimiter d) comma_and_space) e ∙ or_none h.delimiter

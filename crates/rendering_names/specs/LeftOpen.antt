@@ -1,0 +1,34 @@
+-- How names are printed where nothing is specified of what may be left open.
+use Rattle.std.specs.Prelude.{◌≡◌, ℕ, true, nat_le, List, [], ◌∷◌, if◌then◌else◌, None}
+use Rattle.std.specs.Option.{unwrap_or}
+use Rattle.laws.specs.Characters.{space}
+use Rattle.literature_values.specs.Initials.{style, initials_of}
+use Rattle.literature_values.specs.PersonViews.{Named}
+use Rattle.rendering_taxonomy.specs.Formats.{changed}
+use Rattle.rendering_page.specs.Pieces.{Piece, normal}
+use Rattle.rendering_style.specs.Options.{NameOptions}
+use Rattle.rendering_style.specs.Nodes.{NamesNode}
+use Rattle.rendering_names.specs.Names.{NameStyle, delimiter_by, et_al_by, people_delimiter}
+use Rattle.rendering_names.specs.Persons.{comma_and_space, stop_and_space, given_of, initials_by}
+
+-- the term for those left out, after the delimiter where two or more are shown, else after a space; without a term neither
+abbrev pub et_al_from_two : NameStyle → ℕ → List ℕ → List Piece
+et_al_from_two s shown [] = []
+et_al_from_two s shown (c ∷ cs) =
+    normal s.manner (if nat_le 2 shown then delimiter_by s.options else space ∷ [])
+    ∷ normal (record s.manner { formatting = changed s.et_al.formatting s.manner.formatting }) (c ∷ cs) ∷ []
+
+-- Where nothing is specified of the delimiter before the term for those left out, it stands there where two or more are shown.
+abbrev pub TermIsDelimitedFromTwo : Type 0
+TermIsDelimitedFromTwo =
+    (s : NameStyle) (shown : ℕ) (cs : List ℕ) → s.options.delimiter_precedes_et_al ≡ None → et_al_by s shown cs ≡ et_al_from_two s shown cs
+
+-- Where nothing is specified of hyphens between initials, they stay.
+abbrev pub HyphensStay : Type 0
+HyphensStay =
+    (o : NameOptions) (p : Named) → o.initialize_with_hyphen ≡ None
+    → initials_by o p ≡ initials_of (style (unwrap_or o.initialize_with stop_and_space) true) (given_of p)
+
+-- Where the options say nothing of what stands between the people of two variables, the node alone does.
+abbrev pub NodeDelimitsPeople : Type 0
+NodeDelimitsPeople = (o : NameOptions) (h : NamesNode) → o.names_delimiter ≡ None → people_delimiter o h ≡ unwrap_or h.delimiter comma_and_space

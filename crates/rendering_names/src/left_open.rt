@@ -1,0 +1,21 @@
+//! What is left open changes nothing of how names are printed.
+
+ghost use Rattle.rendering_names.specs.LeftOpen.{HyphensStay, NodeDelimitsPeople, TermIsDelimitedFromTwo};
+
+/// Where nothing is specified of the delimiter before the term for those left out, it stands there where two or more are shown.
+#[tactic(auto, using(crate::proofs::LeftOpenHolds::term_delimited))]
+pub fn term_is_delimited_from_two()
+    ensures { TermIsDelimitedFromTwo }
+{}
+
+/// Where nothing is specified of hyphens between initials, they stay.
+#[tactic(auto, using(crate::proofs::LeftOpenHolds::hyphens_stay))]
+pub fn hyphens_stay()
+    ensures { HyphensStay }
+{}
+
+/// Where the options say nothing of what stands between the people of two variables, the node alone does.
+#[tactic(auto, using(crate::proofs::LeftOpenHolds::node_delimits))]
+pub fn node_delimits_people()
+    ensures { NodeDelimitsPeople }
+{}
