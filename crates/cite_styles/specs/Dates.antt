@@ -1,6 +1,6 @@
 -- How English prints dates and ordinal numbers.
 use Rattle.std.specs.Prelude.{ℕ, false, List, [], ◌∷◌, None, codes}
-use Rattle.rendering_locale.specs.Locales.{DatePart, LocalizedDate, Ordinals}
+use Rattle.rendering_locale.specs.Locales.{DatePart, LocalizedDate, OrdinalEnding, Ordinals}
 use Rattle.rendering_taxonomy.specs.Formats.{unchanged}
 use Rattle.rendering_taxonomy.specs.declared.date.DateForm.{DateForm}
 use Rattle.rendering_taxonomy.specs.declared.date.DateForm.TheVariants as dated
@@ -30,9 +30,13 @@ date form ps = record { form = form; parts = ps; delimiter = [] }
 abbrev pub dates : List LocalizedDate
 dates = date dated.Text text_parts ∷ date dated.Numeric numeric_parts ∷ []
 
+-- an ending of all genders, with the numbers that its number says
+abbrev pub ending : ℕ → List ℕ → OrdinalEnding
+ending n cs = record { number = n; ending = cs; gender = None; only = None }
+
 -- the numbers with an ending of their own
-unfoldable pub endings : List (ℕ × List ℕ)
-endings = (1, codes "st") ∷ (2, codes "nd") ∷ (3, codes "rd") ∷ (11, codes "th") ∷ (12, codes "th") ∷ (13, codes "th") ∷ []
+unfoldable pub endings : List OrdinalEnding
+endings = ending 1 (codes "st") ∷ ending 2 (codes "nd") ∷ ending 3 (codes "rd") ∷ ending 11 (codes "th") ∷ ending 12 (codes "th") ∷ ending 13 (codes "th") ∷ []
 
 -- the ending of all other numbers
 abbrev pub default_ending : List ℕ

@@ -1,5 +1,5 @@
 -- English as it is written in the United States.
-use Rattle.std.specs.Prelude.{ℕ, true, List, [], ◌∷◌, ◌++◌, Some, codes}
+use Rattle.std.specs.Prelude.{ℕ, true, List, [], ◌∷◌, ◌++◌, None, Some, codes}
 use Rattle.rendering_locale.specs.Codes.{en_us}
 use Rattle.rendering_locale.specs.Locales.{LocalizedTerm, Locale}
 use Rattle.cite_styles.specs.Dates.{dates, ordinals}
@@ -18,7 +18,7 @@ use Rattle.rendering_taxonomy.specs.declared.term.TermForm.TheVariants as forms
 
 -- a term in a form, with a text for one and a text for more than one
 abbrev pub row : Term → TermForm → List ℕ → List ℕ → LocalizedTerm
-row name form one more = record { name = name; form = form; single = Some one; multiple = Some more }
+row name form one more = record { name = name; form = form; single = Some one; multiple = Some more; gender = None }
 
 -- a word that is one text for any number
 abbrev pub word : OtherTerm → TermForm → List ℕ → LocalizedTerm
@@ -129,4 +129,11 @@ english_terms = words ++ counted ++ labels ++ months
 
 -- the locale
 abbrev pub english : Locale
-english = record { lang = Some en_us; terms = english_terms; dates = dates; ordinals = Some ordinals; punctuation_in_quote = Some true }
+english = record {
+  lang = Some en_us;
+  terms = english_terms;
+  dates = dates;
+  ordinals = Some ordinals;
+  punctuation_in_quote = Some true;
+  limits_day_ordinals = None;
+}

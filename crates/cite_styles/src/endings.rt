@@ -61,5 +61,10 @@ fn ending(alloc: Global, row: &Row) -> Result<OrdinalEnding, AllocError>
 {
     let (number, ending) = *row;
     let ending = owned(alloc, ending)?;
-    Ok(OrdinalEnding { number, ending })
+    Ok(OrdinalEnding {
+        number,
+        ending,
+        gender: None,
+        only: None,
+    })
 }

@@ -29,6 +29,7 @@ pub fn english(alloc: Global) -> Result<Locale, AllocError>
         dates,
         ordinals: Some(ordinals),
         punctuation_in_quote: Some(true),
+        limit_day_ordinals_to_day_1: None,
     })
 }
 
@@ -64,5 +65,6 @@ fn term(alloc: Global, row: &Row) -> Result<LocalizedTerm, AllocError>
         form,
         single: Some(single),
         multiple: Some(multiple),
+        gender: None,
     })
 }

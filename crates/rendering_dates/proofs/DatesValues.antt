@@ -1,10 +1,10 @@
 -- Parts of some dates, and years of ranges.
-use Rattle.std.proofs.Common.{◌≡◌, ℕ, [], ◌∷◌, ◌++◌, Option, Some, None, false, codes, pos, refl}
+use Rattle.std.proofs.Common.{◌≡◌, ℕ, List, [], ◌∷◌, ◌++◌, Option, Some, None, false, codes, pos, refl}
 use Rattle.std.specs.Fmt.{digits}
 use Rattle.literature_values.specs.declared.date.Date.{Date}
 use Rattle.literature_values.specs.declared.date.DateEnd.{DateEnd}
 use Rattle.literature_values.specs.declared.date.DateEnd.TheVariants.{On, Open}
-use Rattle.rendering_locale.specs.Locales.{Locale}
+use Rattle.rendering_locale.specs.Locales.{Locale, OrdinalEnding}
 use Rattle.rendering_dates.specs.Dates.{dash, part_text, years_text}
 use Rattle.rendering_taxonomy.specs.declared.date.DateDayForm.TheVariants as days
 use Rattle.rendering_taxonomy.specs.declared.date.DateMonthForm.TheVariants as months
@@ -13,14 +13,19 @@ use Rattle.rendering_taxonomy.specs.declared.date.LongShortForm.TheVariants as l
 use Rattle.rendering_taxonomy.specs.declared.term.Term.TheVariants as terms
 use Rattle.rendering_taxonomy.specs.declared.term.TermForm.TheVariants as forms
 
+-- an ending of all genders, with the numbers that its number says
+abbrev ending : ℕ → List ℕ → OrdinalEnding
+ending n cs = record { number = n; ending = cs; gender = None; only = None }
+
 -- a locale with a short word for January, and endings of numbers
 abbrev english : Locale
 english = record {
   lang = None;
-  terms = record { name = terms.Month 0; form = forms.Short; single = Some (codes "Jan."); multiple = None } ∷ [];
+  terms = record { name = terms.Month 0; form = forms.Short; single = Some (codes "Jan."); multiple = None; gender = None } ∷ [];
   dates = [];
-  ordinals = Some (record { endings = (1, codes "st") ∷ (2, codes "nd") ∷ []; default = codes "th" });
+  ordinals = Some (record { endings = ending 1 (codes "st") ∷ ending 2 (codes "nd") ∷ []; default = codes "th" });
   punctuation_in_quote = None;
+  limits_day_ordinals = None;
 }
 
 -- a year, a month and a day, alone or with an end

@@ -1,5 +1,5 @@
 -- Locales without where they lie in memory. Codes of languages are viewed as bytes, all other texts as characters.
-use Rattle.std.specs.Prelude.{ℕ, List, map}
+use Rattle.std.specs.Prelude.{List, map}
 use Rattle.std.specs.Borrow.{Bor}
 use Rattle.std.specs.Option.{option_map}
 use Rattle.laws.specs.Text.{characters}
@@ -15,11 +15,11 @@ use Rattle.rendering_locale.specs.declared.locale.Locale.{Locale}
 
 -- a term
 abbrev pub term_view : LocalizedTerm → locales.LocalizedTerm
-term_view t = record { name = t.name; form = t.form; single = option_map characters t.single; multiple = option_map characters t.multiple }
+term_view t = record { name = t.name; form = t.form; single = option_map characters t.single; multiple = option_map characters t.multiple; gender = t.gender }
 
--- an ending under its number
-abbrev pub ending_view : OrdinalEnding → ℕ × List ℕ
-ending_view e = (e.number, characters e.ending)
+-- an ending
+abbrev pub ending_view : OrdinalEnding → locales.OrdinalEnding
+ending_view e = record { number = e.number; ending = characters e.ending; gender = e.gender; only = e.only }
 
 -- the endings of ordinal numbers
 abbrev pub ordinals_view : Ordinals → locales.Ordinals
@@ -49,6 +49,7 @@ locale_view l = record {
   dates = map localized_date_view l.dates.items;
   ordinals = option_map ordinals_view l.ordinals;
   punctuation_in_quote = l.punctuation_in_quote;
+  limits_day_ordinals = l.limit_day_ordinals_to_day_1;
 }
 
 -- borrowed locales

@@ -1,7 +1,9 @@
 //! Locales as they are written down.
 
 use crate::code::LocaleCode;
-use rendering_taxonomy::{DateForm, DatePartForm, FormattingChanges, Term, TermForm, TextCase};
+use rendering_taxonomy::{
+    DateForm, DatePartForm, FormattingChanges, Gender, OrdinalMatch, Term, TermForm, TextCase,
+};
 
 /// A term in a form.
 #[derive(Debug, PartialEq, Eq, Drop)]
@@ -12,6 +14,8 @@ pub struct LocalizedTerm {
     pub single: Option<String>,
     /// The text for more than one.
     pub multiple: Option<String>,
+    /// The gender of what it names.
+    pub gender: Option<Gender>,
 }
 
 /// The ending of an ordinal number.
@@ -20,6 +24,10 @@ pub struct OrdinalEnding {
     /// The last digit or the last two digits of the number.
     pub number: u8,
     pub ending: String,
+    /// The gender of what is counted, if the ending is of one alone.
+    pub gender: Option<Gender>,
+    /// Which numbers it is of, if that is said; else one digit is the last, and two are the last two.
+    pub only: Option<OrdinalMatch>,
 }
 
 /// The endings of ordinal numbers. Of equal numbers the first counts.
@@ -65,6 +73,8 @@ pub struct Locale {
     pub ordinals: Option<Ordinals>,
     /// Whether punctuation goes inside quotes.
     pub punctuation_in_quote: Option<bool>,
+    /// Whether of the days only the first is printed as an ordinal number.
+    pub limit_day_ordinals_to_day_1: Option<bool>,
 }
 
 impl Drop for Locale {
@@ -75,6 +85,7 @@ impl Drop for Locale {
             dates: _,
             ordinals: _,
             punctuation_in_quote: _,
+            limit_day_ordinals_to_day_1: _,
         } = self;
     }
 }

@@ -41,6 +41,7 @@ resolved_options_view o = record {
   delimiter_precedes_et_al = o.delimiter_precedes_et_al;
   initialize = o.initialize;
   initialize_with_hyphen = o.initialize_with_hyphen;
+  splits_initials = o.splits_initials;
   names_delimiter = option_map spelled o.names_delimiter;
 }
 

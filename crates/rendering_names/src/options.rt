@@ -50,6 +50,8 @@ pub struct ResolvedNameOptions<'a> {
     pub initialize: Option<bool>,
     /// Whether hyphens stay between initials.
     pub initialize_with_hyphen: Option<bool>,
+    /// Whether each run of letters of a given name has an initial; else each word of it has one.
+    pub splits_initials: Option<bool>,
     /// The text between the people of two variables, where their node says none.
     pub names_delimiter: Option<&'a str>,
 }
@@ -76,6 +78,7 @@ impl<'a> ResolvedNameOptions<'a> {
             delimiter_precedes_et_al: options.delimiter_precedes_et_al,
             initialize: options.initialize,
             initialize_with_hyphen: options.initialize_with_hyphen,
+            splits_initials: options.splits_initials,
             names_delimiter: borrowed_text(&options.names_delimiter),
         }
     }
@@ -113,6 +116,7 @@ impl<'a> ResolvedNameOptions<'a> {
             initialize_with_hyphen: self
                 .initialize_with_hyphen
                 .or(around.initialize_with_hyphen),
+            splits_initials: self.splits_initials.or(around.splits_initials),
             names_delimiter: first_text(self.names_delimiter, around.names_delimiter),
         }
     }

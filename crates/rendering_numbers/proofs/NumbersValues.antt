@@ -1,13 +1,17 @@
 -- Ordinal and Roman numbers.
-use Rattle.std.proofs.Common.{◌≡◌, codes, ◌∷◌, [], pos, refl}
+use Rattle.std.proofs.Common.{◌≡◌, ℕ, List, codes, ◌∷◌, [], None, pos, refl}
 use Rattle.std.specs.Fmt.{digits}
-use Rattle.rendering_locale.specs.Locales.{Ordinals}
+use Rattle.rendering_locale.specs.Locales.{OrdinalEnding, Ordinals}
 use Rattle.rendering_numbers.specs.Numbers.{ordinal_text, roman_or_digits}
+
+-- an ending of all genders, with the numbers that its number says
+abbrev under : ℕ → List ℕ → OrdinalEnding
+under n cs = record { number = n; ending = cs; gender = None; only = None }
 
 -- the endings of English
 abbrev english : Ordinals
 english = record {
-  endings = (1, codes "st") ∷ (2, codes "nd") ∷ (3, codes "rd") ∷ (11, codes "th") ∷ (12, codes "th") ∷ (13, codes "th") ∷ [];
+  endings = under 1 (codes "st") ∷ under 2 (codes "nd") ∷ under 3 (codes "rd") ∷ under 11 (codes "th") ∷ under 12 (codes "th") ∷ under 13 (codes "th") ∷ [];
   default = codes "th";
 }
 

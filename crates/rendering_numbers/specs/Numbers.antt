@@ -1,5 +1,5 @@
 -- Numbers as texts.
-use Rattle.std.specs.Prelude.{ℕ, ◌/◌, ◌%◌, ◌==◌, ◌&&◌, nat_le, nat_lt, List, [], ◌∷◌, ◌++◌, replicate, if◌then◌else◌, slice_index_or, Option, Some, None, ℤ, pos, unsigned_abs}
+use Rattle.std.specs.Prelude.{ℕ, ◌/◌, ◌%◌, ◌==◌, ◌&&◌, nat_le, nat_lt, List, [], ◌∷◌, ◌++◌, map, replicate, if◌then◌else◌, slice_index_or, Option, Some, None, ℤ, pos, unsigned_abs}
 use Rattle.std.specs.List.{flat_map}
 use Rattle.std.specs.Map.{lookup}
 use Rattle.std.specs.Fmt.{decimal, signed_decimal}
@@ -8,18 +8,22 @@ use Rattle.literature_numbers.specs.Numerics.{Value, Number, Set, Numeral}
 use Rattle.literature_numbers.specs.NumericText.{separator_text, affix_text}
 use Rattle.literature_values.specs.TypedViews.{ValueOrText, Value as as_value, Text as as_text}
 use Rattle.literature_numbers.specs.declared.separator.NumericDelimiter.{NumericDelimiter}
-use Rattle.rendering_locale.specs.Locales.{Ordinals}
+use Rattle.rendering_locale.specs.Locales.{OrdinalEnding, Ordinals}
 use Rattle.rendering_taxonomy.specs.declared.number.NumberForm.{NumberForm}
 use Rattle.rendering_taxonomy.specs.declared.number.NumberForm.TheVariants as forms
+
+-- an ending under its number
+abbrev pub numbered : OrdinalEnding → ℕ × List ℕ
+numbered e = (e.number, e.ending)
 
 -- the ending after one of them, or that of all others
 abbrev pub or_else : Option (List ℕ) → List ℕ → List ℕ
 or_else None other = other
 or_else (Some ending) other = ending
 
--- the ending under a number
+-- the first ending under a number
 abbrev pub ending_of : ℕ → Ordinals → Option (List ℕ)
-ending_of n o = lookup (λ k. k == n) o.endings
+ending_of n o = lookup (λ k. k == n) (map numbered o.endings)
 
 -- the ending that the last two digits have, where they are ten or more
 abbrev pub ending_of_two : ℕ → Ordinals → Option (List ℕ)

@@ -28,6 +28,7 @@ pub record NameOptions : Type 0 where
   pub delimiter_precedes_et_al : Option DelimiterBehavior
   pub initialize : Option Bool
   pub initialize_with_hyphen : Option Bool
+  pub splits_initials : Option Bool
   pub names_delimiter : Option (List ℕ)
 
 -- all is left open
@@ -49,6 +50,7 @@ open_options = record {
   delimiter_precedes_et_al = None;
   initialize = None;
   initialize_with_hyphen = None;
+  splits_initials = None;
   names_delimiter = None;
 }
 
@@ -71,5 +73,6 @@ options_over o p = record {
   delimiter_precedes_et_al = option_or o.delimiter_precedes_et_al p.delimiter_precedes_et_al;
   initialize = option_or o.initialize p.initialize;
   initialize_with_hyphen = option_or o.initialize_with_hyphen p.initialize_with_hyphen;
+  splits_initials = option_or o.splits_initials p.splits_initials;
   names_delimiter = option_or o.names_delimiter p.names_delimiter;
 }

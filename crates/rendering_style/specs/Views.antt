@@ -58,6 +58,7 @@ options_view o = record {
   delimiter_precedes_et_al = o.delimiter_precedes_et_al;
   initialize = o.initialize;
   initialize_with_hyphen = o.initialize_with_hyphen;
+  splits_initials = o.splits_initials;
   names_delimiter = option_map characters o.names_delimiter;
 }
 

@@ -35,6 +35,8 @@ pub struct NameOptions {
     pub initialize: Option<bool>,
     /// Whether hyphens stay between initials.
     pub initialize_with_hyphen: Option<bool>,
+    /// Whether each run of letters of a given name has an initial; else each word of it has one.
+    pub splits_initials: Option<bool>,
     /// The text between the people of two variables, where their node says none.
     pub names_delimiter: Option<String>,
 }

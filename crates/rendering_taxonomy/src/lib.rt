@@ -33,6 +33,6 @@ pub use style::{
     Collapse, DisambiguationRule, SecondFieldAlign, SortDirection, StyleCategory, StyleClass,
     SubsequentAuthorSubstituteRule,
 };
-pub use term::{OtherTerm, Term, TermForm};
+pub use term::{Gender, OrdinalMatch, OtherTerm, Term, TermForm};
 pub use text_case::TextCase;
 pub use variable::{DateVariable, NameVariable, NumberVariable, StandardVariable, Variable};

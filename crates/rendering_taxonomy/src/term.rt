@@ -81,6 +81,22 @@ pub enum Term {
     Word(u32),
 }
 
+/// The gender of a term.
+#[derive(Clone, Copy, Debug, PartialEq, Eq, Hash)]
+pub enum Gender {
+    Feminine,
+    Masculine,
+    Neuter,
+}
+
+/// Which numbers an ending of ordinal numbers is of: those with this last digit or these last two digits, or the number alone.
+#[derive(Clone, Copy, Debug, PartialEq, Eq, Hash)]
+pub enum OrdinalMatch {
+    LastDigit,
+    LastTwoDigits,
+    WholeNumber,
+}
+
 /// A form of a term.
 #[derive(Clone, Copy, Debug, PartialEq, Eq, Hash)]
 pub enum TermForm {

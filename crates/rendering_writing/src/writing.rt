@@ -242,6 +242,7 @@ fn open_options<'a>() -> ResolvedNameOptions<'a>
         delimiter_precedes_et_al: None,
         initialize: None,
         initialize_with_hyphen: None,
+        splits_initials: None,
         names_delimiter: None,
     }
 }

@@ -31,6 +31,7 @@ fn term(session: &mut Session, given: &Value<'_>) -> LocalizedTerm {
         form: session.word_or(given, "form", FORMS, TermForm::Long),
         single: session.maybe_owned_text(given, single),
         multiple: session.maybe_owned_text(given, multiple),
+        gender: None,
     }
 }
 
@@ -95,6 +96,8 @@ fn endings(session: &mut Session, given: &Value<'_>) -> Vec<OrdinalEnding> {
         let ending = OrdinalEnding {
             number,
             ending: session.owned(ending),
+            gender: None,
+            only: None,
         };
         session.push(&mut endings, ending);
     }
@@ -125,6 +128,7 @@ pub fn locale(session: &mut Session, given: &Value<'_>) -> Locale {
         dates: dates(session, given),
         ordinals: maybe_ordinals(session, given),
         punctuation_in_quote: session.maybe_bool(given, "punctuation_in_quote"),
+        limit_day_ordinals_to_day_1: None,
     }
 }
 

@@ -67,6 +67,7 @@ pub(crate) fn options(session: &mut Session, given: &Value<'_>) -> NameOptions {
         delimiter_precedes_et_al: session.maybe_word(given, "delimiter_precedes_et_al", BEHAVIORS),
         initialize: None,
         initialize_with_hyphen: session.maybe_bool(given, "initialize_with_hyphen"),
+        splits_initials: None,
         names_delimiter: session.maybe_owned_text(given, "names_delimiter"),
     }
 }
