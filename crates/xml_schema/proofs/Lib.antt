@@ -1,0 +1,5 @@
+pub mod Firsts
+pub mod Contents
+pub mod Waits
+pub mod Spaces
+pub mod Validity

@@ -1,0 +1,68 @@
+//! Schemas: which elements, attributes and values a tree may have. They are tables.
+
+/// What the value of an attribute may be.
+#[derive(Clone, Copy)]
+pub enum Values {
+    /// Any text.
+    Any,
+    /// Digits of a number, of which 2147483647 is the greatest.
+    Number,
+    /// The same, or a hyphen and such digits.
+    Signed,
+    /// A word of one of these groups.
+    OneOf(&'static [&'static [&'static str]]),
+    /// Words of these groups, one at least, parted by spaces.
+    SomeOf(&'static [&'static [&'static str]]),
+}
+
+/// An attribute that an element may have: its local name, and its values.
+pub type AttributeRule = (&'static str, Values);
+
+/// Attributes without a namespace that an element must have.
+#[derive(Clone, Copy)]
+pub enum Need {
+    /// One of these, or more.
+    AtLeastOne(&'static [&'static str]),
+    /// One of these, and no more.
+    ExactlyOne(&'static [&'static str]),
+}
+
+/// How often an element may stand in another.
+#[derive(Clone, Copy)]
+pub enum Times {
+    /// As often as may be.
+    Any,
+    /// Once, or not at all.
+    AtMostOnce,
+    /// Once.
+    Once,
+}
+
+/// An element that may stand in another: its local name, the name of the rule for it there, and how often it may stand there. An element
+/// for which the schema has no rule is passed over, with all that is in it.
+pub type ChildRule = (&'static str, &'static str, Times);
+
+/// What an element may have.
+#[derive(Clone, Copy)]
+pub struct Rule {
+    pub name: &'static str,
+    /// Its attributes without a namespace, in groups.
+    pub attributes: &'static [&'static [AttributeRule]],
+    /// Its attributes with the prefix `xml`.
+    pub xml_attributes: &'static [AttributeRule],
+    pub needs: &'static [Need],
+    pub children: &'static [ChildRule],
+    /// Whether it may have text in it that is more than white space.
+    pub holds_text: bool,
+}
+
+/// Which trees are valid.
+#[derive(Clone, Copy)]
+pub struct Schema {
+    /// The namespace of its elements. An element without a namespace counts as one of it; those of other namespaces are passed over, and so
+    /// are their attributes.
+    pub space: &'static str,
+    /// The rule around the root: its children are the roots that there may be.
+    pub document: Rule,
+    pub rules: &'static [Rule],
+}
