@@ -1,11 +1,12 @@
 //! What cases are read and answered with: the members of JSON objects and of answers, chunks and spans, the values of both libraries, and
-//! why a line is no case. Also the cases of texts of BibLaTeX files, of contents and values of fields, of entries and bibliographies, and
-//! of texts of XML.
+//! why a line is no case. Also the cases of texts of BibLaTeX files, of contents and values of fields, of entries and bibliographies, of
+//! texts of XML, and of files of CSL.
 #![tactic(auto)]
 
 mod characters;
 mod chunks;
 mod content;
+mod csl;
 mod entries;
 mod items;
 mod limits;
@@ -25,6 +26,7 @@ mod xml;
 use characters::{answer_characters, answer_verbatim_field};
 pub use chunks::{normal_chunks, put_chunks, read_chunks, read_chunks_in};
 use content::answer_content;
+use csl::answer_csl_fault;
 pub use entries::{put_parse_error, put_parse_reason, read_entry};
 use items::answer_items;
 pub use items::{put_fault, token_name};
@@ -42,7 +44,7 @@ pub use values::{
 };
 pub use words::{value_of, word_of};
 
-/// Writes the members of the answer to a case of texts or contents; false where the kind is none of these.
+/// Writes the members of the answer to a case of texts, contents or files of CSL; false where the kind is none of these.
 fn answer_texts(session: &mut Session, kind: &str, case: &Value<'_>) -> bool {
     match kind {
         "items" => answer_items(session, case),
@@ -50,6 +52,7 @@ fn answer_texts(session: &mut Session, kind: &str, case: &Value<'_>) -> bool {
         "chunks" => answer_chunks(session, case),
         "characters" => answer_characters(session, case),
         "verbatim_field" => answer_verbatim_field(session, case),
+        "csl_fault" => answer_csl_fault(session, case),
         _ => return false,
     }
     true
