@@ -21,7 +21,10 @@ pub const SCHEMA: Schema = Schema {
         attributes: &[],
         xml_attributes: &[],
         needs: &[],
-        children: &[("style", "style", AnyTimes), ("locale", "locale", AnyTimes)],
+        children: &[
+            ("style", Some("style"), AnyTimes),
+            ("locale", Some("locale"), AnyTimes),
+        ],
         holds_text: false,
     },
     rules: RULES,
@@ -29,17 +32,20 @@ pub const SCHEMA: Schema = Schema {
 
 /// What prints something.
 const RENDERING: &[ChildRule] = &[
-    ("text", "text", AnyTimes),
-    ("number", "number", AnyTimes),
-    ("label", "label", AnyTimes),
-    ("date", "date", AnyTimes),
-    ("names", "names", AnyTimes),
-    ("group", "group", AnyTimes),
-    ("choose", "choose", AnyTimes),
+    ("text", Some("text"), AnyTimes),
+    ("number", Some("number"), AnyTimes),
+    ("label", Some("label"), AnyTimes),
+    ("date", Some("date"), AnyTimes),
+    ("names", Some("names"), AnyTimes),
+    ("group", Some("group"), AnyTimes),
+    ("choose", Some("choose"), AnyTimes),
 ];
 
 /// What a citation and a bibliography have.
-const ORDERED_LAYOUT: &[ChildRule] = &[("sort", "sort", AtMostOnce), ("layout", "layout", Once)];
+const ORDERED_LAYOUT: &[ChildRule] = &[
+    ("sort", Some("sort"), AtMostOnce),
+    ("layout", Some("layout"), Once),
+];
 
 /// The tests of which a branch has one at least.
 const TESTED: &[Need] = &[AtLeastOne(&[
@@ -232,7 +238,7 @@ const TERM: &[AttributeRule] = &[
     ),
 ];
 
-/// The elements. There is no rule for `info`, which is passed over.
+/// The elements. `info` has no rule, so it is passed over.
 const RULES: &[Rule] = &[
     Rule {
         name: "style",
@@ -240,11 +246,11 @@ const RULES: &[Rule] = &[
         xml_attributes: LANGUAGE,
         needs: &[AtLeastOne(&["version"])],
         children: &[
-            ("info", "info", AnyTimes),
-            ("locale", "locale", AnyTimes),
-            ("macro", "macro", AnyTimes),
-            ("citation", "citation", AtMostOnce),
-            ("bibliography", "bibliography", AtMostOnce),
+            ("info", None, AnyTimes),
+            ("locale", Some("locale"), AnyTimes),
+            ("macro", Some("macro"), AnyTimes),
+            ("citation", Some("citation"), AtMostOnce),
+            ("bibliography", Some("bibliography"), AtMostOnce),
         ],
         holds_text: false,
     },
@@ -285,7 +291,7 @@ const RULES: &[Rule] = &[
         attributes: &[],
         xml_attributes: &[],
         needs: &[],
-        children: &[("key", "key", AnyTimes)],
+        children: &[("key", Some("key"), AnyTimes)],
         holds_text: false,
     },
     Rule {
@@ -342,7 +348,7 @@ const RULES: &[Rule] = &[
         ],
         xml_attributes: &[],
         needs: ABOUT_A_VARIABLE,
-        children: &[("date-part", "date-part", AnyTimes)],
+        children: &[("date-part", Some("date-part"), AnyTimes)],
         holds_text: false,
     },
     Rule {
@@ -350,7 +356,7 @@ const RULES: &[Rule] = &[
         attributes: &[DATE_FORM, FORMATTING, AFFIXES, DELIMITER, TEXT_CASE],
         xml_attributes: &[],
         needs: &[AtLeastOne(&["form"])],
-        children: &[("date-part", "date-part", AnyTimes)],
+        children: &[("date-part", Some("date-part"), AnyTimes)],
         holds_text: false,
     },
     Rule {
@@ -367,10 +373,10 @@ const RULES: &[Rule] = &[
         xml_attributes: &[],
         needs: ABOUT_A_VARIABLE,
         children: &[
-            ("name", "name", AtMostOnce),
-            ("et-al", "et-al", AtMostOnce),
-            ("label", "label in names", AtMostOnce),
-            ("substitute", "substitute", AtMostOnce),
+            ("name", Some("name"), AtMostOnce),
+            ("et-al", Some("et-al"), AtMostOnce),
+            ("label", Some("label in names"), AtMostOnce),
+            ("substitute", Some("substitute"), AtMostOnce),
         ],
         holds_text: false,
     },
@@ -379,7 +385,7 @@ const RULES: &[Rule] = &[
         attributes: &[NAME, NAME_OPTIONS, FORMATTING, AFFIXES, DELIMITER],
         xml_attributes: &[],
         needs: &[],
-        children: &[("name-part", "name-part", AnyTimes)],
+        children: &[("name-part", Some("name-part"), AnyTimes)],
         holds_text: false,
     },
     Rule {
@@ -420,9 +426,9 @@ const RULES: &[Rule] = &[
         xml_attributes: &[],
         needs: &[],
         children: &[
-            ("if", "if", Once),
-            ("else-if", "else-if", AnyTimes),
-            ("else", "else", AtMostOnce),
+            ("if", Some("if"), Once),
+            ("else-if", Some("else-if"), AnyTimes),
+            ("else", Some("else"), AtMostOnce),
         ],
         holds_text: false,
     },
@@ -456,10 +462,10 @@ const RULES: &[Rule] = &[
         xml_attributes: LANGUAGE,
         needs: &[],
         children: &[
-            ("info", "info", AnyTimes),
-            ("style-options", "style-options", AtMostOnce),
-            ("date", "date in locale", AnyTimes),
-            ("terms", "terms", AtMostOnce),
+            ("info", None, AnyTimes),
+            ("style-options", Some("style-options"), AtMostOnce),
+            ("date", Some("date in locale"), AnyTimes),
+            ("terms", Some("terms"), AtMostOnce),
         ],
         holds_text: false,
     },
@@ -476,7 +482,7 @@ const RULES: &[Rule] = &[
         attributes: &[],
         xml_attributes: &[],
         needs: &[],
-        children: &[("term", "term", AnyTimes)],
+        children: &[("term", Some("term"), AnyTimes)],
         holds_text: false,
     },
     Rule {
@@ -485,8 +491,8 @@ const RULES: &[Rule] = &[
         xml_attributes: &[],
         needs: NAMED,
         children: &[
-            ("single", "single", AtMostOnce),
-            ("multiple", "multiple", AtMostOnce),
+            ("single", Some("single"), AtMostOnce),
+            ("multiple", Some("multiple"), AtMostOnce),
         ],
         holds_text: true,
     },

@@ -1,7 +1,7 @@
 -- A tree that was checked, and the text that spells it.
-use Rattle.std.proofs.Common.{◌≡◌, ℕ, List, [], ◌∷◌, Option, Some, None, Result, Ok, Err, refl, sym, ap, ◌∙◌, subst}
+use Rattle.std.proofs.Common.{◌≡◌, ℕ, List, [], Option, Some, None, Result, Ok, Err, refl, sym, ap, ◌∙◌, subst}
 use Rattle.std.specs.Prelude.{IfOk}
-use Rattle.laws.specs.Results.{◌>>=◌, Gives, GivesBack, EndsWith}
+use Rattle.laws.specs.Results.{Gives, GivesBack, EndsWith}
 use Rattle.xml_tree.specs.Trees as trees
 use Rattle.xml_tree.specs.Grammar.{Spells}
 use Rattle.xml_tree.specs.Views.{element_view, refusal_of as tree_refusal}

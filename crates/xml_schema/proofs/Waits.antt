@@ -1,12 +1,12 @@
 -- What waits, step by step.
-use Rattle.std.proofs.Common.{◌≡◌, ℕ, ◌+◌, ◌<◌, List, [], ◌∷◌, ◌++◌, map, reverse, Option, Some, None, Vec, Global, String, vec_len, option_to_list, MatchOption, refl, sym, ap, ◌∙◌, arith, append_assoc}
+use Rattle.std.proofs.Common.{◌≡◌, ℕ, ◌+◌, ◌<◌, List, [], ◌∷◌, ◌++◌, map, Option, Some, None, Vec, Global, String, vec_len, option_to_list, MatchOption, refl, sym, ap, ◌∙◌, arith, append_assoc}
 use Rattle.std.proofs.lemmas.List.{reverse-append, nil_from_length}
 use Rattle.xml_tree.specs.Trees as trees
 use Rattle.xml_tree.specs.Trees.{Tagged, Content, Last, Next, content_of}
 use Rattle.laws.specs.Text.{characters}
 use Rattle.xml_tree.specs.Views.{element_view, children_of, children_view}
 use Rattle.xml_tree.specs.declared.tree.Element.{Element, out-Element}
-use Rattle.xml_schema.specs.Faults.{Fault, fault, name_of, left_of, own_wrongs, own_faults, standing, by_standing, ruled_faults, content_faults, element_faults, first_of}
+use Rattle.xml_schema.specs.Faults.{Fault, fault, name_of, left_at, own_wrongs, own_faults, standing, faults_where_it_stands, ruled_faults, content_faults, element_faults, first_of}
 use Rattle.xml_schema.specs.Waiting as specs
 use Rattle.xml_schema.specs.Waiting.{waits, bare, inside, waiting_faults, weight, content_weight, waiting_weight}
 use Rattle.xml_schema.specs.Views.{waiting_at, waiting_view, waiting_of, waiting_list}
@@ -23,7 +23,7 @@ bare_is (p ∷ ps) t = ap (Next p.0 p.1) (bare_is ps t)
 
 pub bare_faults : (s : Schema) (rule : Rule) (c : Content) → content_faults s rule (bare c) ≡ content_faults s rule c
 bare_faults s rule (Last t) = refl
-bare_faults s rule (Next t e c) = ap (λ (fs : List Fault). by_standing rule (standing s rule (name_of e)) (left_of e) (λ r. ruled_faults s r e) ++ fs) (bare_faults s rule c)
+bare_faults s rule (Next t e c) = ap (λ (fs : List Fault). faults_where_it_stands rule (standing s rule (name_of e)) (left_at e) (λ r. ruled_faults s r e) ++ fs) (bare_faults s rule c)
 
 pub bare_weight : (c : Content) → content_weight (bare c) ≡ content_weight c
 bare_weight (Last t) = refl

@@ -20,7 +20,7 @@ use Rattle.xml_schema.specs.declared.schema.Times.TheVariants.{Any, AtMostOnce, 
 use Rattle.xml_schema.specs.declared.schema.Rule.{Rule}
 use Rattle.xml_schema.specs.declared.schema.Schema.{Schema}
 use Rattle.xml_schema.specs.declared.standing.Standing.{Standing}
-use Rattle.xml_schema.specs.declared.standing.Standing.TheVariants.{Passed, Astray, Under}
+use Rattle.xml_schema.specs.declared.standing.Standing.TheVariants.{Passed, NotAllowed, Under}
 
 -- What is wrong with an element: it may not stand in one of that rule; an attribute that it may not have, and one whose value it may not have,
 -- by the local name; it has none of these attributes, and more than one; it has no element of that name in it, and more than one; text.
@@ -61,16 +61,18 @@ abbrev pub wrong_by : Option Values → Attribute → Option Wrong
 wrong_by None a = Some (NoAttribute a.name.local)
 wrong_by (Some values) a = if allows values (text a.value) then None else Some (NoValue a.name.local)
 
--- what is wrong with an attribute; those of other namespaces are passed over
+-- What is wrong with an attribute. One without a namespace and one of the namespace of the prefix xml have to be as the rule says; one of the
+-- schema's namespace is always wrong; those of other namespaces are passed over.
 abbrev pub attribute_wrong : Schema → Rule → At Attribute → Option Wrong
 attribute_wrong s rule a = if is_none a.v.name.space then wrong_by (group_values rule.attributes.now a.v.name.local) a.v
     else (if is_word xml_space a.v.name.space then wrong_by (values_of rule.xml_attributes.now a.v.name.local) a.v
     else (if is_other s a.v.name.space then None else wrong_by None a.v))
 
--- there is an attribute of that name without a namespace
+-- an attribute has that name, and no namespace
 abbrev pub is_had : List ℕ → At Attribute → Bool
 is_had name a = is_none a.v.name.space && bytes_eq (text a.v.name.local) name
 
+-- there is such an attribute
 abbrev pub has_attribute : List (At Attribute) → List ℕ → Bool
 has_attribute attributes name = list_any (is_had name) attributes
 
@@ -78,13 +80,15 @@ has_attribute attributes name = list_any (is_had name) attributes
 abbrev pub count_had : List (At Attribute) → List (Bor (List ℕ)) → ℕ
 count_had attributes names = count_by (λ (w : Bor (List ℕ)). has_attribute attributes w.now) names
 
--- what is wrong where there are so many of these
+-- what is wrong where there are so many of these, of which one or more are needed
 abbrev pub lack_wrong : List (Bor (List ℕ)) → ℕ → Option Wrong
 lack_wrong names n = if n == 0 then Some (Lacking (borrowed names)) else None
 
+-- the same where no more than one may be there
 abbrev pub crowd_wrong : List (Bor (List ℕ)) → ℕ → Option Wrong
 crowd_wrong names n = if nat_lt 1 n then Some (Crowded (borrowed names)) else None
 
+-- the same where one is needed, and no more may be there
 abbrev pub one_wrong : List (Bor (List ℕ)) → ℕ → Option Wrong
 one_wrong names n = option_or (lack_wrong names n) (crowd_wrong names n)
 
@@ -96,17 +100,18 @@ need_wrong attributes (needs.ExactlyOne names) = one_wrong names.now (count_had 
 abbrev pub name_of : Element → FullName
 name_of (Tagged left name attributes content) = name
 
-abbrev pub left_of : Element → ℕ
-left_of (Tagged left name attributes content) = left
+-- how many bytes of the text are left where its start-tag begins
+abbrev pub left_at : Element → ℕ
+left_at (Tagged left name attributes content) = left
 
--- an element has that name
-abbrev pub is_called : Schema → List ℕ → FullName → Bool
-is_called s name n = not (is_other s n.space) && bytes_eq (text n.local) name
+-- an element counts as one of the schema, and has that name
+abbrev pub is_named : Schema → List ℕ → FullName → Bool
+is_named s name n = not (is_other s n.space) && bytes_eq (text n.local) name
 
 -- how many elements of that name are in an element
 abbrev pub count_called : Schema → List ℕ → Content → ℕ
 count_called s name (Last t) = 0
-count_called s name (Next t e c) = if is_called s name (name_of e) then 1 + count_called s name c else count_called s name c
+count_called s name (Next t e c) = if is_named s name (name_of e) then 1 + count_called s name c else count_called s name c
 
 -- what is wrong where elements of that name may be there so often, and are there so often
 abbrev pub times_wrong : Times → List ℕ → ℕ → Option Wrong
@@ -114,7 +119,8 @@ times_wrong Any name n = None
 times_wrong AtMostOnce name n = if nat_lt 1 n then Some (Repeated name) else None
 times_wrong Once name n = if n == 0 then Some (Childless name) else (if nat_lt 1 n then Some (Repeated name) else None)
 
-abbrev pub child_wrong : Schema → Content → Bor (List ℕ) × Bor (List ℕ) × Times → Option Wrong
+-- what is wrong with how often the element of a rule is there
+abbrev pub child_wrong : Schema → Content → Bor (List ℕ) × Option (Bor (List ℕ)) × Times → Option Wrong
 child_wrong s content r = times_wrong r.2 r.0.now (count_called s r.0.now content)
 
 -- some text in an element is more than white space
@@ -125,7 +131,7 @@ content_has_words (Next t e c) = has_words t || content_has_words c
 abbrev pub text_wrong : Rule → Content → Option Wrong
 text_wrong rule content = if not rule.holds_text && content_has_words content then Some Texts else None
 
--- all that is wrong with the elements and the texts in an element
+-- all that is wrong with how often elements are in an element, and with its text
 abbrev pub content_wrongs : Schema → Rule → Content → List Wrong
 content_wrongs s rule content = filter_map (child_wrong s content) rule.children.now ++ option_to_list (text_wrong rule content)
 
@@ -142,30 +148,39 @@ wrongs_of s rule (Tagged left name attributes content) = own_wrongs s rule attri
 
 -- all faults of it
 abbrev pub own_faults : Schema → Rule → Element → List Fault
-own_faults s rule e = map (fault (left_of e)) (wrongs_of s rule e)
+own_faults s rule e = map (fault (left_at e)) (wrongs_of s rule e)
 
--- an element is passed over, may not stand where it does, or has to be as a rule says
-abbrev pub standing_by : Option Rule → Standing
-standing_by None = Passed
-standing_by (Some rule) = Under rule
+-- An element is passed over, may not stand where it does, or has to be as a rule says.
 
--- the rule for an element of that local name
-abbrev pub child_rule : List (Bor (List ℕ) × Bor (List ℕ) × Times) → List ℕ → Option (Bor (List ℕ) × Bor (List ℕ) × Times)
-child_rule rs local = find (λ (r : Bor (List ℕ) × Bor (List ℕ) × Times). bytes_eq (text local) r.0.now) rs
+-- how one stands that has to be as a rule of some name says, where this rule was found, or none
+abbrev pub by_found_rule : Option Rule → Standing
+by_found_rule None = NotAllowed
+by_found_rule (Some rule) = Under rule
 
-abbrev pub standing_as : Schema → Option (Bor (List ℕ) × Bor (List ℕ) × Times) → Standing
-standing_as s None = Astray
-standing_as s (Some r) = standing_by (find (λ (rule : Rule). bytes_eq rule.name.now r.1.now) s.rules.now)
+-- how one stands that has to be as the rule of this name says, or that has no rule
+abbrev pub by_rule_name : Schema → Option (Bor (List ℕ)) → Standing
+by_rule_name s None = Passed
+by_rule_name s (Some name) = by_found_rule (find (λ (rule : Rule). bytes_eq rule.name.now name.now) s.rules.now)
+
+-- what a rule says of an element of that local name in one of it
+abbrev pub child_rule : List (Bor (List ℕ) × Option (Bor (List ℕ)) × Times) → List ℕ → Option (Bor (List ℕ) × Option (Bor (List ℕ)) × Times)
+child_rule rs local = find (λ (r : Bor (List ℕ) × Option (Bor (List ℕ)) × Times). bytes_eq (text local) r.0.now) rs
+
+-- how an element stands of which a rule says this, or of which it says nothing
+abbrev pub by_child_rule : Schema → Option (Bor (List ℕ) × Option (Bor (List ℕ)) × Times) → Standing
+by_child_rule s None = NotAllowed
+by_child_rule s (Some r) = by_rule_name s r.1
 
 -- how an element of that name stands in one of the rule
 abbrev pub standing : Schema → Rule → FullName → Standing
-standing s around n = if is_other s n.space then Passed else standing_as s (child_rule around.children.now n.local)
+standing s around n = if is_other s n.space then Passed else by_child_rule s (child_rule around.children.now n.local)
 
--- the faults of an element that stands so in one of the rule, by those that it has where it has to be as a rule says
-abbrev pub by_standing : Rule → Standing → ℕ → (Rule → List Fault) → List Fault
-by_standing around Passed left ruled = []
-by_standing around Astray left ruled = fault left (Stray around.name.now) ∷ []
-by_standing around (Under rule) left ruled = ruled rule
+-- The faults of an element that stands so in one of the rule, by those that it has where it has to be as a rule says. What is in one that may not
+-- stand there is not looked at.
+abbrev pub faults_where_it_stands : Rule → Standing → ℕ → (Rule → List Fault) → List Fault
+faults_where_it_stands around Passed left ruled = []
+faults_where_it_stands around NotAllowed left ruled = fault left (Stray around.name.now) ∷ []
+faults_where_it_stands around (Under rule) left ruled = ruled rule
 
 abbrev mutual
   -- all faults of an element that has to be as the rule says, and of what is in it
@@ -175,16 +190,16 @@ abbrev mutual
   -- all faults of the elements in one of the rule
   pub content_faults : Schema → Rule → Content → List Fault
   content_faults s rule (Last t) = []
-  content_faults s rule (Next t e c) = by_standing rule (standing s rule (name_of e)) (left_of e) (λ r. ruled_faults s r e) ++ content_faults s rule c
+  content_faults s rule (Next t e c) = faults_where_it_stands rule (standing s rule (name_of e)) (left_at e) (λ r. ruled_faults s r e) ++ content_faults s rule c
 
 -- all faults of an element that stands so in one of the rule, and of what is in it
 abbrev pub element_faults : Schema → Rule → Standing → Element → List Fault
-element_faults s around st e = by_standing around st (left_of e) (λ r. ruled_faults s r e)
+element_faults s around st e = faults_where_it_stands around st (left_at e) (λ r. ruled_faults s r e)
 
 -- a root is not passed over
 abbrev pub as_root : Standing → Standing
-as_root Passed = Astray
-as_root Astray = Astray
+as_root Passed = NotAllowed
+as_root NotAllowed = NotAllowed
 as_root (Under rule) = Under rule
 
 -- all faults of a tree

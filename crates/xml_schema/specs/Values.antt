@@ -1,4 +1,5 @@
--- Which values an attribute may have. Texts are bytes here, as the words of a schema are.
+-- Which values an attribute may have. Values and the words of a schema are bytes; numbers and white space are looked for in the characters of a
+-- value.
 use Rattle.std.specs.Prelude.{ℕ, Bool, true, ◌==◌, ◌&&◌, ◌||◌, List, length, is_ok}
 use Rattle.std.specs.Borrow.{Bor}
 use Rattle.std.specs.List.{list_any, list_all, slice_split}
@@ -19,9 +20,9 @@ is_among words t = list_any (λ (w : Bor (List ℕ)). bytes_eq t w.now) words
 abbrev pub is_in_group : List (Bor (List (Bor (List ℕ)))) → List ℕ → Bool
 is_in_group groups t = list_any (λ (g : Bor (List (Bor (List ℕ)))). is_among g.now t) groups
 
--- characters are nothing but the digits of a number
-abbrev pub is_number : List ℕ → Bool
-is_number cs = is_ok (number_at cs >>= λ n. end_at n.1)
+-- characters are nothing but the digits of a number, which is 2147483647 at most; zeros may stand before it
+abbrev pub is_number_alone : List ℕ → Bool
+is_number_alone cs = is_ok (number_at cs >>= λ n. end_at n.1)
 
 -- there is more than white space
 abbrev pub has_words : List ℕ → Bool
@@ -38,7 +39,7 @@ are_in_group groups t = list_all (is_empty_or_in_group groups) (slice_split (λ 
 -- a text is a value that the attribute may have
 abbrev pub allows : Values → List ℕ → Bool
 allows values.Any t = true
-allows values.Number t = is_number (chars t)
-allows values.Signed t = is_number (taken hyphen (chars t)).1
+allows values.Number t = is_number_alone (chars t)
+allows values.Signed t = is_number_alone (taken hyphen (chars t)).1
 allows (values.OneOf groups) t = is_in_group groups.now t
 allows (values.SomeOf groups) t = has_words (chars t) && are_in_group groups.now t

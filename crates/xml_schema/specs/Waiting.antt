@@ -19,7 +19,7 @@ abbrev pub bare : Content → Content
 bare (Last t) = Last []
 bare (Next t e c) = Next t e (bare c)
 
--- what is in an element that has to be as the rule says
+-- what is in an element that has to be as the rule says, without its last text
 abbrev pub inside : Rule → Element → Waiting
 inside rule (Tagged left name attributes content) = waits rule (bare content)
 
@@ -32,10 +32,12 @@ abbrev mutual
   pub weight : Element → ℕ
   weight (Tagged left name attributes content) = content_weight content + 2
 
+  -- the same of all elements of a content
   pub content_weight : Content → ℕ
   content_weight (Last t) = 0
   content_weight (Next t e c) = weight e + content_weight c
 
+-- the same of all that waits, where taking up one content is a step of its own
 abbrev pub waiting_weight : List Waiting → ℕ
 waiting_weight [] = 0
 waiting_weight (w ∷ ws) = content_weight w.content + 1 + waiting_weight ws

@@ -120,7 +120,7 @@ fn count_had(attributes: &[Placed<Attribute<'_>>], names: &[&str]) -> usize
         .count()
 }
 
-/// What is wrong where there are so many of these.
+/// What is wrong where there are so many of these, of which one or more are needed.
 fn lack_wrong<'s>(names: &'static [&'static str], count: usize) -> Option<Wrong<'s>>
     ensures { option_map wrong_view result ≡ lack_wrong names.now count }
 {
@@ -131,7 +131,7 @@ fn lack_wrong<'s>(names: &'static [&'static str], count: usize) -> Option<Wrong<
     }
 }
 
-/// The same of more than one.
+/// The same where no more than one may be there.
 fn crowd_wrong<'s>(names: &'static [&'static str], count: usize) -> Option<Wrong<'s>>
     ensures { option_map wrong_view result ≡ crowd_wrong names.now count }
 {
@@ -142,7 +142,7 @@ fn crowd_wrong<'s>(names: &'static [&'static str], count: usize) -> Option<Wrong
     }
 }
 
-/// What is wrong where there are so many of these, of which there should be one.
+/// The same where one is needed, and no more may be there.
 fn one_wrong<'s>(names: &'static [&'static str], count: usize) -> Option<Wrong<'s>>
     ensures { option_map wrong_view result ≡ one_wrong names.now count }
 {

@@ -1,11 +1,11 @@
-//! What is wrong with what is in an element.
+//! What is wrong with how often elements are in an element, and with its text.
 
 ghost use Rattle.std.specs.Prelude.{◌≡◌, ℕ, List, count_by, filter_map};
 ghost use Rattle.std.specs.Option.{option_map};
 ghost use Rattle.std.specs.Str.{chars};
 ghost use Rattle.xml_tree.specs.Trees.{content_of};
 ghost use Rattle.xml_tree.specs.Views.{full_name_view, element_view, children_of};
-ghost use Rattle.xml_schema.specs.Faults.{name_of, is_called, count_called, times_wrong, child_wrong, content_has_words, text_wrong, first_of};
+ghost use Rattle.xml_schema.specs.Faults.{name_of, is_named, count_called, times_wrong, child_wrong, content_has_words, text_wrong, first_of};
 ghost use Rattle.xml_schema.specs.Views.{wrong_view};
 
 use crate::fault::Wrong;
@@ -21,9 +21,9 @@ pub(crate) fn name_of<'e, 's>(element: &'e Element<'s>) -> &'e FullName<'s>
     &element.name
 }
 
-/// Whether an element is one of the schema and has that name.
-fn is_called(schema: &Schema, name: &str, called: &FullName<'_>) -> bool
-    ensures { result ≡ is_called schema.now name.now (full_name_view called.now) }
+/// Whether an element counts as one of the schema, and has that name.
+fn is_named(schema: &Schema, name: &str, called: &FullName<'_>) -> bool
+    ensures { result ≡ is_named schema.now name.now (full_name_view called.now) }
 {
     !is_other(schema, &called.space) && is_word(called.local, name)
 }
@@ -31,11 +31,11 @@ fn is_called(schema: &Schema, name: &str, called: &FullName<'_>) -> bool
 /// How many pairs have an element of that name.
 fn count_pairs(schema: &Schema, name: &str, children: &[(String, Element<'_>)]) -> usize
     ensures { result ≡ count_by
-        (λ p. is_called schema.now name.now (name_of (element_view p.1))) children.now }
+        (λ p. is_named schema.now name.now (name_of (element_view p.1))) children.now }
 {
     children
         .iter()
-        .filter(|child| is_called(schema, name, name_of(&child.1)))
+        .filter(|child| is_named(schema, name, name_of(&child.1)))
         .count()
 }
 

@@ -3,7 +3,7 @@
 ghost use Rattle.std.specs.Prelude.{◌≡◌, ◌∷◌, ◌+◌, ◌<◌, [], IfOk, OnOk, MatchOption};
 ghost use Rattle.std.specs.Option.{option_map};
 ghost use Rattle.xml_tree.specs.Views.{element_view};
-ghost use Rattle.xml_schema.specs.Faults.{name_of, left_of, fault, standing, own_faults, ruled_faults, element_faults, faults, first_of};
+ghost use Rattle.xml_schema.specs.Faults.{name_of, left_at, fault, standing, own_faults, ruled_faults, element_faults, faults, first_of};
 ghost use Rattle.xml_schema.specs.Waiting.{inside, IsFirst, waiting_faults, weight, waiting_weight};
 ghost use Rattle.xml_schema.specs.Views.{wrong_view, fault_view, waiting_at, waiting_view, waiting_list};
 
@@ -25,7 +25,7 @@ pub(crate) struct Waiting<'e, 's> {
 /// A fault at the start-tag of an element.
 fn fault_at<'s>(element: &Element<'s>, wrong: Wrong<'s>) -> Fault<'s>
     ensures { fault_view result
-        ≡ fault (left_of (element_view element.now)) (wrong_view wrong.entry) }
+        ≡ fault (left_at (element_view element.now)) (wrong_view wrong.entry) }
 {
     Fault {
         left: element.left,
@@ -98,7 +98,7 @@ fn look_at<'e, 's>(
 {
     match standing {
         Standing::Passed => Ok(None),
-        Standing::Astray => Ok(Some(fault_at(element, Wrong::Stray(around.name)))),
+        Standing::NotAllowed => Ok(Some(fault_at(element, Wrong::Stray(around.name)))),
         Standing::Under(rule) => look_into(schema, waiting, rule, element),
     }
 }
@@ -167,7 +167,8 @@ fn find<'e, 's>(
     Ok(None)
 }
 
-/// The first fault of a tree by a schema, if it has one. The cost grows with the tree, and nothing recurses as deep as its elements are nested.
+/// The first fault of a tree by a schema, if it has one. The cost grows with the tree, and with how many attributes, words and elements a rule
+/// has; nothing recurses as deep as the elements of the tree are nested.
 ///
 /// # Errors
 /// Where a request for memory was refused.

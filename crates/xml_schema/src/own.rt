@@ -16,7 +16,7 @@ use crate::schema::{Rule, Schema};
 use xml_text::Placed;
 use xml_tree::{Attribute, Element};
 
-/// The first that is wrong with the elements and the texts in an element.
+/// The first that is wrong with how often elements are in an element, or with its text.
 fn content_wrong<'s>(
     schema: &Schema,
     rule: &Rule,
@@ -32,7 +32,7 @@ fn content_wrong<'s>(
     }
 }
 
-/// The first that is wrong with what an element needs of its attributes, and with what is in it.
+/// The first that is wrong with what an element needs of its attributes, with how often elements are in it, or with its text.
 fn later_wrong<'s>(
     schema: &Schema,
     rule: &Rule,

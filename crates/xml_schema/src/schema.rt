@@ -5,13 +5,14 @@
 pub enum Values {
     /// Any text.
     Any,
-    /// Digits of a number, of which 2147483647 is the greatest.
+    /// Digits of a number, of which 2147483647 is the greatest; zeros may stand before it.
     Number,
     /// The same, or a hyphen and such digits.
     Signed,
     /// A word of one of these groups.
     OneOf(&'static [&'static [&'static str]]),
-    /// Words of these groups, one at least, parted by spaces.
+    /// Words of these groups, one at least, parted by spaces. Line ends and tabs of a text are spaces in values, but those that references
+    /// stand for are not.
     SomeOf(&'static [&'static [&'static str]]),
 }
 
@@ -38,9 +39,9 @@ pub enum Times {
     Once,
 }
 
-/// An element that may stand in another: its local name, the name of the rule for it there, and how often it may stand there. An element
-/// for which the schema has no rule is passed over, with all that is in it.
-pub type ChildRule = (&'static str, &'static str, Times);
+/// An element that may stand in another: its local name, the name of the rule for it there, and how often it may stand there. Where no name of
+/// a rule stands, the element is passed over with all that is in it; where the schema has no rule of the name, the element may not stand there.
+pub type ChildRule = (&'static str, Option<&'static str>, Times);
 
 /// What an element may have.
 #[derive(Clone, Copy)]
@@ -59,8 +60,9 @@ pub struct Rule {
 /// Which trees are valid.
 #[derive(Clone, Copy)]
 pub struct Schema {
-    /// The namespace of its elements. An element without a namespace counts as one of it; those of other namespaces are passed over, and so
-    /// are their attributes.
+    /// The namespace of its elements. An element without a namespace counts as one of it; those of other namespaces are passed over, but for a
+    /// root. Of attributes those without a namespace and those with the prefix `xml` are as the rule says; those of this namespace are always
+    /// wrong, and those of other namespaces are passed over.
     pub space: &'static str,
     /// The rule around the root: its children are the roots that there may be.
     pub document: Rule,

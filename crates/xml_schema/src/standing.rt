@@ -5,7 +5,7 @@ ghost use Rattle.std.specs.List.{find};
 ghost use Rattle.std.specs.Str.{chars, bytes_eq};
 ghost use Rattle.laws.specs.Text.{text as text_of};
 ghost use Rattle.xml_tree.specs.Views.{space_view, full_name_view};
-ghost use Rattle.xml_schema.specs.Faults.{is_other, child_rule, standing_by, standing_as, standing, as_root};
+ghost use Rattle.xml_schema.specs.Faults.{is_other, child_rule, by_found_rule, by_rule_name, by_child_rule, standing, as_root};
 
 use crate::schema::{ChildRule, Rule, Schema};
 use std::rc::RcStr;
@@ -17,7 +17,7 @@ pub(crate) enum Standing {
     /// It is passed over, with all that is in it.
     Passed,
     /// It may not stand there.
-    Astray,
+    NotAllowed,
     /// It has to be as this rule says.
     Under(Rule),
 }
@@ -50,7 +50,7 @@ pub(crate) fn is_other(schema: &Schema, space: &Option<RcStr>) -> bool
     }
 }
 
-/// The rule for an element of that local name, if there is one.
+/// What a rule says of an element of that local name, if it says anything.
 fn child_rule(children: &[ChildRule], local: &str) -> Option<ChildRule>
     ensures { result ≡ child_rule children.now (chars local.now) }
 {
@@ -74,16 +74,26 @@ fn rule_named(rules: &[Rule], name: &str) -> Option<Rule>
     None
 }
 
-/// How an element stands for which there is this rule, or none.
-fn standing_as(schema: &Schema, child: Option<ChildRule>) -> Standing
-    ensures { result ≡ standing_as schema.now child.entry }
+/// How an element stands that has to be as the rule of this name says, or that has no rule.
+fn by_rule_name(schema: &Schema, name: Option<&'static str>) -> Standing
+    ensures { result ≡ by_rule_name schema.now name.entry }
+{
+    match name {
+        None => Standing::Passed,
+        Some(name) => match rule_named(schema.rules, name) {
+            Some(rule) => Standing::Under(rule),
+            None => Standing::NotAllowed,
+        },
+    }
+}
+
+/// How an element stands of which a rule says this, or of which it says nothing.
+fn by_child_rule(schema: &Schema, child: Option<ChildRule>) -> Standing
+    ensures { result ≡ by_child_rule schema.now child.entry }
 {
     match child {
-        None => Standing::Astray,
-        Some(child) => match rule_named(schema.rules, child.1) {
-            Some(rule) => Standing::Under(rule),
-            None => Standing::Passed,
-        },
+        None => Standing::NotAllowed,
+        Some(child) => by_rule_name(schema, child.1),
     }
 }
 
@@ -94,7 +104,7 @@ pub(crate) fn standing_of(schema: &Schema, around: &Rule, name: &FullName<'_>) -
     if is_other(schema, &name.space) {
         return Standing::Passed;
     }
-    standing_as(schema, child_rule(around.children, name.local))
+    by_child_rule(schema, child_rule(around.children, name.local))
 }
 
 /// How a root stands, which is not passed over.
@@ -102,7 +112,7 @@ pub(crate) fn as_root(standing: Standing) -> Standing
     ensures { result ≡ as_root standing }
 {
     match standing {
-        Standing::Passed => Standing::Astray,
+        Standing::Passed => Standing::NotAllowed,
         _ => standing,
     }
 }

@@ -7,7 +7,7 @@ ghost use Rattle.laws.specs.Characters.{space, hyphen};
 ghost use Rattle.laws.specs.Text.{characters, text as text_of};
 ghost use Rattle.texts.specs.Reading.{taken};
 ghost use Rattle.xml_text.specs.Reading.{after_space};
-ghost use Rattle.xml_schema.specs.Values.{is_among, is_in_group, is_number, has_words, is_empty_or_in_group, are_in_group, allows};
+ghost use Rattle.xml_schema.specs.Values.{is_among, is_in_group, is_number_alone, has_words, is_empty_or_in_group, are_in_group, allows};
 
 use crate::schema::Values;
 use texts::{Reader, has_text};
@@ -37,9 +37,9 @@ fn is_in_group(text: &str, groups: &[&[&str]]) -> bool
     false
 }
 
-/// Whether the text is nothing but the digits of a number.
-fn is_number(text: &str) -> bool
-    ensures { result ≡ is_number (chars text.now) }
+/// Whether the text is nothing but the digits of a number, which is 2147483647 at most.
+fn is_number_alone(text: &str) -> bool
+    ensures { result ≡ is_number_alone (chars text.now) }
 {
     let mut reader = Reader::new(text);
     match reader.number() {
@@ -104,8 +104,8 @@ fn allows(values: Values, value: &str) -> bool
 {
     match values {
         Values::Any => true,
-        Values::Number => is_number(value),
-        Values::Signed => is_number(without_hyphen(value)),
+        Values::Number => is_number_alone(value),
+        Values::Signed => is_number_alone(without_hyphen(value)),
         Values::OneOf(groups) => is_in_group(value, groups),
         Values::SomeOf(groups) => has_words(value) && are_in_group(value, groups),
     }

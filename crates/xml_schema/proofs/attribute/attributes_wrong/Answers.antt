@@ -1,4 +1,4 @@
-use Rattle.std.proofs.Common.{◌+◌, drop, map, ap}
+use Rattle.std.proofs.Common.{◌+◌, drop, map}
 use Rattle.xml_text.specs.Views.{placed_view}
 use Rattle.xml_tree.specs.Views.{attribute_view}
 use Rattle.xml_tree.proofs.Folded.{slice_rest, slice_done}

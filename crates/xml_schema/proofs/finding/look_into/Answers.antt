@@ -1,4 +1,4 @@
-use Rattle.std.proofs.Common.{◌∷◌, List, sym, ap, ◌∙◌, subst, ◌<◌, ◌+◌}
+use Rattle.std.proofs.Common.{List, sym, ap, ◌∙◌, subst, ◌<◌, ◌+◌}
 use Rattle.xml_tree.specs.Views.{element_view}
 use Rattle.xml_schema.specs.Faults.{first_of}
 use Rattle.xml_schema.specs.Waiting as specs
