@@ -1,4 +1,4 @@
-//! The schema of CSL 1.0.2: which elements, attributes and words styles and locales may have.
+//! The elements, attributes and words of CSL 1.0.2 that styles and locales may have, as a schema.
 #![tactic(auto)]
 
 mod attributes;

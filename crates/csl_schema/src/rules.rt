@@ -13,7 +13,8 @@ use xml_schema::Times::{Any as AnyTimes, AtMostOnce, Once};
 use xml_schema::Values::{Any, Number, OneOf, Signed, SomeOf};
 use xml_schema::{AttributeRule, ChildRule, Need, Rule, Schema};
 
-/// The schema of styles and of locales.
+/// The schema of styles and of locales. It does not say in which order elements stand, which attributes go together, or that elements of some
+/// kinds are there at all; docs/ARCHITECTURE.md has what else is let through.
 pub const SCHEMA: Schema = Schema {
     space: "http://purl.org/net/xbiblio/csl",
     document: Rule {
@@ -246,7 +247,7 @@ const RULES: &[Rule] = &[
         xml_attributes: LANGUAGE,
         needs: &[AtLeastOne(&["version"])],
         children: &[
-            ("info", None, AnyTimes),
+            ("info", None, Once),
             ("locale", Some("locale"), AnyTimes),
             ("macro", Some("macro"), AnyTimes),
             ("citation", Some("citation"), AtMostOnce),
@@ -462,7 +463,7 @@ const RULES: &[Rule] = &[
         xml_attributes: LANGUAGE,
         needs: &[],
         children: &[
-            ("info", None, AnyTimes),
+            ("info", None, AtMostOnce),
             ("style-options", Some("style-options"), AtMostOnce),
             ("date", Some("date in locale"), AnyTimes),
             ("terms", Some("terms"), AtMostOnce),

@@ -184,6 +184,7 @@ pub(crate) const LOCATORS: &[&str] = &[
     "paragraph",
     "part",
     "rule",
+    "scene",
     "section",
     "sub-verbo",
     "supplement",
