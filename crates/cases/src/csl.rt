@@ -1,4 +1,4 @@
-//! Cases of files of CSL: whether a text is one by the schema of CSL 1.0.2, or why it is none, and where that shows.
+//! Cases of files of CSL: whether a text is one by the elements, attributes and words of CSL 1.0.2, or why it is none, and where that shows.
 
 use crate::xml::fault_name;
 use crate::{Refusal, Session, Value};
