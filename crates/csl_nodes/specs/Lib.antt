@@ -1,0 +1,9 @@
+pub mod Terms
+pub mod Looks
+pub mod Dates
+pub mod Leaves
+pub mod Options
+pub mod Names
+pub mod Conditions
+pub mod Nodes
+pub mod Views

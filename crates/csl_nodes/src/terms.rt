@@ -1,0 +1,160 @@
+//! The variables and the terms that words name.
+
+ghost use Rattle.std.specs.Prelude.{◌≡◌, string_bytes};
+ghost use Rattle.std.specs.Option.{option_map, option_or};
+ghost use Rattle.std.specs.Str.{bytes_eq};
+ghost use Rattle.csl_nodes.specs.Terms.{text_variable, name_variable, date_variable, number_variable, printed_variable, variable_of, locator_term, kind_term, other_term, date_term, listed_term, place, term_of};
+ghost use Rattle.csl_nodes.specs.Views.{words_view};
+ghost use Rattle.rendering_taxonomy.specs.declared.term.Term.TheVariants as terms;
+
+use csl_words::{
+    DATE_TERMS, DATE_VARIABLES, KINDS, LOCATORS, NAME_VARIABLES, NUMBER_VARIABLES, OTHER_TERMS,
+    TEXT_VARIABLES, in_table,
+};
+use rendering_taxonomy::{Term, Variable};
+
+/// The variable of a text.
+fn text_variable(word: &str) -> Option<Variable>
+    ensures { result ≡ text_variable word.now }
+{
+    match in_table(TEXT_VARIABLES, word) {
+        Some(variable) => Some(Variable::Standard(variable)),
+        None => None,
+    }
+}
+
+/// The variable of a number, or the page.
+fn number_variable(word: &str) -> Option<Variable>
+    ensures { result ≡ number_variable word.now }
+{
+    in_table(NUMBER_VARIABLES, word)
+}
+
+/// The variable of a text or of a number.
+pub(crate) fn printed_variable(word: &str) -> Option<Variable>
+    ensures { result ≡ printed_variable word.now }
+{
+    text_variable(word).or(number_variable(word))
+}
+
+/// The variable of people.
+fn name_variable(word: &str) -> Option<Variable>
+    ensures { result ≡ name_variable word.now }
+{
+    match in_table(NAME_VARIABLES, word) {
+        Some(variable) => Some(Variable::Name(variable)),
+        None => None,
+    }
+}
+
+/// The variable of a date.
+fn date_variable(word: &str) -> Option<Variable>
+    ensures { result ≡ date_variable word.now }
+{
+    match in_table(DATE_VARIABLES, word) {
+        Some(variable) => Some(Variable::Date(variable)),
+        None => None,
+    }
+}
+
+/// The variable of people or of a date.
+fn other_variable(word: &str) -> Option<Variable>
+    ensures { result ≡ option_or (name_variable word.now) (date_variable word.now) }
+{
+    name_variable(word).or(date_variable(word))
+}
+
+/// The variable of a word.
+pub fn variable_of(word: &str) -> Option<Variable>
+    ensures { result ≡ variable_of word.now }
+{
+    printed_variable(word).or(other_variable(word))
+}
+
+/// The term of a variable.
+fn variable_term(word: &str) -> Option<Term>
+    ensures { result ≡ option_map terms.Variable (variable_of word.now) }
+{
+    match variable_of(word) {
+        Some(variable) => Some(Term::Variable(variable)),
+        None => None,
+    }
+}
+
+/// The term of the label of a locator.
+fn locator_term(word: &str) -> Option<Term>
+    ensures { result ≡ locator_term word.now }
+{
+    match in_table(LOCATORS, word) {
+        Some(locator) => Some(Term::Locator(locator)),
+        None => None,
+    }
+}
+
+/// The term of a kind.
+fn kind_term(word: &str) -> Option<Term>
+    ensures { result ≡ kind_term word.now }
+{
+    match in_table(KINDS, word) {
+        Some(kind) => Some(Term::Kind(kind)),
+        None => None,
+    }
+}
+
+/// The term of another word.
+fn other_term(word: &str) -> Option<Term>
+    ensures { result ≡ other_term word.now }
+{
+    match in_table(OTHER_TERMS, word) {
+        Some(term) => Some(Term::Other(term)),
+        None => None,
+    }
+}
+
+/// The term of a month or of a season.
+fn date_term(word: &str) -> Option<Term>
+    ensures { result ≡ date_term word.now }
+{
+    in_table(DATE_TERMS, word)
+}
+
+/// The term of a word that some list has.
+pub fn listed_term(word: &str) -> Option<Term>
+    ensures { result ≡ listed_term word.now }
+{
+    let last = other_term(word).or(date_term(word));
+    let later = locator_term(word).or(kind_term(word).or(last));
+    variable_term(word).or(later)
+}
+
+/// Whether a text is this word.
+fn is_word(text: &String, word: &str) -> bool
+    ensures { result ≡ bytes_eq (string_bytes text.now) word.now }
+{
+    text.as_str() == word
+}
+
+/// The place of a word among those that no list has, or how many these are; at most 4294967295.
+fn place(unlisted: &[String], word: &str) -> u32
+    ensures { result ≡ place (words_view unlisted.now) word.now }
+{
+    let mut place: u32 = 0;
+    for each in unlisted {
+        if is_word(each, word) {
+            return place;
+        }
+        place = place.saturating_add(1);
+    }
+    place
+}
+
+/// The term of a word, where these are the words of terms that no list has: such a word is known by its place among them. The words of a
+/// style and of its locales have to stand in one list.
+pub fn term_of(unlisted: &[String], word: &str) -> Term
+    ensures { result ≡ term_of (words_view unlisted.now) word.now }
+{
+    match listed_term(word) {
+        Some(term) => term,
+        None => Term::Word(place(unlisted, word)),
+    }
+}
