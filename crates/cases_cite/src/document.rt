@@ -1,7 +1,7 @@
 //! Documents as their texts and markers.
 
 use cases::{Refusal, Session, Value, word_of};
-use cases_rendering::{LOCATORS, PURPOSES};
+use cases_rendering::{PURPOSES, locator_word};
 use cite::{Cite, Document, DocumentError, Piece};
 
 /// The members of a case.
@@ -61,7 +61,7 @@ fn put_cite(session: &mut Session, cite: &Cite<'_>) {
     if let Some(locator) = &cite.locator {
         session.key("locator");
         session.begin_object();
-        session.put_text("label", word_of(LOCATORS, locator.label));
+        session.put_text("label", locator_word(locator.label));
         session.put_text("text", locator.value);
         session.end_object();
     }

@@ -13,7 +13,7 @@ pub use sources::{
     PURPOSES, bibliography_of, bridged, english_locale, locale_files, maybe_locale, maybe_locator,
     named, put_bridge_error, put_effort, put_faults, put_unknown, put_unknown_name, read_source,
 };
-pub use styles::{ALIGNS, LOCATORS, accepted, maybe_code, style_of};
+pub use styles::{ALIGNS, accepted, locator_word, maybe_code, style_of};
 pub use works::{ENTRY_DEPTH, boxed, put_entry};
 
 /// Writes the members of the answer to a case of this kind; false where the kind is none of these.

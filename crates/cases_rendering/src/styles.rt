@@ -25,8 +25,8 @@ pub use leaves::NUMBER_FORMS;
 pub use looks::{DISPLAYS, formatting, is_plain, put_formatting};
 pub use parts::ALIGNS;
 pub use styles::{accepted, style_of};
-pub use terms::{KINDS, LOCATORS, form_of};
-pub use variables::{NAMES, variable_of};
+pub use terms::{form_of, locator, locator_word};
+pub use variables::variable_of;
 
 /// Writes the members of the answer to a case of this kind; false where the kind is none of these.
 pub fn answer(session: &mut Session, kind: &str, case: &Value<'_>) -> bool {

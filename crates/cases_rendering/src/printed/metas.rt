@@ -1,7 +1,7 @@
 //! What elements of trees stand for.
 
-use crate::styles::NAMES;
 use cases::{Session, Value, given, member, put_member, word_of};
+use csl_words::NAME_VARIABLES;
 use literature::Person;
 use rendering_taxonomy::NameVariable;
 use rendering_tree::ElemMeta;
@@ -24,7 +24,7 @@ fn meta_of(session: &mut Session, word: &str) -> ElemMeta {
 
 /// The name variable of a member.
 fn name_variable(session: &mut Session, object: &Value<'_>, name: &'static str) -> NameVariable {
-    let variable = session.maybe_word(object, name, NAMES);
+    let variable = session.maybe_word(object, name, NAME_VARIABLES);
     session.required(variable, name, "a variable of names", NameVariable::Author)
 }
 
@@ -75,7 +75,7 @@ pub(crate) fn maybe_meta(session: &mut Session, object: &Value<'_>) -> Option<El
 
 /// Writes the word of a name variable as the member of the name.
 fn put_variable(session: &mut Session, name: &str, variable: NameVariable) {
-    session.put_text(name, word_of(NAMES, variable));
+    session.put_text(name, word_of(NAME_VARIABLES, variable));
 }
 
 /// Writes what a names node stands for: variables, each with the people that answer it.

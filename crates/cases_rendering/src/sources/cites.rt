@@ -1,6 +1,6 @@
 //! What a case says of a cite: its purpose and its locator; and how many calls it took.
 
-use crate::styles::LOCATORS;
+use crate::styles::locator;
 use cases::{Session, Value, member};
 use rendering_context::{LocatorPayload, SpecificLocator, TransparentLocator};
 use rendering_taxonomy::{CitePurpose, Locator};
@@ -23,7 +23,7 @@ pub fn maybe_locator<'a, P: Drop>(
         return None;
     };
     session.only(given, &["label", "text", "transparent"]);
-    let label = session.maybe_word(given, "label", LOCATORS);
+    let label = session.maybe_text(given, "label").and_then(locator);
     let label = session.required(label, "label", "the label of a locator", Locator::Page);
     let payload = match session.maybe_text(given, "text") {
         Some(text) => LocatorPayload::Str(text),

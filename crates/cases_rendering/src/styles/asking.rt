@@ -2,15 +2,16 @@
 
 use crate::styles::date_words::FORMS as DATE_FORMS;
 use crate::styles::given_locales::locales;
-use crate::styles::terms::{FORMS, term_of};
+use crate::styles::terms::term_of;
 use cases::{Session, Value};
+use csl_words::TERM_FORMS;
 use rendering_locale::AskedLocales;
 use rendering_taxonomy::{DateForm, OtherTerm, TermForm};
 
 /// Writes the text of the term of a case, or null.
 fn put_term(session: &mut Session, asked: &AskedLocales<'_>, case: &Value<'_>) {
     let name = term_of(session, case, "term");
-    let form = session.word_or(case, "form", FORMS, TermForm::Long);
+    let form = session.word_or(case, "form", TERM_FORMS, TermForm::Long);
     let plural = session.is_set(case, "plural");
     session.key("term");
     session.string_or_null(asked.term(name, form, plural));
@@ -19,7 +20,7 @@ fn put_term(session: &mut Session, asked: &AskedLocales<'_>, case: &Value<'_>) {
 /// Writes the text of the term of a case, empty where there is none.
 fn put_term_text(session: &mut Session, asked: &AskedLocales<'_>, case: &Value<'_>) {
     let name = term_of(session, case, "term");
-    let form = session.word_or(case, "form", FORMS, TermForm::Long);
+    let form = session.word_or(case, "form", TERM_FORMS, TermForm::Long);
     let plural = session.is_set(case, "plural");
     session.put_text("term_text", asked.term_text(name, form, plural));
 }

@@ -1,8 +1,9 @@
 //! Conditions of branches.
 
-use crate::styles::terms::{KINDS, LOCATORS};
-use crate::styles::variables::{DATES, any, printed};
+use crate::styles::terms::locator;
+use crate::styles::variables::{any, printed};
 use cases::{Session, Value, value_of};
+use csl_words::{DATE_VARIABLES, KINDS};
 use rendering_style::{ChooseTest, Condition};
 use rendering_taxonomy::{ChooseMatch, TestPosition};
 
@@ -36,8 +37,8 @@ fn test(name: &str, word: &str) -> Option<ChooseTest> {
         "type" => value_of(KINDS, word).map(ChooseTest::Type),
         "variable" => any(word).map(ChooseTest::Variable),
         "is_numeric" => printed(word).map(ChooseTest::IsNumeric),
-        "is_uncertain_date" => value_of(DATES, word).map(ChooseTest::IsUncertainDate),
-        "locator" => value_of(LOCATORS, word).map(ChooseTest::Locator),
+        "is_uncertain_date" => value_of(DATE_VARIABLES, word).map(ChooseTest::IsUncertainDate),
+        "locator" => locator(word).map(ChooseTest::Locator),
         _ => value_of(POSITIONS, word).map(ChooseTest::Position),
     }
 }

@@ -2,8 +2,9 @@
 
 use crate::styles::date_words::FORMS as DATE_FORMS;
 use crate::styles::dates::date_parts;
-use crate::styles::terms::{FORMS, term_of};
+use crate::styles::terms::term_of;
 use cases::{Session, Value, member};
+use csl_words::TERM_FORMS;
 use rendering_locale::{Locale, LocaleCode, LocalizedDate, LocalizedTerm, OrdinalEnding, Ordinals};
 use rendering_taxonomy::{DateForm, TermForm};
 
@@ -28,7 +29,7 @@ fn term(session: &mut Session, given: &Value<'_>) -> LocalizedTerm {
     };
     LocalizedTerm {
         name: term_of(session, given, "name"),
-        form: session.word_or(given, "form", FORMS, TermForm::Long),
+        form: session.word_or(given, "form", TERM_FORMS, TermForm::Long),
         single: session.maybe_owned_text(given, single),
         multiple: session.maybe_owned_text(given, multiple),
         gender: None,

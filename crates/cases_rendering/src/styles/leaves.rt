@@ -4,9 +4,10 @@ use crate::styles::date_words::{FORMS as DATE_FORMS, PARTS};
 use crate::styles::dates::date_parts;
 use crate::styles::looks::look;
 use crate::styles::names::label_look;
-use crate::styles::terms::{FORMS, form_of, term_of};
+use crate::styles::terms::{form_of, term_of};
 use crate::styles::variables::{date_of, numbered_of, printed_of};
 use cases::{Session, Value, member};
+use csl_words::TERM_FORMS;
 use rendering_style::{Date, Label, Node, Number, Text, TextLook, TextTarget};
 use rendering_taxonomy::{DateParts, NumberForm, TermForm};
 
@@ -36,7 +37,7 @@ fn named(node: &Value<'_>) -> &'static str {
 
 /// A term in its form.
 fn term_target(session: &mut Session, node: &Value<'_>) -> TextTarget {
-    let form = session.word_or(node, "form", FORMS, TermForm::Long);
+    let form = session.word_or(node, "form", TERM_FORMS, TermForm::Long);
     let term = term_of(session, node, "term");
     TextTarget::Term(term, form, session.is_set(node, "plural"))
 }

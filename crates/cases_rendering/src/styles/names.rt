@@ -2,9 +2,8 @@
 
 use crate::styles::looks::{changes, look};
 use crate::styles::name_options::{NAME_MEMBERS, options};
-use crate::styles::terms::{FORMS, PLURALS};
-use crate::styles::variables::NAMES;
 use cases::{Session, Value, member};
+use csl_words::{NAME_VARIABLES, PLURALS, TERM_FORMS};
 use rendering_style::{EtAl, LabelLook, Name, Names};
 use rendering_taxonomy::{EtAlTerm, LabelPluralize, NameVariable, TermForm};
 
@@ -16,7 +15,7 @@ const ET_ALS: &[(&str, EtAlTerm)] = &[
 /// How a label looks.
 pub(crate) fn label_look(session: &mut Session, given: &Value<'_>) -> LabelLook {
     LabelLook {
-        form: session.word_or(given, "form", FORMS, TermForm::Long),
+        form: session.word_or(given, "form", TERM_FORMS, TermForm::Long),
         plural: session.word_or(given, "plural", PLURALS, LabelPluralize::Contextual),
         strip_periods: session.is_set(given, "strip_periods"),
         text_case: None,
@@ -73,7 +72,7 @@ fn et_al(session: &mut Session, node: &Value<'_>) -> Option<EtAl> {
 
 /// The variables of names: one or more.
 fn variables(session: &mut Session, node: &Value<'_>) -> Vec<NameVariable> {
-    let variables = session.words(node, "variables", NAMES);
+    let variables = session.words(node, "variables", NAME_VARIABLES);
     if variables.is_empty() {
         session.want("variables", "a list of one or more");
     }

@@ -1,8 +1,8 @@
 //! Of which kinds an entry is to a style.
 
-use crate::styles::KINDS;
 use crate::works::given_entries::entry_member;
 use cases::{Session, Value, member};
+use csl_words::KINDS;
 use literature::Entry;
 use rendering_entries::{EntryLike, are_one_entry};
 use std::borrow::CowStr;
