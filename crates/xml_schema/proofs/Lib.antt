@@ -3,3 +3,4 @@ pub mod Contents
 pub mod Waits
 pub mod Spaces
 pub mod Validity
+pub mod Moved

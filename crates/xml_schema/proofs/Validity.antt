@@ -11,7 +11,7 @@ use Rattle.xml_tree.specs.declared.tree.Element.{Element}
 use Rattle.xml_schema.specs.Faults.{Fault, faults, first_of}
 use Rattle.xml_schema.specs.Valid.{Refusal, unless_found, checked}
 use Rattle.xml_schema.specs.ValidViews.{refusal_of, text_error}
-use Rattle.xml_schema.specs.declared.schema.Schema.{Schema}
+use Rattle.xml_schema.specs.Tables.{Schema}
 use Rattle.xml_schema.specs.declared.valid.ValidError.{ValidError}
 use Rattle.xml_schema.proofs.Firsts.{none_first}
 

@@ -11,8 +11,7 @@ use Rattle.xml_schema.specs.Waiting as specs
 use Rattle.xml_schema.specs.Waiting.{waits, bare, inside, waiting_faults, weight, content_weight, waiting_weight}
 use Rattle.xml_schema.specs.Views.{waiting_at, waiting_view, waiting_of, waiting_list}
 use Rattle.xml_schema.specs.declared.finding.Waiting.{Waiting}
-use Rattle.xml_schema.specs.declared.schema.Rule.{Rule}
-use Rattle.xml_schema.specs.declared.schema.Schema.{Schema}
+use Rattle.xml_schema.specs.Tables.{Rule, Schema}
 use Rattle.xml_schema.proofs.Contents.{element_opened}
 use Rattle.xml_schema.proofs.Firsts.{none_first, some_first}
 

@@ -2,7 +2,6 @@
 -- order of its attributes, of what it needs of them, and of the elements that it may have in it; text comes last. Names of a tree are
 -- characters, words of a schema are bytes.
 use Rattle.std.specs.Prelude.{ℕ, ◌+◌, nat_lt, Bool, false, not, ◌==◌, ◌&&◌, ◌||◌, List, [], ◌∷◌, ◌++◌, map, if◌then◌else◌, is_none, Option, Some, None, option_to_list}
-use Rattle.std.specs.Borrow.{Bor}
 use Rattle.std.specs.List.{list_any, find, filter_map, count_by}
 use Rattle.std.specs.Option.{option_map, option_or}
 use Rattle.std.specs.Str.{bytes_eq}
@@ -11,14 +10,11 @@ use Rattle.laws.specs.Text.{text}
 use Rattle.xml_text.specs.Tokens.{At}
 use Rattle.xml_tree.specs.Trees.{FullName, Attribute, Element, Tagged, Content, Last, Next}
 use Rattle.xml_tree.specs.Scope.{xml_space, is_word}
+use Rattle.xml_schema.specs.Tables.{AttributeRule, AttributeRules, ChildRule, Need, Rule, Schema, Text, Values}
 use Rattle.xml_schema.specs.Values.{allows, has_words}
-use Rattle.xml_schema.specs.declared.schema.Values.{Values}
-use Rattle.xml_schema.specs.declared.schema.Need.{Need}
 use Rattle.xml_schema.specs.declared.schema.Need.TheVariants as needs
 use Rattle.xml_schema.specs.declared.schema.Times.{Times}
 use Rattle.xml_schema.specs.declared.schema.Times.TheVariants.{Any, AtMostOnce, Once}
-use Rattle.xml_schema.specs.declared.schema.Rule.{Rule}
-use Rattle.xml_schema.specs.declared.schema.Schema.{Schema}
 use Rattle.xml_schema.specs.declared.standing.Standing.{Standing}
 use Rattle.xml_schema.specs.declared.standing.Standing.TheVariants.{Passed, NotAllowed, Under}
 
@@ -42,17 +38,17 @@ pub record Fault : Type 0 where
 abbrev pub fault : ℕ → Wrong → Fault
 fault left wrong = record { left = left; wrong = wrong }
 
--- a namespace is another one than the schema's; none counts as the schema's
-abbrev pub is_other : Schema → Option (List ℕ) → Bool
-is_other s None = false
-is_other s (Some space) = not (bytes_eq (text space) s.space.now)
+-- a namespace is another one than a schema's; none counts as the schema's
+abbrev pub is_other : List ℕ → Option (List ℕ) → Bool
+is_other of_schema None = false
+is_other of_schema (Some space) = not (bytes_eq (text space) of_schema)
 
 -- the values of the first attribute of that name
-abbrev pub values_of : List (Bor (List ℕ) × Values) → List ℕ → Option Values
-values_of rs name = option_map (λ (r : Bor (List ℕ) × Values). r.1) (find (λ (r : Bor (List ℕ) × Values). bytes_eq (text name) r.0.now) rs)
+abbrev pub values_of : List AttributeRule → List ℕ → Option Values
+values_of rs name = option_map (λ (r : AttributeRule). r.1) (find (λ (r : AttributeRule). bytes_eq (text name) r.0.now) rs)
 
 -- those of the first group that has one
-abbrev pub group_values : List (Bor (List (Bor (List ℕ) × Values))) → List ℕ → Option Values
+abbrev pub group_values : List AttributeRules → List ℕ → Option Values
 group_values [] name = None
 group_values (g ∷ gs) name = option_or (values_of g.now name) (group_values gs name)
 
@@ -66,7 +62,7 @@ wrong_by (Some values) a = if allows values (text a.value) then None else Some (
 abbrev pub attribute_wrong : Schema → Rule → At Attribute → Option Wrong
 attribute_wrong s rule a = if is_none a.v.name.space then wrong_by (group_values rule.attributes.now a.v.name.local) a.v
     else (if is_word xml_space a.v.name.space then wrong_by (values_of rule.xml_attributes.now a.v.name.local) a.v
-    else (if is_other s a.v.name.space then None else wrong_by None a.v))
+    else (if is_other s.space.now a.v.name.space then None else wrong_by None a.v))
 
 -- an attribute has that name, and no namespace
 abbrev pub is_had : List ℕ → At Attribute → Bool
@@ -77,19 +73,19 @@ abbrev pub has_attribute : List (At Attribute) → List ℕ → Bool
 has_attribute attributes name = list_any (is_had name) attributes
 
 -- how many of these attributes there are
-abbrev pub count_had : List (At Attribute) → List (Bor (List ℕ)) → ℕ
-count_had attributes names = count_by (λ (w : Bor (List ℕ)). has_attribute attributes w.now) names
+abbrev pub count_had : List (At Attribute) → List Text → ℕ
+count_had attributes names = count_by (λ (w : Text). has_attribute attributes w.now) names
 
 -- what is wrong where there are so many of these, of which one or more are needed
-abbrev pub lack_wrong : List (Bor (List ℕ)) → ℕ → Option Wrong
+abbrev pub lack_wrong : List Text → ℕ → Option Wrong
 lack_wrong names n = if n == 0 then Some (Lacking (borrowed names)) else None
 
 -- the same where no more than one may be there
-abbrev pub crowd_wrong : List (Bor (List ℕ)) → ℕ → Option Wrong
+abbrev pub crowd_wrong : List Text → ℕ → Option Wrong
 crowd_wrong names n = if nat_lt 1 n then Some (Crowded (borrowed names)) else None
 
 -- the same where one is needed, and no more may be there
-abbrev pub one_wrong : List (Bor (List ℕ)) → ℕ → Option Wrong
+abbrev pub one_wrong : List Text → ℕ → Option Wrong
 one_wrong names n = option_or (lack_wrong names n) (crowd_wrong names n)
 
 -- what is wrong with attributes of which these are needed
@@ -104,14 +100,14 @@ name_of (Tagged left name attributes content) = name
 abbrev pub left_at : Element → ℕ
 left_at (Tagged left name attributes content) = left
 
--- an element counts as one of the schema, and has that name
-abbrev pub is_named : Schema → List ℕ → FullName → Bool
-is_named s name n = not (is_other s n.space) && bytes_eq (text n.local) name
+-- an element counts as one of the schema with this namespace, and has that name
+abbrev pub is_named : List ℕ → List ℕ → FullName → Bool
+is_named of_schema name n = not (is_other of_schema n.space) && bytes_eq (text n.local) name
 
 -- how many elements of that name are in an element
-abbrev pub count_called : Schema → List ℕ → Content → ℕ
-count_called s name (Last t) = 0
-count_called s name (Next t e c) = if is_named s name (name_of e) then 1 + count_called s name c else count_called s name c
+abbrev pub count_called : List ℕ → List ℕ → Content → ℕ
+count_called of_schema name (Last t) = 0
+count_called of_schema name (Next t e c) = if is_named of_schema name (name_of e) then 1 + count_called of_schema name c else count_called of_schema name c
 
 -- what is wrong where elements of that name may be there so often, and are there so often
 abbrev pub times_wrong : Times → List ℕ → ℕ → Option Wrong
@@ -120,8 +116,8 @@ times_wrong AtMostOnce name n = if nat_lt 1 n then Some (Repeated name) else Non
 times_wrong Once name n = if n == 0 then Some (Childless name) else (if nat_lt 1 n then Some (Repeated name) else None)
 
 -- what is wrong with how often the element of a rule is there
-abbrev pub child_wrong : Schema → Content → Bor (List ℕ) × Option (Bor (List ℕ)) × Times → Option Wrong
-child_wrong s content r = times_wrong r.2 r.0.now (count_called s r.0.now content)
+abbrev pub child_wrong : Schema → Content → ChildRule → Option Wrong
+child_wrong s content r = times_wrong r.2 r.0.now (count_called s.space.now r.0.now content)
 
 -- some text in an element is more than white space
 abbrev pub content_has_words : Content → Bool
@@ -158,22 +154,22 @@ by_found_rule None = NotAllowed
 by_found_rule (Some rule) = Under rule
 
 -- how one stands that has to be as the rule of this name says, or that has no rule
-abbrev pub by_rule_name : Schema → Option (Bor (List ℕ)) → Standing
+abbrev pub by_rule_name : Schema → Option Text → Standing
 by_rule_name s None = Passed
 by_rule_name s (Some name) = by_found_rule (find (λ (rule : Rule). bytes_eq rule.name.now name.now) s.rules.now)
 
 -- what a rule says of an element of that local name in one of it
-abbrev pub child_rule : List (Bor (List ℕ) × Option (Bor (List ℕ)) × Times) → List ℕ → Option (Bor (List ℕ) × Option (Bor (List ℕ)) × Times)
-child_rule rs local = find (λ (r : Bor (List ℕ) × Option (Bor (List ℕ)) × Times). bytes_eq (text local) r.0.now) rs
+abbrev pub child_rule : List ChildRule → List ℕ → Option ChildRule
+child_rule rs local = find (λ (r : ChildRule). bytes_eq (text local) r.0.now) rs
 
 -- how an element stands of which a rule says this, or of which it says nothing
-abbrev pub by_child_rule : Schema → Option (Bor (List ℕ) × Option (Bor (List ℕ)) × Times) → Standing
+abbrev pub by_child_rule : Schema → Option ChildRule → Standing
 by_child_rule s None = NotAllowed
 by_child_rule s (Some r) = by_rule_name s r.1
 
 -- how an element of that name stands in one of the rule
 abbrev pub standing : Schema → Rule → FullName → Standing
-standing s around n = if is_other s n.space then Passed else by_child_rule s (child_rule around.children.now n.local)
+standing s around n = if is_other s.space.now n.space then Passed else by_child_rule s (child_rule around.children.now n.local)
 
 -- The faults of an element that stands so in one of the rule, by those that it has where it has to be as a rule says. What is in one that may not
 -- stand there is not looked at.

@@ -1,6 +1,9 @@
+pub mod Tables
 pub mod Values
 pub mod Faults
 pub mod Views
 pub mod Waiting
 pub mod Valid
 pub mod ValidViews
+pub mod Constants
+pub mod Moved

@@ -5,7 +5,7 @@ use Rattle.xml_tree.specs.Trees.{Element}
 use Rattle.xml_tree.specs.Building.{tree_of}
 use Rattle.xml_tree.specs.Values as trees
 use Rattle.xml_schema.specs.Faults.{Fault, faults, first_of}
-use Rattle.xml_schema.specs.declared.schema.Schema.{Schema}
+use Rattle.xml_schema.specs.Tables.{Schema}
 
 -- the text spells no tree, by a fault of XML and its place; or its tree has this fault first
 pub data Refusal : Type 0 where

@@ -1,7 +1,6 @@
 -- Which values an attribute may have. Values and the words of a schema are bytes; numbers and white space are looked for in the characters of a
 -- value.
 use Rattle.std.specs.Prelude.{ℕ, Bool, true, ◌==◌, ◌&&◌, ◌||◌, List, length, is_ok}
-use Rattle.std.specs.Borrow.{Bor}
 use Rattle.std.specs.List.{list_any, list_all, slice_split}
 use Rattle.std.specs.Str.{bytes_eq, chars}
 use Rattle.laws.specs.Characters.{space, hyphen}
@@ -9,16 +8,16 @@ use Rattle.laws.specs.Results.{◌>>=◌}
 use Rattle.laws.specs.Text.{is_filled}
 use Rattle.texts.specs.Reading.{number_at, taken, end_at}
 use Rattle.xml_text.specs.Reading.{after_space}
-use Rattle.xml_schema.specs.declared.schema.Values.{Values}
+use Rattle.xml_schema.specs.Tables.{Text, Values, Words}
 use Rattle.xml_schema.specs.declared.schema.Values.TheVariants as values
 
 -- a text is one of these words
-abbrev pub is_among : List (Bor (List ℕ)) → List ℕ → Bool
-is_among words t = list_any (λ (w : Bor (List ℕ)). bytes_eq t w.now) words
+abbrev pub is_among : List Text → List ℕ → Bool
+is_among words t = list_any (λ (w : Text). bytes_eq t w.now) words
 
 -- a text is a word of one of these groups
-abbrev pub is_in_group : List (Bor (List (Bor (List ℕ)))) → List ℕ → Bool
-is_in_group groups t = list_any (λ (g : Bor (List (Bor (List ℕ)))). is_among g.now t) groups
+abbrev pub is_in_group : List Words → List ℕ → Bool
+is_in_group groups t = list_any (λ (g : Words). is_among g.now t) groups
 
 -- characters are nothing but the digits of a number, which is 2147483647 at most; zeros may stand before it
 abbrev pub is_number_alone : List ℕ → Bool
@@ -29,11 +28,11 @@ abbrev pub has_words : List ℕ → Bool
 has_words cs = is_filled (after_space cs)
 
 -- a part of a text is empty, or is a word of one of these groups
-abbrev pub is_empty_or_in_group : List (Bor (List (Bor (List ℕ)))) → List ℕ → Bool
+abbrev pub is_empty_or_in_group : List Words → List ℕ → Bool
 is_empty_or_in_group groups part = length part == 0 || is_in_group groups part
 
 -- each part of a text between spaces is so
-abbrev pub are_in_group : List (Bor (List (Bor (List ℕ)))) → List ℕ → Bool
+abbrev pub are_in_group : List Words → List ℕ → Bool
 are_in_group groups t = list_all (is_empty_or_in_group groups) (slice_split (λ b. b == space) t)
 
 -- a text is a value that the attribute may have

@@ -8,12 +8,12 @@ use Rattle.xml_tree.specs.Views.{children_of}
 use Rattle.xml_tree.specs.declared.tree.Element.{Element}
 use Rattle.xml_schema.specs.Faults as faults
 use Rattle.xml_schema.specs.Faults.{Stray, NoAttribute, NoValue, Lacking, Crowded, Childless, Repeated, Texts}
+use Rattle.xml_schema.specs.Tables.{Rule}
 use Rattle.xml_schema.specs.Waiting as specs
 use Rattle.xml_schema.specs.declared.fault.Fault.{Fault}
 use Rattle.xml_schema.specs.declared.fault.Wrong.{Wrong}
 use Rattle.xml_schema.specs.declared.fault.Wrong.TheVariants as wrongs
 use Rattle.xml_schema.specs.declared.finding.Waiting.{Waiting}
-use Rattle.xml_schema.specs.declared.schema.Rule.{Rule}
 
 abbrev pub wrong_view : Wrong → faults.Wrong
 wrong_view (wrongs.Stray name) = Stray name.now

@@ -3,8 +3,7 @@ use Rattle.std.specs.Prelude.{◌≡◌, ℕ, ◌+◌, List, [], ◌∷◌, ◌+
 use Rattle.std.specs.Option.{option_or}
 use Rattle.xml_tree.specs.Trees.{Element, Tagged, Content, Last, Next}
 use Rattle.xml_schema.specs.Faults.{Fault, content_faults, first_of}
-use Rattle.xml_schema.specs.declared.schema.Rule.{Rule}
-use Rattle.xml_schema.specs.declared.schema.Schema.{Schema}
+use Rattle.xml_schema.specs.Tables.{Rule, Schema}
 
 -- a content in an element of that rule
 pub record Waiting : Type 0 where

@@ -45,7 +45,8 @@ fn group_values(groups: &[&[AttributeRule]], local: &str) -> Option<Values>
 
 /// What is wrong with an attribute that may have such values, or that may not be there.
 fn wrong_by<'s>(values: Option<Values>, attribute: &Attribute<'s>) -> Option<Wrong<'s>>
-    ensures { option_map wrong_view result ≡ wrong_by values (attribute_view attribute.now) }
+    ensures { option_map wrong_view result
+        ≡ wrong_by values.entry (attribute_view attribute.now) }
 {
     match values {
         None => Some(Wrong::Attribute(attribute.name.local)),
@@ -83,7 +84,7 @@ fn attribute_wrong<'s>(
         wrong_by(group_values(rule.attributes, name.local), &attribute.v)
     } else if is_xml(&name.space) {
         wrong_by(values_of(rule.xml_attributes, name.local), &attribute.v)
-    } else if is_other(schema, &name.space) {
+    } else if is_other(schema.space, &name.space) {
         None
     } else {
         wrong_by(None, &attribute.v)

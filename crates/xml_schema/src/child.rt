@@ -21,30 +21,30 @@ pub(crate) fn name_of<'e, 's>(element: &'e Element<'s>) -> &'e FullName<'s>
     &element.name
 }
 
-/// Whether an element counts as one of the schema, and has that name.
-fn is_named(schema: &Schema, name: &str, called: &FullName<'_>) -> bool
-    ensures { result ≡ is_named schema.now name.now (full_name_view called.now) }
+/// Whether an element counts as one of the schema with this namespace, and has that name.
+fn is_named(of_schema: &str, name: &str, called: &FullName<'_>) -> bool
+    ensures { result ≡ is_named of_schema.now name.now (full_name_view called.now) }
 {
-    !is_other(schema, &called.space) && is_word(called.local, name)
+    !is_other(of_schema, &called.space) && is_word(called.local, name)
 }
 
 /// How many pairs have an element of that name.
-fn count_pairs(schema: &Schema, name: &str, children: &[(String, Element<'_>)]) -> usize
+fn count_pairs(of_schema: &str, name: &str, children: &[(String, Element<'_>)]) -> usize
     ensures { result ≡ count_by
-        (λ p. is_named schema.now name.now (name_of (element_view p.1))) children.now }
+        (λ p. is_named of_schema.now name.now (name_of (element_view p.1))) children.now }
 {
     children
         .iter()
-        .filter(|child| is_named(schema, name, name_of(&child.1)))
+        .filter(|child| is_named(of_schema, name, name_of(&child.1)))
         .count()
 }
 
 /// How many elements of that name there are.
-fn count_called(schema: &Schema, name: &str, children: &[(String, Element<'_>)]) -> usize
+fn count_called(of_schema: &str, name: &str, children: &[(String, Element<'_>)]) -> usize
     ensures { (t : List ℕ) → result
-        ≡ count_called schema.now name.now (content_of (children_of children.now) t) }
+        ≡ count_called of_schema.now name.now (content_of (children_of children.now) t) }
 {
-    count_pairs(schema, name, children)
+    count_pairs(of_schema, name, children)
 }
 
 /// What is wrong where elements of that name may be there so often, and are there so often.
@@ -67,7 +67,7 @@ fn child_wrong<'s>(
     ensures { (t : List ℕ) → option_map wrong_view result
         ≡ child_wrong schema.now (content_of (children_of children.now) t) rule.now }
 {
-    times_wrong(rule.2, rule.0, count_called(schema, rule.0, children))
+    times_wrong(rule.2, rule.0, count_called(schema.space, rule.0, children))
 }
 
 /// The first that is wrong with how often elements are there.

@@ -51,7 +51,7 @@ fn put_content<'e, 's>(
     element: &'e Element<'s>,
 ) -> Result<(), AllocError>
     ensures { OnOk result (waiting_list waiting.new
-        ≡ inside rule (element_view element.now) ∷ waiting_list waiting.old) }
+        ≡ inside rule.entry (element_view element.now) ∷ waiting_list waiting.old) }
 {
     waiting.push(Waiting {
         rule,
@@ -68,7 +68,7 @@ fn look_into<'e, 's>(
     element: &'e Element<'s>,
 ) -> Result<Option<Fault<'s>>, AllocError>
     ensures first { IfOk result (λ f. IsFirst schema.now (option_map fault_view f)
-        (waiting_list waiting.new) (ruled_faults schema.now rule (element_view element.now))
+        (waiting_list waiting.new) (ruled_faults schema.now rule.entry (element_view element.now))
         (waiting_list waiting.old)) }
     ensures fewer { IfOk result (λ f. waiting_weight (waiting_list waiting.new)
         < waiting_weight (waiting_list waiting.old) + weight (element_view element.now)) }
@@ -112,12 +112,12 @@ fn look_at_child<'e, 's>(
     rest: &'e [(String, Element<'s>)],
 ) -> Result<Option<Fault<'s>>, AllocError>
     ensures first { IfOk result (λ f. IsFirst schema.now (option_map fault_view f)
-        (waiting_list waiting.new) (element_faults schema.now rule
-        (standing schema.now rule (name_of (element_view child.now.1)))
+        (waiting_list waiting.new) (element_faults schema.now rule.entry
+        (standing schema.now rule.entry (name_of (element_view child.now.1)))
         (element_view child.now.1))
-        (waiting_at rule rest.now ∷ waiting_list waiting.old)) }
+        (waiting_at rule.entry rest.now ∷ waiting_list waiting.old)) }
     ensures fewer { IfOk result (λ f. waiting_weight (waiting_list waiting.new)
-        < waiting_weight (waiting_at rule rest.now ∷ waiting_list waiting.old)
+        < waiting_weight (waiting_at rule.entry rest.now ∷ waiting_list waiting.old)
         + weight (element_view child.now.1)) }
 {
     waiting.push(Waiting { rule, rest })?;

@@ -40,12 +40,12 @@ pub(crate) fn has_no_space(space: &Option<RcStr>) -> bool
     }
 }
 
-/// Whether a namespace is another one than the schema's.
-pub(crate) fn is_other(schema: &Schema, space: &Option<RcStr>) -> bool
-    ensures { result ≡ is_other schema.now (space_view space.now) }
+/// Whether a namespace is another one than a schema's.
+pub(crate) fn is_other(of_schema: &str, space: &Option<RcStr>) -> bool
+    ensures { result ≡ is_other of_schema.now (space_view space.now) }
 {
     match space {
-        Some(space) => !is_word(space.as_str(), schema.space),
+        Some(space) => !is_word(space.as_str(), of_schema),
         None => false,
     }
 }
@@ -101,7 +101,7 @@ fn by_child_rule(schema: &Schema, child: Option<ChildRule>) -> Standing
 pub(crate) fn standing_of(schema: &Schema, around: &Rule, name: &FullName<'_>) -> Standing
     ensures { result ≡ standing schema.now around.now (full_name_view name.now) }
 {
-    if is_other(schema, &name.space) {
+    if is_other(schema.space, &name.space) {
         return Standing::Passed;
     }
     by_child_rule(schema, child_rule(around.children, name.local))

@@ -100,7 +100,7 @@ fn are_in_group(text: &str, groups: &[&[&str]]) -> bool
 
 /// Whether an attribute may have the value.
 fn allows(values: Values, value: &str) -> bool
-    ensures { result ≡ allows values value.now }
+    ensures { result ≡ allows values.entry value.now }
 {
     match values {
         Values::Any => true,
@@ -114,7 +114,7 @@ fn allows(values: Values, value: &str) -> bool
 /// Whether an attribute may have the value of one.
 #[tactic(auto, using(laws::proofs::Text::text_of_chars))]
 pub(crate) fn allows_text(values: Values, value: &String) -> bool
-    ensures { result ≡ allows values (text_of (characters value.now)) }
+    ensures { result ≡ allows values.entry (text_of (characters value.now)) }
 {
     allows(values, value.as_str())
 }
