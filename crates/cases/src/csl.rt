@@ -2,9 +2,9 @@
 
 use crate::xml::fault_name;
 use crate::{Refusal, Session, Value};
-use csl_schema::SCHEMA;
+use csl_schema::parse_csl;
 use source_positions::ShownPosition;
-use xml_schema::{ValidError, Wrong, parse_valid};
+use xml_schema::{ValidError, Wrong};
 
 /// The name of what is wrong with an element.
 fn wrong_name(wrong: Wrong<'_>) -> &'static str {
@@ -64,7 +64,7 @@ fn put_position(session: &mut Session, text: &str, left: usize) {
 pub(crate) fn answer_csl_fault(session: &mut Session, case: &Value<'_>) {
     session.only(case, &["case", "name", "text"]);
     let text = session.text(case, "text");
-    match parse_valid(session.alloc, &SCHEMA, text) {
+    match parse_csl(session.alloc, text) {
         Ok(_) => session.put_bool("valid", true),
         Err(ValidError::Memory) => session.refuse(Refusal::Memory),
         Err(ValidError::Text { fault, left }) => {

@@ -1,17 +1,36 @@
--- What is found by the schema, wherever it lies.
-use Rattle.std.proofs.Common.{◌≡◌, List, Option, Result, Ok, Err, option_map, sym, ap, ◌∙◌}
+-- What is found and read by the schema, wherever it lies.
+use Rattle.std.proofs.Common.{◌≡◌, ℕ, List, map, Option, Result, Ok, Err, option_map, refl, sym, ap, subst, ◌∙◌}
 use Rattle.std.specs.Prelude.{IfOk}
+use Rattle.laws.specs.Results.{◌>>=◌, Gives}
+use Rattle.xml_tree.specs.Building.{tree_of}
 use Rattle.xml_tree.specs.Trees.{Element}
+use Rattle.xml_tree.specs.Views.{element_view}
+use Rattle.xml_tree.specs.declared.tree.Element.{Element as ElementValue}
 use Rattle.xml_schema.specs.Faults as specs
 use Rattle.xml_schema.specs.Faults.{faults, first_of}
 use Rattle.xml_schema.specs.Moved.{moved_schema}
 use Rattle.xml_schema.specs.Tables.{Schema}
+use Rattle.xml_schema.specs.Valid.{Refusal, as_text, unless_found, checked, valid_tree_of}
+use Rattle.xml_schema.specs.ValidViews.{refusal_of}
 use Rattle.xml_schema.specs.Views.{fault_view}
 use Rattle.xml_schema.specs.declared.fault.Fault.{Fault}
+use Rattle.xml_schema.specs.declared.valid.ValidError.{ValidError}
 use Rattle.xml_schema.proofs.Moved.{faults_same}
 use Rattle.csl_schema.specs.Faults.{csl_schema, csl_faults}
 
-pub found_by : {E : Type 0} (s : Schema) (e : Element) (r : Result (Option Fault) E) → moved_schema s ≡ csl_schema → IfOk r (λ f. option_map fault_view f ≡ first_of (faults s e))
+-- the faults by a schema that moved to one place is that of CSL
+same_faults : (s : Schema) (e : Element) → moved_schema s ≡ csl_schema → faults s e ≡ csl_faults e
+same_faults s e is = sym (faults_same s e) ∙ ap (λ (t : Schema). faults t e) is
+
+pub found_by : {E : Type 0} (s : Schema) (e : Element) (r : Result (Option Fault) E) → IfOk r (λ f. option_map fault_view f ≡ first_of (faults s e)) → moved_schema s ≡ csl_schema
     → IfOk r (λ f. option_map fault_view f ≡ first_of (csl_faults e))
-found_by s e (Ok f) is first = first ∙ ap (λ (fs : List specs.Fault). first_of fs) (sym (faults_same s e) ∙ ap (λ (t : Schema). faults t e) is)
-found_by s e (Err error) is first = tt
+found_by s e (Ok f) first is = first ∙ ap (λ (fs : List specs.Fault). first_of fs) (same_faults s e is)
+found_by s e (Err error) first is = tt
+
+then_same : (s : Schema) (r : Result Element Refusal) → moved_schema s ≡ csl_schema → (r >>= checked s) ≡ (r >>= checked csl_schema)
+then_same s (Ok e) is = ap (λ (fs : List specs.Fault). unless_found e (first_of fs)) (same_faults s e is)
+then_same s (Err refusal) is = refl
+
+pub read_by : (s : Schema) (cs : List ℕ) (r : Result ElementValue ValidError) → Gives refusal_of element_view r (valid_tree_of s cs) → moved_schema s ≡ csl_schema
+    → Gives refusal_of element_view r (valid_tree_of csl_schema cs)
+read_by s cs r reads is = subst (λ (t : Result Element Refusal). Gives refusal_of element_view r t) (then_same s (as_text (tree_of cs)) is) reads

@@ -2,7 +2,9 @@
 #![tactic(auto)]
 
 mod attributes;
+mod first;
+mod placed;
 mod rules;
 mod words;
 
-pub use rules::SCHEMA;
+pub use first::{first_csl_fault, parse_csl};

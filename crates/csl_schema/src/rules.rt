@@ -1,4 +1,4 @@
-//! The elements of CSL 1.0.2.
+//! The elements of CSL 1.0.2: one rule for each. `info` has none, so it is passed over.
 
 use crate::attributes::{
     AFFIXES, DELIMITER, DISPLAY, FORMATTING, INHERITED, NAME_OPTIONS, STRIP_PERIODS, TESTS,
@@ -11,25 +11,10 @@ use crate::words::{
 use xml_schema::Need::{AtLeastOne, ExactlyOne};
 use xml_schema::Times::{Any as AnyTimes, AtMostOnce, Once};
 use xml_schema::Values::{Any, Number, OneOf, Signed, SomeOf};
-use xml_schema::{AttributeRule, ChildRule, Need, Rule, Schema};
+use xml_schema::{AttributeRule, ChildRule, Need, Rule};
 
-/// The schema of styles and of locales. It does not say in which order elements stand, which attributes go together, or that elements of some
-/// kinds are there at all; docs/ARCHITECTURE.md has what else is let through.
-pub const SCHEMA: Schema = Schema {
-    space: "http://purl.org/net/xbiblio/csl",
-    document: Rule {
-        name: "document",
-        attributes: &[],
-        xml_attributes: &[],
-        needs: &[],
-        children: &[
-            ("style", Some("style"), AnyTimes),
-            ("locale", Some("locale"), AnyTimes),
-        ],
-        holds_text: false,
-    },
-    rules: RULES,
-};
+/// The namespace of CSL.
+pub const SPACE: &str = "http://purl.org/net/xbiblio/csl";
 
 /// What prints something.
 const RENDERING: &[ChildRule] = &[
@@ -239,278 +224,347 @@ const TERM: &[AttributeRule] = &[
     ),
 ];
 
-/// The elements. `info` has no rule, so it is passed over.
-const RULES: &[Rule] = &[
-    Rule {
-        name: "style",
-        attributes: &[STYLE, NAME_OPTIONS, INHERITED],
-        xml_attributes: LANGUAGE,
-        needs: &[AtLeastOne(&["version"])],
-        children: &[
-            ("info", None, Once),
-            ("locale", Some("locale"), AnyTimes),
-            ("macro", Some("macro"), AnyTimes),
-            ("citation", Some("citation"), AtMostOnce),
-            ("bibliography", Some("bibliography"), AtMostOnce),
-        ],
-        holds_text: false,
-    },
-    Rule {
-        name: "citation",
-        attributes: &[CITATION, NAME_OPTIONS, INHERITED],
-        xml_attributes: &[],
-        needs: &[],
-        children: ORDERED_LAYOUT,
-        holds_text: false,
-    },
-    Rule {
-        name: "bibliography",
-        attributes: &[BIBLIOGRAPHY, NAME_OPTIONS, INHERITED],
-        xml_attributes: &[],
-        needs: &[],
-        children: ORDERED_LAYOUT,
-        holds_text: false,
-    },
-    Rule {
-        name: "layout",
-        attributes: &[FORMATTING, AFFIXES, DELIMITER],
-        xml_attributes: &[],
-        needs: &[],
-        children: RENDERING,
-        holds_text: false,
-    },
-    Rule {
-        name: "macro",
-        attributes: &[&[("name", Any)]],
-        xml_attributes: &[],
-        needs: NAMED,
-        children: RENDERING,
-        holds_text: false,
-    },
-    Rule {
-        name: "sort",
-        attributes: &[],
-        xml_attributes: &[],
-        needs: &[],
-        children: &[("key", Some("key"), AnyTimes)],
-        holds_text: false,
-    },
-    Rule {
-        name: "key",
-        attributes: &[KEY],
-        xml_attributes: &[],
-        needs: &[ExactlyOne(&["variable", "macro"])],
-        children: &[],
-        holds_text: false,
-    },
-    Rule {
-        name: "text",
-        attributes: &[TEXT, FORMATTING, AFFIXES, DISPLAY, STRIP_PERIODS, TEXT_CASE],
-        xml_attributes: &[],
-        needs: &[ExactlyOne(&["variable", "macro", "term", "value"])],
-        children: &[],
-        holds_text: false,
-    },
-    Rule {
-        name: "number",
-        attributes: &[NUMBER, FORMATTING, AFFIXES, DISPLAY, TEXT_CASE],
-        xml_attributes: &[],
-        needs: ABOUT_A_VARIABLE,
-        children: &[],
-        holds_text: false,
-    },
-    Rule {
-        name: "label",
-        attributes: &[
-            LABEL_OF,
-            LABEL_FORM,
-            FORMATTING,
-            AFFIXES,
-            STRIP_PERIODS,
-            TEXT_CASE,
-        ],
-        xml_attributes: &[],
-        needs: ABOUT_A_VARIABLE,
-        children: &[],
-        holds_text: false,
-    },
-    Rule {
-        name: "label in names",
-        attributes: &[LABEL_FORM, FORMATTING, AFFIXES, STRIP_PERIODS, TEXT_CASE],
-        xml_attributes: &[],
-        needs: &[],
-        children: &[],
-        holds_text: false,
-    },
-    Rule {
-        name: "date",
-        attributes: &[
-            DATE, DATE_FORM, FORMATTING, AFFIXES, DISPLAY, DELIMITER, TEXT_CASE,
-        ],
-        xml_attributes: &[],
-        needs: ABOUT_A_VARIABLE,
-        children: &[("date-part", Some("date-part"), AnyTimes)],
-        holds_text: false,
-    },
-    Rule {
-        name: "date in locale",
-        attributes: &[DATE_FORM, FORMATTING, AFFIXES, DELIMITER, TEXT_CASE],
-        xml_attributes: &[],
-        needs: &[AtLeastOne(&["form"])],
-        children: &[("date-part", Some("date-part"), AnyTimes)],
-        holds_text: false,
-    },
-    Rule {
-        name: "date-part",
-        attributes: &[DATE_PART, FORMATTING, AFFIXES, STRIP_PERIODS, TEXT_CASE],
-        xml_attributes: &[],
-        needs: NAMED,
-        children: &[],
-        holds_text: false,
-    },
-    Rule {
-        name: "names",
-        attributes: &[PEOPLE, FORMATTING, AFFIXES, DISPLAY, DELIMITER],
-        xml_attributes: &[],
-        needs: ABOUT_A_VARIABLE,
-        children: &[
-            ("name", Some("name"), AtMostOnce),
-            ("et-al", Some("et-al"), AtMostOnce),
-            ("label", Some("label in names"), AtMostOnce),
-            ("substitute", Some("substitute"), AtMostOnce),
-        ],
-        holds_text: false,
-    },
-    Rule {
-        name: "name",
-        attributes: &[NAME, NAME_OPTIONS, FORMATTING, AFFIXES, DELIMITER],
-        xml_attributes: &[],
-        needs: &[],
-        children: &[("name-part", Some("name-part"), AnyTimes)],
-        holds_text: false,
-    },
-    Rule {
-        name: "name-part",
-        attributes: &[NAME_PART, FORMATTING, AFFIXES, TEXT_CASE],
-        xml_attributes: &[],
-        needs: NAMED,
-        children: &[],
-        holds_text: false,
-    },
-    Rule {
-        name: "et-al",
-        attributes: &[ET_AL, FORMATTING, AFFIXES],
-        xml_attributes: &[],
-        needs: &[],
-        children: &[],
-        holds_text: false,
-    },
-    Rule {
-        name: "substitute",
-        attributes: &[],
-        xml_attributes: &[],
-        needs: &[],
-        children: RENDERING,
-        holds_text: false,
-    },
-    Rule {
-        name: "group",
-        attributes: &[FORMATTING, AFFIXES, DISPLAY, DELIMITER],
-        xml_attributes: &[],
-        needs: &[],
-        children: RENDERING,
-        holds_text: false,
-    },
-    Rule {
-        name: "choose",
-        attributes: &[],
-        xml_attributes: &[],
-        needs: &[],
-        children: &[
-            ("if", Some("if"), Once),
-            ("else-if", Some("else-if"), AnyTimes),
-            ("else", Some("else"), AtMostOnce),
-        ],
-        holds_text: false,
-    },
-    Rule {
-        name: "if",
-        attributes: &[TESTS],
-        xml_attributes: &[],
-        needs: TESTED,
-        children: RENDERING,
-        holds_text: false,
-    },
-    Rule {
-        name: "else-if",
-        attributes: &[TESTS],
-        xml_attributes: &[],
-        needs: TESTED,
-        children: RENDERING,
-        holds_text: false,
-    },
-    Rule {
-        name: "else",
-        attributes: &[],
-        xml_attributes: &[],
-        needs: &[],
-        children: RENDERING,
-        holds_text: false,
-    },
-    Rule {
-        name: "locale",
-        attributes: &[LOCALE],
-        xml_attributes: LANGUAGE,
-        needs: &[],
-        children: &[
-            ("info", None, AtMostOnce),
-            ("style-options", Some("style-options"), AtMostOnce),
-            ("date", Some("date in locale"), AnyTimes),
-            ("terms", Some("terms"), AtMostOnce),
-        ],
-        holds_text: false,
-    },
-    Rule {
-        name: "style-options",
-        attributes: &[OPTIONS],
-        xml_attributes: &[],
-        needs: &[],
-        children: &[],
-        holds_text: false,
-    },
-    Rule {
-        name: "terms",
-        attributes: &[],
-        xml_attributes: &[],
-        needs: &[],
-        children: &[("term", Some("term"), AnyTimes)],
-        holds_text: false,
-    },
-    Rule {
-        name: "term",
-        attributes: &[TERM],
-        xml_attributes: &[],
-        needs: NAMED,
-        children: &[
-            ("single", Some("single"), AtMostOnce),
-            ("multiple", Some("multiple"), AtMostOnce),
-        ],
-        holds_text: true,
-    },
-    Rule {
-        name: "single",
-        attributes: &[],
-        xml_attributes: &[],
-        needs: &[],
-        children: &[],
-        holds_text: true,
-    },
-    Rule {
-        name: "multiple",
-        attributes: &[],
-        xml_attributes: &[],
-        needs: &[],
-        children: &[],
-        holds_text: true,
-    },
-];
+/// The rule around the root, which is a style or a locale.
+pub const DOCUMENT_RULE: Rule = Rule {
+    name: "document",
+    attributes: &[],
+    xml_attributes: &[],
+    needs: &[],
+    children: &[
+        ("style", Some("style"), AnyTimes),
+        ("locale", Some("locale"), AnyTimes),
+    ],
+    holds_text: false,
+};
+
+/// The rule of `style`.
+pub const STYLE_RULE: Rule = Rule {
+    name: "style",
+    attributes: &[STYLE, NAME_OPTIONS, INHERITED],
+    xml_attributes: LANGUAGE,
+    needs: &[AtLeastOne(&["version"])],
+    children: &[
+        ("info", None, Once),
+        ("locale", Some("locale"), AnyTimes),
+        ("macro", Some("macro"), AnyTimes),
+        ("citation", Some("citation"), AtMostOnce),
+        ("bibliography", Some("bibliography"), AtMostOnce),
+    ],
+    holds_text: false,
+};
+
+/// The rule of `citation`.
+pub const CITATION_RULE: Rule = Rule {
+    name: "citation",
+    attributes: &[CITATION, NAME_OPTIONS, INHERITED],
+    xml_attributes: &[],
+    needs: &[],
+    children: ORDERED_LAYOUT,
+    holds_text: false,
+};
+
+/// The rule of `bibliography`.
+pub const BIBLIOGRAPHY_RULE: Rule = Rule {
+    name: "bibliography",
+    attributes: &[BIBLIOGRAPHY, NAME_OPTIONS, INHERITED],
+    xml_attributes: &[],
+    needs: &[],
+    children: ORDERED_LAYOUT,
+    holds_text: false,
+};
+
+/// The rule of `layout`.
+pub const LAYOUT_RULE: Rule = Rule {
+    name: "layout",
+    attributes: &[FORMATTING, AFFIXES, DELIMITER],
+    xml_attributes: &[],
+    needs: &[],
+    children: RENDERING,
+    holds_text: false,
+};
+
+/// The rule of `macro`.
+pub const MACRO_RULE: Rule = Rule {
+    name: "macro",
+    attributes: &[&[("name", Any)]],
+    xml_attributes: &[],
+    needs: NAMED,
+    children: RENDERING,
+    holds_text: false,
+};
+
+/// The rule of `sort`.
+pub const SORT_RULE: Rule = Rule {
+    name: "sort",
+    attributes: &[],
+    xml_attributes: &[],
+    needs: &[],
+    children: &[("key", Some("key"), AnyTimes)],
+    holds_text: false,
+};
+
+/// The rule of `key`.
+pub const KEY_RULE: Rule = Rule {
+    name: "key",
+    attributes: &[KEY],
+    xml_attributes: &[],
+    needs: &[ExactlyOne(&["variable", "macro"])],
+    children: &[],
+    holds_text: false,
+};
+
+/// The rule of `text`.
+pub const TEXT_RULE: Rule = Rule {
+    name: "text",
+    attributes: &[TEXT, FORMATTING, AFFIXES, DISPLAY, STRIP_PERIODS, TEXT_CASE],
+    xml_attributes: &[],
+    needs: &[ExactlyOne(&["variable", "macro", "term", "value"])],
+    children: &[],
+    holds_text: false,
+};
+
+/// The rule of `number`.
+pub const NUMBER_RULE: Rule = Rule {
+    name: "number",
+    attributes: &[NUMBER, FORMATTING, AFFIXES, DISPLAY, TEXT_CASE],
+    xml_attributes: &[],
+    needs: ABOUT_A_VARIABLE,
+    children: &[],
+    holds_text: false,
+};
+
+/// The rule of `label`.
+pub const LABEL_RULE: Rule = Rule {
+    name: "label",
+    attributes: &[
+        LABEL_OF,
+        LABEL_FORM,
+        FORMATTING,
+        AFFIXES,
+        STRIP_PERIODS,
+        TEXT_CASE,
+    ],
+    xml_attributes: &[],
+    needs: ABOUT_A_VARIABLE,
+    children: &[],
+    holds_text: false,
+};
+
+/// The rule of `label in names`.
+pub const LABEL_IN_NAMES_RULE: Rule = Rule {
+    name: "label in names",
+    attributes: &[LABEL_FORM, FORMATTING, AFFIXES, STRIP_PERIODS, TEXT_CASE],
+    xml_attributes: &[],
+    needs: &[],
+    children: &[],
+    holds_text: false,
+};
+
+/// The rule of `date`.
+pub const DATE_RULE: Rule = Rule {
+    name: "date",
+    attributes: &[
+        DATE, DATE_FORM, FORMATTING, AFFIXES, DISPLAY, DELIMITER, TEXT_CASE,
+    ],
+    xml_attributes: &[],
+    needs: ABOUT_A_VARIABLE,
+    children: &[("date-part", Some("date-part"), AnyTimes)],
+    holds_text: false,
+};
+
+/// The rule of `date in locale`.
+pub const DATE_IN_LOCALE_RULE: Rule = Rule {
+    name: "date in locale",
+    attributes: &[DATE_FORM, FORMATTING, AFFIXES, DELIMITER, TEXT_CASE],
+    xml_attributes: &[],
+    needs: &[AtLeastOne(&["form"])],
+    children: &[("date-part", Some("date-part"), AnyTimes)],
+    holds_text: false,
+};
+
+/// The rule of `date-part`.
+pub const DATE_PART_RULE: Rule = Rule {
+    name: "date-part",
+    attributes: &[DATE_PART, FORMATTING, AFFIXES, STRIP_PERIODS, TEXT_CASE],
+    xml_attributes: &[],
+    needs: NAMED,
+    children: &[],
+    holds_text: false,
+};
+
+/// The rule of `names`.
+pub const NAMES_RULE: Rule = Rule {
+    name: "names",
+    attributes: &[PEOPLE, FORMATTING, AFFIXES, DISPLAY, DELIMITER],
+    xml_attributes: &[],
+    needs: ABOUT_A_VARIABLE,
+    children: &[
+        ("name", Some("name"), AtMostOnce),
+        ("et-al", Some("et-al"), AtMostOnce),
+        ("label", Some("label in names"), AtMostOnce),
+        ("substitute", Some("substitute"), AtMostOnce),
+    ],
+    holds_text: false,
+};
+
+/// The rule of `name`.
+pub const NAME_RULE: Rule = Rule {
+    name: "name",
+    attributes: &[NAME, NAME_OPTIONS, FORMATTING, AFFIXES, DELIMITER],
+    xml_attributes: &[],
+    needs: &[],
+    children: &[("name-part", Some("name-part"), AnyTimes)],
+    holds_text: false,
+};
+
+/// The rule of `name-part`.
+pub const NAME_PART_RULE: Rule = Rule {
+    name: "name-part",
+    attributes: &[NAME_PART, FORMATTING, AFFIXES, TEXT_CASE],
+    xml_attributes: &[],
+    needs: NAMED,
+    children: &[],
+    holds_text: false,
+};
+
+/// The rule of `et-al`.
+pub const ET_AL_RULE: Rule = Rule {
+    name: "et-al",
+    attributes: &[ET_AL, FORMATTING, AFFIXES],
+    xml_attributes: &[],
+    needs: &[],
+    children: &[],
+    holds_text: false,
+};
+
+/// The rule of `substitute`.
+pub const SUBSTITUTE_RULE: Rule = Rule {
+    name: "substitute",
+    attributes: &[],
+    xml_attributes: &[],
+    needs: &[],
+    children: RENDERING,
+    holds_text: false,
+};
+
+/// The rule of `group`.
+pub const GROUP_RULE: Rule = Rule {
+    name: "group",
+    attributes: &[FORMATTING, AFFIXES, DISPLAY, DELIMITER],
+    xml_attributes: &[],
+    needs: &[],
+    children: RENDERING,
+    holds_text: false,
+};
+
+/// The rule of `choose`.
+pub const CHOOSE_RULE: Rule = Rule {
+    name: "choose",
+    attributes: &[],
+    xml_attributes: &[],
+    needs: &[],
+    children: &[
+        ("if", Some("if"), Once),
+        ("else-if", Some("else-if"), AnyTimes),
+        ("else", Some("else"), AtMostOnce),
+    ],
+    holds_text: false,
+};
+
+/// The rule of `if`.
+pub const IF_RULE: Rule = Rule {
+    name: "if",
+    attributes: &[TESTS],
+    xml_attributes: &[],
+    needs: TESTED,
+    children: RENDERING,
+    holds_text: false,
+};
+
+/// The rule of `else-if`.
+pub const ELSE_IF_RULE: Rule = Rule {
+    name: "else-if",
+    attributes: &[TESTS],
+    xml_attributes: &[],
+    needs: TESTED,
+    children: RENDERING,
+    holds_text: false,
+};
+
+/// The rule of `else`.
+pub const ELSE_RULE: Rule = Rule {
+    name: "else",
+    attributes: &[],
+    xml_attributes: &[],
+    needs: &[],
+    children: RENDERING,
+    holds_text: false,
+};
+
+/// The rule of `locale`.
+pub const LOCALE_RULE: Rule = Rule {
+    name: "locale",
+    attributes: &[LOCALE],
+    xml_attributes: LANGUAGE,
+    needs: &[],
+    children: &[
+        ("info", None, AtMostOnce),
+        ("style-options", Some("style-options"), AtMostOnce),
+        ("date", Some("date in locale"), AnyTimes),
+        ("terms", Some("terms"), AtMostOnce),
+    ],
+    holds_text: false,
+};
+
+/// The rule of `style-options`.
+pub const STYLE_OPTIONS_RULE: Rule = Rule {
+    name: "style-options",
+    attributes: &[OPTIONS],
+    xml_attributes: &[],
+    needs: &[],
+    children: &[],
+    holds_text: false,
+};
+
+/// The rule of `terms`.
+pub const TERMS_RULE: Rule = Rule {
+    name: "terms",
+    attributes: &[],
+    xml_attributes: &[],
+    needs: &[],
+    children: &[("term", Some("term"), AnyTimes)],
+    holds_text: false,
+};
+
+/// The rule of `term`.
+pub const TERM_RULE: Rule = Rule {
+    name: "term",
+    attributes: &[TERM],
+    xml_attributes: &[],
+    needs: NAMED,
+    children: &[
+        ("single", Some("single"), AtMostOnce),
+        ("multiple", Some("multiple"), AtMostOnce),
+    ],
+    holds_text: true,
+};
+
+/// The rule of `single`.
+pub const SINGLE_RULE: Rule = Rule {
+    name: "single",
+    attributes: &[],
+    xml_attributes: &[],
+    needs: &[],
+    children: &[],
+    holds_text: true,
+};
+
+/// The rule of `multiple`.
+pub const MULTIPLE_RULE: Rule = Rule {
+    name: "multiple",
+    attributes: &[],
+    xml_attributes: &[],
+    needs: &[],
+    children: &[],
+    holds_text: true,
+};

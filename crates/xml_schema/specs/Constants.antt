@@ -1,5 +1,5 @@
--- Schemas that are constants. A definition has a constant without where its texts and lists lie; code is handed them with it. Where they lie is no
--- matter of a schema (proofs/Moved.antt), so that a constant stands for the schema whose texts and lists all lie at one place.
+-- Rules that are constants. A definition has a constant without where its texts and lists lie; code is handed them with it. Where they lie is no
+-- matter of a schema (proofs/Moved.antt), so that a constant stands for the rule whose texts and lists all lie at one place.
 use Rattle.std.specs.Prelude.{ℕ, List, map, Option}
 use Rattle.std.specs.Borrow.{Bor}
 use Rattle.std.specs.Option.{option_map}
@@ -7,7 +7,6 @@ use Rattle.xml_schema.specs.Tables.{Text, Words, Groups, Values, AttributeRule, 
 use Rattle.xml_schema.specs.declared.schema.Need.{Need as NeedOf}
 use Rattle.xml_schema.specs.declared.schema.Need.TheVariants as needs
 use Rattle.xml_schema.specs.declared.schema.Rule.{Rule as RuleOf}
-use Rattle.xml_schema.specs.declared.schema.Schema.{Schema as SchemaOf}
 use Rattle.xml_schema.specs.declared.schema.Times.{Times}
 use Rattle.xml_schema.specs.declared.schema.Values.{Values as ValuesOf}
 use Rattle.xml_schema.specs.declared.schema.Values.TheVariants as values
@@ -33,9 +32,6 @@ ConstantChild = ConstantText × Option ConstantText × Times
 
 abbrev pub ConstantRule : Type 0
 ConstantRule = RuleOf ConstantText (Constant (List ConstantAttributes)) ConstantAttributes (Constant (List (NeedOf ConstantWords))) (Constant (List ConstantChild))
-
-abbrev pub ConstantSchema : Type 0
-ConstantSchema = SchemaOf ConstantText ConstantRule (Constant (List ConstantRule))
 
 -- a value at the one place
 abbrev pub placed : {X : Type 0} → X → Bor X
@@ -84,6 +80,6 @@ placed_rule r = record {
   holds_text = r.holds_text;
 }
 
--- the schema that a constant is
-abbrev pub schema_of : ConstantSchema → Schema
-schema_of s = record { space = placed_text s.space; document = placed_rule s.document; rules = placed_list placed_rule s.rules }
+-- the schema with such a namespace, rule around the root and rules
+abbrev pub schema_of : Text → Rule → List Rule → Schema
+schema_of space document rules = record { space = space; document = document; rules = placed rules }

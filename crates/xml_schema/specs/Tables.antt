@@ -3,7 +3,7 @@ use Rattle.std.specs.Prelude.{ℕ, List, Option}
 use Rattle.std.specs.Borrow.{Bor}
 use Rattle.xml_schema.specs.declared.schema.Need.{Need as NeedOf}
 use Rattle.xml_schema.specs.declared.schema.Rule.{Rule as RuleOf}
-use Rattle.xml_schema.specs.declared.schema.Schema.{Schema as SchemaOf}
+use Rattle.xml_schema.specs.declared.schema.Schema as declared
 use Rattle.xml_schema.specs.declared.schema.Times.{Times}
 use Rattle.xml_schema.specs.declared.schema.Values.{Values as ValuesOf}
 
@@ -35,4 +35,4 @@ abbrev pub Rule : Type 0
 Rule = RuleOf Text (Bor (List AttributeRules)) AttributeRules (Bor (List Need)) (Bor (List ChildRule))
 
 abbrev pub Schema : Type 0
-Schema = SchemaOf Text Rule (Bor (List Rule))
+Schema = declared.Schema

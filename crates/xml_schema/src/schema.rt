@@ -1,7 +1,7 @@
 //! Schemas: which elements, attributes and values a tree may have. They are tables.
 //!
 //! The type of a field that holds a table is a parameter, which stands for a reference to a constant table where nothing else is said. For a clause
-//! can name a constant only where no field of its type is declared as a reference, and definitions name schemas.
+//! can name a constant only where no field of its type is declared as a reference, and definitions name rules.
 
 /// What the value of an attribute may be.
 #[derive(Clone, Copy)]
@@ -68,12 +68,12 @@ pub struct Rule<
 
 /// Which trees are valid.
 #[derive(Clone, Copy)]
-pub struct Schema<Space = &'static str, Document = Rule, Rules = &'static [Rule]> {
+pub struct Schema<'r> {
     /// The namespace of its elements. An element without a namespace counts as one of it; those of other namespaces are passed over, but for a
     /// root. Of attributes those without a namespace and those with the prefix `xml` are as the rule says; those of this namespace are always
     /// wrong, and those of other namespaces are passed over.
-    pub space: Space,
+    pub space: &'static str,
     /// The rule around the root: its children are the roots that there may be.
-    pub document: Document,
-    pub rules: Rules,
+    pub document: Rule,
+    pub rules: &'r [Rule],
 }
