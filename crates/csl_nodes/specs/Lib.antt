@@ -1,3 +1,4 @@
+pub mod Words
 pub mod Terms
 pub mod Looks
 pub mod Dates

@@ -1,7 +1,7 @@
 -- Words without where they lie in memory.
-use Rattle.std.specs.Global.{Global}
-use Rattle.std.specs.Prelude.{ℕ, List, map, String, string_bytes}
+use Rattle.std.specs.Prelude.{ℕ, List, map, string_bytes}
+use Rattle.csl_nodes.specs.declared.words.Words.{Words}
 
 -- the words of terms that no list has
-abbrev pub words_view : List (String Global) → List (List ℕ)
-words_view words = map string_bytes words
+abbrev pub words_view : Words → List (List ℕ)
+words_view w = map string_bytes w.words.items

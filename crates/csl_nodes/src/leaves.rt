@@ -17,6 +17,7 @@ ghost use Rattle.csl_nodes.specs.Views.{words_view};
 use crate::dates::date_parts;
 use crate::looks::{label_look, look, term_form, text_case, text_look};
 use crate::terms::{printed_variable, term_of};
+use crate::words::Words;
 use csl_words::{
     DATE_FORMS, DATE_PARTS, DATE_VARIABLES, LENGTHS, NUMBER_FORMS, NUMBER_VARIABLES, attribute,
     is_true, optional_text, text_of, value_by,
@@ -142,7 +143,7 @@ fn call(alloc: Global, element: &Element<'_>, name: &str) -> Result<Node, AllocE
 #[tactic(auto, using(laws::proofs::Text::text_of_chars))]
 fn term_text(
     alloc: Global,
-    unlisted: &[String],
+    unlisted: &Words,
     element: &Element<'_>,
     word: &str,
 ) -> Result<Node, AllocError>
@@ -155,7 +156,7 @@ fn term_text(
 }
 
 /// A term, or else words of the style.
-fn words_text(alloc: Global, unlisted: &[String], element: &Element<'_>) -> Result<Node, AllocError>
+fn words_text(alloc: Global, unlisted: &Words, element: &Element<'_>) -> Result<Node, AllocError>
     ensures { IfOk result (λ n. text_by (words_view unlisted.now) (element_view element.now)
         None None (attribute (codes "term") (element_view element.now)) ≡ Some (node_view n)) }
 {
@@ -171,7 +172,7 @@ fn words_text(alloc: Global, unlisted: &[String], element: &Element<'_>) -> Resu
 /// A call of a macro, or else a term or words of the style.
 fn unanswered_text(
     alloc: Global,
-    unlisted: &[String],
+    unlisted: &Words,
     element: &Element<'_>,
 ) -> Result<Node, AllocError>
     ensures { IfOk result (λ n. text_by (words_view unlisted.now) (element_view element.now)
@@ -187,7 +188,7 @@ fn unanswered_text(
 /// A text.
 pub(crate) fn text_node(
     alloc: Global,
-    unlisted: &[String],
+    unlisted: &Words,
     element: &Element<'_>,
 ) -> Result<Option<Node>, AllocError>
     ensures { IfOk result (λ n. option_map node_view n

@@ -13,6 +13,7 @@ mod nodes;
 mod options;
 mod pushing;
 mod terms;
+mod words;
 
 pub use dates::date_parts;
 pub use looks::{formatting, text_case};
@@ -20,3 +21,4 @@ pub use macros::macro_of;
 pub use nodes::nodes_inside;
 pub use options::name_options;
 pub use terms::{listed_term, term_of, variable_of};
+pub use words::Words;

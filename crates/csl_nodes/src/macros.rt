@@ -10,6 +10,7 @@ ghost use Rattle.csl_words.specs.Looking.{text_of};
 ghost use Rattle.csl_nodes.specs.Views.{words_view};
 
 use crate::nodes::nodes_inside;
+use crate::words::Words;
 use csl_words::attribute;
 use rendering_style::{Group, Look, Macro, Node};
 use std::alloc::{AllocError, Global};
@@ -42,11 +43,7 @@ fn plain_group(alloc: Global, inside: Vec<Node>) -> Node
 ///
 /// # Errors
 /// Where a request for memory was refused.
-pub fn macro_of(
-    alloc: Global,
-    unlisted: &[String],
-    element: &Element<'_>,
-) -> Result<Macro, AllocError>
+pub fn macro_of(alloc: Global, unlisted: &Words, element: &Element<'_>) -> Result<Macro, AllocError>
     ensures { IfOk result (λ m. macro_view m
         ≡ macro_of (words_view unlisted.now) (element_view element.now)) }
 {

@@ -15,6 +15,7 @@ use crate::leaves::{date_node, label_node, number_node, text_node};
 use crate::looks::look;
 use crate::names::names_of;
 use crate::pushing::push_if;
+use crate::words::Words;
 use csl_words::{children_of, is_called, named_by, optional_text, part_called};
 use rendering_style::{ChooseBranch, Group, Node};
 use std::alloc::{AllocError, Global};
@@ -59,11 +60,11 @@ fn is_branch(element: &Element<'_>) -> bool
     is_called("if", element) || is_called("else-if", element)
 }
 
-/// The node of an element, if it is one that prints something. It recurses as deep as elements are nested.
+/// The node of an element, if it is one that prints something. It recurses as deep as elements are nested, so no branch keeps a node of its own.
 #[cycle(reading)]
 fn node_of(
     alloc: Global,
-    unlisted: &[String],
+    unlisted: &Words,
     element: &Element<'_>,
 ) -> Result<Option<Node>, AllocError>
     ensures { IfOk result (λ n. option_map node_view n
@@ -74,9 +75,9 @@ fn node_of(
         Some(Printing::Number) => number_node(alloc, element),
         Some(Printing::Label) => label_node(alloc, element),
         Some(Printing::Date) => date_node(alloc, element),
-        Some(Printing::Names) => Ok(Some(names_whole(alloc, unlisted, element)?)),
-        Some(Printing::Choose) => Ok(Some(choose_whole(alloc, unlisted, element)?)),
-        Some(Printing::Group) => Ok(Some(group_whole(alloc, unlisted, element)?)),
+        Some(Printing::Names) => names_whole(alloc, unlisted, element),
+        Some(Printing::Choose) => choose_whole(alloc, unlisted, element),
+        Some(Printing::Group) => group_whole(alloc, unlisted, element),
         None => Ok(None),
     }
 }
@@ -85,45 +86,45 @@ fn node_of(
 #[cycle(reading)]
 fn names_whole(
     alloc: Global,
-    unlisted: &[String],
+    unlisted: &Words,
     element: &Element<'_>,
-) -> Result<Node, AllocError>
-    ensures { IfOk result (λ n. node_view n
-        ≡ names_whole (words_view unlisted.now) (element_view element.now)) }
+) -> Result<Option<Node>, AllocError>
+    ensures { IfOk result (λ n. option_map node_view n
+        ≡ Some (names_whole (words_view unlisted.now) (element_view element.now))) }
 {
     let names = names_of(alloc, element)?;
     let substitute = nodes_under(alloc, unlisted, "substitute", element)?;
-    Ok(Node::Names(names, substitute))
+    Ok(Some(Node::Names(names, substitute)))
 }
 
 /// Branches, and the nodes that stand where no condition is met.
 #[cycle(reading)]
 fn choose_whole(
     alloc: Global,
-    unlisted: &[String],
+    unlisted: &Words,
     element: &Element<'_>,
-) -> Result<Node, AllocError>
-    ensures { IfOk result (λ n. node_view n
-        ≡ choose_whole (words_view unlisted.now) (element_view element.now)) }
+) -> Result<Option<Node>, AllocError>
+    ensures { IfOk result (λ n. option_map node_view n
+        ≡ Some (choose_whole (words_view unlisted.now) (element_view element.now))) }
 {
     let branches = branches_in(alloc, unlisted, element)?;
     let otherwise = nodes_under(alloc, unlisted, "else", element)?;
-    Ok(Node::Choose(branches, otherwise))
+    Ok(Some(Node::Choose(branches, otherwise)))
 }
 
 /// A group, and its children.
 #[cycle(reading)]
 fn group_whole(
     alloc: Global,
-    unlisted: &[String],
+    unlisted: &Words,
     element: &Element<'_>,
-) -> Result<Node, AllocError>
-    ensures { IfOk result (λ n. node_view n
-        ≡ group_whole (words_view unlisted.now) (element_view element.now)) }
+) -> Result<Option<Node>, AllocError>
+    ensures { IfOk result (λ n. option_map node_view n
+        ≡ Some (group_whole (words_view unlisted.now) (element_view element.now))) }
 {
     let group = group_of(alloc, element)?;
     let inside = nodes_inside(alloc, unlisted, element)?;
-    Ok(Node::Group(group, inside))
+    Ok(Some(Node::Group(group, inside)))
 }
 
 /// The nodes in an element, in their order. The words of terms that no list has are given. It recurses as deep as elements are nested.
@@ -134,7 +135,7 @@ fn group_whole(
 #[tactic(auto, using(crate::proofs::Weights::found_lighter, crate::proofs::Weights::child_lighter))]
 pub fn nodes_inside(
     alloc: Global,
-    unlisted: &[String],
+    unlisted: &Words,
     element: &Element<'_>,
 ) -> Result<Vec<Node>, AllocError>
     ensures { IfOk result (λ v. map node_view v.items
@@ -154,7 +155,7 @@ pub fn nodes_inside(
 #[tactic(auto, using(crate::proofs::Weights::found_lighter, crate::proofs::Weights::child_lighter))]
 fn nodes_under(
     alloc: Global,
-    unlisted: &[String],
+    unlisted: &Words,
     part: &str,
     element: &Element<'_>,
 ) -> Result<Vec<Node>, AllocError>
@@ -171,7 +172,7 @@ fn nodes_under(
 #[cycle(reading)]
 fn branch_of(
     alloc: Global,
-    unlisted: &[String],
+    unlisted: &Words,
     element: &Element<'_>,
 ) -> Result<Option<ChooseBranch>, AllocError>
     ensures { IfOk result (λ b. option_map branch_view b
@@ -193,7 +194,7 @@ fn branch_of(
 #[tactic(auto, using(crate::proofs::Weights::found_lighter, crate::proofs::Weights::child_lighter))]
 fn branches_in(
     alloc: Global,
-    unlisted: &[String],
+    unlisted: &Words,
     element: &Element<'_>,
 ) -> Result<Vec<ChooseBranch>, AllocError>
     ensures { IfOk result (λ v. map branch_view v.items

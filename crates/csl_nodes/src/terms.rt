@@ -1,12 +1,12 @@
 //! The variables and the terms that words name.
 
-ghost use Rattle.std.specs.Prelude.{◌≡◌, string_bytes};
+ghost use Rattle.std.specs.Prelude.{◌≡◌};
 ghost use Rattle.std.specs.Option.{option_map, option_or};
-ghost use Rattle.std.specs.Str.{bytes_eq};
-ghost use Rattle.csl_nodes.specs.Terms.{text_variable, name_variable, date_variable, number_variable, printed_variable, variable_of, locator_term, kind_term, other_term, date_term, listed_term, place, term_of};
+ghost use Rattle.csl_nodes.specs.Terms.{text_variable, name_variable, date_variable, number_variable, printed_variable, variable_of, locator_term, kind_term, other_term, date_term, listed_term, term_of};
 ghost use Rattle.csl_nodes.specs.Views.{words_view};
 ghost use Rattle.rendering_taxonomy.specs.declared.term.Term.TheVariants as terms;
 
+use crate::words::Words;
 use csl_words::{
     DATE_TERMS, DATE_VARIABLES, KINDS, LOCATORS, NAME_VARIABLES, NUMBER_VARIABLES, OTHER_TERMS,
     TEXT_VARIABLES, in_table,
@@ -127,34 +127,13 @@ pub fn listed_term(word: &str) -> Option<Term>
     variable_term(word).or(later)
 }
 
-/// Whether a text is this word.
-fn is_word(text: &String, word: &str) -> bool
-    ensures { result ≡ bytes_eq (string_bytes text.now) word.now }
-{
-    text.as_str() == word
-}
-
-/// The place of a word among those that no list has, or how many these are; at most 4294967295.
-fn place(unlisted: &[String], word: &str) -> u32
-    ensures { result ≡ place (words_view unlisted.now) word.now }
-{
-    let mut place: u32 = 0;
-    for each in unlisted {
-        if is_word(each, word) {
-            return place;
-        }
-        place = place.saturating_add(1);
-    }
-    place
-}
-
 /// The term of a word, where these are the words of terms that no list has: such a word is known by its place among them. The words of a
 /// style and of its locales have to stand in one list.
-pub fn term_of(unlisted: &[String], word: &str) -> Term
+pub fn term_of(unlisted: &Words, word: &str) -> Term
     ensures { result ≡ term_of (words_view unlisted.now) word.now }
 {
     match listed_term(word) {
         Some(term) => term,
-        None => Term::Word(place(unlisted, word)),
+        None => Term::Word(unlisted.place(word)),
     }
 }
