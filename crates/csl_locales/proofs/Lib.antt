@@ -1,0 +1,5 @@
+pub mod Elements
+pub mod Unlisted
+pub mod Texts
+pub mod Opened
+pub mod Weights
