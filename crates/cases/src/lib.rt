@@ -1,6 +1,6 @@
 //! What cases are read and answered with: the members of JSON objects and of answers, chunks and spans, the values of both libraries, and
 //! why a line is no case. Also the cases of texts of BibLaTeX files, of contents and values of fields, of entries and bibliographies, of
-//! texts of XML, and of files of CSL.
+//! texts of XML, of files of CSL, and of texts that are sorted.
 #![tactic(auto)]
 
 mod characters;
@@ -15,6 +15,7 @@ mod refusal;
 mod session;
 mod showing;
 mod shown;
+mod sorted;
 mod spans;
 mod taken;
 mod taker;
@@ -36,6 +37,7 @@ pub use members::member;
 pub use refusal::Refusal;
 pub use session::Session;
 use shown::answer_chunks;
+use sorted::answer_sorted_texts;
 pub use spans::{maybe_span, put_span, put_span_as};
 pub use taken::{put_taken, put_write_error};
 pub use taker::Taker;
@@ -44,7 +46,7 @@ pub use values::{
 };
 pub use words::{value_of, word_of};
 
-/// Writes the members of the answer to a case of texts, contents or files of CSL; false where the kind is none of these.
+/// Writes the members of the answer to a case of texts, contents, files of CSL or sorted texts; false where the kind is none of these.
 fn answer_texts(session: &mut Session, kind: &str, case: &Value<'_>) -> bool {
     match kind {
         "items" => answer_items(session, case),
@@ -53,6 +55,7 @@ fn answer_texts(session: &mut Session, kind: &str, case: &Value<'_>) -> bool {
         "characters" => answer_characters(session, case),
         "verbatim_field" => answer_verbatim_field(session, case),
         "csl_fault" => answer_csl_fault(session, case),
+        "sorted_texts" => answer_sorted_texts(session, case),
         _ => return false,
     }
     true
