@@ -1,0 +1,10 @@
+pub mod Literals
+pub mod Known
+pub mod FirstFaults
+pub mod Blamed
+pub mod Merging
+pub mod Segments
+pub mod Answering
+pub mod Outcomes
+pub mod Laws
+pub mod Informed

@@ -1,0 +1,14 @@
+use Rattle.std.proofs.Common.{◌≡◌, ◌++◌, codes, length, map}
+use Rattle.std.specs.Vec.Iter.{into_iter_items, into_iter_len}
+use Rattle.xml_tree.specs.Views.{element_view}
+use Rattle.rendering_style.specs.Views.{macro_view}
+use Rattle.csl_nodes.specs.Views.{words_view}
+use Rattle.csl_locales.specs.Called.{called, elements_of}
+use Rattle.csl_nodes.specs.Nodes.{macro_of}
+use Rattle.csl_styles.proofs.macros.macros_of.Given as goal
+
+abbrev pub invariant-loop-part : goal.invariant-loop-part
+invariant-loop-part l = record {
+  same : map macro_view l.macros.items ++ map (macro_of (words_view l.words)) (elements_of (into_iter_items l.part-iterator)) ≡ map (macro_of (words_view l.words)) (called (codes "macro") (element_view l.element));
+  long : into_iter_len l.part-iterator ≡ length (into_iter_items l.part-iterator);
+}

@@ -1,0 +1,11 @@
+pub mod Information
+pub mod Layouts
+pub mod Citations
+pub mod Bibliographies
+pub mod Styles
+pub mod Files
+pub mod Faults
+pub mod Views
+pub mod Reading
+pub mod Outcomes
+pub mod Laws
