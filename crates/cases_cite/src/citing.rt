@@ -41,7 +41,7 @@ pub(crate) fn answer_cite(session: &mut Session, case: &Value<'_>) {
 }
 
 /// Cites a document to a text, and writes it, or why the document was refused.
-fn answer_as_text(session: &mut Session, case: &Value<'_>, setting: &CiteSetting<'_>) {
+pub(crate) fn answer_as_text(session: &mut Session, case: &Value<'_>, setting: &CiteSetting<'_>) {
     let cited = cite_to_string(
         session.alloc,
         setting.bib,
