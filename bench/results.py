@@ -96,6 +96,12 @@ DEEP = """## Deep and doubled texts
 each is).
 """
 
+CSL = """## Large files of CSL
+
+`case_runner` with a stack of 8 MB on a case of the kind `csl_file` whose text is a style or a locale that is large in one way (`bench/csl.py` says
+what each is). The memory is that of the whole run, which holds the case too.
+"""
+
 RENDERING = """## Cites and items
 
     bench/rendering.py
@@ -325,6 +331,23 @@ def deep_table(found):
     return "\n".join([DEEP, "| text | bytes | status | seconds | memory |", "|---|---|---|---|---|", *rows, "", measured(found), ""])
 
 
+def csl_table(found):
+    """The part of the page about large files of CSL."""
+    rows = [
+        f"| {row['text']} | {number(row['bytes'])} | `{row['answer']}` | {row['seconds']} | {number(row['memory'])} | {row['memory'] / row['bytes']:.1f} |"
+        for row in found["rows"]
+    ]
+    return "\n".join([
+        CSL,
+        "| text | bytes | answer | seconds | memory | times the text |",
+        "|---|---|---|---|---|---|",
+        *rows,
+        "",
+        measured(found),
+        "",
+    ])
+
+
 def writer_table(found):
     """The part of the page about written files."""
     parts = {"flatten": "each entry", "is_settled": "each byte that is looked at", "to_biblatex_string": "each byte that is written"}
@@ -397,6 +420,7 @@ def write_pages():
     parts += [size_table(name, found[name]) for name in TABLES if name in found]
     parts += [writer_table(found["writer"])] if "writer" in found else []
     parts += [deep_table(found["deep"])] if "deep" in found else []
+    parts += [csl_table(found["csl"])] if "csl" in found else []
     parts += [rendering_table(found["rendering"])] if "rendering" in found else []
     with open(os.path.join(TOP, "docs", "PERFORMANCE.md"), "w", encoding="utf-8") as file:
         file.write("\n".join(parts).rstrip("\n") + "\n")
