@@ -1,0 +1,164 @@
+//! The table of features that are not carried out.
+
+/// An attribute, and a word in its value. Where a text is empty, nothing is wanted there.
+pub(crate) type Wanted = (&'static str, &'static str);
+
+/// An element, two attributes of it, an element in it, and how the feature is called that it asks for then. Where a text is empty, nothing is
+/// wanted there.
+pub(crate) type Row = (&'static str, Wanted, Wanted, &'static str, &'static str);
+
+/// No attribute is wanted.
+const NOTHING: Wanted = ("", "");
+
+/// All of them, in order.
+pub(crate) const FEATURES: &[Row] = &[
+    (
+        "style",
+        NOTHING,
+        NOTHING,
+        "",
+        "punctuation that meets is joined",
+    ),
+    (
+        "style",
+        ("page-range-format", ""),
+        NOTHING,
+        "",
+        "page-range-format",
+    ),
+    (
+        "citation",
+        ("disambiguate-add-names", "true"),
+        NOTHING,
+        "",
+        "names are added against other works alone",
+    ),
+    (
+        "citation",
+        ("disambiguate-add-givenname", "true"),
+        NOTHING,
+        "",
+        "given names are added against other works alone",
+    ),
+    (
+        "citation",
+        ("disambiguate-add-givenname", "true"),
+        ("givenname-disambiguation-rule", "all-names"),
+        "",
+        "givenname-disambiguation-rule",
+    ),
+    (
+        "citation",
+        ("disambiguate-add-givenname", "true"),
+        ("givenname-disambiguation-rule", "all-names-with-initials"),
+        "",
+        "givenname-disambiguation-rule",
+    ),
+    (
+        "citation",
+        ("disambiguate-add-givenname", "true"),
+        ("givenname-disambiguation-rule", "primary-name"),
+        "",
+        "givenname-disambiguation-rule",
+    ),
+    (
+        "citation",
+        ("disambiguate-add-givenname", "true"),
+        (
+            "givenname-disambiguation-rule",
+            "primary-name-with-initials",
+        ),
+        "",
+        "givenname-disambiguation-rule",
+    ),
+    (
+        "citation",
+        ("disambiguate-add-year-suffix", "true"),
+        NOTHING,
+        "",
+        "year suffixes follow the order of the bibliography",
+    ),
+    ("sort", NOTHING, NOTHING, "", "sort"),
+    (
+        "if",
+        ("disambiguate", "true"),
+        NOTHING,
+        "",
+        "the first of alike cites is disambiguated too",
+    ),
+    (
+        "else-if",
+        ("disambiguate", "true"),
+        NOTHING,
+        "",
+        "the first of alike cites is disambiguated too",
+    ),
+    (
+        "if",
+        ("position", "ibid"),
+        NOTHING,
+        "",
+        "ibid follows citations of one cite alone",
+    ),
+    (
+        "else-if",
+        ("position", "ibid"),
+        NOTHING,
+        "",
+        "ibid follows citations of one cite alone",
+    ),
+    (
+        "if",
+        ("position", "ibid-with-locator"),
+        NOTHING,
+        "",
+        "ibid-with-locator follows citations of one cite alone",
+    ),
+    (
+        "else-if",
+        ("position", "ibid-with-locator"),
+        NOTHING,
+        "",
+        "ibid-with-locator follows citations of one cite alone",
+    ),
+    ("", ("text-case", ""), NOTHING, "", "text-case"),
+    ("", ("initialize", "false"), NOTHING, "", "initialize"),
+    (
+        "number",
+        ("form", "long-ordinal"),
+        NOTHING,
+        "",
+        "long-ordinal",
+    ),
+    (
+        "names",
+        ("variable", "editor"),
+        ("variable", "translator"),
+        "",
+        "editors who are the translators too are printed once",
+    ),
+    ("name-part", NOTHING, NOTHING, "", "name-part"),
+    (
+        "date",
+        ("variable", ""),
+        ("form", ""),
+        "date-part",
+        "date-part in a date with a form",
+    ),
+    (
+        "date-part",
+        ("range-delimiter", ""),
+        NOTHING,
+        "",
+        "range-delimiter",
+    ),
+    ("term", ("gender-form", ""), NOTHING, "", "gender-form"),
+    ("term", ("match", ""), NOTHING, "", "match"),
+    (
+        "style-options",
+        ("limit-day-ordinals-to-day-1", "true"),
+        NOTHING,
+        "",
+        "limit-day-ordinals-to-day-1",
+    ),
+];
