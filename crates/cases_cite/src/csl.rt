@@ -6,11 +6,13 @@ use crate::setting::{CiteSetting, english, format};
 use cases::{Refusal, Session, Value};
 use cases_rendering::boxed;
 use cite::{Locale, Style};
+use csl_features::features;
 use csl_locales::locale;
 use csl_nodes::Words;
 use csl_schema::parse_csl;
 use csl_styles::{Csl, CslError, Wrong, read};
 use xml_schema::ValidError;
+use xml_tree::Element;
 
 /// The members of a document that is cited in a style.
 const MEMBERS: [&str; 9] = [
@@ -77,13 +79,41 @@ fn put_csl(session: &mut Session, csl: &Csl) {
     }
 }
 
-/// `csl_file`: what a file of CSL is, or why it is refused.
+/// Writes what the elements of a tree ask for and is not carried out, each with the byte of the text where its element begins.
+fn put_asked(session: &mut Session, text: &str, root: &Element<'_>) {
+    let found = features(session.alloc, root);
+    let Some(asked) = session.allocated(found) else {
+        return;
+    };
+    session.begin_list("asks");
+    for feature in asked {
+        session.begin_object();
+        session.put_text("feature", feature.name);
+        session.put_count("offset", text.len().saturating_sub(feature.left));
+        session.end_object();
+    }
+    session.end_array();
+}
+
+/// Writes what a text that is a file of CSL asks for and is not carried out.
+fn put_asked_by(session: &mut Session, text: &str) {
+    match parse_csl(session.alloc, text) {
+        Ok(root) => put_asked(session, text, &root),
+        Err(ValidError::Memory) => session.refuse(Refusal::Memory),
+        Err(_) => {}
+    }
+}
+
+/// `csl_file`: what a file of CSL is, or why it is refused; and what it asks for and is not carried out.
 pub(crate) fn answer_csl_file(session: &mut Session, case: &Value<'_>) {
-    session.only(case, &["case", "name", "text"]);
+    session.only(case, &["case", "name", "text", "asks"]);
     let text = session.text(case, "text");
     match read(session.alloc, text) {
         Ok(csl) => put_csl(session, &csl),
-        Err(error) => put_csl_error(session, text, &error),
+        Err(error) => return put_csl_error(session, text, &error),
+    }
+    if session.is_set(case, "asks") {
+        put_asked_by(session, text);
     }
 }
 
