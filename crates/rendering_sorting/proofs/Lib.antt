@@ -1,0 +1,2 @@
+mod KeyOrder
+mod Macros
