@@ -1,0 +1,8 @@
+pub mod Stages
+pub mod Sources
+pub mod CslLines
+pub mod Sheets
+pub mod FeatureLines
+pub mod Answers
+pub mod LineStarts
+pub mod Views

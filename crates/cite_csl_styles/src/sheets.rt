@@ -1,0 +1,195 @@
+//! The style that is asked for.
+
+ghost use Rattle.std.specs.Prelude.{◌≡◌, true, IfNone, IfOk, IfSome};
+ghost use Rattle.std.specs.Option.{option_map};
+ghost use Rattle.std.specs.Str.{chars};
+ghost use Rattle.programs.specs.Files.{read_at};
+ghost use Rattle.rendering_locale.specs.CodeViews.{code_view};
+ghost use Rattle.xml_tree.specs.Views.{element_view};
+ghost use Rattle.csl_styles.specs.Reading.{Means};
+ghost use Rattle.csl_styles.specs.Views.{csl_view, refusal_of};
+ghost use Rattle.cite_csl_styles.specs.Answers.{Answers, IsRefusal, Returns};
+ghost use Rattle.cite_csl_styles.specs.CslLines as said;
+ghost use Rattle.cite_csl_styles.specs.Sheets as specs;
+ghost use Rattle.cite_csl_styles.specs.Sheets.{IsCslRead, IsSheetOf, orphan_lines, parents_of, readable};
+ghost use Rattle.cite_csl_styles.specs.Sources as sources;
+ghost use Rattle.cite_csl_styles.specs.Views.{found_view, sheet_view, source_view, paths_view};
+ghost use Rattle.cite_csl_styles.specs.declared.stop.Stop.TheVariants.{Memory};
+
+use crate::csl_texts::refusal_text;
+use crate::parents::{ParentPaths, parent_left};
+use crate::sources::{SourceFile, file_at, path_at, refused_at, refused_left};
+use crate::stop::Stop;
+use csl_nodes::Words;
+use csl_styles::{Csl, CslError, read};
+use programs::FileRead;
+use rendering_locale::LocaleCode;
+use rendering_style::Style;
+use std::alloc::{AllocError, Global};
+use xml_tree::{Element, parse};
+
+/// What a file of CSL was found to be.
+#[derive(Drop)]
+pub struct Found<'f> {
+    pub file: SourceFile<'f>,
+    pub root: Element<'f>,
+    pub means: Csl,
+}
+
+/// A style that is found.
+#[derive(Drop)]
+pub struct Sheet<'f> {
+    /// Where it was read, which is the parent of a dependent style.
+    pub file: SourceFile<'f>,
+    pub root: Element<'f>,
+    /// The words of terms that no list has.
+    pub words: Words,
+    pub style: Style,
+    /// The language that a dependent style is for.
+    pub lang: Option<LocaleCode>,
+}
+
+/// The stop for a text that is refused.
+fn text_refused(alloc: Global, file: SourceFile<'_>, error: CslError<'_>) -> Stop
+    ensures refusal { IfSome (refusal_of error.entry) (λ r. IsRefusal result (sources.lines_left
+        (source_view file.entry) (said.refusal_left r) (said.refusal_text r))) }
+    ensures memory { IfNone (refusal_of error.entry) (result ≡ Memory) }
+{
+    match refusal_text(alloc, error) {
+        Ok((why, left)) => refused_left(alloc, file, left, why.as_str()),
+        Err(_) => Stop::Memory,
+    }
+}
+
+/// What a text of a file is, which means this.
+fn found_in<'f>(
+    alloc: Global,
+    file: SourceFile<'f>,
+    text: &'f str,
+    means: Csl,
+) -> Result<Found<'f>, Stop>
+    requires text { text.now ≡ file.bytes.now }
+    requires means { Means (chars text.now) (csl_view means) }
+    ensures { Answers found_view result (IsCslRead (source_view file.entry)) }
+{
+    match parse(alloc, text) {
+        Ok(root) => Ok(Found { file, root, means }),
+        Err(_) => Err(Stop::Memory),
+    }
+}
+
+/// What a file is, as one of CSL.
+pub fn found_at<'f>(alloc: Global, file: SourceFile<'f>) -> Result<Found<'f>, Stop>
+    ensures { Answers found_view result (IsCslRead (source_view file.entry)) }
+{
+    let text = match str::from_utf8(file.bytes) {
+        Ok(text) => text,
+        Err(error) => return Err(refused_at(alloc, file, error.valid_up_to(), "not UTF-8")),
+    };
+    match read(alloc, text) {
+        Ok(means) => found_in(alloc, file, text, means),
+        Err(error) => Err(text_refused(alloc, file, error)),
+    }
+}
+
+/// The style of a file that has one by itself, for the language of a dependent style, if there is one.
+fn own_sheet<'f>(
+    alloc: Global,
+    lang: Option<LocaleCode>,
+    found: Found<'f>,
+) -> Result<Sheet<'f>, Stop>
+    ensures { Returns sheet_view result (specs.own_sheet (option_map code_view lang)
+        (found_view found.entry) (csl_view found.entry.means)) }
+{
+    let Found { file, root, means } = found;
+    match means {
+        Csl::Independent { words, style } => Ok(Sheet {
+            file,
+            root,
+            words,
+            style,
+            lang,
+        }),
+        Csl::Dependent { .. } => {
+            Err(refused_left(alloc, file, root.left, "a dependent style is no parent"))
+        }
+        Csl::Localized { .. } => Err(refused_left(alloc, file, root.left, "a locale is no style")),
+    }
+}
+
+/// The stop for a dependent style whose parent is not there.
+fn orphan(alloc: Global, file: SourceFile<'_>, root: &Element<'_>, name: &str) -> Stop
+    ensures { IsRefusal result
+        (orphan_lines (source_view file.entry) (element_view root.now) name.now) }
+{
+    let left = parent_left(root);
+    match format!(in alloc; "the parent style {name} is neither beside it nor one folder up") {
+        Ok(why) => refused_left(alloc, file, left, why.as_str()),
+        Err(_) => Stop::Memory,
+    }
+}
+
+/// The first of the paths at which a parent may lie that can be read, as it stands among the files.
+fn readable<'f>(
+    files: &'f [FileRead<'_>],
+    paths: &ParentPaths,
+) -> Result<Option<&'f str>, AllocError>
+    ensures path { IfOk result (λ p. option_map (λ s. s.now) p
+        ≡ readable (read_at files.entry.now) (paths_view paths.now)) }
+    ensures memory { IfOk result (λ p. IfSome p (λ s.
+        sources.IsReadable (read_at files.entry.now s.now) true)) }
+{
+    if let Some(path) = path_at(files, paths.beside.as_str())? {
+        return Ok(Some(path));
+    }
+    if let Some(path) = path_at(files, paths.above.as_str())? {
+        return Ok(Some(path));
+    }
+    Ok(None)
+}
+
+/// The style of the parent of a file, whose name is this.
+fn parent_sheet<'f>(
+    alloc: Global,
+    files: &'f [FileRead<'_>],
+    paths: &ParentPaths,
+    lang: Option<LocaleCode>,
+    child: (SourceFile<'_>, &Element<'_>, &str),
+) -> Result<Sheet<'f>, Stop>
+    ensures { Answers sheet_view result (specs.IsParentAt (read_at files.entry.now)
+        (source_view child.entry.0) (element_view child.entry.1.now) child.entry.2.now
+        (option_map code_view lang) (readable (read_at files.entry.now)
+        (paths_view paths.now))) }
+{
+    match readable(files, paths)? {
+        Some(path) => own_sheet(alloc, lang, found_at(alloc, file_at(files, path))?),
+        None => Err(orphan(alloc, child.0, child.1, child.2)),
+    }
+}
+
+/// The style of a file, whose parent may lie at these paths: its own, or that of its parent.
+pub fn sheet_of<'f>(
+    alloc: Global,
+    files: &'f [FileRead<'_>],
+    found: Found<'f>,
+    paths: &Option<ParentPaths>,
+) -> Result<Sheet<'f>, Stop>
+    requires { option_map paths_view paths.now ≡ parents_of (found_view found) }
+    ensures { Answers sheet_view result (IsSheetOf (read_at files.entry.now)
+        (found_view found.entry) (csl_view found.entry.means)) }
+{
+    let Some(paths) = paths else {
+        return own_sheet(alloc, None, found);
+    };
+    let Found { file, root, means } = found;
+    match means {
+        Csl::Dependent {
+            parent,
+            default_locale,
+        } => {
+            let child = (file, &root, parent.as_str());
+            parent_sheet(alloc, files, paths, default_locale, child)
+        }
+        means => own_sheet(alloc, None, Found { file, root, means }),
+    }
+}
