@@ -1,0 +1,84 @@
+-- What is written is what `cite` writes for the bib texts as one.
+use Rattle.std.proofs.Common.{◌≡◌, ℕ, Bool, true, false, List, map, chars, if◌then◌else◌, Result, Ok, Err, sym, ap, subst, ◌∙◌}
+use Rattle.laws.specs.Results.{◌>>=◌}
+use Rattle.laws.specs.Text.{text, is_filled}
+use Rattle.laws.proofs.Results.{ok_is}
+use Rattle.rendering_context.specs.Contexts.{StyleContext}
+use Rattle.rendering_locale.specs.Locales.{Locale}
+use Rattle.cite_output.specs.Output.{output_text}
+use Rattle.cite.specs.Verdict.{verdict, rendered_stage, IsVerdict}
+use Rattle.cite_requests.specs.Stages.{Refusal, document_stage}
+use Rattle.cite_requests.specs.Works.{Works}
+use Rattle.cite_csl_command.specs.Command.{Asked}
+use Rattle.cite_csl.specs.Run.{Made, made, IsMade, IsMadeIn, IsOutput, IsCiteOutput, output_of, strict, task_in}
+use Rattle.cite_csl_styles.specs.FeatureLines.{feature_lines}
+use Rattle.cite_csl.specs.Names.{document_lines, rendered_lines}
+use Rattle.cite_csl_styles.specs.Sheets.{Sheet, IsSheet, AreLocales}
+use Rattle.cite_csl.specs.Run.{context_in}
+use Rattle.cite_csl_styles.specs.Sources.{Reads, file_at, files_at, joined}
+use Rattle.cite_csl_styles.specs.Stages.{Lines}
+use Rattle.cite_csl.specs.Works.{bib_lines, said_by}
+
+-- what a stage gives is said by it
+given : {X : Type 0} (lines : Refusal → Lines) (r : Result X Refusal) (x : X) → Ok x ≡ said_by lines r → Ok x ≡ r
+given lines (Ok y) x is = cc
+given lines (Err refusal) x is = absurd cc
+
+-- a style that is taken is the one that was found
+unchanged : (filled : Bool) (lines : Lines) (s found : Sheet) → Ok s ≡ (if filled then Err lines else Ok found) → found ≡ s
+unchanged true lines s found is = absurd cc
+unchanged false lines s found is = sym (ok_is s found is)
+
+taken : (is_strict : Bool) (s found : Sheet) → Ok s ≡ strict is_strict found → found ≡ s
+taken true s found is = unchanged (is_filled (feature_lines found)) (feature_lines found) s found is
+taken false s found is = sym (ok_is s found is)
+
+-- two stages, of which the lines do not count
+after : {P Q : Type 0} (p : P) (lines : Refusal → Lines) (r : Result Q Refusal) (put : P → Q → List ℕ) (o : List ℕ)
+    → Ok o ≡ (said_by lines r >>= λ q. Ok (put p q)) → Ok o ≡ (r >>= λ q. Ok (put p q))
+after p lines (Ok q) put o is = ap (λ (t : List ℕ). Ok t) (ok_is o (put p q) is)
+after p lines (Err refusal) put o is = absurd cc
+
+both : {P Q : Type 0} (first : Refusal → Lines) (d : Result P Refusal) (second : P → Refusal → Lines) (next : P → Result Q Refusal) (put : P → Q → List ℕ) (o : List ℕ)
+    → Ok o ≡ (said_by first d >>= λ p. said_by (second p) (next p) >>= λ q. Ok (put p q)) → Ok o ≡ (d >>= λ p. next p >>= λ q. Ok (put p q))
+both first (Ok p) second next put o is = after p (second p) (next p) put o is
+both first (Err refusal) second next put o is = absurd cc
+
+-- what a document comes to is its verdict
+verdict_is : (read : Reads) (a : Asked) (context : StyleContext) (works : Works) (o : List ℕ)
+    → Ok o ≡ output_of a (file_at read a.document) context works → Ok o ≡ verdict (Ok works) (task_in read a context)
+unfolding verdict
+verdict_is read a context works o is =
+    let d = file_at read a.document in
+    both (document_lines d) (document_stage d.bytes) (rendered_lines d works) (rendered_stage works context (map chars a.sections)) (λ pieces rendered. text (output_text a.format pieces rendered)) o is
+
+-- the output in a style is a verdict
+in_style : (read : Reads) (a : Asked) (s : Sheet) (o : List ℕ) → IsOutput read a s (Ok o) → (locales : List Locale) × AreLocales s.words (files_at read a.locales) (Ok locales)
+    × IsVerdict (joined (files_at read a.bibs)) (task_in read a (context_in a s locales)) (Ok o)
+in_style read a s o (Err lines, _, bad) = absurd cc
+in_style read a s o (Ok locales, are_locales, (Err lines, _, bad)) = absurd cc
+in_style read a s o (Ok locales, are_locales, (Ok works, (w, are_works, works_is), output_is)) =
+    let context = context_in a s locales in
+    let is = given (bib_lines (files_at read a.bibs)) w works works_is in
+    (locales, are_locales, (w, are_works, verdict_is read a context works o output_is ∙ ap (λ (r : Result Works Refusal). verdict r (task_in read a context)) is))
+
+-- the output of a run is one of cite
+by_sheet : (read : Reads) (a : Asked) (m : Made) (found : Sheet) → IsSheet read a.style (Ok found) → IsMadeIn read a found (Ok m) → IsCiteOutput read a m.output
+by_sheet read a m found is_sheet (Err lines, _, bad) = absurd cc
+by_sheet read a m found is_sheet (Ok s, is_taken, (Err lines, _, bad)) = absurd cc
+by_sheet read a m found is_sheet (Ok s, is_taken, (Ok output, is_output, made_is)) =
+    let same = taken a.is_strict s found is_taken in
+    let written : output ≡ m.output = ap (λ (n : Made). n.output) (sym (ok_is m (made s output) made_is)) in
+    let style = in_style read a s output is_output in
+    record {
+      sheet = s;
+      locales = style.0;
+      is_sheet = subst (λ (x : Sheet). IsSheet read a.style (Ok x)) same is_sheet;
+      are_locales = style.1;
+      is_verdict = subst (λ (o : List ℕ). IsVerdict (joined (files_at read a.bibs)) (task_in read a (context_in a s style.0)) (Ok o)) written style.2;
+    }
+
+pub as_cite : (read : Reads) (a : Asked) (m : Made) → IsMade read a (Ok m) → IsCiteOutput read a m.output
+as_cite read a m (Err lines, _, bad) = absurd cc
+as_cite read a m (Ok u, _, (Err lines, _, bad)) = absurd cc
+as_cite read a m (Ok u, _, (Ok found, is_sheet, is_made)) = by_sheet read a m found is_sheet is_made

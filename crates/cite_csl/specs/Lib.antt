@@ -1,0 +1,4 @@
+pub mod Works
+pub mod Names
+pub mod Run
+pub mod Views
