@@ -3,6 +3,7 @@
 
 mod alike;
 mod bibliography;
+mod csl_program;
 mod documents;
 mod files;
 mod flattened;
@@ -16,6 +17,7 @@ pub fn answer(session: &mut Session, kind: &str, case: &Value<'_>) -> bool {
     match kind {
         "are_alike" => alike::answer_alike(session, case),
         "bibliography_of" => bibliography::answer_bibliography(session, case),
+        "cite_csl_files" => csl_program::answer_files(session, case),
         "cited_by_numbers" => documents::answer_numbers(session, case),
         "cited_on_page" => documents::answer_page(session, case),
         "flattened_file" => flattened::answer_flattened(session, case),

@@ -1,5 +1,6 @@
 //! Runs of the programs over files in memory.
 
+use crate::csl_program::run_csl;
 use crate::files::{are_refused, read_files};
 use cases::{Refusal, Session, Taker, Value, put_taken, read_taker};
 use programs::FileRead;
@@ -60,8 +61,9 @@ fn run(
                 &mut Tap::new(second),
             )
         }
+        "cite_csl" => run_csl(session, case, files, first, second),
         _ => {
-            session.want("program", "cite or bib_show");
+            session.want("program", "cite, bib_show or cite_csl");
             0
         }
     }
@@ -71,4 +73,5 @@ fn run(
 fn says_no_memory(message: &[u8]) -> bool {
     message == b"cite: out of memory\n".as_slice()
         || message == b"bib_show: out of memory\n".as_slice()
+        || message == b"cite_csl: out of memory\n".as_slice()
 }
