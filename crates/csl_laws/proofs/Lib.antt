@@ -1,0 +1,15 @@
+pub mod Reordered
+pub mod SoundTogether
+pub mod Said
+pub mod LooksAlike
+pub mod NodesAlike
+pub mod LocalesAlike
+pub mod StylesAlike
+pub mod FaultlessTogether
+pub mod TextsAlike
+pub mod PiecesAlike
+pub mod MovedAttributes
+pub mod MovedTokens
+pub mod SaidAgain
+pub mod MovedTrees
+pub mod NotesNothing
