@@ -1,2 +1,2 @@
-mod KeyOrder
+pub mod KeyOrder
 mod Macros

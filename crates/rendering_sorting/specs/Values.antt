@@ -1,5 +1,5 @@
 -- The values by which items are sorted where a key is a variable.
-use Rattle.std.specs.Prelude.{ℕ, ◌+◌, ℤ, pos, List, [], ◌∷◌, ◌++◌, flat_map, Option, Some, None}
+use Rattle.std.specs.Prelude.{ℕ, ◌+◌, ℤ, pos, Bool, List, [], ◌∷◌, ◌++◌, flat_map, if◌then◌else◌, Option, Some, None}
 use Rattle.std.specs.Option.{option_map}
 use Rattle.laws.specs.Characters.{space}
 use Rattle.laws.specs.Text.{if_filled}
@@ -62,16 +62,29 @@ abbrev pub name_part : Option (List ℕ) → List ℕ
 name_part None = []
 name_part (Some cs) = space ∷ cs
 
+-- a particle that stays before its name, and a space
+abbrev pub particle : Option (List ℕ) → List ℕ
+particle None = []
+particle (Some cs) = cs ++ space ∷ []
+
+-- the particle of a name before it, or nothing where particles go behind
+abbrev pub particle_before : Bool → Named → List ℕ
+particle_before goes_behind p = if goes_behind then [] else particle p.prefix
+
+-- the particle behind the given name, where particles go there
+abbrev pub particle_behind : Bool → Named → List ℕ
+particle_behind goes_behind p = if goes_behind then name_part p.prefix else []
+
 -- the name of a person, inverted, and a space
-abbrev pub inverted : Named → List ℕ
-inverted p = p.name ++ name_part p.given_name ++ name_part p.prefix ++ name_part p.suffix ++ space ∷ []
+abbrev pub inverted : Bool → Named → List ℕ
+inverted goes_behind p = particle_before goes_behind p ++ p.name ++ name_part p.given_name ++ particle_behind goes_behind p ++ name_part p.suffix ++ space ∷ []
 
 -- people by their names, one after the other
-abbrev pub of_people : List Named → Option Value
-of_people ps = of_text (flat_map inverted ps)
+abbrev pub of_people : Bool → List Named → Option Value
+of_people goes_behind ps = of_text (flat_map (inverted goes_behind) ps)
 
--- the value that the answer to a variable is sorted by
-abbrev pub value_of_variable : Context → Variable → Option Value
-value_of_variable c (variables.Name v) = of_people (c.answers.people v)
-value_of_variable c (variables.Date v) = option_map of_date (date_answer c [] v)
-value_of_variable c v = of_answer (answer_to c [] lengths.Long v)
+-- the value that the answer to a variable is sorted by, where particles of names go behind or stay
+abbrev pub value_of_variable : Context → Bool → Variable → Option Value
+value_of_variable c goes_behind (variables.Name v) = of_people goes_behind (c.answers.people v)
+value_of_variable c goes_behind (variables.Date v) = option_map of_date (date_answer c [] v)
+value_of_variable c goes_behind v = of_answer (answer_to c [] lengths.Long v)

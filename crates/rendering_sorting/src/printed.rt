@@ -8,7 +8,7 @@ ghost use Rattle.rendering_nodes.specs.Views.{macros_of, walk_context};
 ghost use Rattle.rendering_style.specs.Opening.{opened_nodes};
 ghost use Rattle.rendering_style.specs.StyleViews.{style_view};
 ghost use Rattle.rendering_style.specs.Views.{node_view, sort_key_view};
-ghost use Rattle.rendering_sorting.specs.Printed.{key_options, key_setting, key_value, printed_text};
+ghost use Rattle.rendering_sorting.specs.Printed.{goes_behind, key_setting, key_value, own_options, printed_text};
 ghost use Rattle.rendering_context.specs.Answering.{answer_to, date_answer};
 ghost use Rattle.rendering_taxonomy.specs.declared.date.LongShortForm.TheVariants.{Long};
 ghost use Rattle.rendering_sorting.specs.Values.{of_answer, of_date, of_people, of_text, value_of_variable};
@@ -28,7 +28,8 @@ use std::alloc::{AllocError, Global};
 use texts::empty_text;
 
 /// The value of a key, where an entry has one: of the answer to its variable, or of what its macro prints from there with what the key says
-/// of names.
+/// of names, or else the layout around it. Particles of the people of a variable go behind their given names, unless the layout says that
+/// they do not.
 ///
 /// # Errors
 /// Out of memory.
@@ -36,18 +37,28 @@ pub fn key_value<'a, E: EntryLike>(
     walk: &Walk<'_, 'a>,
     entry: &'a E,
     key: &'a SortKey,
+    layout: &ResolvedNameOptions<'a>,
 ) -> Result<Option<SortValue>, AllocError>
     ensures { IfOk result (λ v. option_map value_view v
         ≡ key_value (walk_context (E.answers entry.now) walk.now) (style_view walk.now.style.now)
-        (sort_key_view key.now)) }
+        (resolved_options_view layout.now) (sort_key_view key.now)) }
 {
     match &key.target {
-        SortTarget::Variable(variable) => value_of_variable(walk, entry, *variable),
+        SortTarget::Variable(variable) => {
+            value_of_variable(walk, entry, *variable, goes_behind(layout))
+        }
         SortTarget::Macro(name) => match walk.style.macro_named(name.as_str()) {
-            Some(nodes) => printed_value(walk, entry, &key_setting(key), nodes),
+            Some(nodes) => printed_value(walk, entry, &key_setting(key, layout), nodes),
             None => Ok(None),
         },
     }
+}
+
+/// Whether the particles of names go behind the given names.
+fn goes_behind(options: &ResolvedNameOptions<'_>) -> bool
+    ensures { result ≡ goes_behind (resolved_options_view options.now) }
+{
+    options.demote_non_dropping_particle.unwrap_or(true)
 }
 
 /// The value that the answer to a variable is sorted by, where there is one.
@@ -55,12 +66,15 @@ fn value_of_variable<'a, E: EntryLike>(
     walk: &Walk<'_, 'a>,
     entry: &'a E,
     variable: Variable,
+    goes_behind: bool,
 ) -> Result<Option<SortValue>, AllocError>
-    ensures { IfOk result (λ v. option_map value_view v
-        ≡ value_of_variable (walk_context (E.answers entry.now) walk.now) variable) }
+    ensures { IfOk result (λ v. option_map value_view v ≡ value_of_variable
+        (walk_context (E.answers entry.now) walk.now) goes_behind variable) }
 {
     match variable {
-        Variable::Name(variable) => value_of_people(walk.context.alloc, entry, variable),
+        Variable::Name(variable) => {
+            value_of_people(walk.context.alloc, entry, variable, goes_behind)
+        }
         Variable::Date(variable) => value_of_date(walk, entry, variable),
         _ => answered_value(walk, entry, variable),
     }
@@ -71,12 +85,13 @@ fn value_of_people<E: EntryLike>(
     alloc: Global,
     entry: &E,
     variable: NameVariable,
+    goes_behind: bool,
 ) -> Result<Option<SortValue>, AllocError>
     ensures { IfOk result (λ v. option_map value_view v
-        ≡ of_people ((E.answers entry.now).people variable)) }
+        ≡ of_people goes_behind ((E.answers entry.now).people variable)) }
 {
     let people = entry.resolve_name_variable(alloc, variable)?;
-    people_value(alloc, &people)
+    people_value(alloc, &people, goes_behind)
 }
 
 /// The value of the date of a variable.
@@ -132,22 +147,23 @@ fn printed_value<'a, E: EntryLike>(
 }
 
 /// What is handed down to the nodes of a key.
-fn key_setting<'a>(key: &SortKey) -> NodeSetting<'a>
-    ensures { setting_view result ≡ key_setting (sort_key_view key.now) }
+fn key_setting<'a>(key: &SortKey, layout: &ResolvedNameOptions<'a>) -> NodeSetting<'a>
+    ensures { setting_view result
+        ≡ key_setting (resolved_options_view layout.now) (sort_key_view key.now) }
 {
     NodeSetting {
         manner: plain_manner(),
         inside_quotes: false,
         delimiter: None,
-        options: key_options(key),
+        options: own_options(key).over(layout),
         in_substitute: false,
         form: SpecialForm::Whole,
     }
 }
 
-/// What a key says of names where nodes leave it open.
-fn key_options<'a>(key: &SortKey) -> ResolvedNameOptions<'a>
-    ensures { resolved_options_view result ≡ key_options (sort_key_view key.now) }
+/// What a key says of names by itself.
+fn own_options<'a>(key: &SortKey) -> ResolvedNameOptions<'a>
+    ensures { resolved_options_view result ≡ own_options (sort_key_view key.now) }
 {
     ResolvedNameOptions {
         and: None,
