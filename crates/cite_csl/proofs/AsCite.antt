@@ -3,18 +3,21 @@ use Rattle.std.proofs.Common.{◌≡◌, ℕ, Bool, true, false, List, map, char
 use Rattle.laws.specs.Results.{◌>>=◌}
 use Rattle.laws.specs.Text.{text, is_filled}
 use Rattle.laws.proofs.Results.{ok_is}
-use Rattle.rendering_context.specs.Contexts.{StyleContext}
+use Rattle.cite_markers.specs.Document.{Piece}
+use Rattle.driver.specs.Finish.{Rendered}
 use Rattle.rendering_locale.specs.Locales.{Locale}
 use Rattle.cite_output.specs.Output.{output_text}
 use Rattle.cite.specs.Verdict.{verdict, rendered_stage, IsVerdict}
+use Rattle.cite_order.specs.Order.{Setting, has_keys, rendered_in_order}
+use Rattle.cite_order.proofs.Stages.{keyless}
 use Rattle.cite_requests.specs.Stages.{Refusal, document_stage}
 use Rattle.cite_requests.specs.Works.{Works}
 use Rattle.cite_csl_command.specs.Command.{Asked}
 use Rattle.cite_csl.specs.Run.{Made, made, IsMade, IsMadeIn, IsOutput, IsCiteOutput, output_of, strict, task_in}
 use Rattle.cite_csl_styles.specs.FeatureLines.{feature_lines}
 use Rattle.cite_csl.specs.Names.{document_lines, rendered_lines}
-use Rattle.cite_csl_styles.specs.Sheets.{Sheet, IsSheet, AreLocales}
-use Rattle.cite_csl.specs.Run.{context_in}
+use Rattle.cite_csl_styles.specs.Sheets.{Sheet, IsSheet, AreLocales, sorting_of}
+use Rattle.cite_csl.specs.Run.{context_in, setting_in}
 use Rattle.cite_csl_styles.specs.Sources.{Reads, file_at, files_at, joined}
 use Rattle.cite_csl_styles.specs.Stages.{Lines}
 use Rattle.cite_csl.specs.Works.{bib_lines, said_by}
@@ -45,22 +48,24 @@ both first (Ok p) second next put o is = after p (second p) (next p) put o is
 both first (Err refusal) second next put o is = absurd cc
 
 -- what a document comes to is its verdict
-verdict_is : (read : Reads) (a : Asked) (context : StyleContext) (works : Works) (o : List ℕ)
-    → Ok o ≡ output_of a (file_at read a.document) context works → Ok o ≡ verdict (Ok works) (task_in read a context)
+verdict_is : (read : Reads) (a : Asked) (s : Setting) (works : Works) (o : List ℕ) → has_keys s.sorting ≡ false
+    → Ok o ≡ output_of a (file_at read a.document) s works → Ok o ≡ verdict (Ok works) (task_in read a s.context)
 unfolding verdict
-verdict_is read a context works o is =
+verdict_is read a s works o none is =
     let d = file_at read a.document in
-    both (document_lines d) (document_stage d.bytes) (rendered_lines d works) (rendered_stage works context (map chars a.sections)) (λ pieces rendered. text (output_text a.format pieces rendered)) o is
+    let unsorted : (pieces : List Piece) → rendered_in_order works s (map chars a.sections) pieces ≡ rendered_stage works s.context (map chars a.sections) pieces = λ pieces. keyless works s (map chars a.sections) pieces none in
+    both (document_lines d) (document_stage d.bytes) (rendered_lines d works) (rendered_in_order works s (map chars a.sections)) (λ pieces rendered. text (output_text a.format pieces rendered)) o is
+    ∙ ap (λ (next : List Piece → Result Rendered Refusal). document_stage d.bytes >>= λ pieces. next pieces >>= λ rendered. Ok (text (output_text a.format pieces rendered))) (λ i pieces. unsorted pieces i)
 
 -- the output in a style is a verdict
 in_style : (read : Reads) (a : Asked) (s : Sheet) (o : List ℕ) → IsOutput read a s (Ok o) → (locales : List Locale) × AreLocales s.words (files_at read a.locales) (Ok locales)
-    × IsVerdict (joined (files_at read a.bibs)) (task_in read a (context_in a s locales)) (Ok o)
+    × (has_keys (sorting_of s) ≡ false → IsVerdict (joined (files_at read a.bibs)) (task_in read a (context_in a s locales)) (Ok o))
 in_style read a s o (Err lines, _, bad) = absurd cc
 in_style read a s o (Ok locales, are_locales, (Err lines, _, bad)) = absurd cc
 in_style read a s o (Ok locales, are_locales, (Ok works, (w, are_works, works_is), output_is)) =
     let context = context_in a s locales in
     let is = given (bib_lines (files_at read a.bibs)) w works works_is in
-    (locales, are_locales, (w, are_works, verdict_is read a context works o output_is ∙ ap (λ (r : Result Works Refusal). verdict r (task_in read a context)) is))
+    (locales, are_locales, λ none. (w, are_works, verdict_is read a (setting_in a s locales) works o none output_is ∙ ap (λ (r : Result Works Refusal). verdict r (task_in read a context)) is))
 
 -- the output of a run is one of cite
 by_sheet : (read : Reads) (a : Asked) (m : Made) (found : Sheet) → IsSheet read a.style (Ok found) → IsMadeIn read a found (Ok m) → IsCiteOutput read a m.output
@@ -75,7 +80,7 @@ by_sheet read a m found is_sheet (Ok s, is_taken, (Ok output, is_output, made_is
       locales = style.0;
       is_sheet = subst (λ (x : Sheet). IsSheet read a.style (Ok x)) same is_sheet;
       are_locales = style.1;
-      is_verdict = subst (λ (o : List ℕ). IsVerdict (joined (files_at read a.bibs)) (task_in read a (context_in a s style.0)) (Ok o)) written style.2;
+      is_verdict = λ none. subst (λ (o : List ℕ). IsVerdict (joined (files_at read a.bibs)) (task_in read a (context_in a s style.0)) (Ok o)) written (style.2 none);
     }
 
 pub as_cite : (read : Reads) (a : Asked) (m : Made) → IsMade read a (Ok m) → IsCiteOutput read a m.output

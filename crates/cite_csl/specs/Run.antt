@@ -1,5 +1,5 @@
 -- What a run writes and says.
-use Rattle.std.specs.Prelude.{◌≡◌, ℕ, Bool, true, List, [], ◌∷◌, ◌++◌, map, if◌then◌else◌, is_ok, Result, Ok, Err}
+use Rattle.std.specs.Prelude.{◌≡◌, ℕ, Bool, true, List, [], ◌∷◌, ◌++◌, map, if◌then◌else◌, is_ok, false, Result, Ok, Err}
 use Rattle.std.specs.Option.{option_or}
 use Rattle.std.specs.Str.{chars}
 use Rattle.laws.specs.Results.{◌>>=◌}
@@ -13,11 +13,12 @@ use Rattle.cite_output.specs.Output.{output_text}
 use Rattle.cite_requests.specs.Refusals.{refusal_text}
 use Rattle.cite_requests.specs.Stages.{Refusal, section_stage}
 use Rattle.cite_requests.specs.Works.{Works}
-use Rattle.cite.specs.Verdict.{Task, rendered_stage, IsVerdict}
+use Rattle.cite.specs.Verdict.{Task, IsVerdict}
+use Rattle.cite_order.specs.Order.{Setting, has_keys, rendered_in_order}
 use Rattle.cite_csl_command.specs.Command.{Asked}
 use Rattle.cite_csl.specs.Names.{pieces_of, rendered_lines}
 use Rattle.cite_csl_styles.specs.FeatureLines.{feature_lines}
-use Rattle.cite_csl_styles.specs.Sheets.{Sheet, IsSheet, AreLocales}
+use Rattle.cite_csl_styles.specs.Sheets.{Sheet, IsSheet, AreLocales, sorting_of}
 use Rattle.cite_csl_styles.specs.Sources.{Reads, SourceFile, AreRead, file_at, files_at, joined, line}
 use Rattle.cite_csl_styles.specs.Stages.{Lines, Then, Gives}
 use Rattle.cite_csl.specs.Works.{AreWorks, said_by}
@@ -29,6 +30,10 @@ paths a = a.style ∷ (a.locales ++ (a.bibs ++ a.document ∷ []))
 -- the language that is asked for, or else that of a dependent style
 abbrev pub context_in : Asked → Sheet → List Locale → StyleContext
 context_in a s locales = record { style = s.style; locale = option_or a.lang s.lang; locale_files = locales }
+
+-- with the style as it prints for sorting
+abbrev pub setting_in : Asked → Sheet → List Locale → Setting
+setting_in a s locales = record { context = context_in a s locales; sorting = sorting_of s }
 
 -- the selectors of the sections, or a line for the first that is none
 abbrev pub sections_in : List (List ℕ) → Result (List Tree) Lines
@@ -42,26 +47,26 @@ abbrev pub strict : Bool → Sheet → Result Sheet Lines
 strict is_strict s = if is_strict then (if is_filled (feature_lines s) then Err (feature_lines s) else Ok s) else Ok s
 
 -- citations and bibliography
-abbrev pub rendered_of : Asked → SourceFile → StyleContext → Works → List Piece → Result Rendered Lines
-rendered_of a d context works pieces = said_by (rendered_lines d works pieces) (rendered_stage works context (map chars a.sections) pieces)
+abbrev pub rendered_of : Asked → SourceFile → Setting → Works → List Piece → Result Rendered Lines
+rendered_of a d setting works pieces = said_by (rendered_lines d works pieces) (rendered_in_order works setting (map chars a.sections) pieces)
 
 -- the output for the pieces of a document
-abbrev pub output_for : Asked → SourceFile → StyleContext → Works → List Piece → Result (List ℕ) Lines
-output_for a d context works pieces = rendered_of a d context works pieces >>= λ rendered. Ok (text (output_text a.format pieces rendered))
+abbrev pub output_for : Asked → SourceFile → Setting → Works → List Piece → Result (List ℕ) Lines
+output_for a d setting works pieces = rendered_of a d setting works pieces >>= λ rendered. Ok (text (output_text a.format pieces rendered))
 
 -- the output for a document
-abbrev pub output_of : Asked → SourceFile → StyleContext → Works → Result (List ℕ) Lines
-output_of a d context works = pieces_of d >>= λ pieces. output_for a d context works pieces
+abbrev pub output_of : Asked → SourceFile → Setting → Works → Result (List ℕ) Lines
+output_of a d setting works = pieces_of d >>= λ pieces. output_for a d setting works pieces
 
 -- the output in a style and with locales: the bib texts are read, then the document
-abbrev pub IsOutputIn : Reads → Asked → StyleContext → Result (List ℕ) Lines → Type 0
-IsOutputIn read a context = Then (AreWorks (files_at read a.bibs)) (λ (works : Works). Gives (output_of a (file_at read a.document) context works))
+abbrev pub IsOutputIn : Reads → Asked → Setting → Result (List ℕ) Lines → Type 0
+IsOutputIn read a setting = Then (AreWorks (files_at read a.bibs)) (λ (works : Works). Gives (output_of a (file_at read a.document) setting works))
 
 -- the output in a style, whose locales are read first
 abbrev pub IsOutput : Reads → Asked → Sheet → Result (List ℕ) Lines → Type 0
 IsOutput read a s =
     Then (AreLocales s.words (files_at read a.locales)) (λ (locales : List Locale).
-    IsOutputIn read a (context_in a s locales))
+    IsOutputIn read a (setting_in a s locales))
 
 -- what is written, and what is said besides
 pub record Made : Type 0 where
@@ -100,7 +105,7 @@ IsCommandFault a lines = sections_of a ≡ Err lines
 abbrev pub IsFault : Reads → Asked → Lines → Type 0
 IsFault read a lines = (is_ok (sections_of a) ≡ true) × IsMade read a (Err lines)
 
--- What is written is what `cite` writes for the bib texts as one, in that style and with those locales.
+-- What is written in a style without sort keys is what `cite` writes for the bib texts as one, in that style and with those locales.
 abbrev pub task_in : Reads → Asked → StyleContext → Task
 task_in read a context = record { document = (file_at read a.document).bytes; context = context; sections = map chars a.sections; format = a.format }
 
@@ -109,4 +114,4 @@ pub record IsCiteOutput (read : Reads) (a : Asked) (output : List ℕ) : Type 0 
   pub locales : List Locale
   pub is_sheet : IsSheet read a.style (Ok sheet)
   pub are_locales : AreLocales sheet.words (files_at read a.locales) (Ok locales)
-  pub is_verdict : IsVerdict (joined (files_at read a.bibs)) (task_in read a (context_in a sheet locales)) (Ok output)
+  pub is_verdict : has_keys sheet.style ≡ false → IsVerdict (joined (files_at read a.bibs)) (task_in read a (context_in a sheet locales)) (Ok output)

@@ -1,11 +1,7 @@
 -- What the code has, without where it lies in memory.
-use Rattle.std.specs.Prelude.{ℕ, Bool, List, map, string_bytes}
+use Rattle.std.specs.Prelude.{ℕ, Bool, List, string_bytes}
 use Rattle.std.specs.Borrow.{Bor}
 use Rattle.std.specs.BTreeSet.{BTreeSet}
-use Rattle.std.specs.Option.{option_map}
-use Rattle.rendering_locale.specs.Views.{locale_view}
-use Rattle.rendering_style.specs.StyleViews.{style_view}
-use Rattle.rendering_context.specs.Contexts.{StyleContext}
 use Rattle.biblatex.specs.Bibliographies.{listed_view}
 use Rattle.interop.specs.Views.{library_view}
 use Rattle.cite_output.specs.Pieces.{output_of}
@@ -16,7 +12,6 @@ use Rattle.cite_csl.specs.Run as run
 use Rattle.cite_csl.specs.declared.entries.Entries.{Entries}
 use Rattle.cite_csl.specs.declared.making.Made.{Made}
 use Rattle.cite_csl.specs.declared.named.Works.{Works}
-use Rattle.cite_csl.specs.declared.requests.Setting.{Setting}
 
 -- the works of bib texts that were read
 abbrev pub works_view : Entries → works.Works
@@ -25,10 +20,6 @@ works_view e = works_of (listed_view e.file)
 -- the entries of a file with the library of those that are needed
 abbrev pub cited_view : Works → works.Works
 cited_view w = record { file = listed_view w.entries.now.file; library = library_view w.library.now }
-
--- the style, the language that is asked for, and the locales
-abbrev pub setting_view : Setting → StyleContext
-setting_view s = record { style = style_view s.style.now; locale = option_map (λ (c : Bor (List ℕ)). c.now) s.lang; locale_files = map locale_view s.locales.now }
 
 abbrev pub made_view : Made → run.Made
 made_view m = record { output = output_of m.output; told = string_bytes m.told }

@@ -1,7 +1,6 @@
 //! Citations and bibliography of a document in a style of CSL.
 
 ghost use Rattle.std.specs.Prelude.{◌≡◌, ◌++◌, ◌∷◌, [], Result, Ok, Err, filter, map, IfOk, OnOk, string_bytes};
-ghost use Rattle.laws.specs.Borrowed.{borrowed};
 ghost use Rattle.laws.specs.Text.{spelled};
 ghost use Rattle.biblatex.specs.Bibliographies.{listed_view};
 ghost use Rattle.interop.specs.Library.{library_of};
@@ -9,31 +8,30 @@ ghost use Rattle.interop.specs.Views.{library_view, lent_sources_view};
 ghost use Rattle.biblatex.specs.Entries.{source_view as entry_of, sources_view};
 ghost use Rattle.driver.specs.Finish as driven;
 ghost use Rattle.driver.specs.RenderedViews.{rendered_view};
-ghost use Rattle.cite.specs.Finished.{finished};
-ghost use Rattle.cite.specs.Verdict.{rendered_stage};
+ghost use Rattle.cite_order.specs.Order.{rendered_in_order};
+ghost use Rattle.cite_order.specs.Views.{setting_view};
 ghost use Rattle.cite_markers.specs.Views.{document_view};
 ghost use Rattle.cite_requests.specs.Answers as refusals;
 ghost use Rattle.cite_requests.specs.Cited.{entries_with, keys_cited, library_from, library_needed};
 ghost use Rattle.cite_requests.specs.Stages.{Refusal, fields_refused, refused_as};
 ghost use Rattle.cite_csl_styles.specs.Answers.{Returns};
 ghost use Rattle.cite_csl.specs.Names.{rendered_lines};
-ghost use Rattle.cite_csl.specs.Views.{cited_view, has_key, setting_view, works_view};
+ghost use Rattle.cite_csl.specs.Views.{cited_view, has_key, works_view};
 ghost use Rattle.cite_csl_styles.specs.Views.{source_view};
 ghost use Rattle.cite_csl.specs.Works.{said_by};
 
 use crate::document::ReadDocument;
 use crate::entries::Entries;
 use crate::named::{Works, unknown_lines};
-use crate::requests::{MarkerRequest, Setting, language, marker_requests};
+use crate::requests::marker_requests;
 use biblatex::{Bibliography, Entry as SourceEntry};
 use cite_csl_styles::{Stop, line, refused};
 use cite_markers::Document;
-use cite_requests::{CiteError, chosen, cited_keys, selectors};
-use driver::{BibliographyDriver, Rendered};
-use driver_requests::{BibliographyRequest, DriverError};
+use cite_order::{SortedSetting, rendered_in_order};
+use cite_requests::{CiteError, cited_keys, selectors};
+use driver::Rendered;
 use interop::{from_biblatex, from_entries};
 use literature::Library;
-use literature_entries::Entry;
 use std::alloc::{AllocError, Global};
 use std::collections::BTreeSet;
 
@@ -115,31 +113,11 @@ fn library_for(
     whole_library(alloc, &entries.file)
 }
 
-/// Citations and bibliography of requests, in the order in which entries are chosen.
-fn finish<'x>(
-    alloc: Global,
-    requests: Vec<MarkerRequest<'x>>,
-    setting: Setting<'x>,
-    chosen: &'x [&'x Entry],
-) -> Result<Rendered, CiteError>
-    ensures { refusals.Gives rendered_view result (finished ⟦<Entry as PartialEq>⟧.eq
-        (setting_view setting.entry) requests.entry.items (borrowed chosen.entry.now)) }
-{
-    let driver = BibliographyDriver::from_citations(alloc, requests);
-    let language = language(alloc, setting.lang)?;
-    let request = BibliographyRequest::new(setting.style, language, setting.locales);
-    match driver.finish(request.with_order(chosen)) {
-        Ok(rendered) => Ok(rendered),
-        Err(DriverError::Memory) => Err(CiteError::Memory),
-        Err(DriverError::Overflow) => Err(CiteError::Overflow),
-    }
-}
-
 /// Citations and bibliography of a document by the library of the entries that are needed.
 fn render_by(
     alloc: Global,
     works: Works<'_>,
-    setting: Setting<'_>,
+    setting: SortedSetting<'_>,
     document: &Document<'_>,
     sections: &[&str],
 ) -> Result<Rendered, CiteError>
@@ -147,13 +125,12 @@ fn render_by(
         (works_view works.entries.now).file (map spelled sections.now)
         (document_view document.now) }
     ensures { refusals.Gives rendered_view result
-        (rendered_stage (works_view works.entry.entries.now) (setting_view setting.entry)
+        (rendered_in_order (works_view works.entry.entries.now) (setting_view setting.entry)
         (map spelled sections.now) (document_view document.now)) }
 {
     let requests = marker_requests(alloc, works, setting, document)?;
     let selectors = selectors(alloc, sections)?;
-    let chosen = chosen(alloc, &selectors, works.library)?;
-    finish(alloc, requests, setting, &chosen)
+    rendered_in_order(alloc, requests, setting, &selectors, works.library)
 }
 
 /// The lines for citations and bibliography that are refused.
@@ -183,13 +160,13 @@ fn lines_for(
 pub(crate) fn render(
     alloc: Global,
     entries: &Entries,
-    setting: Setting<'_>,
+    setting: SortedSetting<'_>,
     document: &ReadDocument<'_>,
     sections: &[&str],
 ) -> Result<Rendered, Stop>
     ensures { Returns rendered_view result (said_by (rendered_lines
         (source_view document.now.file) (works_view entries.now)
-        (document_view document.now.document)) (rendered_stage (works_view entries.now)
+        (document_view document.now.document)) (rendered_in_order (works_view entries.now)
         (setting_view setting.entry) (map spelled sections.now)
         (document_view document.now.document))) }
 {
@@ -208,7 +185,7 @@ pub(crate) fn render(
 fn rendered_or_lines(
     alloc: Global,
     works: Works<'_>,
-    setting: Setting<'_>,
+    setting: SortedSetting<'_>,
     document: &ReadDocument<'_>,
     sections: &[&str],
 ) -> Result<Rendered, Stop>
@@ -217,7 +194,7 @@ fn rendered_or_lines(
         (document_view document.now.document) }
     ensures { Returns rendered_view result (said_by (rendered_lines
         (source_view document.now.file) (works_view works.entry.entries.now)
-        (document_view document.now.document)) (rendered_stage
+        (document_view document.now.document)) (rendered_in_order
         (works_view works.entry.entries.now) (setting_view setting.entry)
         (map spelled sections.now) (document_view document.now.document))) }
 {

@@ -5,28 +5,30 @@ ghost use Rattle.std.specs.Option.{option_map, option_or};
 ghost use Rattle.programs.specs.Files.{read_at};
 ghost use Rattle.laws.specs.Borrowed.{borrowed};
 ghost use Rattle.cite_csl_styles.specs.Answers.{Answers, Returns};
+ghost use Rattle.rendering_style.specs.StyleViews.{style_view};
 ghost use Rattle.cite_csl.specs.Run as run;
 ghost use Rattle.cite_csl.specs.Run.{IsMade, IsMadeIn, IsOutput, IsOutputIn, output_for, strict};
 ghost use Rattle.cite_csl_styles.specs.FeatureLines.{feature_lines};
-ghost use Rattle.cite_csl_styles.specs.Sheets.{IsSheet};
+ghost use Rattle.cite_csl_styles.specs.Sheets.{IsSheet, sorting_of};
 ghost use Rattle.cite_csl_styles.specs.Sources as sources;
 ghost use Rattle.cite_csl_styles.specs.Sources.{AreRead};
 ghost use Rattle.cite_csl_command.specs.Views.{asked_view};
-ghost use Rattle.cite_csl.specs.Views.{made_view, setting_view, works_view};
+ghost use Rattle.cite_csl.specs.Views.{made_view, works_view};
 ghost use Rattle.cite_csl_styles.specs.Views.{sheet_view, source_view};
 ghost use Rattle.cite_markers.specs.Views.{document_view};
+ghost use Rattle.cite_order.specs.Views.{setting_view};
 ghost use Rattle.cite_output.specs.Pieces.{output_of};
 
 use crate::bib::entries_of;
 use crate::document::{ReadDocument, read_document};
 use crate::engine::render;
 use crate::entries::Entries;
-use crate::requests::Setting;
 use cite_csl_command::Asked;
 use cite_csl_styles::{
     Sheet, Stop, feature_lines, file_at, files_at, found_at, locales_of, paths_for, sheet_of,
     unread_lines,
 };
+use cite_order::SortedSetting;
 use cite_output::Output;
 use programs::FileRead;
 use std::alloc::{AllocError, Global};
@@ -97,7 +99,7 @@ fn output_of<'d>(
     alloc: Global,
     read: ReadDocument<'d>,
     entries: &Entries,
-    setting: Setting<'_>,
+    setting: SortedSetting<'_>,
     asked: &Asked<'_>,
 ) -> Result<Output<'d>, Stop>
     ensures { Returns output_of result (output_for (asked_view asked.now)
@@ -118,7 +120,7 @@ fn document_output<'f>(
     asked: &Asked<'f>,
     files: &'f [FileRead<'_>],
     entries: &Entries,
-    setting: Setting<'_>,
+    setting: SortedSetting<'_>,
 ) -> Result<Output<'f>, Stop>
     ensures { Returns output_of result (run.output_of (asked_view asked.now)
         (sources.file_at (read_at files.entry.now) (asked_view asked.now).document)
@@ -133,7 +135,7 @@ fn output_with<'f>(
     alloc: Global,
     asked: &Asked<'f>,
     files: &'f [FileRead<'_>],
-    setting: Setting<'_>,
+    setting: SortedSetting<'_>,
 ) -> Result<Output<'f>, Stop>
     ensures { Answers output_of result (IsOutputIn (read_at files.entry.now)
         (asked_view asked.now) (setting_view setting.entry)) }
@@ -150,13 +152,15 @@ fn output_in<'f>(
     files: &'f [FileRead<'_>],
     sheet: &Sheet<'_>,
 ) -> Result<Output<'f>, Stop>
+    requires { style_view sheet.now.sorting ≡ sorting_of (sheet_view sheet.now) }
     ensures { Answers output_of result (IsOutput (read_at files.entry.now)
         (asked_view asked.now) (sheet_view sheet.now)) }
 {
     let locale_files = files_at(alloc, files, asked.locales.as_slice())?;
     let locales = locales_of(alloc, &sheet.words, locale_files.as_slice())?;
-    let setting = Setting {
+    let setting = SortedSetting {
         style: &sheet.style,
+        sorting: &sheet.sorting,
         lang: lang_of(asked.lang, sheet),
         locales: locales.as_slice(),
     };
@@ -170,6 +174,7 @@ fn make_in<'f>(
     files: &'f [FileRead<'_>],
     sheet: &Sheet<'_>,
 ) -> Result<Made<'f>, Stop>
+    requires { style_view sheet.now.sorting ≡ sorting_of (sheet_view sheet.now) }
     ensures { Answers made_view result (IsMadeIn (read_at files.entry.now)
         (asked_view asked.now) (sheet_view sheet.now)) }
 {
@@ -180,7 +185,8 @@ fn make_in<'f>(
 
 /// The style at a path.
 fn sheet_at<'f>(alloc: Global, files: &'f [FileRead<'_>], path: &'f str) -> Result<Sheet<'f>, Stop>
-    ensures { Answers sheet_view result (IsSheet (read_at files.entry.now) path.entry.now) }
+    ensures sheet { Answers sheet_view result (IsSheet (read_at files.entry.now) path.entry.now) }
+    ensures sorting { IfOk result (λ s. style_view s.sorting ≡ sorting_of (sheet_view s)) }
 {
     let found = found_at(alloc, file_at(files, path))?;
     let parents = paths_for(alloc, &found)?;

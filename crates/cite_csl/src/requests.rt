@@ -1,51 +1,28 @@
 //! From the markers of a document to requests of a driver, in a style and locales of CSL.
 
-ghost use Rattle.std.specs.Prelude.{◌≡◌, map, IfOk, MatchOption, None, Some};
+ghost use Rattle.std.specs.Prelude.{◌≡◌, map, MatchOption, None, Some};
 ghost use Rattle.std.specs.Option.{option_map};
 ghost use Rattle.std.specs.Str.{chars};
 ghost use Rattle.laws.specs.Text.{text as text_of};
 ghost use Rattle.literature_entries.specs.EntriesData.{entry_view};
-ghost use Rattle.rendering_locale.specs.CodeViews.{code_view};
 ghost use Rattle.driver_requests.specs.Views.{request_locator_view};
 ghost use Rattle.cite_markers.specs.Views.{cite_view, locator_view, piece_view, document_view};
 ghost use Rattle.cite_requests.specs.Answers.{Gives};
 ghost use Rattle.cite_requests.specs.Asked.{item_asked, asked_item_view, items_asked, request_asked, request_pushed, asked_request_view, requests_asked};
 ghost use Rattle.cite_requests.specs.Requests.{locator_of};
 ghost use Rattle.cite_requests.specs.Works.{meaning};
-ghost use Rattle.cite_csl.specs.Views.{cited_view, setting_view};
+ghost use Rattle.cite_order.specs.Views.{context_view};
+ghost use Rattle.cite_csl.specs.Views.{cited_view};
 
 use crate::named::{Works, meant};
 use cite_markers::{Cite, CiteLocator, Document, Piece};
-use cite_requests::CiteError;
+use cite_order::{SortedSetting, language};
+use cite_requests::{CiteError, MarkerRequest};
 use driver_requests::{CitationItem, CitationRequest};
 use literature_entries::Entry;
 use rendering_context::{LocatorPayload, SpecificLocator};
-use rendering_locale::{Locale, LocaleCode};
-use rendering_style::Style;
-use std::alloc::{AllocError, Global};
+use std::alloc::Global;
 use texts::owned;
-
-/// A request for a marker of a document. None of its locators is one that a caller prints by itself.
-pub(crate) type MarkerRequest<'a> = CitationRequest<'a, Entry, ()>;
-
-/// The style of all citations, the language that is asked for, and the locales.
-#[derive(Clone, Copy)]
-pub(crate) struct Setting<'a> {
-    pub(crate) style: &'a Style,
-    pub(crate) lang: Option<&'a str>,
-    pub(crate) locales: &'a [Locale],
-}
-
-/// The language that is asked for.
-pub(crate) fn language(alloc: Global, lang: Option<&str>) -> Result<Option<LocaleCode>, AllocError>
-    ensures { IfOk result (λ code. option_map code_view code
-        ≡ option_map (λ s. s.now) lang.entry) }
-{
-    match lang {
-        Some(code) => Ok(Some(LocaleCode(owned(alloc, code)?))),
-        None => Ok(None),
-    }
-}
 
 /// A request for each marker. Markers are numbered from one.
 ///
@@ -54,11 +31,11 @@ pub(crate) fn language(alloc: Global, lang: Option<&str>) -> Result<Option<Local
 pub(crate) fn marker_requests<'a>(
     alloc: Global,
     works: Works<'a>,
-    setting: Setting<'a>,
+    setting: SortedSetting<'a>,
     document: &Document<'a>,
 ) -> Result<Vec<MarkerRequest<'a>>, CiteError>
     ensures { Gives (λ v. map asked_request_view v.items) result
-        (requests_asked (cited_view works.entry) (setting_view setting.entry)
+        (requests_asked (cited_view works.entry) (context_view setting.entry)
         (document_view document.now)) }
 {
     let mut requests = Vec::new(alloc);
@@ -72,12 +49,12 @@ pub(crate) fn marker_requests<'a>(
 fn push_request<'a>(
     alloc: Global,
     works: Works<'a>,
-    setting: Setting<'a>,
+    setting: SortedSetting<'a>,
     piece: &Piece<'a>,
     requests: &mut Vec<MarkerRequest<'a>>,
 ) -> Result<(), CiteError>
     ensures { Gives (λ _. map asked_request_view requests.new.items) result
-        (request_pushed (cited_view works.entry) (setting_view setting.entry)
+        (request_pushed (cited_view works.entry) (context_view setting.entry)
         (map asked_request_view requests.old.items) (piece_view piece.now)) }
 {
     if let Piece::Marker(cites) = piece {
@@ -91,12 +68,12 @@ fn push_request<'a>(
 fn request<'a>(
     alloc: Global,
     works: Works<'a>,
-    setting: Setting<'a>,
+    setting: SortedSetting<'a>,
     cites: &[Cite<'a>],
     number: usize,
 ) -> Result<MarkerRequest<'a>, CiteError>
     ensures { Gives asked_request_view result
-        (request_asked (cited_view works.entry) (setting_view setting.entry)
+        (request_asked (cited_view works.entry) (context_view setting.entry)
         (number, map cite_view cites.now)) }
 {
     let items = items(alloc, works, cites)?;

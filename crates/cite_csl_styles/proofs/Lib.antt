@@ -3,6 +3,7 @@ pub mod Founds
 pub mod Gathered
 pub mod LinesFound
 pub mod LocalesFound
+pub mod Meant
 pub mod SheetsFound
 pub mod Staged
 pub mod Stopped

@@ -1,5 +1,5 @@
 -- The style that is asked for, and its locales.
-use Rattle.std.specs.Prelude.{◌≡◌, ◌⊎◌, ℕ, true, false, ◌==◌, List, [], ◌∷◌, ◌++◌, codes, if◌then◌else◌, Option, Some, None, is_some, option_and_then, unwrap_or, Result, Ok, Err}
+use Rattle.std.specs.Prelude.{◌≡◌, ◌⊎◌, ℕ, Bool, true, false, not, ◌==◌, List, [], ◌∷◌, ◌++◌, codes, if◌then◌else◌, Option, Some, None, is_some, option_and_then, unwrap_or, Result, Ok, Err}
 use Rattle.std.specs.List.{slice_split}
 use Rattle.std.specs.Str.{chars, is_utf8}
 use Rattle.std.specs.Str.Lossy.{utf8_valid_len}
@@ -15,8 +15,10 @@ use Rattle.csl_styles.specs.Faults.{faults}
 use Rattle.csl_styles.specs.Files.{Csl, Dependent, Independent, Localized, meaning}
 use Rattle.csl_styles.specs.Information.{parent_address}
 use Rattle.csl_words.specs.Elements.{content_in, part_called}
+use Rattle.csl_words.specs.Looking.{says}
 use Rattle.csl_styles.specs.Reading.{Refusal, IsAnswered, IsRefused}
 use Rattle.csl_features.specs.Features.{Feature, features}
+use Rattle.sorting_styles.specs.Styles.{sorting_style}
 use Rattle.cite_styles.specs.English.{english}
 use Rattle.cite_csl_styles.specs.CslLines.{refusal_text, refusal_left}
 use Rattle.cite_csl_styles.specs.Sources.{Reads, SourceFile, file_at, is_unreadable, lines_left}
@@ -58,6 +60,14 @@ pub record Sheet : Type 0 where
   pub words : List (List ℕ)
   pub style : Style
   pub lang : Option (List ℕ)
+
+-- whether the particles of names go behind given names where names are sorted: unless the style says that they never do
+abbrev pub demotes : Element → Bool
+demotes root = not (says (codes "demote-non-dropping-particle") (codes "never") root)
+
+-- the style by which the keys of a style print
+abbrev pub sorting_of : Sheet → Style
+sorting_of s = sorting_style (demotes s.root) s.style
 
 -- lines at the start-tag of the root
 abbrev pub root_lines : Found → List ℕ → Lines

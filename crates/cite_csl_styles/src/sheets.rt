@@ -5,13 +5,18 @@ ghost use Rattle.std.specs.Option.{option_map};
 ghost use Rattle.std.specs.Str.{chars};
 ghost use Rattle.programs.specs.Files.{read_at};
 ghost use Rattle.rendering_locale.specs.CodeViews.{code_view};
+ghost use Rattle.rendering_style.specs.StyleViews.{style_view};
+ghost use Rattle.sorting_styles.specs.Styles.{sorting_style};
 ghost use Rattle.xml_tree.specs.Views.{element_view};
+ghost use Rattle.csl_nodes.specs.Views.{words_view};
+ghost use Rattle.csl_styles.specs.Files.{meaning};
 ghost use Rattle.csl_styles.specs.Reading.{Means};
+ghost use Rattle.csl_styles.specs.Styles as styles;
 ghost use Rattle.csl_styles.specs.Views.{csl_view, refusal_of};
 ghost use Rattle.cite_csl_styles.specs.Answers.{Answers, IsRefusal, Returns};
 ghost use Rattle.cite_csl_styles.specs.CslLines as said;
 ghost use Rattle.cite_csl_styles.specs.Sheets as specs;
-ghost use Rattle.cite_csl_styles.specs.Sheets.{IsCslRead, IsSheetOf, orphan_lines, parents_of, readable};
+ghost use Rattle.cite_csl_styles.specs.Sheets.{IsCslRead, IsSheetOf, demotes, orphan_lines, parents_of, readable};
 ghost use Rattle.cite_csl_styles.specs.Sources as sources;
 ghost use Rattle.cite_csl_styles.specs.Views.{found_view, sheet_view, source_view, paths_view};
 ghost use Rattle.cite_csl_styles.specs.declared.stop.Stop.TheVariants.{Memory};
@@ -22,9 +27,11 @@ use crate::sources::{SourceFile, file_at, path_at, refused_at, refused_left};
 use crate::stop::Stop;
 use csl_nodes::Words;
 use csl_styles::{Csl, CslError, read};
+use csl_words::says;
 use programs::FileRead;
 use rendering_locale::LocaleCode;
 use rendering_style::Style;
+use sorting_styles::sorting_style;
 use std::alloc::{AllocError, Global};
 use xml_tree::{Element, parse};
 
@@ -45,6 +52,8 @@ pub struct Sheet<'f> {
     /// The words of terms that no list has.
     pub words: Words,
     pub style: Style,
+    /// The style by which the keys of the style print.
+    pub sorting: Style,
     /// The language that a dependent style is for.
     pub lang: Option<LocaleCode>,
 }
@@ -92,24 +101,54 @@ pub fn found_at<'f>(alloc: Global, file: SourceFile<'f>) -> Result<Found<'f>, St
     }
 }
 
+/// Whether the particles of names go behind given names where names are sorted.
+fn demotes(root: &Element<'_>) -> bool
+    ensures { result ≡ demotes (element_view root.now) }
+{
+    !says("demote-non-dropping-particle", "never", root)
+}
+
+/// The style by which the keys of the style of a root print.
+fn sorting_of(
+    alloc: Global,
+    words: &Words,
+    root: &Element<'_>,
+    style: &Style,
+) -> Result<Style, AllocError>
+    requires { styles.style (words_view words.now) (element_view root.now) ≡ style_view style.now }
+    ensures { IfOk result (λ s. style_view s
+        ≡ sorting_style (demotes (element_view root.now)) (style_view style.now)) }
+{
+    // A style is one whose parts are not refused.
+    let _facts = style.parts();
+    let parts = csl_styles::style(alloc, words, root)?;
+    sorting_style(alloc, parts, demotes(root))
+}
+
 /// The style of a file that has one by itself, for the language of a dependent style, if there is one.
 fn own_sheet<'f>(
     alloc: Global,
     lang: Option<LocaleCode>,
     found: Found<'f>,
 ) -> Result<Sheet<'f>, Stop>
-    ensures { Returns sheet_view result (specs.own_sheet (option_map code_view lang)
+    requires { meaning (element_view found.root) ≡ csl_view found.means }
+    ensures sheet { Returns sheet_view result (specs.own_sheet (option_map code_view lang)
         (found_view found.entry) (csl_view found.entry.means)) }
+    ensures sorting { IfOk result (λ s. style_view s.sorting ≡ specs.sorting_of (sheet_view s)) }
 {
     let Found { file, root, means } = found;
     match means {
-        Csl::Independent { words, style } => Ok(Sheet {
-            file,
-            root,
-            words,
-            style,
-            lang,
-        }),
+        Csl::Independent { words, style } => {
+            let sorting = sorting_of(alloc, &words, &root, &style)?;
+            Ok(Sheet {
+                file,
+                root,
+                words,
+                style,
+                sorting,
+                lang,
+            })
+        }
         Csl::Dependent { .. } => {
             Err(refused_left(alloc, file, root.left, "a dependent style is no parent"))
         }
@@ -156,10 +195,11 @@ fn parent_sheet<'f>(
     lang: Option<LocaleCode>,
     child: (SourceFile<'_>, &Element<'_>, &str),
 ) -> Result<Sheet<'f>, Stop>
-    ensures { Answers sheet_view result (specs.IsParentAt (read_at files.entry.now)
+    ensures sheet { Answers sheet_view result (specs.IsParentAt (read_at files.entry.now)
         (source_view child.entry.0) (element_view child.entry.1.now) child.entry.2.now
         (option_map code_view lang) (readable (read_at files.entry.now)
         (paths_view paths.now))) }
+    ensures sorting { IfOk result (λ s. style_view s.sorting ≡ specs.sorting_of (sheet_view s)) }
 {
     match readable(files, paths)? {
         Some(path) => own_sheet(alloc, lang, found_at(alloc, file_at(files, path))?),
@@ -174,9 +214,11 @@ pub fn sheet_of<'f>(
     found: Found<'f>,
     paths: &Option<ParentPaths>,
 ) -> Result<Sheet<'f>, Stop>
-    requires { option_map paths_view paths.now ≡ parents_of (found_view found) }
-    ensures { Answers sheet_view result (IsSheetOf (read_at files.entry.now)
+    requires paths { option_map paths_view paths.now ≡ parents_of (found_view found) }
+    requires meant { meaning (element_view found.root) ≡ csl_view found.means }
+    ensures sheet { Answers sheet_view result (IsSheetOf (read_at files.entry.now)
         (found_view found.entry) (csl_view found.entry.means)) }
+    ensures sorting { IfOk result (λ s. style_view s.sorting ≡ specs.sorting_of (sheet_view s)) }
 {
     let Some(paths) = paths else {
         return own_sheet(alloc, None, found);

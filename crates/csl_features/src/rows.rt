@@ -78,7 +78,6 @@ pub(crate) const FEATURES: &[Row] = &[
         "",
         "year suffixes follow the order of the bibliography",
     ),
-    ("sort", NOTHING, NOTHING, "", "sort"),
     (
         "if",
         ("disambiguate", "true"),

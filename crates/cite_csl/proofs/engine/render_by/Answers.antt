@@ -1,28 +1,21 @@
-use Rattle.std.proofs.Common.{◌≡◌, List, [], ◌∷◌, map, refl, Result, Err, rules, sym, ap, subst, ◌∙◌}
+use Rattle.std.proofs.Common.{◌≡◌, List, map, Result, Ok, Err, rules, sym, ap, subst, ◌∙◌}
 use Rattle.laws.specs.Text.{spelled}
-use Rattle.literature.specs.Entries.{entries}
-use Rattle.std.specs.Borrow.{Bor}
-use Rattle.laws.specs.Borrowed.{borrowed}
 use Rattle.interop.specs.Views.{library_view}
-use Rattle.literature_entries.specs.EntriesData.{EntryData, entry_view}
-use Rattle.literature_entries.specs.declared.entry.Entry.{Entry}
 use Rattle.driver.specs.Finish as finish
-use Rattle.literature.specs.Views.{selector_view}
 use Rattle.driver.specs.RenderedViews.{rendered_view}
 use Rattle.driver.specs.declared.rendered.Rendered.{Rendered}
 use Rattle.cite_markers.specs.Views.{document_view}
 use Rattle.cite_requests.specs.Answers.{Gives}
-use Rattle.cite_requests.specs.Asked.{asked_request_view}
-use Rattle.cite.specs.Verdict.{rendered_stage}
-use Rattle.cite_requests.specs.Sections.{chosen}
-use Rattle.cite_requests.specs.Stages.{Refusal}
-use Rattle.cite_requests.specs.Views.{lent_works_view}
+use Rattle.literature.specs.Views.{selector_view}
+use Rattle.literature.specs.declared.selector.Selector.{Selector}
+use Rattle.cite_requests.specs.Stages.{Refusal, section_stage}
 use Rattle.cite_requests.specs.declared.error.CiteError.{CiteError}
 use Rattle.cite_requests.proofs.AnswersWeaker.{refused_weaker}
-use Rattle.cite.proofs.NeededWorks.{rendered_with}
-use Rattle.cite.proofs.RenderedStages.{finishes, names_stop, sections_stop}
-use Rattle.cite_requests.proofs.EntriesIndices.{works_listed}
-use Rattle.cite_csl.specs.Views.{cited_view, setting_view, works_view}
+use Rattle.cite_order.specs.Order.{rendered_in_order}
+use Rattle.cite_order.specs.Views.{setting_view}
+use Rattle.cite_order.proofs.NeededWorks.{ordered_with}
+use Rattle.cite_order.proofs.Stages.{names_stop, sections_stop}
+use Rattle.cite_csl.specs.Views.{cited_view, works_view}
 use Rattle.cite_csl.proofs.engine.render_by.Goals as goal
 
 pub returns-in_err-requests : goal.returns-in_err-requests
@@ -30,46 +23,35 @@ returns-in_err-requests c =
     let file = (works_view c.args.works.entries.now).file in
     let sections = map spelled c.args.sections.now in
     let pieces = document_view c.args.document.now in
-    let library = library_view c.args.works.library.now in
-    let x = setting_view c.args.setting in
-    let all = rendered_stage (works_view c.args.works.entries.now) x sections pieces in
-    let same = rendered_with file library x sections pieces (sym c.requires) in
+    let s = setting_view c.args.setting in
+    let all = rendered_in_order (works_view c.args.works.entries.now) s sections pieces in
+    let same = ordered_with file (library_view c.args.works.library.now) s sections pieces (sym c.requires) in
     let is : c.from_residual.result ≡ Err c.in_err-requests.field-0.0 = search rules in
     subst (λ (r : Result Rendered CiteError). Gives rendered_view r all) (sym is)
     (refused_weaker c.in_err-requests.field-0.0 _ (λ a. all ≡ a)
-    (λ r h. sym same ∙ names_stop (cited_view c.args.works) x sections pieces r h) c.in_err-requests.ensures)
+    (λ r h. sym same ∙ names_stop (cited_view c.args.works) s sections pieces r h) c.in_err-requests.ensures)
 
 pub returns-in_err-selectors : goal.returns-in_err-selectors
 returns-in_err-selectors c =
     let file = (works_view c.args.works.entries.now).file in
     let sections = map spelled c.args.sections.now in
     let pieces = document_view c.args.document.now in
-    let library = library_view c.args.works.library.now in
-    let x = setting_view c.args.setting in
-    let all = rendered_stage (works_view c.args.works.entries.now) x sections pieces in
-    let same = rendered_with file library x sections pieces (sym c.requires) in
+    let s = setting_view c.args.setting in
+    let all = rendered_in_order (works_view c.args.works.entries.now) s sections pieces in
+    let same = ordered_with file (library_view c.args.works.library.now) s sections pieces (sym c.requires) in
     let is : c.from_residual-in_err-selectors.result ≡ Err c.in_err-selectors.field-0.0 = search rules in
     subst (λ (r : Result Rendered CiteError). Gives rendered_view r all) (sym is)
     (refused_weaker c.in_err-selectors.field-0.0 _ (λ a. all ≡ a)
-    (λ r h. sym same ∙ sections_stop (cited_view c.args.works) x sections pieces (map asked_request_view c.in_ok-requests.requests.items) r c.in_ok-requests.ensures h)
+    (λ r h. sym same ∙ sections_stop (cited_view c.args.works) s sections pieces c.in_ok-requests.requests.items r c.in_ok-requests.ensures h)
     c.in_err-selectors.ensures)
-
-lent_whole : (es : List (Bor Entry)) → map entry_view (borrowed es) ≡ lent_works_view es
-lent_whole [] = refl
-lent_whole (e ∷ es) = ap (λ (ws : List EntryData). entry_view e.now ∷ ws) (lent_whole es)
 
 pub returns : goal.returns
 returns c =
     let file = (works_view c.args.works.entries.now).file in
     let sections = map spelled c.args.sections.now in
     let pieces = document_view c.args.document.now in
-    let library = c.args.works.library.now in
-    let x = setting_view c.args.setting in
-    let same = rendered_with file (library_view library) x sections pieces (sym c.requires) in
-    let xs = map selector_view c.in_ok-selectors.selectors.items in
-    let slice = c.deref-2.result.now in
-    let wanted : map entry_view (borrowed slice) ≡ chosen xs (library_view library) =
-    lent_whole slice ∙ ap lent_works_view c.deref-2.ensures.value ∙ c.in_ok-chosen.ensures ∙ (λ i. chosen (map selector_view (c.deref.ensures.value i)) (library_view library)) in
-    subst (λ (r : Result finish.Rendered Refusal). Gives rendered_view c.finish.result r)
-    (finishes (cited_view c.args.works) x sections pieces c.in_ok-requests.requests.items xs (borrowed slice) c.in_ok-requests.ensures c.in_ok-selectors.ensures wanted (works_listed (entries library) library.distinct) ∙ same)
-    c.finish.ensures
+    let s = setting_view c.args.setting in
+    let same = ordered_with file (library_view c.args.works.library.now) s sections pieces (sym c.requires) in
+    let parsed = subst (λ (xs : List Selector). section_stage sections ≡ Ok (map selector_view xs)) (sym c.deref.ensures.value) c.in_ok-selectors.ensures in
+    subst (λ (r : Result finish.Rendered Refusal). Gives rendered_view c.rendered_in_order.result r) same
+    (c.rendered_in_order.ensures (cited_view c.args.works) sections pieces (λ i. library_view c.args.works.library.now) c.in_ok-requests.ensures parsed)

@@ -10,7 +10,8 @@ use Rattle.cite_csl_styles.specs.Views.{source_view}
 use Rattle.cite_csl_styles.specs.declared.stop.Stop.{Stop}
 use Rattle.cite_csl.specs.Names.{pieces_of}
 use Rattle.cite_csl.specs.Run.{output_of}
-use Rattle.cite_csl.specs.Views.{setting_view, works_view}
+use Rattle.cite_order.specs.Views.{setting_view}
+use Rattle.cite_csl.specs.Views.{works_view}
 use Rattle.cite_csl.proofs.Outputs.{document_goes_on, document_stops}
 use Rattle.cite_csl.proofs.making.document_output.Goals as goal
 

@@ -30,11 +30,11 @@ returns-in_err-sheet c =
     let is : c.from_residual-in_err-sheet.result ≡ Err e = search rules in
     subst (λ (r : Result Made Stop). Answers made_view r (IsMade read a)) (sym is)
     (then_goes_on made_view (Err e) (AreRead read (paths a)) (λ _. Then (IsSheet read a.style) (λ (found : Sheet). IsMadeIn read a found)) tt c.in_ok-read_check.ensures
-    (then_stops e (IsSheet read a.style) (λ (found : Sheet). IsMadeIn read a found) c.in_err-sheet.ensures))
+    (then_stops e (IsSheet read a.style) (λ (found : Sheet). IsMadeIn read a found) c.in_err-sheet.ensures.sheet))
 
 pub returns : goal.returns
 returns c =
     let read = read_at c.args.files.now in
     let a = asked_view c.args.asked.now in
     then_goes_on made_view c.make_in.result (AreRead read (paths a)) (λ _. Then (IsSheet read a.style) (λ (found : Sheet). IsMadeIn read a found)) tt c.in_ok-read_check.ensures
-    (then_goes_on made_view c.make_in.result (IsSheet read a.style) (λ (found : Sheet). IsMadeIn read a found) (sheet_view c.in_ok-sheet.sheet) c.in_ok-sheet.ensures c.make_in.ensures)
+    (then_goes_on made_view c.make_in.result (IsSheet read a.style) (λ (found : Sheet). IsMadeIn read a found) (sheet_view c.in_ok-sheet.sheet) c.in_ok-sheet.ensures.sheet c.make_in.ensures)

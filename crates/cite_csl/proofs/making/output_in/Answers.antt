@@ -2,7 +2,8 @@ use Rattle.std.proofs.Common.{◌≡◌, ℕ, List, map, Result, Ok, Err, rules,
 use Rattle.std.specs.Borrow.{Bor}
 use Rattle.laws.specs.Borrowed.{borrowed}
 use Rattle.programs.specs.Files.{read_at}
-use Rattle.rendering_context.specs.Contexts.{StyleContext}
+use Rattle.rendering_style.specs.declared.style.Style.{Style}
+use Rattle.cite_order.specs.Order.{Setting}
 use Rattle.rendering_locale.specs.Locales.{Locale}
 use Rattle.rendering_locale.specs.Views.{locale_view}
 use Rattle.cite_output.specs.Pieces as pieces
@@ -14,8 +15,8 @@ use Rattle.cite_csl_styles.specs.Sources.{SourceFile, files_at}
 use Rattle.cite_csl_styles.specs.Views.{sheet_view, sources_view}
 use Rattle.cite_csl_styles.specs.declared.stop.Stop.{Stop}
 use Rattle.cite_csl_styles.proofs.Staged.{then_goes_on, then_stops}
-use Rattle.cite_csl.specs.Run.{IsOutput, IsOutputIn, context_in}
-use Rattle.cite_csl.specs.Views.{setting_view}
+use Rattle.cite_csl.specs.Run.{IsOutput, IsOutputIn, setting_in}
+use Rattle.cite_order.specs.Views.{setting_view}
 use Rattle.cite_csl.proofs.making.output_in.Goals as goal
 
 pub returns-in_err-locales : goal.returns-in_err-locales
@@ -28,7 +29,7 @@ returns-in_err-locales c =
     ap sources_view c.as_slice-2.ensures.value ∙ (c.in_ok-locale_files.ensures ∙ ap (λ (paths : List (Bor (List ℕ))). files_at read (borrowed paths)) c.as_slice.ensures.value) in
     let is : c.from_residual-in_err-locales.result ≡ Err e = search rules in
     subst (λ (r : Result Output Stop). Answers pieces.output_of r (IsOutput read a s)) (sym is)
-    (then_stops e (AreLocales s.words (files_at read a.locales)) (λ (locales : List Locale). IsOutputIn read a (context_in a s locales))
+    (then_stops e (AreLocales s.words (files_at read a.locales)) (λ (locales : List Locale). IsOutputIn read a (setting_in a s locales))
     (subst (λ (fs : List SourceFile). IsStop e (AreLocales s.words fs)) are c.in_err-locales.ensures))
 
 pub returns : goal.returns
@@ -39,8 +40,9 @@ returns c =
     let locales = map locale_view c.in_ok-locales.locales.items in
     let are : sources_view c.as_slice-2.result.now ≡ files_at read a.locales =
     ap sources_view c.as_slice-2.ensures.value ∙ (c.in_ok-locale_files.ensures ∙ ap (λ (paths : List (Bor (List ℕ))). files_at read (borrowed paths)) c.as_slice.ensures.value) in
-    let context : setting_view (record { style = record { ref_ptr = (0, 0); now = c.args.sheet.now.style }; lang = c.lang_of.result; locales = c.as_slice-3.result }) ≡ context_in a s locales =
-    λ i. record { style = s.style; locale = c.lang_of.ensures i; locale_files = map locale_view (c.as_slice-3.ensures.value i) } in
-    then_goes_on pieces.output_of c.output_with.result (AreLocales s.words (files_at read a.locales)) (λ (all : List Locale). IsOutputIn read a (context_in a s all)) locales
+    let style : Style → Bor Style = λ x. record { ref_ptr = (0, 0); now = x } in
+    let setting : setting_view (record { style = style c.args.sheet.now.style; sorting = style c.args.sheet.now.sorting; lang = c.lang_of.result; locales = c.as_slice-3.result }) ≡ setting_in a s locales =
+    λ i. record { context = record { style = s.style; locale = c.lang_of.ensures i; locale_files = map locale_view (c.as_slice-3.ensures.value i) }; sorting = c.requires i } in
+    then_goes_on pieces.output_of c.output_with.result (AreLocales s.words (files_at read a.locales)) (λ (all : List Locale). IsOutputIn read a (setting_in a s all)) locales
     (subst (λ (fs : List SourceFile). AreLocales s.words fs (Ok locales)) are c.in_ok-locales.ensures)
-    (subst (λ (x : StyleContext). Answers pieces.output_of c.output_with.result (IsOutputIn read a x)) context c.output_with.ensures)
+    (subst (λ (x : Setting). Answers pieces.output_of c.output_with.result (IsOutputIn read a x)) setting c.output_with.ensures)

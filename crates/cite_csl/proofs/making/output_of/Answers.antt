@@ -10,7 +10,8 @@ use Rattle.cite_csl_styles.specs.Answers.{Returns}
 use Rattle.cite_csl_styles.specs.Views.{source_view}
 use Rattle.cite_csl_styles.specs.declared.stop.Stop.{Stop}
 use Rattle.cite_csl.specs.Run.{output_for}
-use Rattle.cite_csl.specs.Views.{setting_view, works_view}
+use Rattle.cite_order.specs.Views.{setting_view}
+use Rattle.cite_csl.specs.Views.{works_view}
 use Rattle.cite_csl.proofs.Outputs.{output_is, output_stops}
 use Rattle.cite_csl.proofs.RunSaid.{spelled_are}
 use Rattle.cite_csl.proofs.making.output_of.Goals as goal

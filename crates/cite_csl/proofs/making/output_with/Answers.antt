@@ -14,7 +14,8 @@ use Rattle.cite_csl_styles.specs.declared.stop.Stop.{Stop}
 use Rattle.cite_csl_styles.proofs.Staged.{then_goes_on, then_stops}
 use Rattle.cite_csl_styles.proofs.Stopped.{answers_weaker}
 use Rattle.cite_csl.specs.Run.{IsOutputIn, output_of}
-use Rattle.cite_csl.specs.Views.{setting_view, works_view}
+use Rattle.cite_order.specs.Views.{setting_view}
+use Rattle.cite_csl.specs.Views.{works_view}
 use Rattle.cite_csl.specs.Works.{AreWorks}
 use Rattle.cite_csl.proofs.making.output_with.Goals as goal
 

@@ -7,7 +7,8 @@ use Rattle.cite_markers.specs.Views.{piece_view, document_view}
 use Rattle.cite_requests.specs.Answers.{Gives}
 use Rattle.cite_requests.specs.Asked.{asked_request_view, requests_after, requests_asked}
 use Rattle.cite_requests.specs.Requests.{OwnLocator}
-use Rattle.cite_csl.specs.Views.{cited_view, setting_view}
+use Rattle.cite_order.specs.Views.{context_view}
+use Rattle.cite_csl.specs.Views.{cited_view}
 use Rattle.cite_requests.specs.declared.error.CiteError.{CiteError}
 use Rattle.cite_requests.proofs.AnswersWeaker.{refused_weaker}
 use Rattle.cite_requests.proofs.RequestsSteps.{goes_on, fails, ends}
@@ -17,7 +18,7 @@ use Rattle.cite_csl.proofs.requests.marker_requests.Goals as goal
 pub loop-piece-preserved : goal.loop-piece-preserved
 loop-piece-preserved c =
     let works = cited_view c.args.works in
-    let x = setting_view c.args.setting in
+    let x = context_view c.args.setting in
     let i = c.loop-piece.piece-index in
     let xs = c.args.document.now.pieces.items in
     let done = map asked_request_view c.loop-piece.requests.items in
@@ -28,7 +29,7 @@ loop-piece-preserved c =
 pub returns-in_err-push_request : goal.returns-in_err-push_request
 returns-in_err-push_request c =
     let works = cited_view c.args.works in
-    let x = setting_view c.args.setting in
+    let x = context_view c.args.setting in
     let i = c.loop-piece.piece-index in
     let xs = c.args.document.now.pieces.items in
     let done = map asked_request_view c.loop-piece.requests.items in
@@ -42,7 +43,7 @@ returns-in_err-push_request c =
 pub returns : goal.returns
 returns c =
     let works = cited_view c.args.works in
-    let x = setting_view c.args.setting in
+    let x = context_view c.args.setting in
     let xs = c.args.document.now.pieces.items in
     ends works x (map asked_request_view c.loop-piece.requests.items) (map piece_view (drop c.loop-piece.piece-index xs)) (requests_asked works x (document_view c.args.document.now)) c.loop-piece.invariant
     (ap (map piece_view) (drop_all c.loop-piece.piece-index xs (omega (arith, c.loop-piece-test.false, c.deref-piece-items.ensures.len))))

@@ -1,0 +1,4 @@
+pub mod Listed
+pub mod Order
+pub mod Views
+pub mod Laws
