@@ -8,4 +8,6 @@ use Rattle.cite_order.specs.Order.{Setting, has_keys, rendered_in_order}
 -- in a style without sort keys a document comes to what it comes to unsorted
 abbrev pub WithoutKeysNothingIsSorted : Type 0
 WithoutKeysNothingIsSorted =
-    (works : Works) (s : Setting) (sections : List (List ℕ)) (pieces : List Piece) → has_keys s.sorting ≡ false → rendered_in_order works s sections pieces ≡ rendered_stage works s.context sections pieces
+    (works : Works) (s : Setting) (sections : List (List ℕ)) (pieces : List Piece)
+    → has_keys s.sorting ≡ false
+    → rendered_in_order works s sections pieces ≡ rendered_stage works s.context sections pieces

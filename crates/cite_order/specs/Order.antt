@@ -39,7 +39,8 @@ has_keys s = is_filled s.citation_sort || is_filled s.bibliography_sort
 
 -- the works that are cited, in the order of the bibliography
 abbrev pub works_in_order : Setting → List (List CitedWork) → List EntryData
-works_in_order s markers = entries_in_order (keys_context s) answers_of (once is_same (works_in markers))
+works_in_order s markers =
+    entries_in_order (keys_context s) answers_of (once is_same (works_in markers))
 
 -- the works among which sections choose: those that are cited, in their order, where the bibliography is sorted, else the library
 abbrev pub choices : Style → List EntryData → List EntryData → List EntryData
@@ -51,10 +52,13 @@ order_of s selectors library cited = chosen selectors (choices s cited library) 
 
 -- the keys of a cite, where works have numbers
 abbrev pub cite_keys : StyleContext → (EntryData → ℕ) → CitedWork → List Part
-cite_keys x number c = citation_keys x (answers_of c.work) (number c.work) (option_map plain_locator (option_map locator_of c.cite.locator))
+cite_keys x number c =
+    let locator = option_map plain_locator (option_map locator_of c.cite.locator) in
+    citation_keys x (answers_of c.work) (number c.work) locator
 
 -- the cites of each marker in the order of their keys
-abbrev pub markers_in_order : StyleContext → (EntryData → ℕ) → List (List CitedWork) → List (List CitedWork)
+abbrev pub markers_in_order : StyleContext → (EntryData → ℕ) → List (List CitedWork)
+    → List (List CitedWork)
 markers_in_order x number markers = map (ordered_by (cite_keys x number)) markers
 
 -- the number of a work in the bibliography
@@ -63,19 +67,26 @@ number_of s markers order = number_among is_same s order (works_in markers)
 
 -- citations and bibliography, where the bibliography has that order
 abbrev pub stage_with : Setting → List (List CitedWork) → List EntryData → Result Rendered Refusal
-stage_with s markers order = driver_stage s.context order (markers_in_order (keys_context s) (number_of s.sorting markers order) markers)
+stage_with s markers order =
+    let number = number_of s.sorting markers order in
+    driver_stage s.context order (markers_in_order (keys_context s) number markers)
 
 -- citations and bibliography that are sorted
-abbrev pub stage_by_order : Setting → List Tree → List EntryData → List (List CitedWork) → Result Rendered Refusal
-stage_by_order s selectors library markers = stage_with s markers (order_of s.sorting selectors library (works_in_order s markers))
+abbrev pub stage_by_order : Setting → List Tree → List EntryData → List (List CitedWork)
+    → Result Rendered Refusal
+stage_by_order s selectors library markers =
+    stage_with s markers (order_of s.sorting selectors library (works_in_order s markers))
 
 -- and where they may be
-abbrev pub stage_in_order : Setting → List Tree → List EntryData → List (List CitedWork) → Result Rendered Refusal
+abbrev pub stage_in_order : Setting → List Tree → List EntryData → List (List CitedWork)
+    → Result Rendered Refusal
 stage_in_order s selectors library markers =
-    if has_keys s.sorting then stage_by_order s selectors library markers else driver_stage s.context (chosen selectors library) markers
+    if has_keys s.sorting then stage_by_order s selectors library markers
+    else driver_stage s.context (chosen selectors library) markers
 
 -- what the pieces of a document come to: its names, then the sections, and then citations and bibliography
-unfoldable pub rendered_in_order : Works → Setting → List (List ℕ) → List Piece → Result Rendered Refusal
+unfoldable pub rendered_in_order : Works → Setting → List (List ℕ) → List Piece
+    → Result Rendered Refusal
 rendered_in_order works s sections pieces = do
   markers ← name_stage works pieces
   selectors ← section_stage sections

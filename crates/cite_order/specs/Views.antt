@@ -10,7 +10,12 @@ use Rattle.cite_order.specs.declared.setting.SortedSetting.{SortedSetting}
 
 -- the style, the language that is asked for, and the locales
 abbrev pub context_view : SortedSetting → StyleContext
-context_view s = record { style = style_view s.style.now; locale = option_map (λ (c : Bor (List ℕ)). c.now) s.lang; locale_files = map locale_view s.locales.now }
+context_view s =
+    record {
+      style = style_view s.style.now;
+      locale = option_map (λ (c : Bor (List ℕ)). c.now) s.lang;
+      locale_files = map locale_view s.locales.now;
+    }
 
 -- with the style as it prints for sorting
 abbrev pub setting_view : SortedSetting → Setting

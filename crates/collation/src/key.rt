@@ -1,12 +1,14 @@
 //! Keys of texts, and their order.
 
-ghost use Rattle.std.specs.Prelude.{◌≡◌, ◌++◌, flat_map, not, IfOk, OnOk};
+ghost use Rattle.std.specs.Prelude.{◌≡◌, ◌++◌, false, flat_map, not, IfOk, OnOk};
+ghost use Rattle.std.specs.Char.{is_ascii};
+ghost use Rattle.std.specs.List.{list_all};
 ghost use Rattle.std.specs.Str.{chars};
 ghost use Rattle.laws.specs.Text.{is_filled};
 ghost use Rattle.ucd_case.specs.CaseFolding.{full_fold};
 ghost use Rattle.unicode_normalization.specs.Forms.{nfd};
-ghost use Rattle.collation.specs.Keys.{collation_key, is_gap, is_left_out, letter, order_of, place};
-ghost use Rattle.collation.specs.Views.{key_view};
+ghost use Rattle.collation.specs.Keys.{collation_key, is_gap, is_left_out, letter, order_of, parted, with_character, with_characters};
+ghost use Rattle.collation.specs.Views.{begun_view, key_view};
 
 use crate::letter::letters_for;
 use std::alloc::{AllocError, Global};
@@ -31,8 +33,12 @@ impl CollationKey {
         ensures { IfOk result (λ k. key_view k ≡ collation_key (chars text.now)) }
     {
         let decomposed = decomposed(alloc, text)?;
-        let mut letters = Vec::new(alloc);
-        push_places(&mut letters, &decomposed)?;
+        let mut key = BegunKey {
+            letters: Vec::new(alloc),
+            gap: false,
+        };
+        push_characters(&mut key, &decomposed)?;
+        let BegunKey { letters, gap: _ } = key;
         Ok(CollationKey { letters })
     }
 
@@ -57,14 +63,29 @@ pub fn collate(alloc: Global, first: &str, second: &str) -> Result<Ordering, All
     Ok(first.cmp(&second))
 }
 
-/// The characters of a text, each letter apart from its marks.
+/// The characters of a text, each letter apart from its marks. A text of ASCII has no marks.
 fn decomposed(alloc: Global, text: &str) -> Result<Vec<char>, AllocError>
     ensures { IfOk result (λ v. v.items ≡ nfd (chars text.now)) }
 {
     let characters = characters(alloc, text)?;
+    if are_ascii(&characters) {
+        return Ok(characters);
+    }
     let mut decomposed = Vec::new(alloc);
     extend_nfd(&mut decomposed, &characters)?;
     Ok(decomposed)
+}
+
+/// Whether all characters are of ASCII.
+fn are_ascii(characters: &[char]) -> bool
+    ensures { result ≡ list_all is_ascii characters.now }
+{
+    for c in characters {
+        if !c.is_ascii() {
+            return false;
+        }
+    }
+    true
 }
 
 /// The characters of a text.
@@ -74,35 +95,59 @@ fn characters(alloc: Global, text: &str) -> Result<Vec<char>, AllocError>
     text.chars().collect(alloc)
 }
 
+/// A key so far: its letters, and whether a gap was met behind the last of them.
+#[derive(Drop)]
+struct BegunKey {
+    letters: Vec<char>,
+    gap: bool,
+}
+
 /// Appends what stands for characters in a key.
-fn push_places(letters: &mut Vec<char>, characters: &[char]) -> Result<(), AllocError>
-    ensures { OnOk result (letters.new.items ≡ letters.old.items
-        ++ flat_map place characters.now) }
+fn push_characters(key: &mut BegunKey, characters: &[char]) -> Result<(), AllocError>
+    ensures { OnOk result (begun_view key.new
+        ≡ with_characters (begun_view key.old) characters.now) }
 {
     for c in characters {
-        push_place(letters, *c)?;
+        push_character(key, *c)?;
     }
     Ok(())
 }
 
 /// Appends what stands for a character in a key.
-fn push_place(letters: &mut Vec<char>, c: char) -> Result<(), AllocError>
-    ensures { OnOk result (letters.new.items ≡ letters.old.items ++ place c) }
+fn push_character(key: &mut BegunKey, c: char) -> Result<(), AllocError>
+    ensures { OnOk result (begun_view key.new ≡ with_character (begun_view key.old) c) }
 {
     if is_gap(c) {
-        letters.push(' ')?;
+        key.gap = true;
         return Ok(());
     }
     if is_left_out(c) {
         return Ok(());
     }
-    push_folded(letters, c)
+    push_gap(key)?;
+    push_folded(&mut key.letters, c)
+}
+
+/// Appends the gap that was met, if letters stand before it.
+fn push_gap(key: &mut BegunKey) -> Result<(), AllocError>
+    ensures { OnOk result (begun_view key.new
+        ≡ record { letters = parted (begun_view key.old); gap = false }) }
+{
+    if key.gap && !key.letters.is_empty() {
+        key.letters.push(' ')?;
+    }
+    key.gap = false;
+    Ok(())
 }
 
 /// Appends the letters that stand for a character, folded.
 fn push_folded(letters: &mut Vec<char>, c: char) -> Result<(), AllocError>
     ensures { OnOk result (letters.new.items ≡ letters.old.items ++ flat_map letter (full_fold c)) }
 {
+    if c.is_ascii() {
+        letters.push(c.to_ascii_lowercase())?;
+        return Ok(());
+    }
     let folded = full_folding(c);
     if folded.is_empty() {
         push_letter(letters, c)

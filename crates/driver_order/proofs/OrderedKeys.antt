@@ -1,5 +1,5 @@
 -- What is sorted by keys, by what the keys are.
-use Rattle.std.proofs.Common.{◌≡◌, List, [], ◌∷◌, map, refl, sym, ap, ◌∙◌}
+use Rattle.std.proofs.Common.{◌≡◌, ◌<◌, List, [], ◌∷◌, length, map, refl, sym, ap, ◌∙◌, arith}
 use Rattle.std.proofs.Math.Path.{fun_ext}
 use Rattle.std.proofs.lemmas.Simd.{map-map}
 use Rattle.std.specs.declared.cmp.Ordering.{Ordering}
@@ -48,3 +48,9 @@ ordered-map f keys others alike xs =
 pub unordered : {X : Type 0} (keys : X → List Part) → ((x : X) → keys x ≡ []) → (xs : List X) → ordered_by keys xs ≡ xs
 unordered keys none xs =
     ap (λ k. ordered_by k xs) (fun_ext none) ∙ sorted-stays (λ x y. key_cmp [] []) (λ a b. refl) xs
+
+-- fewer than two stay as they are
+pub few_stay : {X : Type 0} (keys : X → List Part) (xs : List X) → length xs < 2 → ordered_by keys xs ≡ xs
+few_stay keys [] few = refl
+few_stay keys (x ∷ []) few = refl
+few_stay keys (x ∷ y ∷ xs) few = absurd (omega (arith, few))

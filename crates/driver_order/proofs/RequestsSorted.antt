@@ -1,5 +1,6 @@
 -- Requests with their items in the order of sort keys.
-use Rattle.std.proofs.Common.{◌≡◌, ℕ, ◌+◌, Bool, true, false, None, List, [], ◌∷◌, ◌++◌, map, refl, ap, ◌∙◌}
+use Rattle.std.proofs.Common.{◌≡◌, ℕ, ◌+◌, ◌<◌, Bool, true, false, None, List, [], ◌∷◌, ◌++◌, length, map, refl, sym, ap, ◌∙◌, arith}
+use Rattle.std.proofs.lemmas.List.{length-map}
 use Rattle.std.proofs.lemmas.Simd.{map-map}
 use Rattle.std.specs.List.{enumerate_from}
 use Rattle.std.specs.Option.{option_map}
@@ -14,7 +15,7 @@ use Rattle.rendering_style.specs.Styles.{Style}
 use Rattle.driver_order.specs.EntryKeys.{inherited, keys_of, keys_with, part_by, sorting_properties}
 use Rattle.driver_order.specs.Order.{entries_in_order, entry_keys}
 use Rattle.driver_order.specs.Sorted.{RequestParts, cited_in, item_keys, number_among, request_from, request_in_order, request_parts, requests_in_order}
-use Rattle.driver_order.proofs.OrderedKeys.{unordered}
+use Rattle.driver_order.proofs.OrderedKeys.{few_stay, unordered}
 
 -- the entries that requests cite
 pub cited_is : {T P : Type 0} (rs : List (CitationRequest T P)) → cited_in (map request_parts rs) ≡ entries_in rs
@@ -56,3 +57,12 @@ requests_stay same answers s first rs none =
 pub entries_stay : {T : Type 0} (answers : T → Answers) (x : StyleContext) (es : List T) → x.style.bibliography_sort ≡ [] → entries_in_order x answers es ≡ es
 entries_stay answers x es none =
     ap (map (λ e. e.1)) (unordered (entry_keys x answers) (λ e. no_keys true x (answers e.1) (sorting_properties e.0 None) none) (enumerate_from 0 es)) ∙ enumerated 0 es
+
+-- a request of fewer than two items stays as it is
+pub few_in_order : {T P : Type 0} (s : Style) (answers : T → Answers) (number : T → ℕ) (r : CitationRequest T P) → length r.items.items < 2
+    → request_parts r ≡ request_in_order s answers number (request_parts r)
+few_in_order s answers number r few =
+    let x = record (context_of r) { style = s } in
+    let keys = item_keys x answers number in
+    let seen = map parts_of r.items.items in
+    λ i. record (request_parts r) { items = sym (few_stay keys seen (omega (arith, few, length-map r.items.items parts_of))) i }

@@ -30,7 +30,8 @@ sorting_properties number locator = record {
 
 -- the options for names in the bibliography, over those of the style; where there is no bibliography, those of the style
 abbrev pub bibliography_options : Style → NameOptions
-bibliography_options s = option_map_or (λ b. options_over b.name_options s.name_options) s.bibliography s.name_options
+bibliography_options s =
+    option_map_or (λ b. options_over b.name_options s.name_options) s.bibliography s.name_options
 
 -- the options for names that keys of the bibliography inherit, or those of the citation
 abbrev pub inherited : Bool → Style → NameOptions
@@ -48,11 +49,14 @@ part_by c s options k = part_of k.direction (key_value c s options k)
 
 -- all keys, in order, of an entry with these properties
 abbrev pub keys_with : Bool → StyleContext → Answers → CiteProperties → List Part
-keys_with is_bibliography x answers p = map (part_by (context_of x None is_bibliography answers p) x.style (inherited is_bibliography x.style)) (keys_of is_bibliography x.style)
+keys_with is_bibliography x answers p =
+    let context = context_of x None is_bibliography answers p in
+    map (part_by context x.style (inherited is_bibliography x.style)) (keys_of is_bibliography x.style)
 
 -- those of an entry that has this number and is cited with this locator
 abbrev pub keys_in : Bool → StyleContext → Answers → ℕ → Option SpecificLocator → List Part
-keys_in is_bibliography x answers number locator = keys_with is_bibliography x answers (sorting_properties number locator)
+keys_in is_bibliography x answers number locator =
+    keys_with is_bibliography x answers (sorting_properties number locator)
 
 -- the keys of an entry with a number, by which it is sorted in the bibliography
 abbrev pub bibliography_keys : StyleContext → Answers → ℕ → List Part

@@ -22,11 +22,21 @@ pub record RequestParts (T P : Type 0) : Type 0 where
 
 -- what a request is made of
 abbrev pub request_parts : {T P : Type 0} → CitationRequest T P → RequestParts T P
-request_parts r = record { context = context_of r; note_number = r.note_number; items = map parts_of r.items.items }
+request_parts r =
+    record {
+      context = context_of r;
+      note_number = r.note_number;
+      items = map parts_of r.items.items;
+    }
 
 -- the request that it is, where each entry has an index and answers
 abbrev pub request_from : {T P : Type 0} → (T → ℕ) → (T → Answers) → RequestParts T P → Request P
-request_from index answers r = record { context = r.context; note_number = r.note_number; items = map (item_from index answers) r.items }
+request_from index answers r =
+    record {
+      context = r.context;
+      note_number = r.note_number;
+      items = map (item_from index answers) r.items;
+    }
 
 -- the entries that requests cite
 abbrev pub cited_in : {T P : Type 0} → List (RequestParts T P) → List T
@@ -34,24 +44,34 @@ cited_in rs = flat_map (λ r. map (λ i. i.entry) r.items) rs
 
 -- cited entries in the order of a bibliography that others come first in, by their indices among those that are cited
 abbrev pub order_among : {T : Type 0} → (T → T → Bool) → Style → List T → List T → List ℕ
-order_among same s first cited = ordered s.bibliography (indices_among same cited first) (range_with_len 0 (length (once same cited)))
+order_among same s first cited =
+    let wanted = indices_among same cited first in
+    ordered s.bibliography wanted (range_with_len 0 (length (once same cited)))
 
 -- the number of an entry, from zero: its position in that order
 abbrev pub number_among : {T : Type 0} → (T → T → Bool) → Style → List T → List T → T → ℕ
-number_among same s first cited e = number_in 0 (order_among same s first cited) (index_among same cited e)
+number_among same s first cited e =
+    number_in 0 (order_among same s first cited) (index_among same cited e)
 
 -- the keys of an item whose entry has a number
-abbrev pub item_keys : {T P : Type 0} → StyleContext → (T → Answers) → (T → ℕ) → Parts T P → List Part
-item_keys x answers number i = citation_keys x (answers i.entry) (number i.entry) (option_map plain_locator i.locator)
+abbrev pub item_keys : {T P : Type 0} → StyleContext → (T → Answers) → (T → ℕ) → Parts T P
+    → List Part
+item_keys x answers number i =
+    citation_keys x (answers i.entry) (number i.entry) (option_map plain_locator i.locator)
 
 -- items in the order of their keys
-abbrev pub items_in_order : {T P : Type 0} → StyleContext → (T → Answers) → (T → ℕ) → List (Parts T P) → List (Parts T P)
+abbrev pub items_in_order : {T P : Type 0} → StyleContext → (T → Answers) → (T → ℕ)
+    → List (Parts T P) → List (Parts T P)
 items_in_order x answers number items = ordered_by (item_keys x answers number) items
 
 -- a request with its items in the order of their keys, which a style prints in the language of the request
-abbrev pub request_in_order : {T P : Type 0} → Style → (T → Answers) → (T → ℕ) → RequestParts T P → RequestParts T P
-request_in_order s answers number r = record r { items = items_in_order (record r.context { style = s }) answers number r.items }
+abbrev pub request_in_order : {T P : Type 0} → Style → (T → Answers) → (T → ℕ) → RequestParts T P
+    → RequestParts T P
+request_in_order s answers number r =
+    record r { items = items_in_order (record r.context { style = s }) answers number r.items }
 
 -- requests with their items in the order of their keys, where these entries come first in the bibliography
-abbrev pub requests_in_order : {T P : Type 0} → (T → T → Bool) → (T → Answers) → Style → List T → List (RequestParts T P) → List (RequestParts T P)
-requests_in_order same answers s first rs = map (request_in_order s answers (number_among same s first (cited_in rs))) rs
+abbrev pub requests_in_order : {T P : Type 0} → (T → T → Bool) → (T → Answers) → Style → List T
+    → List (RequestParts T P) → List (RequestParts T P)
+requests_in_order same answers s first rs =
+    map (request_in_order s answers (number_among same s first (cited_in rs))) rs

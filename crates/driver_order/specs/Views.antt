@@ -13,5 +13,6 @@ abbrev pub keyed_view : {A T : Type 0} → Keyed (Vec SortPart A) (Bor T) → Li
 keyed_view k = (parts_view k.key, k.value.now)
 
 -- an item with its keys
-abbrev pub keyed_item_view : {A T P : Type 0} → Keyed (Vec SortPart A) (CitationItem T P) → List Part × Parts T P
+abbrev pub keyed_item_view : {A T P : Type 0} → Keyed (Vec SortPart A) (CitationItem T P)
+    → List Part × Parts T P
 keyed_item_view k = (parts_view k.key, parts_of k.value)

@@ -24,7 +24,8 @@ use std::alloc::{AllocError, Global};
 use std::hash::Hash;
 use std::mem;
 
-/// A request with its items in the order of the keys of a citation, which a style prints in the languages of the request.
+/// A request with its items in the order of the keys of a citation, which a style prints in the languages of the request. Fewer than two
+/// items need no keys.
 pub(crate) fn sorted_request<'a, T: EntryLike + Hash, P: Drop>(
     alloc: Global,
     request: CitationRequest<'a, T, P>,
@@ -38,6 +39,9 @@ pub(crate) fn sorted_request<'a, T: EntryLike + Hash, P: Drop>(
         numbers.now.numbers.now) (request_parts request.entry)) }
 {
     let mut request = request;
+    if request.items.len() < 2 {
+        return Ok(request);
+    }
     let items = mem::replace(&mut request.items, Vec::new(alloc));
     request.items = items_in(alloc, &request, sorting, items, numbers)?;
     Ok(request)

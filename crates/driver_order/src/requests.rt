@@ -38,20 +38,6 @@ pub fn sorted_requests<'a, T: EntryLike + Hash, P: Drop>(
     if keys_of(sorting, false).is_empty() {
         return Ok(requests);
     }
-    sorted_by_numbers(alloc, requests, sorting, order)
-}
-
-/// The same, whether there are keys or not.
-fn sorted_by_numbers<'a, T: EntryLike + Hash, P: Drop>(
-    alloc: Global,
-    requests: Vec<CitationRequest<'a, T, P>>,
-    sorting: &Style,
-    order: &[&'a T],
-) -> Result<Vec<CitationRequest<'a, T, P>>, AllocError>
-    ensures { IfOk result (λ v. map request_parts v.items
-        ≡ requests_in_order T.eq T.answers (style_view sorting.now) (borrowed order.now)
-        (map request_parts requests.entry.items)) }
-{
     let cited = Cited::new(alloc, requests.as_slice())?;
     let numbers = numbers_in(alloc, &cited, sorting, order)?;
     let numbers = Numbers {

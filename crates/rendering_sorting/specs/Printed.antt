@@ -42,14 +42,16 @@ key_setting inherited k = record {
 abbrev pub printed_text : Context → NodeSetting → Nodes → List ℕ
 printed_text c setting xs = page_text (contents c setting true xs begun).page.tokens
 
--- whether the particle of a name goes behind the given name: unless it is said that it does not
+-- whether the particle of a name goes behind the family name: unless it is said that it does not
 abbrev pub goes_behind : NameOptions → Bool
 goes_behind options = unwrap_or options.demote true
 
 -- the value of a key: of the answer to its variable, or of what its macro prints
 abbrev pub target_value : Context → Style → NodeSetting → SortTarget → Option Value
 target_value c s setting (by_variable v) = value_of_variable c (goes_behind setting.options) v
-target_value c s setting (by_macro name) = option_and_then (λ xs. of_text (printed_text c setting (each_node (open_node limit s.macros) xs))) (macro_named s.macros name)
+target_value c s setting (by_macro name) =
+    option_and_then (λ xs. of_text (printed_text c setting (each_node (open_node limit s.macros) xs)))
+    (macro_named s.macros name)
 
 abbrev pub key_value : Context → Style → NameOptions → SortKey → Option Value
 key_value c s inherited k = target_value c s (key_setting inherited k) k.target

@@ -71,13 +71,15 @@ particle (Some cs) = cs ++ space ∷ []
 abbrev pub particle_before : Bool → Named → List ℕ
 particle_before goes_behind p = if goes_behind then [] else particle p.prefix
 
--- the particle behind the given name, where particles go there
+-- the particle behind the family name, where particles go there
 abbrev pub particle_behind : Bool → Named → List ℕ
 particle_behind goes_behind p = if goes_behind then name_part p.prefix else []
 
--- the name of a person, inverted, and a space
+-- the name of a person, the family name first, and a space
 abbrev pub inverted : Bool → Named → List ℕ
-inverted goes_behind p = particle_before goes_behind p ++ p.name ++ name_part p.given_name ++ particle_behind goes_behind p ++ name_part p.suffix ++ space ∷ []
+inverted goes_behind p =
+    particle_before goes_behind p ++ p.name ++ particle_behind goes_behind p
+    ++ name_part p.given_name ++ name_part p.suffix ++ space ∷ []
 
 -- people by their names, one after the other
 abbrev pub of_people : Bool → List Named → Option Value

@@ -43,15 +43,15 @@ fn push_people(
     Ok(())
 }
 
-/// Appends the name of a person, inverted, and a space.
+/// Appends the name of a person, the family name first, and a space.
 fn push_inverted(text: &mut String, person: &Person, goes_behind: bool) -> Result<(), AllocError>
     ensures { OnOk result (characters text.new
         ≡ characters text.old ++ inverted goes_behind (person_view person.now)) }
 {
     push_particle_before(text, person, goes_behind)?;
     push_text(text, person.name.as_str())?;
-    push_part(text, &person.given_name)?;
     push_particle_behind(text, person, goes_behind)?;
+    push_part(text, &person.given_name)?;
     push_part(text, &person.suffix)?;
     push_character(text, ' ')
 }
@@ -83,7 +83,7 @@ fn push_particle(text: &mut String, prefix: &Option<String>) -> Result<(), Alloc
     Ok(())
 }
 
-/// Appends the particle of a name where it goes behind the given name.
+/// Appends the particle of a name where it goes behind the family name.
 fn push_particle_behind(
     text: &mut String,
     person: &Person,

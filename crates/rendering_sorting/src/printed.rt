@@ -28,7 +28,7 @@ use std::alloc::{AllocError, Global};
 use texts::empty_text;
 
 /// The value of a key, where an entry has one: of the answer to its variable, or of what its macro prints from there with what the key says
-/// of names, or else the layout around it. Particles of the people of a variable go behind their given names, unless the layout says that
+/// of names, or else the layout around it. Particles of the people of a variable go behind their family names, unless the layout says that
 /// they do not.
 ///
 /// # Errors
@@ -54,7 +54,7 @@ pub fn key_value<'a, E: EntryLike>(
     }
 }
 
-/// Whether the particles of names go behind the given names.
+/// Whether the particles of names go behind the family names.
 fn goes_behind(options: &ResolvedNameOptions<'_>) -> bool
     ensures { result ≡ goes_behind (resolved_options_view options.now) }
 {

@@ -13,7 +13,16 @@ use Rattle.rendering_style.specs.Nodes.{DateNode}
 
 -- a part of a date for which nothing but its form is specified
 abbrev pub plain_part : DatePartForm → DatePart
-plain_part form = record { form = form; strips_periods = false; text_case = None; formatting = unchanged; prefix = []; suffix = []; range_delimiter = None }
+plain_part form =
+    record {
+      form = form;
+      strips_periods = false;
+      text_case = None;
+      formatting = unchanged;
+      prefix = [];
+      suffix = [];
+      range_delimiter = None;
+    }
 
 -- whether two forms are of the same part
 abbrev pub is_same_part : DatePartForm → DatePartForm → Bool
@@ -40,8 +49,16 @@ part_if d form = if may_print d form then plain_part form ∷ [] else []
 
 -- the parts of a date for sorting, in their order
 abbrev pub sorting_parts : DateNode → List DatePart
-sorting_parts d = part_if d (parts.Year lengths.Long) ++ (part_if d (parts.Month months.TwoDigits) ++ part_if d (parts.Day days.TwoDigits))
+sorting_parts d =
+    part_if d (parts.Year lengths.Long) ++ (part_if d (parts.Month months.TwoDigits)
+    ++ part_if d (parts.Day days.TwoDigits))
 
 -- A date for sorting: these parts with nothing between them, cut as before.
 abbrev pub sorting_date : DateNode → DateNode
-sorting_date d = record d { form = None; own_parts = sorting_parts d; overrides_form = false; delimiter = Some [] }
+sorting_date d =
+    record d {
+      form = None;
+      own_parts = sorting_parts d;
+      overrides_form = false;
+      delimiter = Some [];
+    }

@@ -1,3 +1,4 @@
 pub mod Dates
+pub mod Locales
 pub mod Nodes
 pub mod Styles

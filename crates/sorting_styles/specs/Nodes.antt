@@ -8,7 +8,14 @@ use Rattle.sorting_styles.specs.Dates.{sorting_date}
 
 -- options that do not say how many names are shown
 abbrev pub without_et_al : NameOptions → NameOptions
-without_et_al o = record o { et_al_min = None; et_al_use_first = None; et_al_subsequent_min = None; et_al_subsequent_use_first = None; et_al_use_last = None }
+without_et_al o =
+    record o {
+      et_al_min = None;
+      et_al_use_first = None;
+      et_al_subsequent_min = None;
+      et_al_subsequent_use_first = None;
+      et_al_use_last = None;
+    }
 
 -- options without a word before the last name
 abbrev pub without_and : NameOptions → NameOptions
@@ -17,7 +24,8 @@ without_and o = record o { and_term = None }
 -- Options of names for sorting: which of them are inverted, and how many are shown where a key says it, is left to the key; no word stands
 -- before the last.
 abbrev pub sorting_options : Bool → NameOptions → NameOptions
-sorting_options counted o = record (if counted then without_et_al o else o) { and_term = None; name_as_sort_order = None }
+sorting_options counted o =
+    record (if counted then without_et_al o else o) { and_term = None; name_as_sort_order = None }
 
 abbrev pub sorting_name : Bool → NameLook → NameLook
 sorting_name counted n = record n { options = sorting_options counted n.options }
@@ -51,7 +59,8 @@ abbrev mutual
   -- branches, and the nodes that stand where no condition is met
   pub sorting_branches : Bool → Branches → Branches
   sorting_branches counted (otherwise xs) = otherwise (sorting_nodes counted xs)
-  sorting_branches counted (branch c xs bs) = branch c (sorting_nodes counted xs) (sorting_branches counted bs)
+  sorting_branches counted (branch c xs bs) =
+      branch c (sorting_nodes counted xs) (sorting_branches counted bs)
 
 -- one branch
 abbrev pub sorting_branch : Bool → Branch → Branch

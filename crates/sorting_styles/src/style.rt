@@ -8,6 +8,7 @@ ghost use Rattle.rendering_style.specs.StyleViews.{style_view};
 ghost use Rattle.rendering_style.specs.Views.{bibliography_layout_view, macro_view, sort_key_view, style_parts_view};
 ghost use Rattle.sorting_styles.specs.Styles as specs;
 
+use crate::locales::change_locales;
 use crate::nodes::change_nodes;
 use rendering_style::{Bibliography, Macro, SortKey, Style, StyleError, StyleParts};
 use std::alloc::{AllocError, Global};
@@ -78,6 +79,7 @@ fn change_parts(alloc: Global, parts: &mut StyleParts, demotes: bool) -> Result<
     parts.name_options.demote_non_dropping_particle = Some(demotes);
     parts.citation.name_options.and = None;
     change_bibliography(&mut parts.bibliography);
+    change_locales(alloc, &mut parts.locales)?;
     change_macros(alloc, &mut parts.macros, counted)
 }
 
