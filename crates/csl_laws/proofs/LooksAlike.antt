@@ -1,5 +1,5 @@
 -- How elements look that say the same, and what they print that have no nodes in them.
-use Rattle.std.proofs.Common.{◌≡◌, ℕ, Bool, true, false, cond, ◌&&◌, List, Option, Some, None, option_map, is_some, codes, true≢false, refl, sym, ◌∙◌}
+use Rattle.std.proofs.Common.{◌≡◌, ℕ, Bool, true, false, cond, ◌&&◌, List, [], Option, Some, None, option_map, is_some, codes, true≢false, refl, sym, ◌∙◌}
 use Rattle.std.specs.List.{cons_option}
 use Rattle.std.specs.Option.{unwrap_or}
 use Rattle.laws.specs.Text.{text}
@@ -23,7 +23,7 @@ use Rattle.csl_words.specs.declared.terms.TheConstants.{TERM_FORMS}
 use Rattle.csl_words.specs.declared.variables.TheConstants.{DATE_VARIABLES, NAME_VARIABLES, NUMBER_VARIABLES}
 use Rattle.csl_nodes.specs.Conditions.{condition}
 use Rattle.csl_nodes.specs.Dates.{in_form, part_of, date_part, date_parts}
-use Rattle.csl_nodes.specs.Leaves.{answered, text_of_source, variable_text, text_by, text_node, number_of, number_node, label_node, date_of, date_node}
+use Rattle.csl_nodes.specs.Leaves.{answered, text_of_source, variable_text, text_by, text_node, number_of, number_node, label_node, date_form, date_of, date_node}
 use Rattle.csl_nodes.specs.Looks.{formatting, text_case, look, text_look, term_form, label_look}
 use Rattle.csl_nodes.specs.Names.{name_part, is_part, first_part, part_for, name_look, et_al, label_leads, merges, names_node}
 use Rattle.csl_nodes.specs.Nodes.{group_node}
@@ -180,15 +180,18 @@ date_parts_same here (Next t e c) (Next u f d) (ts, es, rest) = λ j. cons_optio
 pub own_parts_same : (x y : Element) → Alike x y → date_parts (content_in x) ≡ date_parts (content_in y)
 own_parts_same (Tagged left n ps c) (Tagged right m bs d) a = date_parts_same (text_counts (Tagged left n ps c)) c d a.2
 
+date_form_same : (x y : Element) → SaySame x y → date_form x ≡ date_form y
+date_form_same x y h = value_same x y h (table DATE_FORMS.now) (codes "form")
+
 date_of_same : (x y : Element) → Alike x y → (v : DateVariable) → date_of x v ≡ date_of y v
 date_of_same x y a v =
     let h : SaySame x y = alike_said x y a in
     λ j. record {
       variable = v;
-      form = value_same x y h (table DATE_FORMS.now) (codes "form") j;
+      form = date_form_same x y h j;
       parts = unwrap_or (value_same x y h (table DATE_PARTS.now) (codes "date-parts") j) cuts.YearMonthDay;
-      own_parts = own_parts_same x y a j;
-      overrides_form = is_some (value_same x y h (table DATE_FORMS.now) (codes "form") j);
+      own_parts = cond (is_some (date_form_same x y h j)) [] (own_parts_same x y a j);
+      overrides_form = false;
       delimiter = h (codes "delimiter") j;
       text_case = case_same x y h j;
       look = look_same x y h j;

@@ -1,10 +1,12 @@
 -- Elements without nodes in them: texts, numbers, labels and dates.
-use Rattle.std.specs.Prelude.{ℕ, List, [], ◌∷◌, if◌then◌else◌, Option, Some, None, is_some, unwrap_or, codes}
+use Rattle.std.specs.Prelude.{ℕ, false, List, [], ◌∷◌, if◌then◌else◌, Option, Some, None, is_some, unwrap_or, codes}
 use Rattle.std.specs.Option.{option_map, option_and_then}
 use Rattle.laws.specs.Text.{text}
 use Rattle.xml_tree.specs.Trees.{Element}
 use Rattle.rendering_taxonomy.specs.Variables.{is_variable}
 use Rattle.rendering_taxonomy.specs.declared.choose.ChooseMatch.TheVariants as matches
+use Rattle.rendering_locale.specs.Locales.{DatePart}
+use Rattle.rendering_taxonomy.specs.declared.date.DateForm.{DateForm}
 use Rattle.rendering_taxonomy.specs.declared.date.DateParts.TheVariants as cuts
 use Rattle.rendering_taxonomy.specs.declared.date.LongShortForm.TheVariants as lengths
 use Rattle.rendering_taxonomy.specs.declared.number.NumberForm.TheVariants as numbers
@@ -77,14 +79,22 @@ number_node e = option_map (λ (v : Variable). leaf (number (number_of e v))) (v
 abbrev pub label_node : Element → Option Node
 label_node e = option_map (λ (v : Variable). leaf (label v (label_look e))) (value_by (table NUMBER_VARIABLES.now) (codes "variable") e)
 
--- the answer to a variable of a date; where the form is one of the locale's, own parts say how its parts are printed
+-- the form of the locale's dates in which a date is printed, if it says one
+abbrev pub date_form : Element → Option DateForm
+date_form e = value_by (table DATE_FORMS.now) (codes "form") e
+
+-- the parts of a date: those of the locale, where it says a form, and else its own
+abbrev pub own_parts : Element → List DatePart
+own_parts e = if is_some (date_form e) then [] else date_parts (content_in e)
+
+-- the answer to a variable of a date
 abbrev pub date_of : Element → DateVariable → DateNode
 date_of e v = record {
   variable = v;
-  form = value_by (table DATE_FORMS.now) (codes "form") e;
+  form = date_form e;
   parts = unwrap_or (value_by (table DATE_PARTS.now) (codes "date-parts") e) cuts.YearMonthDay;
-  own_parts = date_parts (content_in e);
-  overrides_form = is_some (value_by (table DATE_FORMS.now) (codes "form") e);
+  own_parts = own_parts e;
+  overrides_form = false;
   delimiter = attribute (codes "delimiter") e;
   text_case = text_case e;
   look = look e;

@@ -1,9 +1,10 @@
 //! Elements without nodes in them: texts, numbers, labels and dates.
 
-ghost use Rattle.std.specs.Prelude.{◌≡◌, IfOk, codes};
+ghost use Rattle.std.specs.Prelude.{◌≡◌, map, IfOk, codes};
 ghost use Rattle.std.specs.Option.{option_map};
 ghost use Rattle.std.specs.Str.{chars};
 ghost use Rattle.laws.specs.Text.{text};
+ghost use Rattle.rendering_locale.specs.Views.{part_view};
 ghost use Rattle.rendering_taxonomy.specs.Variables.{is_variable};
 ghost use Rattle.rendering_style.specs.Nodes.{leaf, call, number, label, date, node, no_nodes};
 ghost use Rattle.rendering_style.specs.Views.{node_view, text_node_view, branch_view, condition_view};
@@ -11,7 +12,7 @@ ghost use Rattle.xml_tree.specs.Views.{element_view};
 ghost use Rattle.csl_words.specs.Looking.{attribute};
 ghost use Rattle.csl_nodes.specs.Looks.{text_look, label_look};
 ghost use Rattle.csl_nodes.specs.Terms as terms;
-ghost use Rattle.csl_nodes.specs.Leaves.{year_suffix, has_suffix, where_suffixed, answered, variable_text, term_text, text_by, text_node, number_of, number_node, label_node, date_of, date_node};
+ghost use Rattle.csl_nodes.specs.Leaves.{year_suffix, has_suffix, where_suffixed, answered, variable_text, term_text, text_by, text_node, number_of, number_node, label_node, own_parts, date_of, date_node};
 ghost use Rattle.csl_nodes.specs.Views.{words_view};
 
 use crate::dates::date_parts;
@@ -22,6 +23,7 @@ use csl_words::{
     DATE_FORMS, DATE_PARTS, DATE_VARIABLES, LENGTHS, NUMBER_FORMS, NUMBER_VARIABLES, attribute,
     is_true, optional_text, text_of, value_by,
 };
+use rendering_locale::DatePart;
 use rendering_style::{
     ChooseBranch, ChooseTest, Condition, Date, Label, Node, Number, Text, TextTarget,
 };
@@ -245,13 +247,23 @@ pub(crate) fn label_node(alloc: Global, element: &Element<'_>) -> Result<Option<
     }
 }
 
+/// The parts of a date: none of its own, where it is printed in a form of the locale's.
+fn own_parts(alloc: Global, element: &Element<'_>) -> Result<Vec<DatePart>, AllocError>
+    ensures { IfOk result (λ v. map part_view v.items ≡ own_parts (element_view element.now)) }
+{
+    match value_by(DATE_FORMS, "form", element) {
+        Some(_) => Ok(Vec::new(alloc)),
+        None => date_parts(alloc, element),
+    }
+}
+
 /// The answer to a variable of a date.
 fn date_of(alloc: Global, element: &Element<'_>, variable: DateVariable) -> Result<Node, AllocError>
     ensures { IfOk result (λ n. node_view n
         ≡ leaf (date (date_of (element_view element.now) variable))) }
 {
     let form = value_by(DATE_FORMS, "form", element);
-    let own_parts = date_parts(alloc, element)?;
+    let own_parts = own_parts(alloc, element)?;
     let delimiter = optional_text(alloc, "delimiter", element)?;
     let look = look(alloc, element)?;
     Ok(Node::Date(Date {
@@ -259,7 +271,7 @@ fn date_of(alloc: Global, element: &Element<'_>, variable: DateVariable) -> Resu
         form,
         parts: value_by(DATE_PARTS, "date-parts", element).unwrap_or(DateParts::YearMonthDay),
         own_parts,
-        overrides_form: form.is_some(),
+        overrides_form: false,
         delimiter,
         text_case: text_case(element),
         look,
