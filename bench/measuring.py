@@ -44,12 +44,15 @@ def peak_and_seconds(words):
     return int(ran.stderr.split()[-1]) * 1024, seconds
 
 
-def instructions(words, folder, given=None, inside=None):
-    """The instructions of one run, with a file as its input; of those inside functions of a name alone, where one is said."""
+def instructions(words, folder, given=None, inside=None, status=0):
+    """The instructions of one run, with a file as its input; of those inside functions of a name alone, where one is said. It has to end with
+    the status."""
     out = os.path.join(folder, "callgrind.out")
     options = [f"--toggle-collect=*{inside}*"] if inside else []
     command = ["valgrind", "--tool=callgrind", "--callgrind-out-file=" + out] + options + words
-    subprocess.run(command, check=True, stdin=given, stdout=subprocess.DEVNULL, stderr=subprocess.DEVNULL)
+    ran = subprocess.run(command, stdin=given, stdout=subprocess.DEVNULL, stderr=subprocess.DEVNULL)
+    if ran.returncode != status:
+        sys.exit(f"{words} ended with status {ran.returncode}")
     with open(out) as lines:
         for line in lines:
             if line.startswith(("summary:", "totals:")):

@@ -35,8 +35,7 @@ means_nothing view None m is none = ap is_none (sym is)
 means_nothing view (Some x) m is none = absurd cc
 
 -- the lines for a name that means nothing, once they are appended
-pub name_said : {T E : Type 0} (r : Result T E) (d : SourceFile) (works : Works) (name : List ℕ) (left : ℕ) (lines grown said : Lines) → is_none (meaning name works) ≡ true
-    → said ≡ lines_left d left (codes "unknown name " ++ name) → grown ≡ (if is_ok r then lines ++ said else lines)
-    → OnOk r (grown ≡ lines ++ name_lines d works (record { name = name; left = left }))
-name_said (Ok x) d works name left lines grown said none is appended = rw none (appended ∙ ap (λ (x : Lines). lines ++ x) is)
-name_said (Err e) d works name left lines grown said none is appended = tt
+pub name_said : {T E : Type 0} (r : Result T E) (d : SourceFile) (works : Works) (name : List ℕ) (left : ℕ) (lines grown why : Lines) → is_none (meaning name works) ≡ true
+    → why ≡ codes "unknown name " ++ name → OnOk r (grown ≡ lines ++ lines_left d left why) → OnOk r (grown ≡ lines ++ name_lines d works (record { name = name; left = left }))
+name_said (Ok x) d works name left lines grown why none is appended = rw none (appended ∙ ap (λ (w : Lines). lines ++ lines_left d left w) is)
+name_said (Err e) d works name left lines grown why none is appended = tt

@@ -6,7 +6,7 @@ use Rattle.std.specs.Str.Lossy.{utf8_valid_len}
 use Rattle.laws.specs.Characters.{backslash, at_sign, semicolon, close_bracket}
 use Rattle.laws.specs.Runs.{after}
 use Rattle.laws.specs.Text.{text}
-use Rattle.source_positions.specs.Messages.{refusal_lines}
+use Rattle.fault_lines.specs.Messages.{fault_lines}
 use Rattle.cite_markers.specs.Document.{Piece, Text, Marker}
 use Rattle.cite_markers.specs.Marker.{Cite}
 use Rattle.cite_requests.specs.Stages.{Refusal, document_not_utf8, no_marker, unknown_name, document_stage}
@@ -18,8 +18,8 @@ use Rattle.cite_csl.specs.Works.{said_by}
 
 -- lines for the refusal of the document
 abbrev pub document_lines : SourceFile → Refusal → Lines
-document_lines d document_not_utf8 = refusal_lines d.path d.bytes (utf8_valid_len d.bytes) (codes "not UTF-8")
-document_lines d (no_marker offset) = refusal_lines d.path d.bytes offset (codes "no marker")
+document_lines d document_not_utf8 = fault_lines d.path d.bytes (utf8_valid_len d.bytes) (codes "not UTF-8")
+document_lines d (no_marker offset) = fault_lines d.path d.bytes offset (codes "no marker")
 document_lines d other = line (refusal_text other)
 
 -- the pieces of the document

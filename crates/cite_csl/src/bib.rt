@@ -1,6 +1,6 @@
 //! Bib texts that are read as one, and what is said where they are refused.
 
-ghost use Rattle.std.specs.Prelude.{◌≡◌, ◌++◌, [], true, Ok, map, flat_map, IfOk, OnOk, string_bytes};
+ghost use Rattle.std.specs.Prelude.{◌≡◌, ◌++◌, [], true, ℕ, List, Ok, Some, codes, if◌then◌else◌, map, flat_map, IfOk, OnOk, string_bytes};
 ghost use Rattle.std.specs.Str.{bytes_eq, chars};
 ghost use Rattle.laws.specs.Text.{text as text_of};
 ghost use Rattle.biblatex.specs.Bibliographies.{listed_view};
@@ -12,9 +12,10 @@ ghost use Rattle.interop.specs.Views.{fault_view};
 ghost use Rattle.cite_requests.specs.Cited.{works_of};
 ghost use Rattle.cite_requests.specs.Stages.{library_stage};
 ghost use Rattle.cite_csl_styles.specs.Answers.{Answers, Returns};
+ghost use Rattle.cite_csl_styles.specs.JoinedFaults.{IsAmong, lines_view};
 ghost use Rattle.cite_csl_styles.specs.Sources as sources;
 ghost use Rattle.cite_csl_styles.specs.Views.{sources_view};
-ghost use Rattle.cite_csl.specs.Views.{works_view};
+ghost use Rattle.cite_csl.specs.Views.{ArePlaces, kept_at, works_view};
 ghost use Rattle.cite_csl.specs.Works as specs;
 ghost use Rattle.cite_csl.specs.Works.{AreWorks, bib_lines, said_by};
 
@@ -22,28 +23,50 @@ use crate::entries::Entries;
 use biblatex::{
     Bibliography, ParseError, ParseErrorKind, RawBibliography, RawEntry, RawError, Spanned,
 };
-use cite_csl_styles::{SourceFile, Stop, joined, line, lines_at, refused};
+use cite_csl_styles::{JoinedFaults, SourceFile, Stop, joined, lines_at, refused};
 use interop::{BridgeError, FieldFault, check_dates};
 use std::alloc::{AllocError, Global};
+use std::collections::BTreeMap;
 
-/// Whether a key is this one.
-#[tactic(auto, using(laws::proofs::Text::text_of_chars))]
-fn is_key(written: &str, key: &str) -> bool
-    ensures { result ≡ bytes_eq (text_of (chars written.now)) key.now }
+/// The byte at which the key of the first of some entries begins that has it, by the places of their keys.
+fn key_place(places: &BTreeMap<&str, usize>, key: &str) -> Option<usize>
+    ensures { result ≡ kept_at places.now key.now }
 {
-    written == key
+    places.get(key).copied()
 }
 
-/// The byte at which the key of the first of these entries begins that has it.
-fn key_place(key: &str, entries: &[Spanned<RawEntry<'_>>]) -> Option<usize>
-    ensures { result ≡ specs.key_place key.now (map entry_view entries.now) }
+/// Keeps a place for a key.
+fn keep_place<'s>(
+    places: &mut BTreeMap<&'s str, usize>,
+    key: &'s str,
+    place: usize,
+) -> Result<(), AllocError>
+    ensures { OnOk result ((other : List ℕ) → kept_at places.new other
+        ≡ if bytes_eq (text_of (chars key.now)) other then Some place
+        else kept_at places.old other) }
 {
-    for entry in entries {
-        if is_key(entry.v.key.v, key) {
-            return Some(entry.v.key.span.start);
-        }
+    places.insert(key, place)?;
+    Ok(())
+}
+
+/// The byte at which each key of these entries begins that is there: at the first entry that has it, which is kept last.
+fn key_places<'s>(
+    alloc: Global,
+    entries: &[Spanned<RawEntry<'s>>],
+) -> Result<BTreeMap<&'s str, usize>, AllocError>
+    ensures { IfOk result (λ m. ArePlaces m (map entry_view entries.now)) }
+{
+    let mut places = BTreeMap::new(alloc);
+    let mut left = entries.len();
+    while left > 0 {
+        left -= 1;
+        keep_place(
+            &mut places,
+            entries[left].v.key.v,
+            entries[left].v.key.span.start,
+        )?;
     }
-    None
+    Ok(places)
 }
 
 /// The byte of a text at which the key of the first entry begins that has it.
@@ -51,7 +74,10 @@ fn place_in(alloc: Global, key: &str, text: &str) -> Result<Option<usize>, Alloc
     ensures { IfOk result (λ p. p ≡ specs.place_in key.now text.now) }
 {
     match RawBibliography::parse(alloc, text) {
-        Ok(raw) => Ok(key_place(key, raw.entries.as_slice())),
+        Ok(raw) => {
+            let places = key_places(alloc, raw.entries.as_slice())?;
+            Ok(key_place(&places, key))
+        }
         Err(RawError::Refused { .. }) => Ok(None),
         Err(RawError::Memory) => Err(AllocError),
     }
@@ -118,39 +144,44 @@ fn refused_lines(
     Ok(lines)
 }
 
-/// The lines for something at the key of an entry.
-fn key_lines(
+/// Appends the lines for something at the key of an entry.
+fn push_key_lines(
     alloc: Global,
     files: &[SourceFile<'_>],
     why: &str,
     at: Option<usize>,
-) -> Result<String, AllocError>
-    ensures { IfOk result (λ s. string_bytes s
-        ≡ specs.key_lines (sources_view files.now) why.now at) }
+    lines: &mut JoinedFaults,
+) -> Result<(), AllocError>
+    requires { IsAmong (sources_view files.now) lines.old }
+    ensures lines { OnOk result (lines_view lines.new
+        ≡ lines_view lines.old ++ specs.key_lines (sources_view files.now) why.now at) }
+    ensures place { OnOk result (IsAmong (sources_view files.now) lines.new) }
 {
     match at {
-        Some(at) => lines_at(alloc, files, at, why),
-        None => line(alloc, why, ""),
+        Some(at) => lines.push(alloc, files, at, why),
+        None => lines.push_line(alloc, why),
     }
 }
 
-/// Appends the lines for a date that cannot be read.
+/// Appends the lines for a date that cannot be read, by the places of the keys of entries.
 fn push_date_lines(
     alloc: Global,
     files: &[SourceFile<'_>],
-    entries: &[Spanned<RawEntry<'_>>],
+    places: &BTreeMap<&str, usize>,
     fault: &FieldFault,
-    lines: &mut String,
+    lines: &mut JoinedFaults,
 ) -> Result<(), AllocError>
-    ensures { OnOk result (string_bytes lines.new ≡ string_bytes lines.old
-        ++ specs.date_lines (sources_view files.now) (map entry_view entries.now)
-        (fault_view fault.now)) }
+    requires { IsAmong (sources_view files.now) lines.old }
+    ensures lines { OnOk result (lines_view lines.new ≡ lines_view lines.old
+        ++ specs.key_lines (sources_view files.now)
+        (codes "unreadable " ++ (fault_view fault.now).field)
+        (kept_at places.now (fault_view fault.now).key)) }
+    ensures place { OnOk result (IsAmong (sources_view files.now) lines.new) }
 {
     let name = fault.field.name();
     let why = format!(in alloc; "unreadable {name}")?;
-    let at = key_place(fault.key.as_str(), entries);
-    let said = key_lines(alloc, files, why.as_str(), at)?;
-    lines.push_str(said.as_str())
+    let at = key_place(places, fault.key.as_str());
+    push_key_lines(alloc, files, why.as_str(), at, lines)
 }
 
 /// The lines for dates that cannot be read, by the entries of the text.
@@ -164,11 +195,12 @@ fn date_lines_by(
         (specs.date_lines (sources_view files.now) (map entry_view entries.now))
         (map fault_view faults.now)) }
 {
-    let mut lines = String::new(alloc);
+    let places = key_places(alloc, entries)?;
+    let mut lines = JoinedFaults::new(alloc);
     for fault in faults {
-        push_date_lines(alloc, files, entries, fault, &mut lines)?;
+        push_date_lines(alloc, files, &places, fault, &mut lines)?;
     }
-    Ok(lines)
+    Ok(lines.into_string())
 }
 
 /// The lines for dates that cannot be read.

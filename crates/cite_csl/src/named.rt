@@ -6,6 +6,7 @@ ghost use Rattle.std.specs.Str.{chars};
 ghost use Rattle.std.specs.List.{flat_map};
 ghost use Rattle.laws.specs.Characters.{at_sign, backslash};
 ghost use Rattle.laws.specs.Text.{spelled, text as text_of};
+ghost use Rattle.fault_lines.specs.Views.{IsIn, lines_view};
 ghost use Rattle.literature_entries.specs.EntriesData.{entry_view};
 ghost use Rattle.cite_markers.specs.Views.{cite_view, document_view, piece_view};
 ghost use Rattle.cite_requests.specs.Works.{meaning};
@@ -16,9 +17,10 @@ ghost use Rattle.cite_csl_styles.specs.Views.{source_view};
 
 use crate::document::ReadDocument;
 use crate::entries::Entries;
-use cite_csl_styles::{SourceFile, lines_left};
+use cite_csl_styles::{SourceFile, push_lines_left};
 use cite_markers::{Cite, Piece};
 use cite_requests::work_of;
+use fault_lines::FaultLines;
 use literature::Library;
 use literature_entries::Entry;
 use std::alloc::{AllocError, Global};
@@ -111,18 +113,19 @@ fn push_unknown(
     works: Works<'_>,
     name: &str,
     left: usize,
-    lines: &mut String,
+    lines: &mut FaultLines,
 ) -> Result<(), AllocError>
-    ensures { OnOk result (string_bytes lines.new ≡ string_bytes lines.old
+    requires { IsIn file.bytes.now lines.old }
+    ensures lines { OnOk result (lines_view lines.new ≡ lines_view lines.old
         ++ name_lines (source_view file.entry) (cited_view works.entry)
         (record { name = name.now; left = left })) }
+    ensures place { OnOk result (IsIn file.entry.bytes.now lines.new) }
 {
     if meant(works, name).is_some() {
         return Ok(());
     }
     let why = format!(in alloc; "unknown name {name}")?;
-    let said = lines_left(alloc, file, left, why.as_str())?;
-    lines.push_str(said.as_str())
+    push_lines_left(alloc, file, left, why.as_str(), lines)
 }
 
 /// Appends the lines for the names of a marker that mean nothing, where the marker begins with this text.
@@ -132,11 +135,13 @@ fn push_unknown_in(
     works: Works<'_>,
     cites: &[Cite<'_>],
     text: &str,
-    lines: &mut String,
+    lines: &mut FaultLines,
 ) -> Result<(), AllocError>
-    ensures { OnOk result (string_bytes lines.new ≡ string_bytes lines.old
+    requires { IsIn file.bytes.now lines.old }
+    ensures lines { OnOk result (lines_view lines.new ≡ lines_view lines.old
         ++ flat_map (name_lines (source_view file.entry) (cited_view works.entry))
         (names_in (map cite_view cites.now) (chars text.now))) }
+    ensures place { OnOk result (IsIn file.entry.bytes.now lines.new) }
 {
     let mut rest = text;
     for cite in cites {
@@ -153,11 +158,13 @@ fn push_unknown_of(
     works: Works<'_>,
     piece: &Piece<'_>,
     text: &str,
-    lines: &mut String,
+    lines: &mut FaultLines,
 ) -> Result<(), AllocError>
-    ensures { OnOk result (string_bytes lines.new ≡ string_bytes lines.old
+    requires { IsIn file.bytes.now lines.old }
+    ensures lines { OnOk result (lines_view lines.new ≡ lines_view lines.old
         ++ flat_map (name_lines (source_view file.entry) (cited_view works.entry))
         (specs.names_at (piece_view piece.now) (chars text.now))) }
+    ensures place { OnOk result (IsIn file.entry.bytes.now lines.new) }
 {
     match piece {
         Piece::Text(_) => Ok(()),
@@ -187,11 +194,11 @@ pub(crate) fn unknown_lines(
         ≡ flat_map (name_lines (source_view document.now.file) (cited_view works.entry))
         (names_of (document_view document.now.document) (chars document.now.text.now))) }
 {
-    let mut lines = String::new(alloc);
+    let mut lines = FaultLines::new(alloc);
     let mut rest = document.text;
     for piece in &document.document.pieces {
         push_unknown_of(alloc, document.file, works, piece, rest, &mut lines)?;
         rest = past_piece(piece, rest);
     }
-    Ok(lines)
+    Ok(lines.into_string())
 }

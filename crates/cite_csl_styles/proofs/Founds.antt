@@ -1,6 +1,6 @@
 -- What files of CSL are found to be, and why they are refused.
 use Rattle.std.proofs.Common.{◌≡◌, ℕ, true, List, Option, Some, None, Result, Ok, Err, IfOk, IfSome, inl, inr, refl, sym, ap, ◌∙◌, subst, codes}
-use Rattle.std.specs.Prelude.{IfNone}
+use Rattle.std.specs.Prelude.{IfNone, IsSomeAnd}
 use Rattle.std.specs.Option.{option_map}
 use Rattle.std.specs.Str.{chars, IsUtf8, is_utf8}
 use Rattle.std.specs.Str.Lossy.{utf8_valid_len}
@@ -11,7 +11,7 @@ use Rattle.xml_tree.specs.Grammar.{Spells}
 use Rattle.xml_tree.specs.declared.tree.Element.{out-Element}
 use Rattle.xml_schema.specs.Faults.{left_at}
 use Rattle.xml_schema.proofs.Contents.{element_opened}
-use Rattle.source_positions.specs.Messages.{refusal_lines}
+use Rattle.fault_lines.specs.Messages.{fault_lines}
 use Rattle.csl_styles.specs.Faults.{faults}
 use Rattle.csl_styles.specs.Files.{Csl, meaning}
 use Rattle.csl_styles.specs.Reading.{Refusal, IsRefused, Means}
@@ -43,10 +43,10 @@ text_found file t x m same utf8 spelled only (y, spells, sound, meant, answered)
     )
 
 -- bytes that are no text
-pub no_text : (file : SourceFile) (at : ℕ) (e : Stop) → (IsUtf8 file.bytes → ⊥) → at ≡ utf8_valid_len file.bytes → IsRefusal e (refusal_lines file.path file.bytes at (codes "not UTF-8")) → IsStop e (IsCslRead file)
+pub no_text : (file : SourceFile) (at : ℕ) (e : Stop) → (IsUtf8 file.bytes → ⊥) → at ≡ utf8_valid_len file.bytes → IsRefusal e (fault_lines file.path file.bytes at (codes "not UTF-8")) → IsStop e (IsCslRead file)
 no_text file at e bad valid said =
-    stopped e (refusal_lines file.path file.bytes at (codes "not UTF-8")) (IsCslRead file) said
-    (inl (false_from_ne_true (is_utf8 file.bytes) (λ t. bad (IsUtf8-from_is_utf8 file.bytes t)), ap (λ (n : ℕ). refusal_lines file.path file.bytes n (codes "not UTF-8")) valid))
+    stopped e (fault_lines file.path file.bytes at (codes "not UTF-8")) (IsCslRead file) said
+    (inl (false_from_ne_true (is_utf8 file.bytes) (λ t. bad (IsUtf8-from_is_utf8 file.bytes t)), ap (λ (n : ℕ). fault_lines file.path file.bytes n (codes "not UTF-8")) valid))
 
 -- a text that is refused, and one for which memory ran out
 pub text_stopped : (file : SourceFile) (t : List ℕ) (r : Option Refusal) (e : Stop) → t ≡ file.bytes → IsUtf8 t → IfSome r (IsRefused (chars t)) → IfSome r (λ q. IsRefusal e (lines_left file (refusal_left q) (refusal_text q)))
@@ -59,6 +59,13 @@ text_stopped file t (Some q) e same utf8 refused said memory =
       refused = subst (λ (bs : List ℕ). IsRefused (chars bs) q) same refused;
       said = refl;
     }))
+
+-- the lines for a text that is refused, by what is said of it
+pub text_said : (o : Option Refusal) (file : SourceFile) (e : Stop) (why said : List ℕ) (left : ℕ) → IsSomeAnd o (λ r. (why ≡ refusal_text r) × (left ≡ refusal_left r)) → said ≡ why → IsRefusal e (lines_left file left said)
+    → IfSome o (λ r. IsRefusal e (lines_left file (refusal_left r) (refusal_text r)))
+text_said None file e why said left is same refused = tt
+text_said (Some r) file e why said left is same refused =
+    subst (λ (n : ℕ). IsRefusal e (lines_left file n (refusal_text r))) is.1 (subst (λ (w : List ℕ). IsRefusal e (lines_left file left w)) (same ∙ is.0) refused)
 
 -- lines at the root
 pub root_refused : {X : Type 0} (found : code.Found) (why : List ℕ) (e : Stop) (wanted : Wanted X) → IsRefusal e (lines_left (source_view found.file) (out-Element found.root).left why)

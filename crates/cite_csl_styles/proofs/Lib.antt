@@ -1,7 +1,7 @@
 pub mod Directories
+pub mod FilesJoined
 pub mod Founds
 pub mod Gathered
-pub mod LinesFound
 pub mod LocalesFound
 pub mod Meant
 pub mod SheetsFound

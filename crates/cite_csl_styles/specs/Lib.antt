@@ -4,5 +4,5 @@ pub mod CslLines
 pub mod Sheets
 pub mod FeatureLines
 pub mod Answers
-pub mod LineStarts
+pub mod JoinedFaults
 pub mod Views

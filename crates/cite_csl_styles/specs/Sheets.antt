@@ -9,7 +9,7 @@ use Rattle.xml_tree.specs.Grammar.{Spells}
 use Rattle.xml_schema.specs.Faults.{left_at}
 use Rattle.rendering_locale.specs.Locales.{Locale}
 use Rattle.rendering_style.specs.Styles.{Style}
-use Rattle.source_positions.specs.Messages.{refusal_lines}
+use Rattle.fault_lines.specs.Messages.{fault_lines}
 use Rattle.csl_locales.specs.Locales.{locale}
 use Rattle.csl_styles.specs.Faults.{faults}
 use Rattle.csl_styles.specs.Files.{Csl, Dependent, Independent, Localized, meaning}
@@ -46,7 +46,7 @@ pub record IsTextRefused (file : SourceFile) (lines : Lines) : Type 0 where
   pub said : lines ≡ lines_left file (refusal_left refusal) (refusal_text refusal)
 
 abbrev pub IsNoText : SourceFile → Lines → Type 0
-IsNoText file lines = (is_utf8 file.bytes ≡ false) × (lines ≡ refusal_lines file.path file.bytes (utf8_valid_len file.bytes) (codes "not UTF-8"))
+IsNoText file lines = (is_utf8 file.bytes ≡ false) × (lines ≡ fault_lines file.path file.bytes (utf8_valid_len file.bytes) (codes "not UTF-8"))
 
 abbrev pub IsCslRead : SourceFile → Result Found Lines → Type 0
 IsCslRead file (Ok f) = (f.file ≡ file) × IsFound f

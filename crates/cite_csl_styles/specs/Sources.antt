@@ -6,7 +6,7 @@ use Rattle.laws.specs.Text.{is_filled}
 use Rattle.programs.specs.Files.{Outcome}
 use Rattle.programs.specs.Programs as programs
 use Rattle.programs.specs.declared.files.ReadFault.TheVariants.{Memory, Unreadable}
-use Rattle.source_positions.specs.Messages.{refusal_lines}
+use Rattle.fault_lines.specs.Messages.{fault_lines}
 use Rattle.cite_csl_styles.specs.Stages.{Lines}
 
 -- a line: the name of the program, what it says
@@ -63,7 +63,7 @@ AreRead read paths answer = (list_any (λ (p : List ℕ). lacks_memory (read p))
 
 -- lines that say why a file is refused where so many of its bytes are left
 abbrev pub lines_left : SourceFile → ℕ → List ℕ → Lines
-lines_left f left why = refusal_lines f.path f.bytes (length f.bytes - left) why
+lines_left f left why = fault_lines f.path f.bytes (length f.bytes - left) why
 
 -- the bytes of a file, and a line feed where another one follows
 abbrev pub part_of : SourceFile → Bool → List ℕ
@@ -78,5 +78,5 @@ joined (f ∷ g ∷ fs) = f.bytes ++ line_feed ∷ joined (g ∷ fs)
 -- Lines that say why such a text is refused at a byte: in the file that has it, or that ends there.
 abbrev pub lines_at : List SourceFile → ℕ → List ℕ → Lines
 lines_at [] at why = line why
-lines_at (f ∷ []) at why = refusal_lines f.path f.bytes at why
-lines_at (f ∷ g ∷ fs) at why = if nat_lt (length f.bytes) at then lines_at (g ∷ fs) (at - (length f.bytes + 1)) why else refusal_lines f.path f.bytes at why
+lines_at (f ∷ []) at why = fault_lines f.path f.bytes at why
+lines_at (f ∷ g ∷ fs) at why = if nat_lt (length f.bytes) at then lines_at (g ∷ fs) (at - (length f.bytes + 1)) why else fault_lines f.path f.bytes at why

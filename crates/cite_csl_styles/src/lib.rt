@@ -5,6 +5,7 @@
 
 mod csl_texts;
 mod features;
+mod joined_faults;
 mod locales;
 mod parents;
 mod sheets;
@@ -12,11 +13,12 @@ mod sources;
 mod stop;
 
 pub use features::feature_lines;
+pub use joined_faults::JoinedFaults;
 pub use locales::locales_of;
 pub use parents::{ParentPaths, parent_paths, paths_for};
 pub use sheets::{Found, Sheet, found_at, sheet_of};
 pub use sources::{
-    SourceFile, file_at, files_at, joined, line, lines_at, lines_left, refused, refused_at,
+    SourceFile, file_at, files_at, joined, line, lines_at, push_lines_left, refused, refused_at,
     unread_lines,
 };
 pub use stop::Stop;

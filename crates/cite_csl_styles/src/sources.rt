@@ -4,15 +4,17 @@ ghost use Rattle.std.specs.Prelude.{◌≡◌, ◌++◌, ◌-◌, ℕ, List, [],
 ghost use Rattle.std.specs.List.{list_any};
 ghost use Rattle.laws.specs.Borrowed.{borrowed};
 ghost use Rattle.programs.specs.Files.{read_at};
-ghost use Rattle.source_positions.specs.Messages as messages;
+ghost use Rattle.fault_lines.specs.Messages as messages;
+ghost use Rattle.fault_lines.specs.Views.{IsIn, lines_view};
 ghost use Rattle.cite_csl_styles.specs.Answers.{IsRefusal};
 ghost use Rattle.cite_csl_styles.specs.Sources as specs;
 ghost use Rattle.cite_csl_styles.specs.Sources.{bytes_in, files_at, lacks_memory, unread_line, unread_lines};
 ghost use Rattle.cite_csl_styles.specs.Views.{source_view, sources_view};
 
+use crate::joined_faults::JoinedFaults;
 use crate::stop::Stop;
+use fault_lines::{FaultLines, fault_lines};
 use programs::{FileRead, ReadFault, bytes_at, line_of};
-use source_positions::refusal_lines;
 use std::alloc::{AllocError, Global};
 
 /// A path and the bytes of its file.
@@ -134,7 +136,7 @@ pub fn refused(lines: Result<String, AllocError>) -> Stop
 }
 
 /// The lines that say why a file is refused where so many of its bytes are left.
-pub fn lines_left(
+fn lines_left(
     alloc: Global,
     file: SourceFile<'_>,
     left: usize,
@@ -144,15 +146,32 @@ pub fn lines_left(
         ≡ specs.lines_left (source_view file.entry) left why.now) }
 {
     let at = file.bytes.len().saturating_sub(left);
-    refusal_lines(alloc, file.path, file.bytes, at, why)
+    fault_lines(alloc, file.path, file.bytes, at, why)
+}
+
+/// Appends the lines that say why a file is refused where so many of its bytes are left.
+pub fn push_lines_left(
+    alloc: Global,
+    file: SourceFile<'_>,
+    left: usize,
+    why: &str,
+    lines: &mut FaultLines,
+) -> Result<(), AllocError>
+    requires { IsIn file.bytes.now lines.old }
+    ensures lines { OnOk result (lines_view lines.new
+        ≡ lines_view lines.old ++ specs.lines_left (source_view file.entry) left why.now) }
+    ensures place { OnOk result (IsIn file.entry.bytes.now lines.new) }
+{
+    let at = file.bytes.len().saturating_sub(left);
+    lines.push(alloc, file.path, file.bytes, at, why)
 }
 
 /// The stop for a file that is refused at a byte.
 pub fn refused_at(alloc: Global, file: SourceFile<'_>, at: usize, why: &str) -> Stop
     ensures { IsRefusal result
-        (messages.refusal_lines file.entry.path.now file.entry.bytes.now at why.now) }
+        (messages.fault_lines file.entry.path.now file.entry.bytes.now at why.now) }
 {
-    match refusal_lines(alloc, file.path, file.bytes, at, why) {
+    match fault_lines(alloc, file.path, file.bytes, at, why) {
         Ok(lines) => Stop::Refused(lines),
         Err(_) => Stop::Memory,
     }
@@ -203,14 +222,7 @@ pub fn lines_at(
     ensures { IfOk result (λ s. string_bytes s
         ≡ specs.lines_at (sources_view files.now) at why.now) }
 {
-    let mut rest = files;
-    let mut left = at;
-    while let [file, others @ ..] = rest {
-        if others.is_empty() || left <= file.bytes.len() {
-            return refusal_lines(alloc, file.path, file.bytes, left, why);
-        }
-        left = left - file.bytes.len() - 1;
-        rest = others;
-    }
-    line(alloc, why, "")
+    let mut faults = JoinedFaults::new(alloc);
+    faults.push(alloc, files, at, why)?;
+    Ok(faults.into_string())
 }

@@ -7,5 +7,5 @@ mod position;
 mod refusal;
 
 pub use escape::push_escape;
-pub use position::ShownPosition;
-pub use refusal::refusal_lines;
+pub use position::{ShownPosition, char_count, line_end, mark_below, push_shown_character};
+pub use refusal::{push_head, push_line, refusal_lines};

@@ -109,7 +109,7 @@ impl Position {
 }
 
 /// What stands before the end of the line: before the first line feed, less the carriage return at its end, if there is one.
-fn line_end(rest: &[u8]) -> &[u8]
+pub fn line_end(rest: &[u8]) -> &[u8]
     ensures { result.now ≡ strip_carriage_return (prefix_of (λ b. not (b == line_feed)) rest.now) }
 {
     without_return(before_line_feed(rest))
@@ -138,7 +138,7 @@ fn without_return(bytes: &[u8]) -> &[u8]
 }
 
 /// The number of characters, which is below 2^63.
-fn char_count(text: &str) -> usize
+pub fn char_count(text: &str) -> usize
     ensures count { result ≡ length (chars text.now) }
     ensures small { result < 2 ^ 63 }
 {
@@ -177,8 +177,11 @@ fn push_shown(line: &mut String, text: &str) -> Result<(), AllocError>
     Ok(())
 }
 
-/// Appends what is shown of a character of a line.
-fn push_shown_character(line: &mut String, c: char) -> Result<(), AllocError>
+/// Appends what is shown of a character of a line: itself, or the number of a control character other than a tab.
+///
+/// # Errors
+/// Where a request for memory was refused.
+pub fn push_shown_character(line: &mut String, c: char) -> Result<(), AllocError>
     ensures { OnOk result (characters line.new ≡ characters line.old ++ shown_in_line c) }
 {
     if is_escaped(c) {
@@ -195,8 +198,11 @@ fn is_escaped(c: char) -> bool
     c.is_control() && c != '\t'
 }
 
-/// A blank below each character, and a caret.
-fn mark_below(alloc: Global, shown: &str) -> Result<String, AllocError>
+/// A blank below each character, and a caret: a tab below a tab, a space below any other.
+///
+/// # Errors
+/// Where a request for memory was refused.
+pub fn mark_below(alloc: Global, shown: &str) -> Result<String, AllocError>
     ensures { IfOk result (λ mark.
         string_bytes mark ≡ map blank (chars shown.now) ++ circumflex ∷ []) }
 {

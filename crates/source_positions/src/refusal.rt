@@ -32,8 +32,11 @@ pub fn refusal_lines(
     Ok(lines)
 }
 
-/// `FILE:LINE:COLUMN:` and why.
-fn push_head(
+/// Appends `FILE:LINE:COLUMN:` and why, and a line feed.
+///
+/// # Errors
+/// Where a request for memory was refused.
+pub fn push_head(
     lines: &mut String,
     path: &str,
     number: usize,
@@ -47,7 +50,11 @@ fn push_head(
     write!(lines, "{path}:{number}:{column}: {why}\n")
 }
 
-fn push_line(lines: &mut String, line: &str) -> Result<(), AllocError>
+/// Appends a line, and a line feed.
+///
+/// # Errors
+/// Where a request for memory was refused.
+pub fn push_line(lines: &mut String, line: &str) -> Result<(), AllocError>
     ensures { OnOk result (string_bytes lines.new
         ≡ string_bytes lines.old ++ (line.now ++ line_feed ∷ [])) }
 {

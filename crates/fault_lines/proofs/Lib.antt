@@ -1,0 +1,3 @@
+pub mod PlacesCounted
+pub mod WindowsCut
+pub mod LinesSaid

@@ -1,0 +1,4 @@
+pub mod Places
+pub mod Windows
+pub mod Messages
+pub mod Views
