@@ -96,6 +96,14 @@ DEEP = """## Deep and doubled texts
 each is).
 """
 
+CITE_CSL = """## Styles of CSL files
+
+    bench/cite_csl.py
+
+`cite` by `author-date`, and `cite_csl` by a style of that shape in a file, on 10,000 of the same entries and a document with 10,000 markers, in plain
+text. The style has no sort keys, or sorts cites and bibliography by names, date and title.
+"""
+
 CSL = """## Large files of CSL
 
 `case_runner` with a stack of 8 MB on a case of the kind `csl_file` whose text is a style or a locale that is large in one way (`bench/csl.py` says
@@ -348,6 +356,24 @@ def csl_table(found):
     ])
 
 
+def cite_csl_table(found):
+    """The part of the page about styles of CSL files."""
+    names = {"cite": "`cite author-date`", "unsorted": "`cite_csl`, without sort keys", "sorted": "`cite_csl`, sorted"}
+    rows = []
+    for name, run in found["runs"].items():
+        rows.append((run["instructions"], f"| {names[name]} | {number(run['instructions'])} | {run['times']} | {found['wanted'].get(name, '')} "
+                     f"| {run['seconds']} | {number(run['memory'])} |"))
+    return "\n".join([
+        CITE_CSL,
+        "| run | instructions | times those of the run before | wanted, at most | seconds | memory |",
+        "|---|---|---|---|---|---|",
+        *[row for _, row in sorted(rows)],
+        "",
+        measured(found),
+        "",
+    ])
+
+
 def writer_table(found):
     """The part of the page about written files."""
     parts = {"flatten": "each entry", "is_settled": "each byte that is looked at", "to_biblatex_string": "each byte that is written"}
@@ -421,6 +447,7 @@ def write_pages():
     parts += [writer_table(found["writer"])] if "writer" in found else []
     parts += [deep_table(found["deep"])] if "deep" in found else []
     parts += [csl_table(found["csl"])] if "csl" in found else []
+    parts += [cite_csl_table(found["cite_csl"])] if "cite_csl" in found else []
     parts += [rendering_table(found["rendering"])] if "rendering" in found else []
     with open(os.path.join(TOP, "docs", "PERFORMANCE.md"), "w", encoding="utf-8") as file:
         file.write("\n".join(parts).rstrip("\n") + "\n")
