@@ -1,0 +1,4 @@
+pub mod Written
+pub mod CountsRows
+pub mod CountsMeaning
+pub mod RangesLaws

@@ -1,0 +1,15 @@
+use Rattle.std.specs.Prelude.{string_bytes}
+use Rattle.std.proofs.lemmas.Result.{on_ok_weaker}
+use Rattle.std.proofs.lemmas.Str.{IsUtf8-string_bytes}
+use Rattle.literature_numbers.specs.NumericText.{numeral_text}
+use Rattle.literature_numbers.specs.Views.{numeral_view}
+use Rattle.rendering_ranges.proofs.Written.{chars-written}
+use Rattle.rendering_ranges.proofs.ranges.push_number.Goals as goal
+
+pub returns : goal.returns
+returns c =
+    let old = c.args.out.now in
+    let new = c.write.new.self in
+    on_ok_weaker c.write.result
+    (chars-written (string_bytes old) (string_bytes new) (numeral_text (numeral_view c.args.number.now)) (IsUtf8-string_bytes old) (IsUtf8-string_bytes new))
+    c.write.ensures.bytes

@@ -1,0 +1,5 @@
+pub mod Digits
+pub mod Formats
+pub mod Counts
+pub mod Ranges
+pub mod Laws
