@@ -1,0 +1,4 @@
+pub mod Going
+pub mod Kept
+pub mod Mapped
+pub mod Letters
