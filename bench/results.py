@@ -365,7 +365,7 @@ def cite_csl_table(found):
                      f"| {run['seconds']} | {number(run['memory'])} |"))
     return "\n".join([
         CITE_CSL,
-        "| run | instructions | times those of the run before | wanted, at most | seconds | memory |",
+        "| run | instructions | times those of the row above | wanted, at most | seconds | memory |",
         "|---|---|---|---|---|---|",
         *[row for _, row in sorted(rows)],
         "",
