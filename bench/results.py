@@ -67,12 +67,12 @@ gathers the cites of the same names: each cite is a block by itself. The books a
 by nobody and of N titles, or of one title in which other letters are formulas.
 """
 
-COLLISIONS = """## Names that collide
+COLLISIONS = """## Texts that collide
 
     bench/collisions.py
 
-`cite` on files of N entries whose names are of 32 bytes: names that all have one value under the hash of the kit's maps, and others of the same
-length. They are the keys of entries, further names of entries, or the names of abbreviations.
+`cite` on files of N entries with texts that all have one value under the hash of the kit's maps, and with others of the same length, of which
+no two have one value. They are names in the file, or what its cites print (`bench/collisions.py` says what each is).
 """
 
 TABLES = {
@@ -304,7 +304,7 @@ def blocks_table(found):
 
 
 def collisions_table(found):
-    """The part of the page about names that collide."""
+    """The part of the page about texts that collide."""
     rows = []
     for name, run in found["runs"].items():
         for row in run:
@@ -313,7 +313,7 @@ def collisions_table(found):
                         f"| {number(colliding['instructions'])} | {colliding['seconds']} | {row['times']:.2f} |")
     return "\n".join([
         COLLISIONS,
-        "| names | N | bytes of input | instructions of others | seconds | instructions of those that collide | seconds | times |",
+        "| texts | N | bytes of input | instructions of others | seconds | instructions of those that collide | seconds | times |",
         "|---|---|---|---|---|---|---|---|",
         *rows,
         "",

@@ -22,3 +22,4 @@ pub mod Members
 pub mod RequestFinals
 pub mod TakenTrees
 pub mod CitationsPrints
+pub mod CopiedItems

@@ -2,7 +2,7 @@
 use Rattle.std.specs.Prelude.{ℕ, List, map, string_bytes, Option, Some, None}
 use Rattle.std.specs.Int.NonZero.{non_zero_i16_get}
 use Rattle.std.specs.Option.{option_and_then, option_map}
-use Rattle.rendering_tree.specs.Trees.{Child, Element, Elem, Link, Markup, Text, Transparent}
+use Rattle.rendering_tree.specs.Trees.{Child, Children, Element, Elem, Link, Markup, Text, Transparent}
 use Rattle.rendering_tree.specs.Views.{child_view, tree_view}
 use Rattle.driver_bibliography.specs.Items.{Fields}
 use Rattle.driver.specs.Finish as finish
@@ -26,6 +26,15 @@ item_fields_view i = record { first_field = option_and_then (λ x. element_if (c
 -- the bytes of its key
 abbrev pub key_view : BibliographyItem → List ℕ
 key_view i = string_bytes i.key
+
+-- all that an item holds: the bytes of its key, its first field, where there is one, and the rest
+pub record HeldItem : Type 0 where
+  pub key : List ℕ
+  pub first_field : Option Child
+  pub content : Children
+
+abbrev pub held_item_view : BibliographyItem → HeldItem
+held_item_view i = record { key = key_view i; first_field = option_map child_view i.first_field; content = tree_view i.content }
 
 -- a citation
 abbrev pub rendered_citation_view : RenderedCitation → finish.Citation

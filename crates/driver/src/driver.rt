@@ -30,6 +30,7 @@ use rendering_context::DisambiguateState;
 use rendering_entries::EntryLike;
 use rendering_taxonomy::IdentifierUsage;
 use std::alloc::{AllocError, Global};
+use std::fmt;
 use std::hash::Hash;
 
 /// The citations of requests, and what a bibliography lists entries by: the first cite of each, and the states of all.
@@ -56,6 +57,18 @@ impl<'a, T, P: Drop> Drop for BibliographyDriver<'a, T, P> {
             citations: _,
             offset: _,
         } = self;
+    }
+}
+
+/// Written with the number of requests and the offset alone.
+impl<'a, T, P: Drop> fmt::Debug for BibliographyDriver<'a, T, P> {
+    fn fmt<W: fmt::Write>(&self, f: &mut fmt::Formatter<W>) -> fmt::Result {
+        let count = self.citations.len();
+        write!(
+            f,
+            "BibliographyDriver {{ citations: {count}, offset: {} }}",
+            self.offset
+        )
     }
 }
 

@@ -9,6 +9,7 @@ mod bibliography;
 mod bibliography_items;
 mod brackets;
 mod contexts;
+mod copies;
 mod driver;
 mod final_prints;
 mod final_states;
@@ -23,3 +24,6 @@ pub use rendering::{
     CitePurpose, ElemChild, ElemChildren, EntryLike, Locale, LocaleCode, LocatorPayload,
     SecondFieldAlign, SpecificLocator, Style, TransparentLocator,
 };
+pub use rendering_context::DisambiguateState;
+pub use rendering_numbers::write_year;
+pub use rendering_taxonomy::{IbidState, IdentifierUsage};

@@ -13,7 +13,7 @@ use Rattle.std.specs.Map.{lookup}
 use Rattle.std.specs.Cmp.Lexicographic.{bytes_decides}
 use Rattle.std.proofs.lemmas.List.{get_or-map, length-map, map-append, map-set, take_more}
 use Rattle.std.proofs.lemmas.List.Elements.{All-cons, All-nil}
-use Rattle.driver_disambiguation.specs.Hashes.{hash_of}
+use Rattle.hashes.specs.Hashes.{text_hash}
 use Rattle.driver_disambiguation.specs.Numbered.{AreNumbered, AreNumbers, AreStill, number_of, number_under}
 use Rattle.driver_disambiguation.specs.declared.hashed_text.HashedText.{HashedText}
 use Rattle.driver_names.specs.declared.printed.Printed.{Printed}
@@ -91,7 +91,7 @@ turned : (xs ys : List ℕ) → bytes_eq xs ys ≡ bytes_eq ys xs
 turned xs ys = same_from_decides (bytes_eq xs ys) (bytes_eq ys xs) (bytes_decides xs ys) ((λ e. sym ((bytes_decides ys xs).0 e)), (λ e. (bytes_decides ys xs).1 (sym e)))
 
 differ : (k l : HashedText) → (k.hash ≡ l.hash → ⊥) → (b : Bool) → bytes_eq (string_bytes k.text) (string_bytes l.text) ≡ b → false ≡ b
-differ k l apart true is = absurd (apart (k.hashed ∙ (ap hash_of ((bytes_decides (string_bytes k.text) (string_bytes l.text)).0 is) ∙ sym l.hashed)))
+differ k l apart true is = absurd (apart (k.hashed ∙ (ap text_hash ((bytes_decides (string_bytes k.text) (string_bytes l.text)).0 is) ∙ sym l.hashed)))
 differ k l apart false is = refl
 
 by_hash : (k l : HashedText) (o : Ordering) → MatchOrdering o (k.hash < l.hash) (k.hash ≡ l.hash) (l.hash < k.hash)

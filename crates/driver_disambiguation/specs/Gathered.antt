@@ -1,7 +1,8 @@
 -- What a round has given up to a class.
-use Rattle.std.specs.Prelude.{◌≡◌, ℕ, Bool, false, nat_eq, List, [], fold, if◌then◌else◌}
-use Rattle.std.specs.HashSet.{HashSet, contains}
+use Rattle.std.specs.Prelude.{◌≡◌, ℕ, Bool, false, List, [], fold, if◌then◌else◌}
+use Rattle.std.specs.BTreeSet.{BTreeSet, contains}
 use Rattle.std.specs.List.{list_any, enumerate_from}
+use Rattle.std.specs.Ordering.{nat_cmp}
 use Rattle.rendering_context.specs.Cites.{may_change}
 use Rattle.driver_requests.specs.Suffixes.{Origin}
 use Rattle.driver_names.specs.Prints.{Printed, GivenState}
@@ -10,8 +11,8 @@ use Rattle.driver_disambiguation.specs.States.{is_given_to, suffixes_overflow}
 use Rattle.driver_disambiguation.specs.Rounds.{given_by, states_by_choose, suffixes_for}
 
 -- a set has the entries to which something was given, and no others
-abbrev pub AreEntriesOf : {S : Type 0} → HashSet ℕ S → List GivenState → Type 0
-AreEntriesOf s gs = (e : ℕ) → contains nat_eq s e ≡ list_any (is_given_to e) gs
+abbrev pub AreEntriesOf : BTreeSet ℕ → List GivenState → Type 0
+AreEntriesOf s gs = (e : ℕ) → contains nat_cmp s e ≡ list_any (is_given_to e) gs
 
 -- no year suffix that was given is after the 256th
 abbrev pub AllInRange : List GivenState → Type 0

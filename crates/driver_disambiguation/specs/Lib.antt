@@ -1,4 +1,3 @@
-pub mod Hashes
 pub mod States
 pub mod Classes
 pub mod Rounds

@@ -4,6 +4,7 @@
 
 mod branches;
 mod classes;
+mod entry_sets;
 mod given_suffixes;
 mod hashed_text;
 mod numbers;

@@ -15,11 +15,12 @@ ghost use Rattle.driver_names.specs.Views.{class_view, given_states_view, printe
 ghost use Rattle.driver_disambiguation.specs.Views.{unless_beyond};
 
 use crate::branches::states_by_branches;
+use crate::entry_sets::insert_entry;
 use crate::year_suffixes::states_by_suffixes;
 use driver_names::{GivenState, Printed, states_by_names};
 use driver_requests::{DriverError, Origin};
 use std::alloc::{AllocError, Global};
-use std::collections::HashSet;
+use std::collections::BTreeSet;
 
 /// Whether some cite prints a date, or a label that has one.
 pub(crate) fn some_prints_date(cites: &[Printed]) -> bool
@@ -40,7 +41,7 @@ pub(crate) fn given_to_classes(
         (given_to_classes adds_names has_dates round (map (λ c. class_view c.items) classes.now))) }
 {
     let mut given = Vec::new(alloc);
-    let mut entries = HashSet::new(alloc);
+    let mut entries = BTreeSet::new(alloc);
     for (class, members) in classes.iter().enumerate() {
         let origin = Origin { round, class };
         give(
@@ -65,7 +66,7 @@ fn give(
     origin: Origin,
     class: &[&Printed],
     given: &mut Vec<GivenState>,
-    entries: &mut HashSet<usize>,
+    entries: &mut BTreeSet<usize>,
 ) -> Result<(), DriverError>
     requires indices { AllInRange (given_states_view given.now.items) }
     requires entries { AreEntriesOf entries.now (given_states_view given.now.items) }
@@ -89,7 +90,7 @@ fn give_branches(
     origin: Origin,
     class: &[&Printed],
     given: &mut Vec<GivenState>,
-    entries: &mut HashSet<usize>,
+    entries: &mut BTreeSet<usize>,
 ) -> Result<(), AllocError>
     requires entries { AreEntriesOf entries.now (given_states_view given.now.items) }
     ensures given { OnOk result (given_states_view given.new.items
@@ -111,7 +112,7 @@ fn give_suffixes(
     origin: Origin,
     class: &[&Printed],
     given: &mut Vec<GivenState>,
-    entries: &mut HashSet<usize>,
+    entries: &mut BTreeSet<usize>,
 ) -> Result<(), DriverError>
     requires indices { AllInRange (given_states_view given.now.items) }
     requires entries { AreEntriesOf entries.now (given_states_view given.now.items) }
@@ -135,7 +136,7 @@ fn give_suffixes(
 /// Appends states, and the entries that they are given to.
 fn append(
     given: &mut Vec<GivenState>,
-    entries: &mut HashSet<usize>,
+    entries: &mut BTreeSet<usize>,
     more: Vec<GivenState>,
 ) -> Result<(), AllocError>
     requires { AreEntriesOf entries.now (given_states_view given.now.items) }
@@ -152,7 +153,7 @@ fn append(
 /// Appends a state, and the entry that it is given to.
 fn push(
     given: &mut Vec<GivenState>,
-    entries: &mut HashSet<usize>,
+    entries: &mut BTreeSet<usize>,
     one: GivenState,
 ) -> Result<(), AllocError>
     requires { AreEntriesOf entries.now (given_states_view given.now.items) }
@@ -160,13 +161,13 @@ fn push(
         ≡ given_states_view given.old.items ++ given_states_view (one ∷ [])) }
     ensures entries { OnOk result (AreEntriesOf entries.new (given_states_view given.new.items)) }
 {
-    entries.insert(one.entry)?;
+    insert_entry(entries, one.entry)?;
     given.push(one)?;
     Ok(())
 }
 
 /// Whether something was given to an entry of a class.
-fn is_given_to_class(entries: &HashSet<usize>, class: &[&Printed]) -> bool
+fn is_given_to_class(entries: &BTreeSet<usize>, class: &[&Printed]) -> bool
     ensures { (gs : List prints.GivenState) → AreEntriesOf entries.now gs
         → result ≡ is_given_to_class gs (class_view class.now) }
 {

@@ -1,8 +1,9 @@
 //! Year suffixes for the entries of a class.
 
-ghost use Rattle.std.specs.Prelude.{◌≡◌, ℕ, true, ◌==◌, nat_eq, [], ◌∷◌, ◌++◌, if◌then◌else◌, IfOk, OnOk};
-ghost use Rattle.std.specs.HashSet.{contains};
+ghost use Rattle.std.specs.Prelude.{◌≡◌, ℕ, true, ◌==◌, [], ◌∷◌, ◌++◌, if◌then◌else◌, IfOk, OnOk};
+ghost use Rattle.std.specs.BTreeSet.{contains};
 ghost use Rattle.std.specs.List.{list_any};
+ghost use Rattle.std.specs.Ordering.{nat_cmp};
 ghost use Rattle.laws.specs.Results.{Gives};
 ghost use Rattle.driver_requests.specs.Errors.{overflow_of};
 ghost use Rattle.driver_disambiguation.specs.Classes.{entries_of};
@@ -12,11 +13,12 @@ ghost use Rattle.driver_requests.specs.SuffixViews.{origin_view};
 ghost use Rattle.driver_names.specs.Views.{class_view, given_states_view};
 ghost use Rattle.driver_disambiguation.specs.Views.{unless_beyond};
 
+use crate::entry_sets::insert_entry;
 use driver_names::{GivenState, Printed};
 use driver_requests::{DriverError, Origin};
 use rendering_context::DisambiguateState;
 use std::alloc::{AllocError, Global};
-use std::collections::HashSet;
+use std::collections::BTreeSet;
 
 /// What year suffixes give to the entries of a class, where some cite of the document prints a date and a style of the class adds year
 /// suffixes.
@@ -83,7 +85,7 @@ fn suffixes_for(
 fn entries(alloc: Global, class: &[&Printed]) -> Result<Vec<usize>, AllocError>
     ensures { IfOk result (λ v. v.items ≡ entries_of (class_view class.now)) }
 {
-    let mut earlier = HashSet::new(alloc);
+    let mut earlier = BTreeSet::new(alloc);
     let mut entries = Vec::new(alloc);
     for cite in class {
         push_new(&mut earlier, &mut entries, cite.cite.entry)?;
@@ -93,16 +95,16 @@ fn entries(alloc: Global, class: &[&Printed]) -> Result<Vec<usize>, AllocError>
 
 /// Appends an entry that is not among those that came earlier.
 fn push_new(
-    earlier: &mut HashSet<usize>,
+    earlier: &mut BTreeSet<usize>,
     entries: &mut Vec<usize>,
     entry: usize,
 ) -> Result<(), AllocError>
-    ensures earlier { OnOk result ((e : ℕ) → contains nat_eq earlier.new e
-        ≡ (if entry == e then true else contains nat_eq earlier.old e)) }
+    ensures earlier { OnOk result ((e : ℕ) → contains nat_cmp earlier.new e
+        ≡ (if entry == e then true else contains nat_cmp earlier.old e)) }
     ensures entries { OnOk result (entries.new.items
-        ≡ entries.old.items ++ (if contains nat_eq earlier.old entry then [] else entry ∷ [])) }
+        ≡ entries.old.items ++ (if contains nat_cmp earlier.old entry then [] else entry ∷ [])) }
 {
-    if earlier.insert(entry)? {
+    if insert_entry(earlier, entry)? {
         entries.push(entry)?;
     }
     Ok(())

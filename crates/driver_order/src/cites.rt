@@ -4,7 +4,7 @@ ghost use Rattle.std.specs.Prelude.{◌≡◌, false, map, IfOk};
 ghost use Rattle.laws.specs.Borrowed.{borrowed};
 ghost use Rattle.rendering.specs.Views.{style_context_view};
 ghost use Rattle.rendering_style.specs.StyleViews.{style_view};
-ghost use Rattle.driver_requests.specs.Indices.{IsIndex};
+ghost use Rattle.driver_requests.specs.EntryKeys.{IsIndex, has_key};
 ghost use Rattle.driver_requests.specs.Views.{context_of, parts_of};
 ghost use Rattle.driver_order.specs.Keyed.{keyed_items, number_by};
 ghost use Rattle.driver_order.specs.Sorted.{item_keys, items_in_order, request_in_order, request_parts};
@@ -32,7 +32,7 @@ pub(crate) fn sorted_request<'a, T: EntryLike + Hash, P: Drop>(
     sorting: &Style,
     numbers: &Numbers<'_, 'a, T>,
 ) -> Result<CitationRequest<'a, T, P>, AllocError>
-    requires { IsIndex T.eq numbers.now.cited.now.table
+    requires { IsIndex (has_key T.hash_input T.answers) numbers.now.cited.now.table
         (borrowed numbers.now.cited.now.entries.items) }
     ensures { IfOk result (λ r. request_parts r ≡ request_in_order (style_view sorting.now)
         T.answers (number_by T.eq (borrowed numbers.now.cited.now.entries.items)
@@ -55,7 +55,7 @@ fn items_in<'a, T: EntryLike + Hash, P: Drop>(
     items: Vec<CitationItem<'a, T, P>>,
     numbers: &Numbers<'_, 'a, T>,
 ) -> Result<Vec<CitationItem<'a, T, P>>, AllocError>
-    requires { IsIndex T.eq numbers.now.cited.now.table
+    requires { IsIndex (has_key T.hash_input T.answers) numbers.now.cited.now.table
         (borrowed numbers.now.cited.now.entries.items) }
     ensures { IfOk result (λ v. map parts_of v.items ≡ items_in_order
         (record (context_of request.now) { style = style_view sorting.now }) T.answers
@@ -76,7 +76,7 @@ fn sorted_items<'a, T: EntryLike + Hash, P: Drop>(
     numbers: &Numbers<'_, 'a, T>,
 ) -> Result<Vec<CitationItem<'a, T, P>>, AllocError>
     requires style { (style_context_view context.now).style ≡ style_view sorting.now }
-    requires table { IsIndex T.eq numbers.now.cited.now.table
+    requires table { IsIndex (has_key T.hash_input T.answers) numbers.now.cited.now.table
         (borrowed numbers.now.cited.now.entries.items) }
     ensures { IfOk result (λ v. map parts_of v.items ≡ items_in_order
         (style_context_view context.now) T.answers (number_by T.eq
@@ -103,7 +103,7 @@ fn keyed_items<'a, T: EntryLike + Hash, P: Drop>(
     numbers: &Numbers<'_, 'a, T>,
 ) -> Result<Vec<Keyed<Vec<SortPart>, CitationItem<'a, T, P>>>, AllocError>
     requires citation { keys.now.is_bibliography ≡ false }
-    requires table { IsIndex T.eq numbers.now.cited.now.table
+    requires table { IsIndex (has_key T.hash_input T.answers) numbers.now.cited.now.table
         (borrowed numbers.now.cited.now.entries.items) }
     ensures { IfOk result (λ v. map keyed_item_view v.items
         ≡ keyed_items (style_context_view keys.now.context.now) T.answers (number_by T.eq

@@ -3,11 +3,12 @@
 ghost use Rattle.std.specs.Prelude.{◌≡◌, ◌<◌, All, get_or, length, map, IfOk};
 ghost use Rattle.std.specs.List.{range_with_len};
 ghost use Rattle.laws.specs.Borrowed.{borrowed};
-ghost use Rattle.driver_requests.specs.Indices.{IsIndex};
+ghost use Rattle.driver_requests.specs.EntryKeys.{IsIndex, has_key};
 ghost use Rattle.driver_requests.specs.Order.{number_in};
 ghost use Rattle.driver_order.specs.Keyed.{number_by};
 
 use driver_requests::Cited;
+use rendering_entries::EntryLike;
 use std::alloc::{AllocError, Global};
 use std::hash::Hash;
 
@@ -26,15 +27,15 @@ pub(crate) fn positions(alloc: Global, order: &[usize]) -> Result<Vec<usize>, Al
 
 /// Cited entries, and the number of each.
 #[derive(Drop)]
-pub(crate) struct Numbers<'n, 'a, T: Eq + Hash> {
+pub(crate) struct Numbers<'n, 'a, T: EntryLike + Hash> {
     pub(crate) cited: &'n Cited<'a, T>,
     pub(crate) numbers: &'n [usize],
 }
 
-impl<'n, 'a, T: Eq + Hash> Numbers<'n, 'a, T> {
+impl<'n, 'a, T: EntryLike + Hash> Numbers<'n, 'a, T> {
     /// The number of an entry; of one that is not cited, how many are.
     pub(crate) fn number(&self, entry: &'a T) -> usize
-        requires { IsIndex T.eq self.now.cited.now.table
+        requires { IsIndex (has_key T.hash_input T.answers) self.now.cited.now.table
             (borrowed self.now.cited.now.entries.items) }
         ensures { result ≡ number_by T.eq (borrowed self.now.cited.now.entries.items)
             self.now.numbers.now entry.now }

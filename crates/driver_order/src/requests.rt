@@ -3,7 +3,7 @@
 ghost use Rattle.std.specs.Prelude.{◌≡◌, map, IfOk};
 ghost use Rattle.laws.specs.Borrowed.{borrowed};
 ghost use Rattle.rendering_style.specs.StyleViews.{style_view};
-ghost use Rattle.driver_requests.specs.Indices.{IsIndex};
+ghost use Rattle.driver_requests.specs.EntryKeys.{IsIndex, has_key};
 ghost use Rattle.driver_order.specs.Keyed.{number_by, numbers_of};
 ghost use Rattle.driver_order.specs.Sorted.{request_in_order, request_parts, requests_in_order};
 
@@ -54,7 +54,8 @@ fn numbers_in<'a, T: EntryLike + Hash>(
     sorting: &Style,
     first: &[&'a T],
 ) -> Result<Vec<usize>, AllocError>
-    requires { IsIndex T.eq cited.now.table (borrowed cited.now.entries.items) }
+    requires { IsIndex (has_key T.hash_input T.answers) cited.now.table
+        (borrowed cited.now.entries.items) }
     ensures { IfOk result (λ v. v.items ≡ numbers_of T.eq (style_view sorting.now)
         (borrowed first.now) (borrowed cited.now.entries.items)) }
 {
@@ -70,7 +71,7 @@ fn sorted_each<'a, T: EntryLike + Hash, P: Drop>(
     sorting: &Style,
     numbers: &Numbers<'_, 'a, T>,
 ) -> Result<Vec<CitationRequest<'a, T, P>>, AllocError>
-    requires { IsIndex T.eq numbers.now.cited.now.table
+    requires { IsIndex (has_key T.hash_input T.answers) numbers.now.cited.now.table
         (borrowed numbers.now.cited.now.entries.items) }
     ensures { IfOk result (λ v. map request_parts v.items ≡ map (request_in_order
         (style_view sorting.now) T.answers (number_by T.eq

@@ -1,15 +1,14 @@
 -- Indices of entries, while more entries are read.
-use Rattle.std.proofs.Common.{◌≡◌, ℕ, suc, ◌+◌, ◌<◌, Bool, nat_lt, true, false, not, cond, ◌||◌, List, [], ◌∷◌, ◌++◌, length, refl, sym, ap, ◌∙◌, Some, None, arith, zero-add, subst, ltb-true, ltb-false, lt-ltb, le-ltb}
+use Rattle.std.proofs.Common.{◌≡◌, ℕ, suc, ◌+◌, ◌<◌, Bool, nat_lt, true, false, not, cond, ◌||◌, List, [], ◌∷◌, ◌++◌, length, refl, sym, ap, ◌∙◌, Some, None, arith, zero-add, ltb-true, ltb-false, lt-ltb, le-ltb}
 use Rattle.std.specs.Prelude.{position}
 use Rattle.std.specs.Borrow.{Bor}
 use Rattle.std.specs.Cmp.{IsEquivalence}
-use Rattle.std.specs.HashMap.{HashMap, get_by}
 use Rattle.std.specs.List.{list_any, position_or_len}
 use Rattle.std.proofs.Math.Path.{fun_ext}
 use Rattle.std.proofs.lemmas.List.{length-map, map-append}
 use Rattle.std.proofs.lemmas.List.Folds.{list_any-append}
 use Rattle.laws.specs.Borrowed.{borrowed}
-use Rattle.driver_requests.specs.Indices.{pushed, grown, index_in, IsIndex}
+use Rattle.driver_requests.specs.Indices.{pushed, grown, index_in}
 
 stays_step : (t a : Bool) (m n : ℕ) → (t || a) ≡ true → (a ≡ true → m ≡ n) → cond (not t) (1 + m) 0 ≡ cond (not t) (1 + n) 0
 stays_step true a m n h ih = refl
@@ -29,7 +28,8 @@ pub index_past : {K : Type 0} (p : K → Bool) (xs ys : List K) → list_any p x
 index_past p [] ys h = sym (zero-add (position_or_len p ys))
 index_past p (x ∷ xs) ys h = past_step (p x) (list_any p xs) _ (length xs) (position_or_len p ys) h (index_past p xs ys) ∙ omega arith
 
-at_first : (t : Bool) (n : ℕ) → t ≡ true → n + cond (not t) 1 0 ≡ n
+-- one that passes is there
+pub at_first : (t : Bool) (n : ℕ) → t ≡ true → n + cond (not t) 1 0 ≡ n
 at_first true n h = omega arith
 at_first false n h = cc
 
@@ -59,7 +59,8 @@ pushed_new eq es e h = rw h refl
 same_test : {K : Type 0} {eq : K → K → Bool} (laws : IsEquivalence eq) (e q : K) → eq e q ≡ true → eq q ≡ eq e
 same_test laws e q h = fun_ext (λ x. sym (laws.congr e q x h))
 
-others_found : {K : Type 0} (p : K → Bool) (es : List K) (e : K) (b : Bool) → p e ≡ false → list_any p es ≡ b → index_in p es ≡ index_in p (es ++ e ∷ [])
+-- one that does not pass changes nothing
+pub others_found : {K : Type 0} (p : K → Bool) (es : List K) (e : K) (b : Bool) → p e ≡ false → list_any p es ≡ b → index_in p es ≡ index_in p (es ++ e ∷ [])
 others_found p es e true apart h =
     rw (list_any-append p es (e ∷ []), h, index_stays p es (e ∷ []) h) refl
 others_found p es e false apart h =
@@ -71,15 +72,6 @@ pub found_step : {K : Type 0} {eq : K → K → Bool} (laws : IsEquivalence eq) 
 found_step {eq = eq} laws es e q true new h =
     rw (same_test laws e q h, list_any-append (eq e) es (e ∷ []), new, laws.refl e, sym (index_new laws es e new)) refl
 found_step {eq = eq} laws es e q false new h = others_found (eq q) es e (list_any (eq q) es) (laws.symm q e ∙ h) refl
-
--- an index after one more entry
-pub index_more : {T S : Type 0} {eq : T → T → Bool} (laws : IsEquivalence eq) (old new : HashMap (Bor T) ℕ S) (es : List T) (e : Bor T)
-    → list_any (eq e.now) es ≡ false
-    → ((q : Bor T) → get_by (λ (k : Bor T). eq q.now k.now) new ≡ cond (eq e.now q.now) (Some (length es)) (get_by (λ (k : Bor T). eq q.now k.now) old))
-    → IsIndex eq old es
-    → IsIndex eq new (es ++ e.now ∷ [])
-index_more {eq = eq} laws old new es e apart updates before =
-    λ q. updates q ∙ ap (λ o. cond (eq e.now q.now) (Some (length es)) o) (before q) ∙ found_step laws es e.now q.now (eq e.now q.now) apart refl
 
 kept_step : {K : Type 0} (eq : K → K → Bool) (e : K) (es : List K) (y : K) (ys : List K) (b : Bool) → list_any (eq e) es ≡ true
     → ((fs : List K) → list_any (eq e) fs ≡ true → position_or_len (eq e) (grown eq fs ys) ≡ position_or_len (eq e) fs)
@@ -104,25 +96,14 @@ any_step : (t a : Bool) (m n : ℕ) → a ≡ nat_lt m n → (t || a) ≡ nat_lt
 any_step true a m n h = sym (lt-ltb 0 (suc n) (omega arith))
 any_step false a m n h = h ∙ any_later m n (nat_lt m n) refl
 
-lent_more : {T : Type 0} (items more : List (Bor T)) (e : Bor T) → more ≡ items ++ e ∷ [] → borrowed more ≡ borrowed items ++ e.now ∷ []
+-- one more entry, borrowed
+pub lent_more : {T : Type 0} (items more : List (Bor T)) (e : Bor T) → more ≡ items ++ e ∷ [] → borrowed more ≡ borrowed items ++ e.now ∷ []
 lent_more {T} items more e is = ap (λ (bs : List (Bor T)). borrowed bs) is ∙ map-append (λ (b : Bor T). b.now) items (e ∷ [])
 
 -- one that passes has an index
 pub index_below : {K : Type 0} (p : K → Bool) (xs : List K) → list_any p xs ≡ true → position_or_len p xs < length xs
 index_below p [] h = cc
 index_below p (x ∷ xs) h = below_step (p x) (list_any p xs) _ (length xs) h (index_below p xs)
-
--- a map that has no index of an entry, after it has
-pub index_pushed : {T S : Type 0} {eq : T → T → Bool} (laws : IsEquivalence eq) (old new : HashMap (Bor T) ℕ S) (items more : List (Bor T)) (e : Bor T) (n : ℕ)
-    → list_any (eq e.now) (borrowed items) ≡ false
-    → n ≡ length items
-    → more ≡ items ++ e ∷ []
-    → ((q : Bor T) → get_by (λ (k : Bor T). eq q.now k.now) new ≡ cond (eq e.now q.now) (Some n) (get_by (λ (k : Bor T). eq q.now k.now) old))
-    → IsIndex eq old (borrowed items)
-    → IsIndex eq new (borrowed more)
-index_pushed {T} {eq = eq} laws old new items more e n apart len is updates before =
-    subst (λ es. IsIndex eq new es) (sym (lent_more items more e is))
-    (index_more laws old new (borrowed items) e apart (λ q. updates q ∙ ap (λ m. cond (eq e.now q.now) (Some m) (get_by (λ (k : Bor T). eq q.now k.now) old)) (len ∙ sym (length-map items (λ (b : Bor T). b.now)))) before)
 
 -- the entries after one more
 pub entries_pushed : {T : Type 0} (eq : T → T → Bool) (items more : List (Bor T)) (e : Bor T) → list_any (eq e.now) (borrowed items) ≡ false → more ≡ items ++ e ∷ []

@@ -1,6 +1,7 @@
 pub mod OrderCases
 pub mod Once
 pub mod IndicesFound
+pub mod EntriesFound
 pub mod IndicesOnce
 pub mod IndicesRead
 pub mod OrderPut

@@ -1,7 +1,5 @@
 -- Indices of entries, while they are read one after the other.
 use Rattle.std.specs.Prelude.{◌≡◌, ◌<◌, ℕ, Bool, true, length, get_or, nat_eq, nat_lt, if◌then◌else◌, List, [], ◌∷◌, ◌++◌, fold, map, Vec, Option, Some, None}
-use Rattle.std.specs.Borrow.{Bor}
-use Rattle.std.specs.HashMap.{HashMap, get_by}
 use Rattle.std.specs.List.{list_any, position_or_len}
 
 -- entries with one appended, unless it is there
@@ -19,10 +17,6 @@ put_last count es index = if nat_lt index count then pushed nat_eq es index else
 -- the index of the first that passes, where one does
 abbrev pub index_in : {T : Type 0} → (T → Bool) → List T → Option ℕ
 index_in test es = if list_any test es then Some (position_or_len test es) else None
-
--- a map has the index of each entry
-abbrev pub IsIndex : {T S : Type 0} → (T → T → Bool) → HashMap (Bor T) ℕ S → List T → Type 0
-IsIndex {T} same index es = (e : Bor T) → get_by (λ (k : Bor T). same e.now k.now) index ≡ index_in (same e.now) es
 
 -- indices, request by request
 abbrev pub runs : {A : Type 0} → List (Vec ℕ A) → List (List ℕ)

@@ -7,6 +7,7 @@ pub mod Suffixes
 pub mod Errors
 pub mod Notes
 pub mod Indices
+pub mod EntryKeys
 pub mod History
 pub mod HistoryViews
 pub mod Views

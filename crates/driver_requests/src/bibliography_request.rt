@@ -5,7 +5,7 @@ use rendering_style::Style;
 
 /// The style that a bibliography is printed in, with the language that is asked for, the files with locales, and the entries that come
 /// first in it so far as they are cited.
-#[derive(Debug, Drop)]
+#[derive(Debug, PartialEq, Drop)]
 pub struct BibliographyRequest<'a, T> {
     pub style: &'a Style,
     pub locale: Option<LocaleCode>,

@@ -6,6 +6,7 @@ mod bibliography_request;
 mod cited;
 mod error;
 mod facts;
+mod hashed_key;
 mod history;
 mod item;
 mod order;

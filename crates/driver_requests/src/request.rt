@@ -11,7 +11,7 @@ use std::fmt;
 
 /// Items that are cited together, with the style that they are printed in, the language that is asked for, the files with locales, and
 /// the number of the note that they stand in.
-#[derive(Drop)]
+#[derive(PartialEq, Drop)]
 pub struct CitationRequest<'a, T: 'a, P: 'a> {
     pub items: Vec<CitationItem<'a, T, P>>,
     style: &'a Style,

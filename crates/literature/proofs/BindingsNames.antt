@@ -1,26 +1,14 @@
 -- The last entry of each name.
-use Rattle.std.proofs.Common.{◌≡◌, ℕ, Bool, true, false, List, [], ◌∷◌, map, refl, sym, ap, ◌∙◌, subst, Option, Some, None, cond, Bor, String, string_bytes, string_eq, bytes_eq, ◌+◌, ◌<◌, ◌≤◌, length, drop, get_or}
-use Rattle.std.specs.Option.{option_copied}
+use Rattle.std.proofs.Common.{◌≡◌, ℕ, Bool, true, false, List, [], ◌∷◌, map, refl, sym, ap, ◌∙◌, subst, Option, Some, None, cond, Bor, String, string_bytes, bytes_eq, ◌+◌, ◌<◌, ◌≤◌, length, drop, get_or}
 use Rattle.std.proofs.lemmas.List.{at_drop_more, at_drop_all, length-map, get_or-map}
 use Rattle.std.specs.Global.{Global}
 use Rattle.std.specs.Cmp.Lexicographic.{bytes_decides}
-use Rattle.std.specs.Map.{lookup, keys_of}
-use Rattle.indexmap.specs.IndexMap.{insert_entry}
+use Rattle.std.specs.Map.{lookup}
 use Rattle.literature_entries.specs.declared.entry.Entry.{Entry}
 use Rattle.literature.specs.Bindings.{Bound, later_or, last_bound, set, settle, settled}
 use Rattle.literature.specs.Found.{named, all_named}
-use Rattle.literature.specs.Pairs.{binding_view}
+use Rattle.literature.specs.BoundNames.{binding_view}
 use Rattle.literature.specs.declared.binding.Named.{Named}
-
-set_step : (b : Bool) (p q : String Global × Bor Entry) (ps more : List (String Global × Bor Entry)) (viewed : Bound) → map binding_view more ≡ viewed
-    → map binding_view (cond b ((q.0, p.1) ∷ ps) (q ∷ more)) ≡ cond b ((string_bytes q.0, p.1.now) ∷ map binding_view ps) (binding_view q ∷ viewed)
-set_step true p q ps more viewed e = refl
-set_step false p q ps more viewed e = ap (λ xs. binding_view q ∷ xs) e
-
--- a pair is put among the others where its name stands
-pub pair_set : (name : String Global) (entry : Bor Entry) (ps : List (String Global × Bor Entry)) → map binding_view (insert_entry string_eq ps name entry) ≡ set (string_bytes name, entry.now) (map binding_view ps)
-pair_set name entry [] = refl
-pair_set name entry (p ∷ ps) = set_step (string_eq name p.0) (name, entry) p ps _ _ (pair_set name entry ps)
 
 -- what a name means by one binding
 abbrev asked : List ℕ → List ℕ × Entry → Option Entry
@@ -71,15 +59,6 @@ found_in_settled name done (b ∷ bs) =
 pub last_is_found : (name : List ℕ) (bs : Bound) → lookup (bytes_eq name) (settled bs) ≡ last_bound name bs
 last_is_found name bs = found_in_settled name [] bs ∙ sym (later_none (last_bound name bs))
 
-found_pair_step : (t : Bool) (p : String Global × Bor Entry) (rest : Option (Bor Entry)) (viewed : Option Entry) → option_copied rest ≡ viewed → option_copied (cond t (Some p.1) rest) ≡ cond t (Some p.1.now) viewed
-found_pair_step true p rest viewed e = refl
-found_pair_step false p rest viewed e = e
-
--- looking among the strings finds what looking among their bytes does
-pub found_pair : (name : List ℕ) (ps : List (String Global × Bor Entry)) → option_copied (lookup (λ (k : String Global). bytes_eq name (string_bytes k)) ps) ≡ lookup (bytes_eq name) (map binding_view ps)
-found_pair name [] = refl
-found_pair name (p ∷ ps) = found_pair_step (bytes_eq name (string_bytes p.0)) p _ _ (found_pair name ps)
-
 -- one more is settled, and then the others
 pub settle_next : (done bs : Bound) (i : ℕ) (b : List ℕ × Entry) → i < length bs → b ≡ get_or bs i b → settle done (drop i bs) ≡ settle (set b done) (drop (i + 1) bs)
 settle_next done bs i b less is = at_drop_more (settle done) bs i b less ∙ ap (λ c. settle (set c done) (drop (i + 1) bs)) (sym is)
@@ -93,6 +72,6 @@ settles_next found i n done less is =
     sym (settle_next done (all_named found) i (named n) (subst (λ k. i < k) (sym (length-map found named)) less) (ap named is ∙ sym (get_or-map named found i n (named n) less)))
 
 -- the names of pairs, in order
-pub names_in_order : (ps : List (String Global × Bor Entry)) → map string_bytes (keys_of ps) ≡ map (λ b. b.0) (map binding_view ps)
+pub names_in_order : (ps : List (String Global × Bor Entry)) → map (λ (p : String Global × Bor Entry). string_bytes p.0) ps ≡ map (λ b. b.0) (map binding_view ps)
 names_in_order [] = refl
 names_in_order (p ∷ ps) = ap (λ ns. string_bytes p.0 ∷ ns) (names_in_order ps)

@@ -12,4 +12,5 @@ pub mod LeftIndices
 pub mod BindingsAdded
 pub mod HoldingTurns
 pub mod BindingsNames
-pub mod KeysStored
+pub mod NamesBound
+pub mod EntriesNumbered

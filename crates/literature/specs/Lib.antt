@@ -9,8 +9,10 @@ pub mod Holding
 pub mod Left
 pub mod Bindings
 pub mod Found
+pub mod BoundNames
 pub mod Pairs
 pub mod Keys
-pub mod InStep
+pub mod Numbered
+pub mod KeysLeft
 pub mod Entries
 pub mod Answers

@@ -1,6 +1,5 @@
 -- What the code has and returns, without where it lies in memory.
-use Rattle.std.specs.Global.{Global}
-use Rattle.std.specs.Prelude.{◌≡◌, ℕ, List, map, Option, Some, None, Result, Ok, Err, String, string_bytes}
+use Rattle.std.specs.Prelude.{◌≡◌, ℕ, List, map, Option, Some, None}
 use Rattle.std.specs.Str.{chars}
 use Rattle.laws.specs.Text.{characters}
 use Rattle.literature.specs.Tokens.{Token, tokens}

@@ -3,8 +3,10 @@
 
 mod binding;
 mod bindings;
+mod bound_names;
 mod character;
 mod holding;
+mod keys;
 mod library;
 mod node;
 mod parser;
@@ -16,6 +18,8 @@ mod selector_error;
 mod token;
 
 pub use bindings::Bindings;
+pub use bound_names::BoundNames;
+pub use keys::Keys;
 pub use library::Library;
 pub use literature_entries::Entry;
 pub use literature_values::{

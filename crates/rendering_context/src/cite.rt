@@ -17,7 +17,7 @@ use rendering_taxonomy::{IbidState, IdentifierUsage, Locator};
 use std::alloc::{AllocError, Global};
 
 /// The state of disambiguation of a cite: none, more of its names, other branches of the style, or a year suffix.
-#[derive(Debug, Default, Drop)]
+#[derive(Debug, Default, PartialEq, Eq, Hash, Drop)]
 pub enum DisambiguateState {
     #[default]
     None,

@@ -4,3 +4,4 @@ pub mod NumbersSeparators
 pub mod NumbersValues
 pub mod SuffixesAndLabelsValues
 pub mod YearsValues
+pub mod YearsWritten

@@ -12,4 +12,4 @@ pub use numbers::{
     push_number, push_numeral, push_numeral_or_text, push_ordinal, push_roman, push_value,
 };
 pub use suffixes_and_labels::{push_citation_label, push_year_suffix};
-pub use years::push_year;
+pub use years::{push_year, write_year};

@@ -1,12 +1,14 @@
 //! Years as texts.
 
 ghost use Rattle.std.specs.Prelude.{◌≡◌, ◌++◌, OnOk};
+ghost use Rattle.std.specs.Fmt.{WritesInCalls};
 ghost use Rattle.std.specs.Str.{chars};
-ghost use Rattle.laws.specs.Text.{characters};
+ghost use Rattle.laws.specs.Text.{characters, text as text_of};
 ghost use Rattle.rendering_numbers.specs.Years.{year_since, year_text};
 
 use crate::digits::{push_digits, push_two_digits};
 use std::alloc::AllocError;
+use std::fmt;
 use texts::push_text;
 
 /// Appends a year: of one from 1000 on only the last two digits where it is short, an earlier one with its era after it.
@@ -44,4 +46,38 @@ fn push_year_since(out: &mut String, year: u32, short: bool, ad: &str) -> Result
         return push_two_digits(out, year % 100);
     }
     push_digits(out, year)
+}
+
+/// Writes a year as `push_year` appends it.
+///
+/// # Errors
+/// What the writer returns when it refuses a text.
+pub fn write_year<W: fmt::Write>(
+    year: i32,
+    short: bool,
+    w: &mut W,
+    ad: &str,
+    bc: &str,
+) -> fmt::Result
+    ensures { OnOk result (WritesInCalls W.write_str_gives w.old
+        (text_of (year_text year short (chars ad.now) (chars bc.now))) w.new) }
+{
+    if year < 1 {
+        return write!(w, "{}{bc}", year.unsigned_abs() + 1);
+    }
+    write_year_since(year.unsigned_abs(), short, w, ad)
+}
+
+/// Writes a year from 1 on.
+fn write_year_since<W: fmt::Write>(year: u32, short: bool, w: &mut W, ad: &str) -> fmt::Result
+    ensures { OnOk result (WritesInCalls W.write_str_gives w.old
+        (text_of (year_since year short (chars ad.now))) w.new) }
+{
+    if year < 1000 {
+        return write!(w, "{year}{ad}");
+    }
+    if short {
+        return write!(w, "{:02}", year % 100);
+    }
+    write!(w, "{year}")
 }

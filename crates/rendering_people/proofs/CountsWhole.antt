@@ -6,7 +6,7 @@ use Rattle.std.proofs.lemmas.List.{length-take-le, length-drop, take-append-drop
 use Rattle.std.proofs.lemmas.Bool.Decides.{nat_tests}
 use Rattle.std.proofs.lemmas.List.Sums.{sum_by-cons}
 use Rattle.rendering_people.specs.Properties.{VariableProperties, Properties, showing, adds_name, all_forms, all_shown, with_form}
-use Rattle.rendering_people.specs.Counts.{cut, all_people, is_within, IsWhole, counted}
+use Rattle.rendering_people.specs.Counts.{cut, counts_of, all_people, is_within, IsWhole, counted}
 use Rattle.rendering_people.specs.declared.properties.PeopleCount.{PeopleCount}
 use Rattle.rendering_taxonomy.specs.declared.name.DisambiguatedNameForm.{DisambiguatedNameForm}
 
@@ -29,6 +29,13 @@ pub all_forms-cut : (cs : List PeopleCount) (fs : Forms) → length fs ≡ all_p
 all_forms-cut [] [] e = refl
 all_forms-cut [] (f ∷ fs) e = absurd (omega arith)
 all_forms-cut (c ∷ cs) fs e = ap (λ gs. take c.people fs ++ gs) (all_forms-cut cs (drop c.people fs) (others_fit c.people (all_people cs) fs e)) ∙ take-append-drop c.people fs
+
+-- the numbers stand with the forms
+pub counts_of-cut : (cs : List PeopleCount) (fs : Forms) → length fs ≡ all_people cs → counts_of (cut cs fs) ≡ cs
+counts_of-cut [] fs e = refl
+counts_of-cut (c ∷ cs) fs e =
+    λ i. record { variable = c.variable; people = first_fits c.people (all_people cs) fs e i; shown = c.shown }
+    ∷ counts_of-cut cs (drop c.people fs) (others_fit c.people (all_people cs) fs e) i
 
 -- the numbers are those of the variables
 pub all_shown-cut : (cs : List PeopleCount) (fs : Forms) → all_shown (cut cs fs) ≡ sum_by (λ c. c.shown) cs

@@ -1,5 +1,5 @@
 -- Properties as they lie in memory: the numbers of each variable, and the forms of all people in one run.
-use Rattle.std.specs.Prelude.{◌≡◌, ℕ, ◌+◌, Bool, true, nat_le, min, max, List, [], ◌∷◌, length, take, drop}
+use Rattle.std.specs.Prelude.{◌≡◌, ℕ, ◌+◌, Bool, true, nat_le, min, max, List, [], ◌∷◌, map, length, take, drop}
 use Rattle.std.specs.List.{list_all}
 use Rattle.rendering_people.specs.Properties.{Properties}
 use Rattle.rendering_people.specs.declared.properties.PeopleCount.{PeopleCount}
@@ -9,6 +9,10 @@ use Rattle.rendering_taxonomy.specs.declared.name.DisambiguatedNameForm.{Disambi
 abbrev pub cut : List PeopleCount → List DisambiguatedNameForm → Properties
 cut [] fs = []
 cut (c ∷ cs) fs = record { variable = c.variable; forms = take c.people fs; shown = c.shown } ∷ cut cs (drop c.people fs)
+
+-- the numbers of each variable
+abbrev pub counts_of : Properties → List PeopleCount
+counts_of ps = map (λ p. record { variable = p.variable; people = length p.forms; shown = p.shown }) ps
 
 -- how many people there are
 abbrev pub all_people : List PeopleCount → ℕ

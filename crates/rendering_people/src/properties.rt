@@ -1,19 +1,28 @@
 //! How much of names is printed to disambiguate cites.
 
-ghost use Rattle.std.specs.Prelude.{◌≡◌, ◌≤◌, drop, map, nat_lt, sum_by, take};
+ghost use Rattle.std.specs.Prelude.{◌≡◌, ◌≤◌, ◌&&◌, ◌++◌, drop, map, nat_lt, sum_by, take};
 ghost use Rattle.std.specs.Borrow.{sem};
+ghost use Rattle.std.specs.Cmp.Lexicographic.{pointwise};
+ghost use Rattle.std.specs.Cmp.Rules.{comparing};
+ghost use Rattle.std.specs.Hash as fed;
 ghost use Rattle.std.specs.List.{list_any};
 ghost use Rattle.std.specs.Option.{option_map};
+ghost use Rattle.std.specs.Ordering.{eq_of_both, on};
+ghost use Rattle.rendering_people.specs.contracts.properties.PeopleCountEq.TheImpl.Laws as people_eq;
+ghost use Rattle.rendering_people.specs.contracts.properties.PeopleCountHash.TheImpl.Laws as people_hash;
+ghost use Rattle.rendering_taxonomy.specs.contracts.name.DisambiguatedNameFormEq.TheImpl.Laws as form_eq;
+ghost use Rattle.rendering_taxonomy.specs.contracts.name.DisambiguatedNameFormHash.TheImpl.Laws as form_hash;
 ghost use Rattle.rendering_taxonomy.specs.NameForms.{rank};
 ghost use Rattle.rendering_people.specs.Counts.{counted};
 ghost use Rattle.rendering_people.specs.Properties.{is_above};
 
 use rendering_taxonomy::{DisambiguatedNameForm, NameVariable};
 use std::alloc::AllocError;
+use std::hash::{Hash, Hasher};
 use std::marker::Model;
 
 /// How many people of a variable there are, and how many of them are shown.
-#[derive(Clone, Copy, Debug)]
+#[derive(Clone, Copy, Debug, PartialEq, Eq, Hash)]
 pub struct PeopleCount {
     pub variable: NameVariable,
     pub people: usize,
@@ -137,6 +146,61 @@ impl Clone for NameDisambiguationProperties {
             forms: self.forms.clone()?,
         })
     }
+}
+
+/// Properties are equal where the numbers of each variable and all forms are.
+impl PartialEq for NameDisambiguationProperties {
+    ghost use Rattle.rendering_people.specs.Properties.{all_forms};
+    ghost use Rattle.rendering_people.specs.Counts.{counts_of};
+
+    ghost eq = { eq_of_both (on counts_of (pointwise ⟦<PeopleCount as PartialEq>⟧.eq))
+        (on all_forms (pointwise ⟦<DisambiguatedNameForm as PartialEq>⟧.eq)) };
+
+    ghost laws = { Prim.search (comparing, people_eq.laws-law, form_eq.laws-law) depth 10 };
+
+    fn eq(&self, other: &NameDisambiguationProperties) -> bool {
+        are_same(
+            self.counts.as_slice(),
+            other.counts.as_slice(),
+            self.forms.as_slice(),
+            other.forms.as_slice(),
+        )
+    }
+}
+
+impl Eq for NameDisambiguationProperties {
+    ghost laws = { Prim.search (comparing, people_eq.laws-law, form_eq.laws-law) depth 10 };
+}
+
+impl Hash for NameDisambiguationProperties {
+    ghost use Rattle.rendering_people.specs.Properties.{all_forms};
+    ghost use Rattle.rendering_people.specs.Counts.{counts_of};
+    ghost use Rattle.std.specs.Hash.{and-Alike, items_Alike, on_Alike};
+
+    ghost hash_input = { λ p. fed.slice ⟦<PeopleCount as Hash>⟧.hash_input (counts_of p)
+        ++ fed.slice ⟦<DisambiguatedNameForm as Hash>⟧.hash_input (all_forms p) };
+
+    ghost respects_eq = { (and-Alike
+        (on_Alike counts_of (items_Alike (record { fed = people_hash.respects_eq-law })))
+        (on_Alike all_forms (items_Alike (record { fed = form_hash.respects_eq-law })))).fed };
+
+    fn hash<H: Hasher>(&self, state: &mut H) {
+        self.counts.hash(state);
+        self.forms.hash(state);
+    }
+}
+
+/// Whether counts and forms are equal to others.
+fn are_same(
+    counts: &[PeopleCount],
+    other_counts: &[PeopleCount],
+    forms: &[DisambiguatedNameForm],
+    other_forms: &[DisambiguatedNameForm],
+) -> bool
+    ensures { result ≡ (pointwise ⟦<PeopleCount as PartialEq>⟧.eq counts.now other_counts.now
+        && pointwise ⟦<DisambiguatedNameForm as PartialEq>⟧.eq forms.now other_forms.now) }
+{
+    counts == other_counts && forms == other_forms
 }
 
 /// Shows so many people of each variable at least, as far as there are people. Returns whether that shows more.

@@ -6,7 +6,7 @@ use Rattle.std.proofs.lemmas.Bool.{cases_eq}
 use Rattle.std.specs.Global.{Global}
 use Rattle.std.specs.Prelude.{String, slice_get}
 use Rattle.std.specs.Option.{option_map}
-use Rattle.std.specs.HashMap.{HashMap}
+use Rattle.std.specs.BTreeMap.{BTreeMap}
 use Rattle.std.proofs.lemmas.List.{take_all, length-map}
 use Rattle.std.proofs.lemmas.Option.{slice_get-map, slice_get-get_or}
 use Rattle.std.proofs.lemmas.List.Elements.{All-get_or, Contains-push_cases}
@@ -77,11 +77,11 @@ heights_whole heights ms order k o past h i low =
     h.exact i (subst (λ (xs : List ℕ). Contains xs i) (sym (take_all k order past)) (contained_in_order (references ms) order o i (omega (arith, many, low))))
 
 -- the tables of the code look names up as the definitions do
-pub heights_same : {S : Type 0} (table : HashMap (String Global) ℕ S) (ms : List Macro) (heights : List ℕ) → IsIndex table ms → height_of table heights ≡ (λ q. height_at heights (index_of ms q))
+pub heights_same : (table : BTreeMap (String Global) ℕ) (ms : List Macro) (heights : List ℕ) → IsIndex table ms → height_of table heights ≡ (λ q. height_at heights (index_of ms q))
 heights_same table ms heights told = fun_ext (λ q. ap (height_at heights) (told q))
 
 -- the height that the code writes
-pub heights_written : {S : Type 0} (table : HashMap (String Global) ℕ S) (macros : List MacroPart) (heights order : List ℕ) (k n height : ℕ) (m : MacroPart)
+pub heights_written : (table : BTreeMap (String Global) ℕ) (macros : List MacroPart) (heights order : List ℕ) (k n height : ℕ) (m : MacroPart)
     → IsIndex table (map macro_view macros) → IsOrder (references (map macro_view macros)) order → ((i : ℕ) → IsCircular (references (map macro_view macros)) i → ⊥)
     → k < length order → get_or order k 0 ≡ n → m ≡ get_or macros n m → AreHeightsOf heights (map macro_view macros) (take k order) → height ≡ min (levels (height_of table heights) (nodes_view m.nodes.items)) 201
     → AreHeightsOf (set heights n height) (map macro_view macros) (take (k + 1) order)

@@ -2,7 +2,7 @@
 use Rattle.std.proofs.Common.{◌≡◌, ℕ, Bool, true, false, ◌&&◌, leb, List, map, Option, Some, None, string_bytes, refl, sym, ap, ◌∙◌}
 use Rattle.std.specs.Global.{Global}
 use Rattle.std.specs.Prelude.{String}
-use Rattle.std.specs.HashMap.{HashMap}
+use Rattle.std.specs.BTreeMap.{BTreeMap}
 use Rattle.std.specs.List.{list_all}
 use Rattle.std.proofs.lemmas.List.Folds.{list_all-map}
 use Rattle.std.specs.Option.{option_map, option_map_or}
@@ -24,7 +24,7 @@ of_bibliography height None = refl
 of_bibliography height (Some b) = refl
 
 -- whether they fit, in the words of the code
-pub parts_fit : {S : Type 0} (table : HashMap (String Global) ℕ S) (p : StyleParts) (heights : List ℕ) → IsIndex table (macros_view p) → AreHeights heights (macros_view p)
+pub parts_fit : (table : BTreeMap (String Global) ℕ) (p : StyleParts) (heights : List ℕ) → IsIndex table (macros_view p) → AreHeights heights (macros_view p)
     → style_fits (style_parts_view p) ≡ (leb (levels (height_of table heights) (nodes_view p.citation.layout.nodes.items)) 200
     && option_map_or (λ (b : Bibliography). leb (levels (height_of table heights) (nodes_view b.layout.nodes.items)) 200) p.bibliography true
     && list_all (λ (m : Macro). leb (height_of table heights (string_bytes m.name)) 200) p.macros.items)

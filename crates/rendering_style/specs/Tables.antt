@@ -2,13 +2,13 @@
 use Rattle.std.specs.Global.{Global}
 use Rattle.std.specs.Prelude.{◌≡◌, ℕ, ◌<◌, ◌≤◌, List, String, Option, Some, None, nat_le, length, slice_get, slice_index}
 use Rattle.std.specs.Option.{option_map_or}
-use Rattle.std.specs.HashMap.{HashMap, get_by_text}
+use Rattle.std.specs.BTreeMap.{BTreeMap, get_by_text}
 use Rattle.rendering_style.specs.Nodes.{Nodes, no_nodes, nodes_of}
 use Rattle.rendering_style.specs.Styles.{Macro}
 use Rattle.rendering_style.specs.Opening.{index_of, all_nodes, fits, limit}
 
 -- a table from each name to the index of the first macro of that name
-abbrev pub IsIndex : {S : Type 0} → HashMap (String Global) ℕ S → List Macro → Type 0
+abbrev pub IsIndex : BTreeMap (String Global) ℕ → List Macro → Type 0
 IsIndex table ms = (name : List ℕ) → get_by_text table name ≡ index_of ms name
 
 -- the nodes of the macro at an index
@@ -29,5 +29,5 @@ height_at heights None = 0
 height_at heights (Some index) = slice_index heights index
 
 -- the number of the macro of a name, by both tables
-abbrev pub height_of : {S : Type 0} → HashMap (String Global) ℕ S → List ℕ → List ℕ → ℕ
+abbrev pub height_of : BTreeMap (String Global) ℕ → List ℕ → List ℕ → ℕ
 height_of table heights name = height_at heights (get_by_text table name)

@@ -3,7 +3,7 @@
 ghost use Rattle.std.specs.Prelude.{◌≡◌, ◌++◌, ℕ, List, Some, None, map, filter_map, if◌then◌else◌, IfOk, OnOk};
 ghost use Rattle.std.specs.Option.{option_or, option_to_list};
 ghost use Rattle.std.specs.Str.{bytes_eq};
-ghost use Rattle.std.specs.HashMap.{get_by_text};
+ghost use Rattle.std.specs.BTreeMap.{get_by_text};
 ghost use Rattle.reference_graph.specs.References.{lists};
 ghost use Rattle.rendering_style.specs.Nodes.{Nodes, TextLook};
 ghost use Rattle.rendering_style.specs.Opening.{calls, calls_in, calls_of_branches, references};
@@ -13,16 +13,16 @@ ghost use Rattle.rendering_style.specs.Views.{macro_view, node_view, nodes_view,
 use crate::node::{ChooseBranch, Node, TextTarget};
 use crate::parts::Macro;
 use std::alloc::{AllocError, Global};
-use std::collections::HashMap;
+use std::collections::BTreeMap;
 
 /// The index of the first macro of each name.
 pub(crate) fn table_of(
     alloc: Global,
     macros: &[Macro],
-) -> Result<HashMap<String, usize>, AllocError>
+) -> Result<BTreeMap<String, usize>, AllocError>
     ensures { IfOk result (λ table. IsIndex table (map macro_view macros.now)) }
 {
-    let mut table = HashMap::new(alloc);
+    let mut table = BTreeMap::new(alloc);
     for index in 0..macros.len() {
         bind(alloc, &mut table, macros[index].name.as_str(), index)?;
     }
@@ -32,7 +32,7 @@ pub(crate) fn table_of(
 /// Binds a name to an index, unless it is bound already.
 fn bind(
     alloc: Global,
-    table: &mut HashMap<String, usize>,
+    table: &mut BTreeMap<String, usize>,
     name: &str,
     index: usize,
 ) -> Result<(), AllocError>
@@ -49,7 +49,7 @@ fn bind(
 /// Of each macro, the indices of the macros that it calls.
 pub(crate) fn references_of(
     alloc: Global,
-    table: &HashMap<String, usize>,
+    table: &BTreeMap<String, usize>,
     macros: &[Macro],
 ) -> Result<Vec<Vec<usize>>, AllocError>
     requires { IsIndex table.now (map macro_view macros.now) }
@@ -65,7 +65,7 @@ pub(crate) fn references_of(
 /// The indices of the macros that nodes call.
 fn calls_of(
     alloc: Global,
-    table: &HashMap<String, usize>,
+    table: &BTreeMap<String, usize>,
     nodes: &[Node],
 ) -> Result<Vec<usize>, AllocError>
     ensures { IfOk result (λ v. v.items
@@ -80,7 +80,7 @@ fn calls_of(
 #[cycle(calls)]
 fn push_calls(
     nodes: &[Node],
-    table: &HashMap<String, usize>,
+    table: &BTreeMap<String, usize>,
     found: &mut Vec<usize>,
 ) -> Result<(), AllocError>
     ensures { OnOk result (found.new.items
@@ -96,7 +96,7 @@ fn push_calls(
 #[cycle(calls)]
 fn push_calls_in(
     node: &Node,
-    table: &HashMap<String, usize>,
+    table: &BTreeMap<String, usize>,
     found: &mut Vec<usize>,
 ) -> Result<(), AllocError>
     ensures { OnOk result (found.new.items
@@ -118,7 +118,7 @@ fn push_calls_in(
 #[cycle(calls)]
 fn push_calls_of_branches(
     branches: &[ChooseBranch],
-    table: &HashMap<String, usize>,
+    table: &BTreeMap<String, usize>,
     found: &mut Vec<usize>,
 ) -> Result<(), AllocError>
     ensures { OnOk result ((xs : Nodes)
@@ -135,7 +135,7 @@ fn push_calls_of_branches(
 /// Appends the index of the macro that a text node calls, if it calls one.
 fn push_target(
     target: &TextTarget,
-    table: &HashMap<String, usize>,
+    table: &BTreeMap<String, usize>,
     found: &mut Vec<usize>,
 ) -> Result<(), AllocError>
     ensures { OnOk result ((look : TextLook) → found.new.items ≡ found.old.items

@@ -15,7 +15,7 @@ ghost use Rattle.rendering_style.specs.Views.{macro_view, node_view, nodes_view,
 use crate::node::{ChooseBranch, Node, TextTarget};
 use crate::parts::{Bibliography, Layout, Macro, StyleParts};
 use std::alloc::{AllocError, Global};
-use std::collections::HashMap;
+use std::collections::BTreeMap;
 
 /// The most levels that a layout or a macro may have.
 const LIMIT: usize = 200;
@@ -24,7 +24,7 @@ const LIMIT: usize = 200;
 pub(crate) fn heights_of(
     alloc: Global,
     macros: &[Macro],
-    table: &HashMap<String, usize>,
+    table: &BTreeMap<String, usize>,
     order: &[usize],
 ) -> Result<Vec<usize>, AllocError>
     requires table { IsIndex table.now (map macro_view macros.now) }
@@ -41,7 +41,7 @@ pub(crate) fn heights_of(
 
 /// How many levels the nodes have, counted up to as many as there is room for.
 #[cycle(levels)]
-fn levels(nodes: &[Node], room: usize, table: &HashMap<String, usize>, heights: &[usize]) -> usize
+fn levels(nodes: &[Node], room: usize, table: &BTreeMap<String, usize>, heights: &[usize]) -> usize
     ensures { result ≡ min (levels (height_of table.now heights.now) (nodes_view nodes.now)) room }
 {
     if room == 0 {
@@ -59,7 +59,7 @@ fn levels(nodes: &[Node], room: usize, table: &HashMap<String, usize>, heights: 
 fn levels_below(
     node: &Node,
     room: usize,
-    table: &HashMap<String, usize>,
+    table: &BTreeMap<String, usize>,
     heights: &[usize],
 ) -> usize
     ensures { result
@@ -81,7 +81,7 @@ fn levels_below(
 fn branch_levels(
     branches: &[ChooseBranch],
     room: usize,
-    table: &HashMap<String, usize>,
+    table: &BTreeMap<String, usize>,
     heights: &[usize],
 ) -> usize
     ensures { (xs : Nodes)
@@ -99,7 +99,7 @@ fn branch_levels(
 fn levels_of_target(
     target: &TextTarget,
     room: usize,
-    table: &HashMap<String, usize>,
+    table: &BTreeMap<String, usize>,
     heights: &[usize],
 ) -> usize
     ensures { (look : TextLook) → result ≡ min
@@ -112,7 +112,7 @@ fn levels_of_target(
 }
 
 /// How many levels the macro of that name has; none where there is no such macro.
-fn height_of(name: &str, table: &HashMap<String, usize>, heights: &[usize]) -> usize
+fn height_of(name: &str, table: &BTreeMap<String, usize>, heights: &[usize]) -> usize
     ensures { result ≡ height_of table.now heights.now name.now }
 {
     match table.get(name) {
@@ -122,7 +122,7 @@ fn height_of(name: &str, table: &HashMap<String, usize>, heights: &[usize]) -> u
 }
 
 /// Whether no layout and no macro has more levels than may be. Of equal names the first macro counts.
-pub(crate) fn fits(parts: &StyleParts, table: &HashMap<String, usize>, heights: &[usize]) -> bool
+pub(crate) fn fits(parts: &StyleParts, table: &BTreeMap<String, usize>, heights: &[usize]) -> bool
     requires table { IsIndex table.now (macros_view parts.now) }
     requires heights { AreHeights heights.now (macros_view parts.now) }
     ensures { result ≡ style_fits (style_parts_view parts.now) }
@@ -133,7 +133,7 @@ pub(crate) fn fits(parts: &StyleParts, table: &HashMap<String, usize>, heights: 
 }
 
 /// Whether the layout has no more levels than may be.
-fn layout_fits(layout: &Layout, table: &HashMap<String, usize>, heights: &[usize]) -> bool
+fn layout_fits(layout: &Layout, table: &BTreeMap<String, usize>, heights: &[usize]) -> bool
     ensures { result ≡ nat_le
         (levels (height_of table.now heights.now) (nodes_view layout.now.nodes.items)) limit }
 {
@@ -143,7 +143,7 @@ fn layout_fits(layout: &Layout, table: &HashMap<String, usize>, heights: &[usize
 /// Whether the layout of the bibliography, if there is one, has no more levels than may be.
 fn bibliography_fits(
     bibliography: &Option<Bibliography>,
-    table: &HashMap<String, usize>,
+    table: &BTreeMap<String, usize>,
     heights: &[usize],
 ) -> bool
     ensures { result ≡ option_map_or (λ b.
@@ -157,7 +157,7 @@ fn bibliography_fits(
 }
 
 /// Whether no macro that is the first of its name has more levels than may be.
-fn macros_fit(macros: &[Macro], table: &HashMap<String, usize>, heights: &[usize]) -> bool
+fn macros_fit(macros: &[Macro], table: &BTreeMap<String, usize>, heights: &[usize]) -> bool
     ensures { result ≡ list_all
         (λ m. nat_le (height_of table.now heights.now (string_bytes m.name)) limit) macros.now }
 {

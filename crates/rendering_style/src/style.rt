@@ -1,7 +1,10 @@
 //! Styles.
 
 ghost use Rattle.std.specs.Prelude.{◌≡◌, ◌<◌, ℕ, true, Some, None, length, map, slice_get, IfOk, IfSome, MatchResult};
+ghost use Rattle.std.specs.Cmp.Rules.{comparing};
 ghost use Rattle.std.specs.Option.{option_map};
+ghost use Rattle.std.specs.Ordering.{on};
+ghost use Rattle.rendering_style.specs.contracts.parts.StylePartsEq.TheImpl.Laws as parts_eq;
 ghost use Rattle.reference_graph.specs.References.{IsCircular};
 ghost use Rattle.rendering_style.specs.Nodes.{nodes_of};
 ghost use Rattle.rendering_style.specs.Opening.{references, style_fits, macro_named, macro_ring, IsAnswer};
@@ -16,13 +19,13 @@ use crate::node::Node;
 use crate::parts::{Macro, StyleParts};
 use reference_graph::reference_order;
 use std::alloc::Global;
-use std::collections::HashMap;
+use std::collections::BTreeMap;
 
 /// A style: no macro reaches itself, and no layout and no macro has more than 200 levels of nodes.
 #[derive(Debug)]
 pub struct Style {
     parts: StyleParts,
-    table: HashMap<String, usize>,
+    table: BTreeMap<String, usize>,
     ghost indexed: { IsIndex table (macros_view parts) },
     ghost acyclic: { (i : ℕ) → IsCircular (references (macros_view parts)) i → ⊥ },
     ghost shallow: { style_fits (style_parts_view parts) ≡ true },
@@ -79,6 +82,21 @@ impl Style {
     }
 }
 
+/// Styles are equal where their parts are.
+impl PartialEq for Style {
+    ghost eq = { on (λ s. s.parts) ⟦<StyleParts as PartialEq>⟧.eq };
+
+    ghost laws = { Prim.search (comparing, parts_eq.laws-law) depth 10 };
+
+    fn eq(&self, other: &Style) -> bool {
+        self.parts == other.parts
+    }
+}
+
+impl Eq for Style {
+    ghost laws = { Prim.search (comparing, parts_eq.laws-law) depth 10 };
+}
+
 fn nodes_at(macros: &[Macro], index: usize) -> Option<&[Node]>
     ensures { option_map (λ xs. nodes_view xs.now) result
         ≡ option_map (λ m. nodes_of m.nodes) (slice_get (map macro_view macros.now) index) }
@@ -90,7 +108,7 @@ fn nodes_at(macros: &[Macro], index: usize) -> Option<&[Node]>
 }
 
 /// The index of each macro by its name, unless a style of these parts is refused.
-fn checked(alloc: Global, parts: &StyleParts) -> Result<HashMap<String, usize>, StyleError>
+fn checked(alloc: Global, parts: &StyleParts) -> Result<BTreeMap<String, usize>, StyleError>
     ensures table { IfOk result (λ table. IsIndex table (macros_view parts.now)) }
     ensures answer { MatchResult result (λ _. IsAnswer (style_parts_view parts.now) None) (λ e.
         IfSome (refusal_of e) (λ r. IsAnswer (style_parts_view parts.now) (Some r))) }

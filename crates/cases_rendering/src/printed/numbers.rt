@@ -4,8 +4,9 @@ use crate::styles::{NUMBER_FORMS, maybe_ordinals};
 use cases::{Session, Value, given, member};
 use literature::{MaybeTyped, Numeric};
 use rendering_locale::Ordinals;
-use rendering_numbers::{push_number, push_numeral_or_text, push_year, push_year_suffix};
+use rendering_numbers::{push_number, push_numeral_or_text, push_year_suffix, write_year};
 use rendering_taxonomy::NumberForm;
+use std::alloc::AllocError;
 
 /// `write_year`: a year, by the terms for the eras.
 pub(crate) fn answer_year(session: &mut Session, case: &Value<'_>) {
@@ -15,8 +16,22 @@ pub(crate) fn answer_year(session: &mut Session, case: &Value<'_>) {
     let ad = session.text(case, "ad");
     let bc = session.text(case, "bc");
     let mut written = String::new(session.alloc);
-    session.check(push_year(&mut written, year, short, ad, bc));
+    session.check(put_year(&mut written, year, short, ad, bc));
     session.put_text("text", written.as_str());
+}
+
+/// Appends what is written of a year.
+fn put_year(
+    out: &mut String,
+    year: i32,
+    short: bool,
+    ad: &str,
+    bc: &str,
+) -> Result<(), AllocError> {
+    match write_year(year, short, out, ad, bc) {
+        Ok(()) => Ok(()),
+        Err(_) => Err(AllocError),
+    }
 }
 
 /// `suffix_letters`: the year suffix of an index from zero.

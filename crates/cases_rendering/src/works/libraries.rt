@@ -24,7 +24,7 @@ pub(crate) fn library_of(session: &mut Session, case: &Value<'_>) -> Library {
 fn put_keys(session: &mut Session, library: &Library) {
     session.begin_array();
     for key in library.keys() {
-        session.string(key.as_str());
+        session.string(key);
     }
     session.end_array();
 }

@@ -1,6 +1,6 @@
 use Rattle.std.proofs.Common.{sym, ap, ◌∙◌, ◌++◌}
 use Rattle.std.specs.List.{filter_map}
-use Rattle.std.specs.HashMap.{get_by_text}
+use Rattle.std.specs.BTreeMap.{get_by_text}
 use Rattle.rendering_style.specs.Opening.{calls}
 use Rattle.rendering_style.specs.Views.{nodes_view}
 use Rattle.rendering_style.proofs.ViewsSteps.{calls_next, branch_calls_next}

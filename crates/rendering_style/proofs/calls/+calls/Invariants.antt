@@ -1,6 +1,6 @@
 use Rattle.std.proofs.Common.{◌≡◌, ◌++◌, drop, map}
 use Rattle.std.specs.List.{filter_map}
-use Rattle.std.specs.HashMap.{get_by_text}
+use Rattle.std.specs.BTreeMap.{get_by_text}
 use Rattle.rendering_style.specs.Nodes.{Nodes}
 use Rattle.rendering_style.specs.Opening.{calls, calls_of_branches}
 use Rattle.rendering_style.specs.Views.{nodes_view, branch_view, branches_of}

@@ -1,6 +1,6 @@
 use Rattle.std.proofs.Common.{◌≡◌, map, take}
 use Rattle.std.specs.List.{filter_map}
-use Rattle.std.specs.HashMap.{get_by_text}
+use Rattle.std.specs.BTreeMap.{get_by_text}
 use Rattle.reference_graph.specs.References.{lists}
 use Rattle.rendering_style.specs.Nodes.{nodes_of}
 use Rattle.rendering_style.specs.Opening.{calls}

@@ -1,5 +1,5 @@
 use Rattle.std.proofs.Common.{string_bytes, sym, ap, ◌∙◌}
-use Rattle.std.specs.HashMap.{get_by_text}
+use Rattle.std.specs.BTreeMap.{get_by_text}
 use Rattle.rendering_style.specs.declared.parts.Macro.{Macro}
 use Rattle.rendering_style.proofs.OpeningIndices.{index_more}
 use Rattle.rendering_style.proofs.calls.table_of.Goals as goal
