@@ -1,14 +1,14 @@
 //! The locale of English.
 
 ghost use Rattle.std.specs.Prelude.{◌≡◌, ◌++◌, map, IfOk, OnOk};
-ghost use Rattle.rendering_locale.specs.Views.{term_view, locale_view};
+ghost use Rattle.rendering_locale.specs.Views.{term_view, terms_view, locale_view};
 ghost use Rattle.cite_styles.specs.English.{english, english_terms};
 ghost use Rattle.cite_styles.specs.Rows.{term_row_view};
 
 use crate::dates::dates;
 use crate::endings::ordinals;
 use crate::rows::{Row, counted, labels, months, words};
-use rendering_locale::{Locale, LocaleCode, LocalizedTerm};
+use rendering_locale::{Locale, LocaleCode, LocalizedTerm, Terms};
 use std::alloc::{AllocError, Global};
 use texts::owned;
 
@@ -33,7 +33,14 @@ pub fn english(alloc: Global) -> Result<Locale, AllocError>
     })
 }
 
-fn terms(alloc: Global) -> Result<Vec<LocalizedTerm>, AllocError>
+fn terms(alloc: Global) -> Result<Terms, AllocError>
+    ensures { IfOk result (λ t. terms_view t ≡ english_terms) }
+{
+    let terms = listed_terms(alloc)?;
+    Terms::new(alloc, terms)
+}
+
+fn listed_terms(alloc: Global) -> Result<Vec<LocalizedTerm>, AllocError>
     ensures { IfOk result (λ v. map term_view v.items ≡ english_terms) }
 {
     let mut terms = Vec::new(alloc);

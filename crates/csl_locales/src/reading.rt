@@ -2,11 +2,12 @@
 
 ghost use Rattle.std.specs.Prelude.{◌≡◌, map, codes, IfOk};
 ghost use Rattle.xml_tree.specs.Views.{element_view};
-ghost use Rattle.rendering_locale.specs.Views.{localized_date_view, locale_view};
+ghost use Rattle.rendering_locale.specs.Views.{terms_view, localized_date_view, locale_view};
 ghost use Rattle.csl_nodes.specs.Views.{words_view};
 ghost use Rattle.csl_locales.specs.Called.{called};
 ghost use Rattle.csl_locales.specs.Locales as specs;
 ghost use Rattle.csl_locales.specs.Locales.{localized_date, option_set};
+ghost use Rattle.csl_locales.specs.Terms.{localized_term, terms_of};
 
 use crate::called::all_called;
 use crate::endings::ordinals_of;
@@ -14,10 +15,19 @@ use crate::language::language;
 use crate::terms::localized_terms;
 use csl_nodes::{Words, date_parts};
 use csl_words::{DATE_FORMS, is_set, part_called, text_of, value_by};
-use rendering_locale::{Locale, LocalizedDate};
+use rendering_locale::{Locale, LocalizedDate, Terms};
 use rendering_taxonomy::DateForm;
 use std::alloc::{AllocError, Global};
 use xml_tree::Element;
+
+/// The terms of a locale, each found by its name and form.
+fn terms(alloc: Global, words: &Words, element: &Element<'_>) -> Result<Terms, AllocError>
+    ensures { IfOk result (λ t. terms_view t
+        ≡ map (localized_term (words_view words.now)) (terms_of (element_view element.now))) }
+{
+    let terms = localized_terms(alloc, words, element)?;
+    Terms::new(alloc, terms)
+}
 
 /// A form of dates.
 fn localized_date(alloc: Global, element: &Element<'_>) -> Result<LocalizedDate, AllocError>
@@ -65,7 +75,7 @@ pub fn locale(alloc: Global, words: &Words, element: &Element<'_>) -> Result<Loc
         ≡ specs.locale (words_view words.now) (element_view element.now)) }
 {
     let lang = language(alloc, element)?;
-    let terms = localized_terms(alloc, words, element)?;
+    let terms = terms(alloc, words, element)?;
     let dates = localized_dates(alloc, element)?;
     let ordinals = ordinals_of(alloc, element)?;
     Ok(Locale {

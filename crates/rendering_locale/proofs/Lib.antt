@@ -1,1 +1,1 @@
-pub mod LookupTexts
+pub mod TermPlaces

@@ -6,16 +6,17 @@ use Rattle.laws.specs.Text.{characters}
 use Rattle.rendering_taxonomy.specs.Views.{changes_view}
 use Rattle.rendering_locale.specs.CodeViews.{code_view}
 use Rattle.rendering_locale.specs.Locales as locales
-use Rattle.rendering_locale.specs.declared.locale.LocalizedTerm.{LocalizedTerm}
 use Rattle.rendering_locale.specs.declared.locale.OrdinalEnding.{OrdinalEnding}
 use Rattle.rendering_locale.specs.declared.locale.Ordinals.{Ordinals}
 use Rattle.rendering_locale.specs.declared.locale.DatePart.{DatePart}
 use Rattle.rendering_locale.specs.declared.locale.LocalizedDate.{LocalizedDate}
 use Rattle.rendering_locale.specs.declared.locale.Locale.{Locale}
+use Rattle.rendering_locale.specs.declared.terms.Terms.{Terms}
+pub use Rattle.rendering_locale.specs.TermViews.{term_view}
 
--- a term
-abbrev pub term_view : LocalizedTerm → locales.LocalizedTerm
-term_view t = record { name = t.name; form = t.form; single = option_map characters t.single; multiple = option_map characters t.multiple; gender = t.gender }
+-- the terms of a locale
+abbrev pub terms_view : Terms → List locales.LocalizedTerm
+terms_view ts = map term_view ts.terms.items
 
 -- an ending
 abbrev pub ending_view : OrdinalEnding → locales.OrdinalEnding
@@ -45,7 +46,7 @@ localized_date_view d = record { form = d.form; parts = map part_view d.parts.it
 abbrev pub locale_view : Locale → locales.Locale
 locale_view l = record {
   lang = option_map code_view l.lang;
-  terms = map term_view l.terms.items;
+  terms = terms_view l.terms;
   dates = map localized_date_view l.dates.items;
   ordinals = option_map ordinals_view l.ordinals;
   punctuation_in_quote = l.punctuation_in_quote;

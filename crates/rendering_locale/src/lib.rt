@@ -5,8 +5,10 @@ mod asked;
 mod code;
 mod locale;
 mod looking;
+mod terms;
 mod words;
 
 pub use asked::AskedLocales;
 pub use code::{LocaleCode, language};
 pub use locale::{DatePart, Locale, LocalizedDate, LocalizedTerm, OrdinalEnding, Ordinals};
+pub use terms::Terms;

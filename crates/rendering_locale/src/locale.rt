@@ -1,6 +1,7 @@
 //! Locales as they are written down.
 
 use crate::code::LocaleCode;
+use crate::terms::Terms;
 use rendering_taxonomy::{
     DateForm, DatePartForm, FormattingChanges, Gender, OrdinalMatch, Term, TermForm, TextCase,
 };
@@ -67,7 +68,7 @@ pub struct LocalizedDate {
 pub struct Locale {
     pub lang: Option<LocaleCode>,
     /// Of equal names and forms the first counts.
-    pub terms: Vec<LocalizedTerm>,
+    pub terms: Terms,
     /// Of equal forms the first counts.
     pub dates: Vec<LocalizedDate>,
     pub ordinals: Option<Ordinals>,

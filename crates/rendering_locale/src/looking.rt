@@ -1,16 +1,16 @@
 //! What single locales, and locales one after the other, answer.
 
-ghost use Rattle.std.specs.Prelude.{◌≡◌, ◌&&◌, map};
+ghost use Rattle.std.specs.Prelude.{◌≡◌, map};
 ghost use Rattle.std.specs.Option.{option_map, option_eq, option_to_list};
 ghost use Rattle.std.specs.Str.{bytes_eq};
-ghost use Rattle.rendering_taxonomy.specs.Terms.{is_term, is_form, forms_from};
+ghost use Rattle.rendering_taxonomy.specs.Terms.{forms_from};
 ghost use Rattle.rendering_locale.specs.CodeViews.{code_view};
 ghost use Rattle.rendering_locale.specs.Lookup.{first_answer, in_language, in_fallback, term_in, term_found, is_date_form, date_in, date_found};
 ghost use Rattle.rendering_locale.specs.Views.{term_view, localized_date_view, ordinals_view, locale_view, locales_view};
 
 use crate::code::{LocaleCode, fallback};
 use crate::locale::{Locale, LocalizedDate, LocalizedTerm, Ordinals};
-use crate::words::{forms_from, is_form, is_term};
+use crate::words::forms_from;
 use rendering_taxonomy::{DateForm, Term, TermForm};
 
 /// Whether a locale of this language is wanted, or of none.
@@ -49,23 +49,12 @@ pub(crate) fn in_fallback<'a>(code: &str, files: &'a [Locale]) -> Option<&'a Loc
     }
 }
 
-fn is_named(term: &LocalizedTerm, name: Term, form: TermForm) -> bool
-    ensures { result ≡ (is_term term.now.name name && is_form term.now.form form) }
-{
-    is_term(term.name, name) && is_form(term.form, form)
-}
-
 /// The first term of that name and form.
 fn term_in(locale: &Locale, name: Term, form: TermForm) -> Option<&LocalizedTerm>
     ensures { option_map (λ t. term_view t.now) result
         ≡ term_in name form (locale_view locale.now) }
 {
-    for term in &locale.terms {
-        if is_named(term, name, form) {
-            return Some(term);
-        }
-    }
-    None
+    locale.terms.get(name, form)
 }
 
 /// The first term of that name and form in any of the locales.

@@ -3,18 +3,22 @@
 ghost use Rattle.std.specs.Prelude.{◌≡◌, ◌+◌};
 ghost use Rattle.rendering_taxonomy.specs.Variables.{standard_index, number_index, name_index, date_index, variable_index};
 ghost use Rattle.rendering_taxonomy.specs.Kinds.{locator_index, kind_index};
-ghost use Rattle.rendering_taxonomy.specs.Terms.{other_index, canonical, term_index, is_term, form_index, is_form, forms_from};
+ghost use Rattle.rendering_taxonomy.specs.Terms.{other_index, canonical, term_index, form_index, forms_from};
+ghost use Rattle.rendering_locale.specs.Indexed.{term_key};
 
 use rendering_taxonomy::{
     DateVariable, Kind, Locator, NameVariable, NumberVariable, OtherTerm, StandardVariable, Term,
     TermForm, Variable,
 };
 
-/// Whether two terms are one.
-pub(crate) fn is_term(term: Term, name: Term) -> bool
-    ensures { result ≡ is_term term name }
+/// What a term in a form is looked up by: the index of its word, and the index of the form.
+pub(crate) type TermKey = (u64, u8);
+
+/// What a term of that name in that form is looked up by.
+pub(crate) fn term_key(name: Term, form: TermForm) -> TermKey
+    ensures { result ≡ term_key name form }
 {
-    term_index(canonical(term)) == term_index(canonical(name))
+    (term_index(canonical(name)), form_index(form))
 }
 
 /// Of the terms that have one word the one that stands for all of them: a variable, or else a label.
@@ -124,13 +128,6 @@ fn form_index(form: TermForm) -> u8
         TermForm::VerbShort => 3,
         TermForm::Symbol => 4,
     }
-}
-
-/// Whether two forms are one.
-pub(crate) fn is_form(form: TermForm, wanted: TermForm) -> bool
-    ensures { result ≡ is_form form wanted }
-{
-    form_index(form) == form_index(wanted)
 }
 
 /// The forms in which a term is looked up, one after the other.

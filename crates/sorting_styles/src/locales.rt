@@ -5,9 +5,10 @@ ghost use Rattle.rendering_locale.specs.Views.{locale_view, term_view};
 ghost use Rattle.sorting_styles.specs.Locales as specs;
 ghost use Rattle.sorting_styles.specs.Locales.{silenced, sorting_locales};
 
-use rendering_locale::{Locale, LocalizedTerm};
+use rendering_locale::{Locale, LocalizedTerm, Terms};
 use rendering_taxonomy::{OtherTerm, Term, TermForm};
 use std::alloc::{AllocError, Global};
+use std::mem;
 
 /// A term without a text.
 fn silent_term(name: OtherTerm) -> LocalizedTerm
@@ -36,9 +37,10 @@ fn silent_terms(alloc: Global) -> Result<Vec<LocalizedTerm>, AllocError>
 fn silence(alloc: Global, locale: &mut Locale) -> Result<(), AllocError>
     ensures { OnOk result (locale_view locale.new ≡ silenced (locale_view locale.old)) }
 {
+    let mut others = mem::replace(&mut locale.terms, Terms::empty(alloc)).into_vec();
     let mut terms = silent_terms(alloc)?;
-    terms.append(&mut locale.terms)?;
-    locale.terms = terms;
+    terms.append(&mut others)?;
+    locale.terms = Terms::new(alloc, terms)?;
     Ok(())
 }
 
@@ -48,7 +50,7 @@ fn open_locale(alloc: Global) -> Locale
 {
     Locale {
         lang: None,
-        terms: Vec::new(alloc),
+        terms: Terms::empty(alloc),
         dates: Vec::new(alloc),
         ordinals: None,
         punctuation_in_quote: None,

@@ -5,7 +5,9 @@ use crate::styles::dates::date_parts;
 use crate::styles::terms::term_of;
 use cases::{Session, Value, member};
 use csl_words::TERM_FORMS;
-use rendering_locale::{Locale, LocaleCode, LocalizedDate, LocalizedTerm, OrdinalEnding, Ordinals};
+use rendering_locale::{
+    Locale, LocaleCode, LocalizedDate, LocalizedTerm, OrdinalEnding, Ordinals, Terms,
+};
 use rendering_taxonomy::{DateForm, TermForm};
 
 /// The code of a member that may be left out.
@@ -36,8 +38,8 @@ fn term(session: &mut Session, given: &Value<'_>) -> LocalizedTerm {
     }
 }
 
-/// The terms of a locale.
-fn terms(session: &mut Session, given: &Value<'_>) -> Vec<LocalizedTerm> {
+/// The terms of a locale in their order.
+fn listed_terms(session: &mut Session, given: &Value<'_>) -> Vec<LocalizedTerm> {
     let mut terms = Vec::new(session.alloc);
     let Some(items) = session.items(given, "terms") else {
         return terms;
@@ -47,6 +49,16 @@ fn terms(session: &mut Session, given: &Value<'_>) -> Vec<LocalizedTerm> {
         session.push(&mut terms, term);
     }
     terms
+}
+
+/// The terms of a locale.
+fn terms(session: &mut Session, given: &Value<'_>) -> Terms {
+    let listed = listed_terms(session, given);
+    let terms = Terms::new(session.alloc, listed);
+    match session.allocated(terms) {
+        Some(terms) => terms,
+        None => Terms::empty(session.alloc),
+    }
 }
 
 /// A form of dates.
