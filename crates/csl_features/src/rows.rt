@@ -121,7 +121,6 @@ pub(crate) const FEATURES: &[Row] = &[
         "ibid-with-locator follows citations of one cite alone",
     ),
     ("", ("text-case", ""), NOTHING, "", "text-case"),
-    ("", ("initialize", "false"), NOTHING, "", "initialize"),
     (
         "number",
         ("form", "long-ordinal"),

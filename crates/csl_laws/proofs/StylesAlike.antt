@@ -25,7 +25,7 @@ use Rattle.csl_styles.specs.Citations.{is_by_cite, usual_delimiter, citation}
 use Rattle.csl_styles.specs.Files.{Dependent, Independent, Localized, localized, style_by, meaning}
 use Rattle.csl_styles.specs.Information.{category_of, categories_in, categories_of, parent_address, address_in, last_segment, parent_of}
 use Rattle.csl_styles.specs.Layouts.{layout, empty_layout, layout_in, sort_key, sort_keys}
-use Rattle.csl_styles.specs.Styles.{demoting, default_locale, citation_in, bibliography_in, keys_in, style}
+use Rattle.csl_styles.specs.Styles.{demoting, splitting, default_locale, citation_in, bibliography_in, keys_in, style}
 use Rattle.csl_laws.specs.Alike.{AreAlikeInside}
 use Rattle.csl_laws.specs.Trees.{text_counts, Alike}
 use Rattle.csl_laws.proofs.Said.{SaySame, alike_said, names_same, value_same, text_same, says_same, set_same, true_same, number_same, part_found, called_found, made_same, mapped_same, then_same, each_same}
@@ -170,7 +170,7 @@ style_same words x y a =
       default_locale = default_same x y a j;
       page_ranges = value_same x y h (table PAGE_RANGES.now) (codes "page-range-format") j;
       page_rule = Joined;
-      name_options = demoting (options_same x y h (codes "name-form") (codes "name-delimiter") j);
+      name_options = splitting (demoting (options_same x y h (codes "name-form") (codes "name-delimiter") j));
       locales = each_same (codes "locale") (locale words) (λ e f is es. locale_same words e f es) (called (codes "locale") x) (called (codes "locale") y) (called_found (codes "locale") x y a) j;
       macros = each_same (codes "macro") (macro_of words) (λ e f is es. macro_same words e f es) (called (codes "macro") x) (called (codes "macro") y) (called_found (codes "macro") x y a) j;
       citation = citation_in_same words x y a j;

@@ -24,9 +24,14 @@ use Rattle.csl_styles.specs.Bibliographies.{bibliography}
 abbrev pub demoting : NameOptions → NameOptions
 demoting o = record o { demote = Some (unwrap_or o.demote true) }
 
+-- options of names under which full stops part what has an initial
+abbrev pub splitting : NameOptions → NameOptions
+splitting o = record o { splits_initials = Some true }
+
 -- the options of names that a style has for all of its layouts
 abbrev pub style_options : Element → NameOptions
-style_options e = demoting (name_options (codes "name-form") (codes "name-delimiter") e)
+style_options e =
+    splitting (demoting (name_options (codes "name-form") (codes "name-delimiter") e))
 
 -- its default locale, in bytes
 abbrev pub default_locale : Element → Option (List ℕ)

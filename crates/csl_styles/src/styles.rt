@@ -34,12 +34,23 @@ fn demoting(options: NameOptions) -> NameOptions
     }
 }
 
+/// Options of names under which full stops part what has an initial.
+fn splitting(options: NameOptions) -> NameOptions
+    ensures { options_view result ≡ specs.splitting (options_view options) }
+{
+    NameOptions {
+        splits_initials: Some(true),
+        ..options
+    }
+}
+
 /// The options of names that a style has for all of its layouts.
 fn style_options(alloc: Global, element: &Element<'_>) -> Result<NameOptions, AllocError>
     ensures { IfOk result (λ o. options_view o
         ≡ specs.style_options (element_view element.now)) }
 {
-    Ok(demoting(name_options(alloc, "name-form", "name-delimiter", element)?))
+    let own = name_options(alloc, "name-form", "name-delimiter", element)?;
+    Ok(splitting(demoting(own)))
 }
 
 /// The default locale of a style.

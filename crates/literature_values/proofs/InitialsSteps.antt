@@ -1,5 +1,5 @@
 -- Runs of a name, one after the other.
-use Rattle.std.proofs.Common.{◌≡◌, ℕ, ◌+◌, ◌≤◌, ◌<◌, Bool, true, false, cond, eqb, List, [], ◌∷◌, ◌++◌, length, Option, Some, None, Result, Ok, Err, refl, sym, ap, ◌∙◌, subst, arith, append_assoc, append-nil, length-append}
+use Rattle.std.proofs.Common.{◌≡◌, ℕ, ◌+◌, ◌≤◌, ◌<◌, Bool, true, false, cond, eqb, List, [], ◌∷◌, ◌++◌, length, Option, Some, None, Result, Ok, Err, refl, sym, ap, ◌∙◌, subst, arith, length-append}
 use Rattle.std.specs.Fmt.{WritesInCalls}
 use Rattle.std.specs.List.{flat_map}
 use Rattle.laws.specs.Characters.{hyphen}
@@ -7,17 +7,16 @@ use Rattle.laws.specs.Results.{◌>>=◌}
 use Rattle.laws.specs.Steps.{each, Shortens}
 use Rattle.laws.specs.Runs.{prefix_of, after}
 use Rattle.laws.specs.Text.{text}
-use Rattle.std.proofs.Output.{writes_in_calls_nil, writes_in_calls_append}
 use Rattle.laws.proofs.Results.{ok_is}
-use Rattle.laws.proofs.Text.{text-append}
 use Rattle.laws.proofs.Runs.{length-after, prefix-after}
 use Rattle.laws.proofs.Steps.{each-none, each-some}
 use Rattle.texts.specs.Character.{passes}
 use Rattle.texts.specs.Reading.{taken}
+use Rattle.literature_values.proofs.WritingSteps.{WrittenSoFar, begun, one_more, all_written}
 use Rattle.literature_values.specs.Initials.{Run, Style, initial, further, joined_runs, run_after, run_from, next_run_at, initials_of}
 use Rattle.texts.specs.declared.character.Class.TheVariants.{Blank, Apart, Name}
 
-taken-leaves : (c : ℕ) (cs : List ℕ) → length (taken c cs).1 ≤ length cs
+pub taken-leaves : (c : ℕ) (cs : List ℕ) → length (taken c cs).1 ≤ length cs
 taken-leaves c [] = omega arith
 taken-leaves c (d ∷ cs) = by_test (eqb d c)
   where
@@ -71,36 +70,23 @@ pub initials_none : (s : Style) (cs rest : List ℕ) → next_run_at cs ≡ Ok (
 unfolding initials_of
 initials_none s cs rest is = ap (joined_runs s) (each-none next_run_at cs rest is)
 
-pub initials_of_nothing : (s : Style) → initials_of s [] ≡ []
-unfolding next_run_at
-initials_of_nothing s = initials_none s [] [] refl
-
 -- what was written so far, and the initials of what is left, are the initials of all
-pub record WritesSoFar {W : Type 0} (took : W → List ℕ → W → Type 0) (from : W) (s : Style) (whole rest : List ℕ) (to : W) : Type 0 where
-  pub so_far : List ℕ
-  pub wrote : WritesInCalls took from (text so_far) to
-  pub together : so_far ++ others s (each next_run_at rest) ≡ initials_of s whole
+abbrev pub WritesSoFar : {W : Type 0} → (W → List ℕ → W → Type 0) → W → Style → List ℕ → List ℕ → W → Type 0
+WritesSoFar took from s whole rest to = WrittenSoFar took from (initials_of s whole) (others s (each next_run_at rest)) to
 
 module _ {W : Type 0} (took : W → List ℕ → W → Type 0) (from : W) (s : Style) (whole : List ℕ) where
   -- after the first initial the initials so far are written
   pub begins : (r : Run) (rest : List ℕ) (to : W) → next_run_at whole ≡ Ok (Some r, rest) → WritesInCalls took from (text (initial s r.name)) to → WritesSoFar took from s whole rest to
-  begins r rest to is wrote = record { so_far = initial s r.name; wrote = wrote; together = sym (initials_first s r whole rest is) }
+  begins r rest to is wrote = begun took from (initials_of s whole) (initial s r.name) (others s (each next_run_at rest)) to (sym (initials_first s r whole rest is)) wrote
 
   -- so they are after one more
   pub goes_on : (r : Run) (rest more : List ℕ) (to last : W) → WritesSoFar took from s whole rest to → next_run_at rest ≡ Ok (Some r, more) → WritesInCalls took to (text (further s r)) last
       → WritesSoFar took from s whole more last
-  goes_on r rest more to last w is wrote = record {
-    so_far = w.so_far ++ further s r;
-    wrote = subst (λ (t : List ℕ). WritesInCalls took from t last) (sym (text-append w.so_far (further s r))) (writes_in_calls_append took from (text w.so_far) to (text (further s r)) last w.wrote wrote);
-    together = append_assoc w.so_far (further s r) (others s (each next_run_at more)) ∙ ap (λ (t : List ℕ). w.so_far ++ t) (sym (others_more s r rest more is)) ∙ w.together;
-  }
+  goes_on r rest more to last w is wrote =
+      one_more took from (initials_of s whole) (further s r) (others s (each next_run_at more)) to last
+      (subst (λ (t : List ℕ). WrittenSoFar took from (initials_of s whole) t to) (others_more s r rest more is) w) wrote
 
   -- where no further run follows, all initials are written
   pub ends : (rest more : List ℕ) (to : W) → WritesSoFar took from s whole rest to → next_run_at rest ≡ Ok (None, more) → WritesInCalls took from (text (initials_of s whole)) to
   ends rest more to w is =
-      let all : w.so_far ≡ initials_of s whole = sym (append-nil w.so_far) ∙ ap (λ (t : List ℕ). w.so_far ++ t) (sym (others_none s rest more is)) ∙ w.together in
-      subst (λ (t : List ℕ). WritesInCalls took from (text t) to) all w.wrote
-
-  -- nothing was written of a name without initials
-  pub writes_nothing : initials_of s whole ≡ [] → WritesInCalls took from (text (initials_of s whole)) from
-  writes_nothing none = subst (λ (t : List ℕ). WritesInCalls took from (text t) from) (sym none) (writes_in_calls_nil took from)
+      all_written took from (initials_of s whole) to (subst (λ (t : List ℕ). WrittenSoFar took from (initials_of s whole) t to) (others_none s rest more is) w)

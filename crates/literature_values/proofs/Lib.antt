@@ -3,5 +3,7 @@ pub mod DatesAgain
 pub mod DateRangesAgain
 pub mod DateRangesOpen
 pub mod Equality
+pub mod WritingSteps
 pub mod InitialsSteps
+pub mod GivenNameSteps
 pub mod EntryTypesEquality

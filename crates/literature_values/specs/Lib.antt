@@ -1,4 +1,5 @@
 pub mod Initials
+pub mod GivenNames
 pub mod PersonViews
 pub mod TextViews
 pub mod TypedViews

@@ -5,10 +5,13 @@ use Rattle.std.specs.Option.{option_map, unwrap_or}
 use Rattle.std.specs.Str.{chars}
 use Rattle.std.specs.declared.borrow.Cow.{Cow}
 use Rattle.literature_values.specs.Initials.{Run, Style}
+use Rattle.literature_values.specs.GivenNames.{Piece, Shown}
 use Rattle.laws.specs.Text.{characters}
 use Rattle.literature_values.specs.declared.person.InitialsStyle.{InitialsStyle}
 use Rattle.literature_values.specs.declared.person.Person.{Person}
 use Rattle.literature_values.specs.declared.person.NameRun.{NameRun}
+use Rattle.literature_values.specs.declared.given_name.NamePiece.{NamePiece}
+use Rattle.literature_values.specs.declared.given_name.ShownPiece.{ShownPiece}
 
 -- a person by the characters of the four parts
 pub record Named : Type 0 where
@@ -33,6 +36,14 @@ lent_person_view p = person_view (cow_value p)
 -- a run by its characters
 abbrev pub run_view : NameRun → Run
 run_view r = record { is_hyphenated = r.is_hyphenated; name = chars r.name.now }
+
+-- a piece by its characters
+abbrev pub piece_view : NamePiece → Piece
+piece_view p = record { is_hyphenated = p.is_hyphenated; name = chars p.name.now; is_stopped = p.is_stopped }
+
+-- what is printed of a piece by its characters
+abbrev pub shown_view : ShownPiece → Shown
+shown_view s = record { is_hyphenated = s.is_hyphenated; text = chars s.text.now; is_initial = s.is_initial }
 
 -- a style by its characters
 abbrev pub initials_style_view : InitialsStyle → Style

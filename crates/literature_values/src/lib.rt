@@ -5,6 +5,7 @@
 mod date;
 mod entry_type;
 mod equal;
+mod given_name;
 mod maybe_typed;
 mod person;
 mod publisher;
@@ -18,6 +19,7 @@ pub use equal::{
     are_equal_addresses, are_equal_dates, are_equal_numbers, are_equal_people,
     are_equal_publishers, are_equal_serials, are_equal_texts, are_equal_types,
 };
+pub use given_name::InitialsRule;
 pub use literature_numbers::{
     Numeric, NumericDelimiter, NumericError, NumericValue, PageRanges, PageRangesError,
     PageRangesPart,

@@ -1,17 +1,19 @@
 //! People.
 
-ghost use Rattle.std.specs.Prelude.{◌≡◌, [], Ok, IsOk, length, drop};
+ghost use Rattle.std.specs.Prelude.{◌≡◌, ◌++◌, [], Ok, IsOk, length, drop};
 ghost use Rattle.std.specs.Fmt.{WritesInCalls};
 ghost use Rattle.std.specs.Option.{option_map, unwrap_or};
 ghost use Rattle.std.specs.Str.{chars, drop_trailing_whitespace};
 ghost use Rattle.laws.specs.Text.{text as text_of, spelled};
 ghost use Rattle.literature_values.specs.Initials.{next_run_at, cluster, style, initial, between, further, initials_of};
+ghost use Rattle.literature_values.specs.GivenNames.{given_by};
 ghost use Rattle.literature_values.specs.PersonViews.{person_view, run_view, initials_style_view, given_name_view};
 ghost use Rattle.texts.specs.Views.{left};
 
+use crate::given_name::{InitialsRule, write_given};
 use std::alloc::AllocError;
 use std::fmt;
-use texts::{Class, Reader, or_empty, split_first};
+use texts::{Class, Reader, or_empty, split_first, text_or_empty};
 use unicode_segmentation::UnicodeSegmentation;
 
 /// A person by name.
@@ -25,7 +27,7 @@ pub struct Person {
 
 /// How initials are parted: by a delimiter, cut before the white space at its end, and by hyphens where that is asked.
 #[derive(Clone, Copy)]
-struct InitialsStyle<'s> {
+pub(crate) struct InitialsStyle<'s> {
     trimmed: &'s str,
     dropped: &'s str,
     with_hyphen: bool,
@@ -49,10 +51,28 @@ impl Person {
             (style (unwrap_or (option_map spelled delimiter.entry) []) with_hyphen)
             (given_name_view self.now))) writer.new }
     {
-        let Some(given) = &self.given_name else {
-            return Ok(());
-        };
-        write_initials(given.as_str(), style(delimiter, with_hyphen), writer)
+        self.initials_by(InitialsRule::Runs, writer, delimiter, with_hyphen)
+    }
+
+    /// Writes the given name by a rule, with the delimiter after each initial. Between two initials stands what
+    /// `initials` has there; a hyphen or a space stands before and after what stays whole.
+    ///
+    /// # Errors
+    /// What the writer returns when it refuses a text.
+    pub fn initials_by<W: fmt::Write>(
+        &self,
+        rule: InitialsRule,
+        writer: &mut W,
+        delimiter: Option<&str>,
+        with_hyphen: bool,
+    ) -> fmt::Result
+        // What the writer took is exactly the given name by the rule.
+        ensures { IsOk result → WritesInCalls W.write_str_gives writer.old (text_of (given_by rule
+            (style (unwrap_or (option_map spelled delimiter.entry) []) with_hyphen)
+            (given_name_view self.now))) writer.new }
+    {
+        let given = text_or_empty(&self.given_name);
+        write_given(given, rule, style(delimiter, with_hyphen), writer)
     }
 }
 
@@ -84,7 +104,11 @@ fn style<'s>(delimiter: Option<&'s str>, with_hyphen: bool) -> InitialsStyle<'s>
 
 /// Writes the initials of given names.
 #[tactic(auto, unfolding(crate::specs::Initials::initials_of))]
-fn write_initials<W: fmt::Write>(given: &str, style: InitialsStyle, writer: &mut W) -> fmt::Result
+pub(crate) fn write_initials<W: fmt::Write>(
+    given: &str,
+    style: InitialsStyle,
+    writer: &mut W,
+) -> fmt::Result
     ensures { IsOk result → WritesInCalls W.write_str_gives writer.old
         (text_of (initials_of (initials_style_view style.entry) (chars given.now))) writer.new }
 {
@@ -109,7 +133,7 @@ fn write_further<W: fmt::Write>(next: NameRun, style: InitialsStyle, writer: &mu
 }
 
 /// What stands between two initials.
-fn between<'s>(is_hyphenated: bool, style: InitialsStyle<'s>) -> &'s str
+pub(crate) fn between<'s>(is_hyphenated: bool, style: InitialsStyle<'s>) -> &'s str
     ensures { chars result.now ≡ between (initials_style_view style.entry) is_hyphenated }
 {
     if style.with_hyphen && is_hyphenated {
@@ -123,11 +147,23 @@ fn write_initial<W: fmt::Write>(name: &str, style: InitialsStyle, writer: &mut W
     ensures { IsOk result → WritesInCalls W.write_str_gives writer.old
         (text_of (initial (initials_style_view style.entry) (chars name.now))) writer.new }
 {
-    write_text(first_cluster(name), writer)?;
+    write_initial_text(first_cluster(name), style, writer)
+}
+
+/// Writes a text, and the delimiter without the white space at its end.
+pub(crate) fn write_initial_text<W: fmt::Write>(
+    text: &str,
+    style: InitialsStyle,
+    writer: &mut W,
+) -> fmt::Result
+    ensures { IsOk result → WritesInCalls W.write_str_gives writer.old
+        (text_of (chars text.now ++ (initials_style_view style.entry).trimmed)) writer.new }
+{
+    write_text(text, writer)?;
     write_text(style.trimmed, writer)
 }
 
-fn write_text<W: fmt::Write>(text: &str, writer: &mut W) -> fmt::Result
+pub(crate) fn write_text<W: fmt::Write>(text: &str, writer: &mut W) -> fmt::Result
     ensures { IsOk result
         → WritesInCalls W.write_str_gives writer.old (text_of (chars text.now)) writer.new }
 {
@@ -158,7 +194,7 @@ fn next_run<'s>(reader: &mut Reader<'s>) -> Option<NameRun<'s>>
 }
 
 /// The first grapheme cluster, or nothing.
-fn first_cluster(text: &str) -> &str
+pub(crate) fn first_cluster(text: &str) -> &str
     ensures { chars result.now ≡ cluster (chars text.now) }
 {
     match text.graphemes(true).next() {

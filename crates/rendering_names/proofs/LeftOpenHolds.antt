@@ -3,12 +3,13 @@ use Rattle.std.proofs.Common.{◌≡◌, ℕ, Bool, true, List, [], ◌∷◌, O
 use Rattle.std.specs.Prelude.{if◌then◌else◌}
 use Rattle.std.specs.Option.{option_or, unwrap_or}
 use Rattle.laws.specs.Characters.{space}
-use Rattle.literature_values.specs.Initials.{style, initials_of}
+use Rattle.literature_values.specs.GivenNames.{given_by}
+use Rattle.literature_values.specs.Initials.{style}
 use Rattle.rendering_taxonomy.specs.Formats.{changed}
 use Rattle.rendering_page.specs.Pieces.{normal}
-use Rattle.rendering_names.specs.LeftOpen.{TermIsDelimitedFromTwo, HyphensStay, NodeDelimitsPeople}
+use Rattle.rendering_names.specs.LeftOpen.{TermIsDelimitedFromTwo, HyphensStay, RunsAreCut, NodeDelimitsPeople}
 use Rattle.rendering_names.specs.Names.{delimiter_by, delimits_et_al}
-use Rattle.rendering_names.specs.Persons.{comma_and_space, stop_and_space, given_of}
+use Rattle.rendering_names.specs.Persons.{comma_and_space, stop_and_space, given_of, rule_by, initials_rule}
 use Rattle.rendering_taxonomy.specs.declared.name.DelimiterBehavior.{DelimiterBehavior}
 use Rattle.rendering_taxonomy.specs.declared.name.DelimiterBehavior.TheVariants as behaviors
 
@@ -20,7 +21,11 @@ term_delimited s shown (c ∷ cs) e =
     ∷ normal (record s.manner { formatting = changed s.et_al.formatting s.manner.formatting }) (c ∷ cs) ∷ []) e
 
 pub hyphens_stay : HyphensStay
-hyphens_stay o p e = ap (λ (b : Option Bool). initials_of (style (unwrap_or o.initialize_with stop_and_space) (unwrap_or b true)) (given_of p)) e
+hyphens_stay o p e = ap (λ (b : Option Bool). given_by (initials_rule o) (style (unwrap_or o.initialize_with stop_and_space) (unwrap_or b true)) (given_of p)) e
+
+pub runs_cut : RunsAreCut
+runs_cut o p splits initializes =
+    λ i. given_by (rule_by (initializes i) (unwrap_or (splits i) false)) (style (unwrap_or o.initialize_with stop_and_space) (unwrap_or o.initialize_with_hyphen true)) (given_of p)
 
 or_none : (d : Option (List ℕ)) → unwrap_or (option_or d None) comma_and_space ≡ unwrap_or d comma_and_space
 or_none None = refl

@@ -2,6 +2,7 @@
 use Rattle.std.specs.Prelude.{◌≡◌, ℕ, true, nat_le, List, [], ◌∷◌, if◌then◌else◌, None}
 use Rattle.std.specs.Option.{unwrap_or}
 use Rattle.laws.specs.Characters.{space}
+use Rattle.literature_values.specs.GivenNames.{given_by}
 use Rattle.literature_values.specs.Initials.{style, initials_of}
 use Rattle.literature_values.specs.PersonViews.{Named}
 use Rattle.rendering_taxonomy.specs.Formats.{changed}
@@ -9,7 +10,7 @@ use Rattle.rendering_page.specs.Pieces.{Piece, normal}
 use Rattle.rendering_style.specs.Options.{NameOptions}
 use Rattle.rendering_style.specs.Nodes.{NamesNode}
 use Rattle.rendering_names.specs.Names.{NameStyle, delimiter_by, et_al_by, people_delimiter}
-use Rattle.rendering_names.specs.Persons.{comma_and_space, stop_and_space, given_of, initials_by}
+use Rattle.rendering_names.specs.Persons.{comma_and_space, stop_and_space, given_of, initials_rule, initials_by}
 
 -- the term for those left out, after the delimiter where two or more are shown, else after a space; without a term neither
 abbrev pub et_al_from_two : NameStyle → ℕ → List ℕ → List Piece
@@ -27,7 +28,15 @@ TermIsDelimitedFromTwo =
 abbrev pub HyphensStay : Type 0
 HyphensStay =
     (o : NameOptions) (p : Named) → o.initialize_with_hyphen ≡ None
-    → initials_by o p ≡ initials_of (style (unwrap_or o.initialize_with stop_and_space) true) (given_of p)
+    → initials_by o p ≡ given_by (initials_rule o) (style (unwrap_or o.initialize_with stop_and_space) true) (given_of p)
+
+-- Where nothing is specified of pieces of given names, and names are not kept from being cut, initials are those of runs.
+abbrev pub RunsAreCut : Type 0
+RunsAreCut =
+    (o : NameOptions) (p : Named) → o.splits_initials ≡ None → unwrap_or o.initialize true ≡ true
+    → initials_by o p ≡ initials_of
+    (style (unwrap_or o.initialize_with stop_and_space) (unwrap_or o.initialize_with_hyphen true))
+    (given_of p)
 
 -- Where the options say nothing of what stands between the people of two variables, the node alone does.
 abbrev pub NodeDelimitsPeople : Type 0

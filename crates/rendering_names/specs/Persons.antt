@@ -2,8 +2,11 @@
 use Rattle.std.specs.Prelude.{ℕ, Bool, true, false, List, [], ◌∷◌, ◌++◌, codes}
 use Rattle.std.specs.Option.{unwrap_or}
 use Rattle.laws.specs.Characters.{space}
-use Rattle.literature_values.specs.Initials.{style, initials_of}
+use Rattle.literature_values.specs.GivenNames.{given_by}
+use Rattle.literature_values.specs.Initials.{style}
 use Rattle.literature_values.specs.PersonViews.{Named}
+use Rattle.literature_values.specs.declared.given_name.InitialsRule.{InitialsRule}
+use Rattle.literature_values.specs.declared.given_name.InitialsRule.TheVariants as rules
 use Rattle.rendering_style.specs.Options.{NameOptions}
 use Rattle.rendering_taxonomy.specs.declared.name.DisambiguatedNameForm.{DisambiguatedNameForm}
 use Rattle.rendering_taxonomy.specs.declared.name.DisambiguatedNameForm.TheVariants as forms
@@ -38,10 +41,23 @@ prefix_of p = unwrap_or p.prefix []
 abbrev pub suffix_of : Named → List ℕ
 suffix_of p = unwrap_or p.suffix []
 
--- the initials of the given name, with hyphens if the options do not drop them; after each what the options say, or else a full stop and a
+-- what of given names is cut: nothing where they are not to be, else each piece, or each run
+abbrev pub rule_by : Bool → Bool → InitialsRule
+rule_by false splits = rules.Kept
+rule_by true true = rules.Pieces
+rule_by true false = rules.Runs
+
+-- what the options say of that, or else runs
+abbrev pub initials_rule : NameOptions → InitialsRule
+initials_rule o = rule_by (unwrap_or o.initialize true) (unwrap_or o.splits_initials false)
+
+-- the given name with initials, with hyphens if the options do not drop them; after each what the options say, or else a full stop and a
 -- space
 abbrev pub initials_by : NameOptions → Named → List ℕ
-initials_by o p = initials_of (style (unwrap_or o.initialize_with stop_and_space) (unwrap_or o.initialize_with_hyphen true)) (given_of p)
+initials_by o p =
+    given_by (initials_rule o)
+    (style (unwrap_or o.initialize_with stop_and_space) (unwrap_or o.initialize_with_hyphen true))
+    (given_of p)
 
 -- particle and family name
 abbrev pub short_text : Named → List ℕ

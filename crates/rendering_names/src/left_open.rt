@@ -1,6 +1,6 @@
 //! What is left open changes nothing of how names are printed.
 
-ghost use Rattle.rendering_names.specs.LeftOpen.{HyphensStay, NodeDelimitsPeople, TermIsDelimitedFromTwo};
+ghost use Rattle.rendering_names.specs.LeftOpen.{HyphensStay, NodeDelimitsPeople, RunsAreCut, TermIsDelimitedFromTwo};
 
 /// Where nothing is specified of the delimiter before the term for those left out, it stands there where two or more are shown.
 #[tactic(auto, using(crate::proofs::LeftOpenHolds::term_delimited))]
@@ -12,6 +12,12 @@ pub fn term_is_delimited_from_two()
 #[tactic(auto, using(crate::proofs::LeftOpenHolds::hyphens_stay))]
 pub fn hyphens_stay()
     ensures { HyphensStay }
+{}
+
+/// Where nothing is specified of pieces of given names, and names are not kept from being cut, initials are those of runs.
+#[tactic(auto, using(crate::proofs::LeftOpenHolds::runs_cut))]
+pub fn runs_are_cut()
+    ensures { RunsAreCut }
 {}
 
 /// Where the options say nothing of what stands between the people of two variables, the node alone does.

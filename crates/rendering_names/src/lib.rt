@@ -14,7 +14,7 @@ mod style;
 mod words;
 
 pub use label::{label_manner, pluralizes};
-pub use left_open::{hyphens_stay, node_delimits_people, term_is_delimited_from_two};
+pub use left_open::{hyphens_stay, node_delimits_people, runs_are_cut, term_is_delimited_from_two};
 pub use names::push_names;
 pub use options::ResolvedNameOptions;
 pub use own::properties_by;

@@ -4,12 +4,13 @@ ghost use Rattle.std.specs.Prelude.{◌≡◌, ◌&&◌, nat_le, nat_lt, if◌th
 ghost use Rattle.std.specs.Option.{option_map, unwrap_or};
 ghost use Rattle.laws.specs.Text.{spelled};
 ghost use Rattle.rendering_names.specs.Names.{form_by, base_form, shown_by, shown_of, delimiter_by, inverts, delimits_last, delimits_et_al, is_count};
-ghost use Rattle.rendering_names.specs.Persons.{comma_and_space, stop_and_space};
+ghost use Rattle.rendering_names.specs.Persons.{comma_and_space, initials_rule, rule_by, stop_and_space};
 ghost use Rattle.rendering_names.specs.Views.{resolved_options_view};
 ghost use Rattle.rendering_style.specs.Options.{options_over};
 ghost use Rattle.rendering_style.specs.Views.{options_view};
 
 use crate::words::{comma_and_space, stop_and_space};
+use literature_values::InitialsRule;
 use rendering_style::NameOptions;
 use rendering_taxonomy::{
     DelimiterBehavior, DisambiguatedNameForm, NameAnd, NameAsSortOrder, NameForm,
@@ -211,6 +212,16 @@ impl<'a> ResolvedNameOptions<'a> {
         }
     }
 
+    /// What of given names is cut to initials.
+    pub(crate) fn initials_rule(&self) -> InitialsRule
+        ensures { result ≡ initials_rule (resolved_options_view self.now) }
+    {
+        rule_by(
+            self.initialize.unwrap_or(true),
+            self.splits_initials.unwrap_or(false),
+        )
+    }
+
     /// Whether hyphens stay between initials.
     pub(crate) fn keeps_hyphens(&self) -> bool
         ensures { result ≡ unwrap_or self.now.initialize_with_hyphen true }
@@ -239,6 +250,17 @@ fn form_by(form: NameForm, has_initials: bool) -> DisambiguatedNameForm
         (NameForm::Short, false) => DisambiguatedNameForm::ShortFull,
         (NameForm::Long, true) => DisambiguatedNameForm::LongInitialized,
         (NameForm::Long, false) => DisambiguatedNameForm::LongFull,
+    }
+}
+
+/// What of given names is cut: nothing where they are not to be, else each piece, or each run.
+fn rule_by(initializes: bool, splits: bool) -> InitialsRule
+    ensures { result ≡ rule_by initializes splits }
+{
+    match (initializes, splits) {
+        (false, _) => InitialsRule::Kept,
+        (true, true) => InitialsRule::Pieces,
+        (true, false) => InitialsRule::Runs,
     }
 }
 

@@ -65,7 +65,7 @@ fn initialized_text(
     long_text(alloc, options, is_inverted, initials.as_str(), person)
 }
 
-/// The initials of a given name.
+/// The given name with initials.
 fn initials(
     alloc: Global,
     options: &ResolvedNameOptions,
@@ -75,8 +75,9 @@ fn initials(
         ≡ initials_by (resolved_options_view options.now) (person_view person.now)) }
 {
     let mut out = empty_text(alloc);
+    let rule = options.initials_rule();
     let hyphens = options.keeps_hyphens();
-    match person.initials(&mut out, Some(options.after_initials()), hyphens) {
+    match person.initials_by(rule, &mut out, Some(options.after_initials()), hyphens) {
         Ok(()) => Ok(out),
         Err(_) => Err(AllocError),
     }

@@ -1,16 +1,17 @@
 use Rattle.std.proofs.Common.{refl, true, sym, ◌∙◌, ap}
 use Rattle.std.specs.Str.{chars}
-use Rattle.literature_values.specs.Initials.{next_run_at}
+use Rattle.literature_values.specs.Initials.{next_run_at, initials_of}
 use Rattle.literature_values.specs.PersonViews.{run_view, initials_style_view}
 use Rattle.texts.specs.Views.{left}
-use Rattle.literature_values.proofs.InitialsSteps.{runs_shorten, initials_none, begins, goes_on, ends, writes_nothing}
+use Rattle.literature_values.proofs.InitialsSteps.{runs_shorten, initials_none, begins, goes_on, ends}
+use Rattle.literature_values.proofs.WritingSteps.{nothing_written}
 use Rattle.literature_values.proofs.person.write_initials.Goals as goal
 
 pub returns-in_default : goal.returns-in_default
 returns-in_default g c = λ ok.
     let s = initials_style_view c.args.style in
     let whole = chars c.args.given.now in
-    writes_nothing _ _ s whole (initials_none s whole (left c.next_run.new.reader) (ap next_run_at (sym c.new-reader.ensures) ∙ c.in_default.ensures))
+    nothing_written _ _ (initials_of s whole) (initials_none s whole (left c.next_run.new.reader) (ap next_run_at (sym c.new-reader.ensures) ∙ c.in_default.ensures))
 
 pub loop-run-init : goal.loop-run-init
 loop-run-init g c =
