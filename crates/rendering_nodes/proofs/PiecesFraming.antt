@@ -1,5 +1,5 @@
 -- Pieces end what they begin: after them the elements and marks of a page that are open are those before.
-use Rattle.std.proofs.Common.{◌≡◌, ℕ, zero, suc, Bool, true, false, ◌&&◌, List, [], ◌∷◌, ◌++◌, length, refl, ap, ◌∙◌, Option, Some, None}
+use Rattle.std.proofs.Common.{◌≡◌, ℕ, zero, suc, Bool, true, false, ◌&&◌, List, [], ◌∷◌, ◌++◌, length, map, refl, sym, ap, ◌∙◌, Option, Some, None}
 use Rattle.std.specs.Prelude.{if◌then◌else◌}
 use Rattle.std.specs.List.{flat_map}
 use Rattle.std.specs.Str.{drop_trailing_whitespace}
@@ -14,8 +14,8 @@ use Rattle.rendering_taxonomy.specs.declared.formatting.Formatting.{Formatting}
 use Rattle.rendering_tree.specs.Laws.{says_something, Bracket, of_mark, of_element, closes_mark, closes_element, are_nested}
 use Rattle.rendering_tree.specs.Metas.{Meta}
 use Rattle.rendering_tree.specs.Tokens.{Token, letter, formula, link, transparent, opening, closing, mark, unmark, with_letters, without_letters, with_letter_before, last_text}
-use Rattle.rendering_page.specs.Pages.{Page, Manner, Quotes, Frame, in_manner, appended, punctuated, quote_at_end, append_normal, append_verbatim, append_quote, append_suffix, first_token, last_token, before_mark, before_prefix, prints, begun, closed_off, ended}
-use Rattle.rendering_page.specs.Pieces.{Piece, normal, close_quote, linked, own_locator, end, append_piece, append_pieces, framed, chunk_by, chunk_piece, chunk_pieces}
+use Rattle.rendering_page.specs.Pages.{Page, Manner, Quotes, Frame, in_manner, appended, punctuated, quote_at_end, is_joined, is_repeated, append_as_written, append_to_join, append_normal, append_further, append_token, append_verbatim, append_quote, append_suffix, first_token, last_token, before_mark, before_prefix, prints, begun, closed_off, ended}
+use Rattle.rendering_page.specs.Pieces.{Piece, normal, further, close_quote, linked, own_locator, end, append_piece, append_pieces, framed, chunk_by, chunk_piece, chunk_pieces, further_by, further_piece}
 use Rattle.rendering_page.specs.Tail.{is_punctuation, begins_close, trailing, closed_up, ends_in, without_end, unrepeated, remaining}
 
 -- where elements and marks begin and end on a page
@@ -128,9 +128,9 @@ frames_punctuated m c cs None p = frames_appended m (c ∷ cs) p
 frames_punctuated m c cs (Some q) p =
     frames_appended m cs (record p { tokens = with_letter_before (length q) c p.tokens }) ∙ frames_inside (length q) c p.tokens
 
-frames_normal : (quotes : Quotes) (m : Manner) (cs : List ℕ) (p : Page) → frames_of (append_normal quotes m cs p).tokens ≡ frames_of p.tokens
-frames_normal quotes m [] p = refl
-frames_normal quotes m (c ∷ cs) p =
+frames_as_written : (quotes : Quotes) (m : Manner) (cs : List ℕ) (p : Page) → frames_of (append_as_written quotes m cs p).tokens ≡ frames_of p.tokens
+frames_as_written quotes m [] p = refl
+frames_as_written quotes m (c ∷ cs) p =
     page_either (p.after_quote && is_punctuation c) (punctuated m c cs (quote_at_end quotes p.tokens) p) (appended m (c ∷ cs) p) (frames_of p.tokens)
     (frames_punctuated m c cs (quote_at_end quotes p.tokens) p) (frames_appended m (c ∷ cs) p)
 
@@ -140,10 +140,9 @@ frames_verbatim f (c ∷ cs) p = frames_letters f (c ∷ cs) p.tokens
 
 frames_quote : (quotes : Quotes) (m : Manner) (cs : List ℕ) (p : Page) → frames_of (append_quote quotes m cs p).tokens ≡ frames_of p.tokens
 frames_quote quotes m [] p = refl
-frames_quote quotes m (c ∷ cs) p = frames_normal quotes m (c ∷ cs) p
-
-frames_suffix : (quotes : Quotes) (m : Manner) (cs : List ℕ) (p : Page) → frames_of (append_suffix quotes m cs p).tokens ≡ frames_of p.tokens
-frames_suffix quotes m cs p = page_either (ends_in cs (last_text p.tokens)) p (append_normal quotes m cs p) (frames_of p.tokens) refl (frames_normal quotes m cs p)
+frames_quote quotes m (c ∷ cs) p =
+    page_either (is_joined p.rule) (append_token (link m.formatting (c ∷ cs) []) p) (record (append_as_written quotes m (c ∷ cs) p) { after_quote = true }) (frames_of p.tokens) refl
+    (frames_as_written quotes m (c ∷ cs) p)
 
 -- frames after which the same are open as after others, in whatever stands around, and which are cut back as far
 pub record LevelFrames (ts us : List Token) : Type 0 where
@@ -168,6 +167,45 @@ level_as ts = level ts ts refl
 pub level_on : (ts us vs : List Token) → AreLevel ts us → AreLevel us vs → AreLevel ts vs
 level_on ts us vs a b = record { nested = λ bs. b.nested bs ∙ a.nested bs; marks = λ n. b.marks n ∙ a.marks n }
 
+level_either : (b : Bool) (ts : List Token) (p q : Page) → AreLevel ts p.tokens → AreLevel ts q.tokens → AreLevel ts (if b then p else q).tokens
+level_either true ts p q a b = a
+level_either false ts p q a b = b
+
+-- a mark and its end
+level_pair : (ts : List Token) → AreLevel ts (unmark ∷ mark ∷ ts)
+level_pair ts = record { nested = λ bs. refl; marks = λ n. refl }
+
+level_to_join : (m : Manner) (cs : List ℕ) (p : Page) → AreLevel p.tokens (append_to_join m cs p).tokens
+level_to_join m [] p = level_as p.tokens
+level_to_join m (c ∷ cs) p =
+    let us : List Token = unmark ∷ mark ∷ p.tokens in
+    level_on p.tokens us (append_to_join m (c ∷ cs) p).tokens (level_pair p.tokens) (level us (append_to_join m (c ∷ cs) p).tokens (frames_letters m.formatting (in_manner m (c ∷ cs)) us))
+
+level_normal : (quotes : Quotes) (m : Manner) (cs : List ℕ) (p : Page) → AreLevel p.tokens (append_normal quotes m cs p).tokens
+level_normal quotes m cs p =
+    level_either (is_joined p.rule) p.tokens (append_to_join m cs p) (append_as_written quotes m cs p) (level_to_join m cs p)
+    (level p.tokens (append_as_written quotes m cs p).tokens (frames_as_written quotes m cs p))
+
+level_further : (quotes : Quotes) (m : Manner) (cs : List ℕ) (p : Page) → AreLevel p.tokens (append_further quotes m cs p).tokens
+level_further quotes m cs p =
+    let on : Page = record p { tokens = with_letters m.formatting (in_manner m cs) p.tokens } in
+    level_either (is_joined p.rule) p.tokens on (append_as_written quotes m cs p) (level p.tokens on.tokens (frames_letters m.formatting (in_manner m cs) p.tokens))
+    (level p.tokens (append_as_written quotes m cs p).tokens (frames_as_written quotes m cs p))
+
+level_suffix : (quotes : Quotes) (m : Manner) (cs : List ℕ) (p : Page) → AreLevel p.tokens (append_suffix quotes m cs p).tokens
+level_suffix quotes m cs p = level_either (is_repeated cs p) p.tokens p (append_normal quotes m cs p) (level_as p.tokens) (level_normal quotes m cs p)
+
+past_closing : (n : ℕ) (ts : List Token) → before_mark n (closing ∷ ts) ≡ before_mark n ts
+past_closing zero ts = refl
+past_closing (suc n) ts = refl
+
+-- the end of an element after one or the other
+last_more : (d : Option Display) (m : Option Meta) (ts us : List Token) → LevelFrames ts us → LevelFrames (last_token d m ∷ ts) (last_token d m ∷ us)
+last_more None None ts us h = record { nested = λ bs. h.nested (of_mark ∷ bs); marks = λ n. h.marks (suc n) }
+last_more None (Some m) ts us h = record { nested = λ bs. h.nested (of_element ∷ bs); marks = λ n. past_closing n us ∙ h.marks n ∙ sym (past_closing n ts) }
+last_more (Some d) None ts us h = record { nested = λ bs. h.nested (of_element ∷ bs); marks = λ n. past_closing n us ∙ h.marks n ∙ sym (past_closing n ts) }
+last_more (Some d) (Some m) ts us h = record { nested = λ bs. h.nested (of_element ∷ bs); marks = λ n. past_closing n us ∙ h.marks n ∙ sym (past_closing n ts) }
+
 -- an element begins
 first_frames : (d : Option Display) (m : Option Meta) (ts : List Token) → frames_of (first_token d m ∷ ts) ≡ first_token d m ∷ frames_of ts
 first_frames None None ts = refl
@@ -189,10 +227,6 @@ begun_frames f p =
     ap (λ (ts : List Token). mark ∷ ts) (frames_letters f.manner.formatting f.prefix (first_token f.display f.meta ∷ p.tokens) ∙ first_frames f.display f.meta p.tokens)
 
 -- an element that is whole
-past_closing : (n : ℕ) (ts : List Token) → before_mark n (closing ∷ ts) ≡ before_mark n ts
-past_closing zero ts = refl
-past_closing (suc n) ts = refl
-
 past_opening : (n : ℕ) (d : Option Display) (m : Option Meta) (ts : List Token) → before_mark n (opening d m ∷ ts) ≡ before_mark n ts
 past_opening zero d m ts = refl
 past_opening (suc n) d m ts = refl
@@ -223,12 +257,12 @@ ended_by : (b : Bool) (quotes : Quotes) (f : Frame) (ts : List Token) (q : Page)
     → AreLevel ts (if b then closed_off f (append_suffix quotes f.manner f.suffix (record q { tokens = unmark ∷ q.tokens }))
     else record q { tokens = before_prefix (before_mark 0 q.tokens) }).tokens
 ended_by true quotes f ts q h =
-    let suffixed = append_suffix quotes f.manner f.suffix (record q { tokens = unmark ∷ q.tokens }) in
-    let e : frames_of (last_token f.display f.meta ∷ suffixed.tokens) ≡ last_token f.display f.meta ∷ unmark ∷ frames_of q.tokens =
-    last_frames f.display f.meta suffixed.tokens
-    ∙ ap (λ (us : List Token). last_token f.display f.meta ∷ us) (frames_suffix quotes f.manner f.suffix (record q { tokens = unmark ∷ q.tokens })) in
+    let inside : Page = record q { tokens = unmark ∷ q.tokens } in
+    let suffixed = append_suffix quotes f.manner f.suffix inside in
+    let e : frames_of (last_token f.display f.meta ∷ suffixed.tokens) ≡ last_token f.display f.meta ∷ frames_of suffixed.tokens = last_frames f.display f.meta suffixed.tokens in
+    let more = last_more f.display f.meta (unmark ∷ frames_of q.tokens) (frames_of suffixed.tokens) (level_suffix quotes f.manner f.suffix inside) in
     let w = whole f.display f.meta (frames_of ts) (frames_of q.tokens) h in
-    record { nested = λ bs. ap (λ us. are_nested us bs) e ∙ w.nested bs; marks = λ n. ap (before_mark n) e ∙ w.marks n }
+    record { nested = λ bs. ap (λ us. are_nested us bs) e ∙ more.nested bs ∙ w.nested bs; marks = λ n. ap (before_mark n) e ∙ more.marks n ∙ w.marks n }
 ended_by false quotes f ts q h =
     level ts (before_prefix (before_mark 0 q.tokens))
     (frames_before_prefix (before_mark 0 q.tokens)
@@ -272,7 +306,10 @@ ends_either true ps qs e f = e
 ends_either false ps qs e f = f
 
 pub ends_normal : (m : Manner) (cs : List ℕ) → EndAll (normal m cs ∷ [])
-ends_normal m cs = record { on_page = λ quotes p. level p.tokens (append_normal quotes m cs p).tokens (frames_normal quotes m cs p) }
+ends_normal m cs = record { on_page = λ quotes p. level_normal quotes m cs p }
+
+pub ends_further : (m : Manner) (cs : List ℕ) → EndAll (further m cs ∷ [])
+ends_further m cs = record { on_page = λ quotes p. level_further quotes m cs p }
 
 pub ends_quote : (m : Manner) (cs : List ℕ) → EndAll (close_quote m cs ∷ [])
 ends_quote m cs = record { on_page = λ quotes p. level p.tokens (append_quote quotes m cs p).tokens (frames_quote quotes m cs p) }
@@ -288,9 +325,18 @@ ends_chunk kinds.Normal m cs = ends_normal m cs
 ends_chunk kinds.Verbatim m cs = record { on_page = λ quotes p. level p.tokens (append_verbatim m.formatting cs p).tokens (frames_verbatim m.formatting cs p) }
 ends_chunk kinds.Math m cs = record { on_page = λ quotes p. level_as p.tokens }
 
+ends_further_by : (kind : ChunkKind) (m : Manner) (cs : List ℕ) → EndAll (further_by kind m cs ∷ [])
+ends_further_by kinds.Normal m cs = ends_further m cs
+ends_further_by kinds.Verbatim m cs = ends_chunk kinds.Verbatim m cs
+ends_further_by kinds.Math m cs = ends_chunk kinds.Math m cs
+
+ends_furthers : (m : Manner) (cs : List Chunk) → EndAll (map (further_piece m) cs)
+ends_furthers m [] = ends_none
+ends_furthers m (c ∷ cs) = ends_more (further_piece m c) (map (further_piece m) cs) (ends_further_by c.kind m c.value) (ends_furthers m cs)
+
 pub ends_chunks : (m : Manner) (cs : List Chunk) → EndAll (chunk_pieces m cs)
 ends_chunks m [] = ends_none
-ends_chunks m (c ∷ cs) = ends_more (chunk_piece m c) (chunk_pieces m cs) (ends_chunk c.kind m c.value) (ends_chunks m cs)
+ends_chunks m (c ∷ cs) = ends_more (chunk_piece m c) (map (further_piece m) cs) (ends_chunk c.kind m c.value) (ends_furthers m cs)
 
 pub ends_framed : (f : Frame) (ps : List Piece) → EndAll ps → EndAll (framed f ps)
 ends_framed f ps h = record {

@@ -10,3 +10,4 @@ pub mod PagesMarks
 pub mod PagesAppending
 pub mod PageCharactersPages
 pub mod CutsTexts
+pub mod JoiningSteps

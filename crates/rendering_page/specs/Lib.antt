@@ -6,3 +6,5 @@ pub mod Views
 pub mod Cuts
 pub mod Cursors
 pub mod Marks
+pub mod Joints
+pub mod JoiningPieces

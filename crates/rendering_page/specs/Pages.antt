@@ -9,15 +9,28 @@ use Rattle.rendering_tree.specs.Tokens.{Token, letter, formula, link, transparen
 use Rattle.rendering_page.specs.Tail.{is_punctuation, ends_in, remaining, stripped}
 use Rattle.rendering_taxonomy.specs.declared.formatting.Display.{Display}
 use Rattle.rendering_taxonomy.specs.declared.formatting.Formatting.{Formatting}
+use Rattle.rendering_taxonomy.specs.declared.page.PageRule.{PageRule}
+use Rattle.rendering_taxonomy.specs.declared.page.PageRule.TheVariants as rules
 
--- What was appended, the last token first; and whether the close quote of a quoted node was the last text to be appended.
+-- whether texts are joined by what punctuation they have
+abbrev pub is_joined : PageRule → Bool
+is_joined rules.AsWritten = false
+is_joined rules.Joined = true
+
+-- What was appended, the last token first; whether the close quote of a quoted node was the last text to be appended; and how a text
+-- meets the one before it.
 pub record Page : Type 0 where
   pub tokens : List Token
   pub after_quote : Bool
+  pub rule : PageRule
+
+-- a page to which nothing was appended, by a rule
+abbrev pub empty_page_by : PageRule → Page
+empty_page_by rule = record { tokens = []; after_quote = false; rule = rule }
 
 -- a page to which nothing was appended
 abbrev pub empty_page : Page
-empty_page = record { tokens = []; after_quote = false }
+empty_page = empty_page_by rules.AsWritten
 
 -- How the texts of a node are appended: how they look, and whether their full stops are left out.
 pub record Manner : Type 0 where
@@ -38,35 +51,61 @@ in_manner m cs = if m.strips_periods then stripped cs else cs
 
 -- a text after what remains of the page
 abbrev pub appended : Manner → List ℕ → Page → Page
-appended m cs p = record { tokens = with_letters m.formatting (in_manner m cs) (remaining cs p.tokens); after_quote = false }
+appended m cs p =
+    record p { tokens = with_letters m.formatting (in_manner m cs) (remaining cs p.tokens); after_quote = false }
 
 -- a first character goes inside a quote that ends the last text, and what follows it is appended; without one all is
 abbrev pub punctuated : Manner → ℕ → List ℕ → Option (List ℕ) → Page → Page
 punctuated m c cs None p = appended m (c ∷ cs) p
 punctuated m c cs (Some q) p = appended m cs (record p { tokens = with_letter_before (length q) c p.tokens })
 
--- an ordinary text: its first character goes inside a quote after which it stands, if it is punctuation; an empty text is none
+-- a text as it is written: its first character goes inside a quote after which it stands, if it is punctuation; an empty text is none
+abbrev pub append_as_written : Quotes → Manner → List ℕ → Page → Page
+append_as_written quotes m [] p = p
+append_as_written quotes m (c ∷ cs) p = if p.after_quote && is_punctuation c then punctuated m c cs (quote_at_end quotes p.tokens) p else appended m (c ∷ cs) p
+
+-- a text to be joined with what stands before it: a mark and its end part them; an empty text is none
+abbrev pub append_to_join : Manner → List ℕ → Page → Page
+append_to_join m [] p = p
+append_to_join m (c ∷ cs) p =
+    record p { tokens = with_letters m.formatting (in_manner m (c ∷ cs)) (unmark ∷ mark ∷ p.tokens) }
+
+-- an ordinary text
 abbrev pub append_normal : Quotes → Manner → List ℕ → Page → Page
-append_normal quotes m [] p = p
-append_normal quotes m (c ∷ cs) p = if p.after_quote && is_punctuation c then punctuated m c cs (quote_at_end quotes p.tokens) p else appended m (c ∷ cs) p
+append_normal quotes m cs p =
+    if is_joined p.rule then append_to_join m cs p else append_as_written quotes m cs p
+
+-- what goes on with the text before it is not joined with that
+abbrev pub append_further : Quotes → Manner → List ℕ → Page → Page
+append_further quotes m cs p =
+    if is_joined p.rule
+    then record p { tokens = with_letters m.formatting (in_manner m cs) p.tokens }
+    else append_as_written quotes m cs p
 
 -- a text that is appended as it is; an empty text is none
 abbrev pub append_verbatim : Formatting → List ℕ → Page → Page
 append_verbatim f [] p = p
-append_verbatim f (c ∷ cs) p = record { tokens = with_letters f (c ∷ cs) p.tokens; after_quote = false }
+append_verbatim f (c ∷ cs) p = record p { tokens = with_letters f (c ∷ cs) p.tokens; after_quote = false }
 
 -- what is no text is appended as it is
 abbrev pub append_token : Token → Page → Page
-append_token t p = record { tokens = t ∷ p.tokens; after_quote = false }
+append_token t p = record p { tokens = t ∷ p.tokens; after_quote = false }
 
--- a close quote, after which punctuation may go inside
+-- a close quote, after which punctuation may go inside; where texts are joined it is a link without an address until then
 abbrev pub append_quote : Quotes → Manner → List ℕ → Page → Page
 append_quote quotes m [] p = p
-append_quote quotes m (c ∷ cs) p = record (append_normal quotes m (c ∷ cs) p) { after_quote = true }
+append_quote quotes m (c ∷ cs) p =
+    if is_joined p.rule
+    then append_token (link m.formatting (c ∷ cs) []) p
+    else record (append_as_written quotes m (c ∷ cs) p) { after_quote = true }
 
--- a suffix, unless the last text ends with it
+-- whether a suffix is left out as the last text ends with it; where texts are joined, what it repeats is left out then
+abbrev pub is_repeated : List ℕ → Page → Bool
+is_repeated suffix p = not (is_joined p.rule) && ends_in suffix (last_text p.tokens)
+
+-- a suffix, unless it is repeated
 abbrev pub append_suffix : Quotes → Manner → List ℕ → Page → Page
-append_suffix quotes m suffix p = if ends_in suffix (last_text p.tokens) then p else append_normal quotes m suffix p
+append_suffix quotes m suffix p = if is_repeated suffix p then p else append_normal quotes m suffix p
 
 -- An element: its display and what it stands for, how its affixes are appended, and these.
 pub record Frame : Type 0 where

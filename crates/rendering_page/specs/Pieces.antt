@@ -4,13 +4,14 @@ use Rattle.literature_values.specs.TextViews.{Chunk}
 use Rattle.literature_values.specs.declared.text.ChunkKind.{ChunkKind}
 use Rattle.literature_values.specs.declared.text.ChunkKind.TheVariants as kinds
 use Rattle.rendering_tree.specs.Tokens as tokens
-use Rattle.rendering_page.specs.Pages.{Page, Manner, Quotes, Frame, append_normal, append_verbatim, append_token, append_quote, begun, ended}
+use Rattle.rendering_page.specs.Pages.{Page, Manner, Quotes, Frame, append_normal, append_further, append_verbatim, append_token, append_quote, begun, ended}
 use Rattle.rendering_taxonomy.specs.declared.formatting.Formatting.{Formatting}
 
--- An ordinary text; a text as it is; a close quote; a formula; a link from a text to an address; a locator of the caller's own, by
--- the index of its cite; where an element begins and ends.
+-- An ordinary text; one that goes on with the text before it; a text as it is; a close quote; a formula; a link from a text to an
+-- address; a locator of the caller's own, by the index of its cite; where an element begins and ends.
 pub data Piece : Type 0 where
   normal : Manner → List ℕ → Piece
+  further : Manner → List ℕ → Piece
   verbatim : Formatting → List ℕ → Piece
   close_quote : Manner → List ℕ → Piece
   math : List ℕ → Piece
@@ -22,6 +23,7 @@ pub data Piece : Type 0 where
 -- a piece is appended
 abbrev pub append_piece : Quotes → Page → Piece → Page
 append_piece quotes p (normal m cs) = append_normal quotes m cs p
+append_piece quotes p (further m cs) = append_further quotes m cs p
 append_piece quotes p (verbatim f cs) = append_verbatim f cs p
 append_piece quotes p (close_quote m cs) = append_quote quotes m cs p
 append_piece quotes p (math cs) = append_token (tokens.formula cs) p
@@ -48,6 +50,16 @@ chunk_by kinds.Math m cs = math cs
 abbrev pub chunk_piece : Manner → Chunk → Piece
 chunk_piece m c = chunk_by c.kind m c.value
 
+-- a piece that goes on with a text, by its kind
+abbrev pub further_by : ChunkKind → Manner → List ℕ → Piece
+further_by kinds.Normal m cs = further m cs
+further_by kind m cs = chunk_by kind m cs
+
+-- a piece that goes on with a text
+abbrev pub further_piece : Manner → Chunk → Piece
+further_piece m c = further_by c.kind m c.value
+
 -- a text in pieces
 abbrev pub chunk_pieces : Manner → List Chunk → List Piece
-chunk_pieces m cs = map (chunk_piece m) cs
+chunk_pieces m [] = []
+chunk_pieces m (c ∷ cs) = chunk_piece m c ∷ map (further_piece m) cs

@@ -8,6 +8,7 @@ ghost use Rattle.rendering_tree.specs.Views.{meta_view};
 ghost use Rattle.rendering_page.specs.Marks.{begins_nothing};
 ghost use Rattle.rendering_page.specs.Pages as pages;
 ghost use Rattle.rendering_page.specs.Tail.{remaining, stripped};
+ghost use Rattle.rendering_taxonomy.specs.declared.page.PageRule.{PageRule};
 ghost use Rattle.rendering_page.specs.Views as views;
 ghost use Rattle.rendering_page.specs.Views.{words_view, quotes_view, pieces_view};
 
@@ -75,6 +76,20 @@ pub(crate) fn append<'a>(
         (remaining (words_view words.entry) (pieces_view pieces.old.items))) }
 {
     make_room(pieces, words.as_str());
+    append_in_manner(pieces, manner, words)
+}
+
+/// Appends a text as a manner has it.
+#[inline(always)]
+pub(crate) fn append_in_manner<'a>(
+    pieces: &mut Vec<Piece<'a>>,
+    manner: Manner,
+    words: Words<'a>,
+) -> Result<(), AllocError>
+    ensures { OnOk result (pieces_view pieces.new.items ≡ with_letters manner.formatting
+        (pages.in_manner (views.manner_view manner) (words_view words.entry))
+        (pieces_view pieces.old.items)) }
+{
     if manner.strips_periods {
         return append_stripped(pieces, manner.formatting, words.as_str());
     }
@@ -103,10 +118,10 @@ pub(crate) fn append_after_quote<'a>(
     first: char,
     words: Words<'a>,
 ) -> Result<(), AllocError>
-    ensures { (cs : List ℕ) (b : Bool) → words_view words.entry ≡ first ∷ cs
+    ensures { (cs : List ℕ) (b : Bool) (r : PageRule) → words_view words.entry ≡ first ∷ cs
         → OnOk result (pieces_view pieces.new.items ≡ (pages.punctuated (views.manner_view manner)
         first cs (pages.quote_at_end (quotes_view quotes.now) (pieces_view pieces.old.items))
-        (record { tokens = pieces_view pieces.old.items; after_quote = b })).tokens) }
+        (record { tokens = pieces_view pieces.old.items; after_quote = b; rule = r })).tokens) }
 {
     match quote_at_end(pieces, quotes) {
         Some(count) => {

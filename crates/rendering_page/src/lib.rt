@@ -4,6 +4,8 @@
 mod appending;
 mod copies;
 mod cutting;
+mod joining;
+mod joints;
 mod manner;
 mod marks;
 mod page;

@@ -1,6 +1,9 @@
 //! How texts and elements are appended.
 
-use rendering_taxonomy::{Display, Formatting};
+ghost use Rattle.std.specs.Prelude.{◌≡◌};
+ghost use Rattle.rendering_page.specs.Pages as pages;
+
+use rendering_taxonomy::{Display, Formatting, PageRule};
 use rendering_tree::ElemMeta;
 
 /// How the texts of a node are appended.
@@ -25,4 +28,11 @@ pub struct Frame<'a> {
     pub prefix: &'a str,
     /// The text after what it contains, an ordinary text; none where the last text ends with it.
     pub suffix: &'a str,
+}
+
+/// Whether texts are joined by what punctuation they have.
+pub(crate) fn is_joined(rule: PageRule) -> bool
+    ensures { result ≡ pages.is_joined rule }
+{
+    matches!(rule, PageRule::Joined)
 }

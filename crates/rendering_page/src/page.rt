@@ -8,28 +8,31 @@ ghost use Rattle.rendering_tree.specs.Metas.{Meta};
 ghost use Rattle.rendering_tree.specs.Tokens.{formula, link, transparent};
 ghost use Rattle.rendering_tree.specs.Views.{meta_view};
 ghost use Rattle.rendering_page.specs.Marks.{begins_nothing};
-ghost use Rattle.rendering_page.specs.Pages.{Manner as Manners, Quotes, before_mark, before_prefix, begun, empty_page, ended, ended_as, append_normal, prints, append_quote, append_space, append_token, append_verbatim};
-ghost use Rattle.rendering_page.specs.Pieces.{append_pieces, chunk_by, chunk_piece, chunk_pieces, append_piece};
+ghost use Rattle.rendering_page.specs.Pages.{Manner as Manners, Quotes, before_mark, before_prefix, begun, empty_page, empty_page_by, ended, ended_as, append_as_written, append_further, append_normal, append_to_join, is_joined, is_repeated, prints, append_quote, append_space, append_token, append_verbatim};
+ghost use Rattle.rendering_page.specs.Joints.{joined};
+ghost use Rattle.rendering_page.specs.Pieces.{append_pieces, chunk_by, chunk_piece, chunk_pieces, further_by, further_piece, append_piece};
 ghost use Rattle.rendering_page.specs.PageCharacters.{page_text};
 ghost use Rattle.rendering_page.specs.Views as views;
 ghost use Rattle.rendering_page.specs.Views.{pieces_view, words_view, quotes_view};
 
 use crate::appending::{
-    append, append_after_quote, append_words, begin, begin_made, is_element, last_piece,
-    last_pieces, push_piece,
+    append, append_after_quote, append_in_manner, append_words, begin, begin_made, is_element,
+    last_piece, last_pieces, push_piece,
 };
 use crate::copies::copied_pieces;
-use crate::manner::{Frame, Manner};
+use crate::joining::join;
+use crate::manner::{Frame, Manner, is_joined};
 use crate::marks::{cut_prefix, cut_to_mark, is_begun, is_known_by, prints};
 use crate::page_characters::{push_shown, show_the_same};
 use crate::page_end::{ends_in, ends_spaced};
-use crate::piece::{Link, Piece, Words};
+use crate::piece::{Link, Piece, Words, no_words};
 use crate::tail::is_punctuation;
 use literature_values::{ChunkKind, ChunkedString, StringChunk};
-use rendering_taxonomy::Formatting;
+use rendering_taxonomy::{Formatting, PageRule};
 use rendering_tree::ElemMeta;
 use std::alloc::{AllocError, Global};
 use std::marker::Model;
+use std::mem;
 use texts::{has_text, split_first};
 
 /// A page to which texts and elements are appended, one after the other.
@@ -40,11 +43,15 @@ use texts::{has_text, split_first};
 /// nothing, and after a formula, a link or a locator of the caller's own there is no last text. `quotes` are the close quotes
 /// inside which punctuation goes, in the order in which they are tried; none where it stays outside.
 ///
+/// A page by the rule `Joined` has its texts as they are appended until `join` is called: then the first character of each meets the last
+/// one of the text before it. So an element that prints nothing changes nothing before it.
+///
 /// Texts are borrowed until the tree is made; those that were made are taken over. A text costs its own length, what it cuts, and
 /// the marks after the last text. After an error nothing is known of what stands on the page.
 pub struct Page<'a> {
     pieces: Vec<Piece<'a>>,
     after_quote: bool,
+    rule: PageRule,
     /// Whether what was begun last is known to have printed something.
     is_known_to_print: bool,
 }
@@ -54,6 +61,7 @@ impl Drop for Page<'_> {
         let Page {
             pieces: _,
             after_quote: _,
+            rule: _,
             is_known_to_print: _,
         } = self;
     }
@@ -68,8 +76,11 @@ impl<'a> Model for Page<'a> {
     ghost use Rattle.rendering_page.specs.Marks.{known_to_print};
     ghost use Rattle.rendering_page.specs.Views.{pieces_view};
 
-    ghost view = { λ p.
-        record { tokens = pieces_view p.pieces.items; after_quote = p.after_quote } };
+    ghost view = { λ p. record {
+      tokens = pieces_view p.pieces.items;
+      after_quote = p.after_quote;
+      rule = p.rule;
+    } };
 
     ghost invariant = { λ p. known_to_print p.is_known_to_print (pieces_view p.pieces.items)
         ≡ true };
@@ -86,19 +97,28 @@ impl<'a> Clone for Page<'a> {
         Ok(Page {
             pieces: copied_pieces(&self.pieces)?,
             after_quote: self.after_quote,
+            rule: self.rule,
             is_known_to_print: false,
         })
     }
 }
 
 impl<'a> Page<'a> {
-    /// A page to which nothing was appended.
+    /// A page to which nothing was appended, and on which texts stand as they are written.
     pub fn new(alloc: Global) -> Page<'a>
         ensures { result ≡ empty_page }
+    {
+        Page::with_rule(alloc, PageRule::AsWritten)
+    }
+
+    /// A page to which nothing was appended, by a rule.
+    pub fn with_rule(alloc: Global, rule: PageRule) -> Page<'a>
+        ensures { result ≡ empty_page_by rule }
     {
         Page {
             pieces: Vec::new(alloc),
             after_quote: false,
+            rule,
             is_known_to_print: false,
         }
     }
@@ -149,6 +169,7 @@ impl<'a> Page<'a> {
     ///
     /// # Errors
     /// Out of memory.
+    #[tactic(auto, using(crate::proofs::PagesAppending::append_closing, crate::proofs::PagesAppending::append_closing_written))]
     pub fn push_close_quote(
         &mut self,
         quotes: &[&str],
@@ -159,7 +180,11 @@ impl<'a> Page<'a> {
             (views.manner_view manner) (chars text.now) self.old) }
     {
         if has_text(text) {
-            self.push_text(quotes, manner, text)?;
+            let words = Words::Borrowed(text);
+            if is_joined(self.rule) {
+                return self.append_link(manner.formatting, words, no_words());
+            }
+            self.append_as_written(quotes, manner, words)?;
             self.after_quote = true;
         }
         Ok(())
@@ -309,8 +334,12 @@ impl<'a> Page<'a> {
         ensures { OnOk result (self.new ≡ append_pieces (quotes_view quotes.now)
             (chunk_pieces (views.manner_view manner) (map chunk_of chunks.now)) self.old) }
     {
-        for chunk in chunks {
-            self.push_chunk(quotes, manner, chunk)?;
+        let Some((first, rest)) = chunks.split_first() else {
+            return Ok(());
+        };
+        self.push_chunk(quotes, manner, first)?;
+        for chunk in rest {
+            self.push_further_chunk(quotes, manner, chunk)?;
         }
         Ok(())
     }
@@ -328,8 +357,13 @@ impl<'a> Page<'a> {
         ensures { OnOk result (self.new ≡ append_pieces (quotes_view quotes.now)
             (chunk_pieces (views.manner_view manner) (chunks_of chunks)) self.old) }
     {
-        for chunk in chunks.0 {
-            self.push_made_chunk(quotes, manner, chunk)?;
+        let mut chunks = chunks.0.into_iter();
+        let Some(first) = chunks.next() else {
+            return Ok(());
+        };
+        self.push_made_chunk(quotes, manner, first)?;
+        for chunk in chunks {
+            self.push_further_made_chunk(quotes, manner, chunk)?;
         }
         Ok(())
     }
@@ -359,6 +393,23 @@ impl<'a> Page<'a> {
         push_shown(output, &self.pieces)
     }
 
+    /// Joins the texts of a page that joins them, once all are appended: the first character of each meets the last one of the text before
+    /// it, be it in a quote. `inside` is whether punctuation goes inside quotes. A page by the other rule is as it was.
+    ///
+    /// # Errors
+    /// Out of memory.
+    pub fn join(&mut self, inside: bool) -> Result<(), AllocError>
+        ensures { OnOk result (self.new ≡ joined inside self.old) }
+    {
+        if is_joined(self.rule) {
+            self.is_known_to_print = false;
+            let alloc = *self.pieces.allocator();
+            let pieces = mem::replace(&mut self.pieces, Vec::new(alloc));
+            self.pieces = join(pieces, inside)?;
+        }
+        Ok(())
+    }
+
     /// What stands on the page, piece by piece, in the order of reading.
     pub fn into_pieces(self) -> Vec<Piece<'a>>
         ensures { pieces_view result.items ≡ self.entry.tokens }
@@ -366,6 +417,7 @@ impl<'a> Page<'a> {
         let Page {
             pieces,
             after_quote: _,
+            rule: _,
             is_known_to_print: _,
         } = self;
         pieces
@@ -393,6 +445,22 @@ impl<'a> Page<'a> {
         ensures { OnOk result (self.new ≡ append_normal (quotes_view quotes.now)
             (views.manner_view manner) (words_view words.entry) self.old) }
     {
+        if is_joined(self.rule) {
+            return self.append_to_join(manner, words);
+        }
+        self.append_as_written(quotes, manner, words)
+    }
+
+    /// Appends a text as it is written.
+    fn append_as_written(
+        &mut self,
+        quotes: &[&str],
+        manner: Manner,
+        words: Words<'a>,
+    ) -> Result<(), AllocError>
+        ensures { OnOk result (self.new ≡ append_as_written (quotes_view quotes.now)
+            (views.manner_view manner) (words_view words.entry) self.old) }
+    {
         let Some((first, _)) = split_first(words.as_str()) else {
             return Ok(());
         };
@@ -407,10 +475,44 @@ impl<'a> Page<'a> {
         Ok(())
     }
 
+    /// Appends a text to be joined with what stands before it.
+    #[tactic(auto, using(crate::proofs::PagesAppending::append_filled))]
+    fn append_to_join(&mut self, manner: Manner, words: Words<'a>) -> Result<(), AllocError>
+        ensures { OnOk result (self.new
+            ≡ append_to_join (views.manner_view manner) (words_view words.entry) self.old) }
+    {
+        if !has_text(words.as_str()) {
+            return Ok(());
+        }
+        self.is_known_to_print = false;
+        push_piece(&mut self.pieces, Piece::Mark)?;
+        push_piece(&mut self.pieces, Piece::Unmark)?;
+        append_in_manner(&mut self.pieces, manner, words)
+    }
+
+    /// Appends an ordinary text that goes on with the one before it.
+    fn append_further(
+        &mut self,
+        quotes: &[&str],
+        manner: Manner,
+        words: Words<'a>,
+    ) -> Result<(), AllocError>
+        ensures { OnOk result (self.new ≡ append_further (quotes_view quotes.now)
+            (views.manner_view manner) (words_view words.entry) self.old) }
+    {
+        if is_joined(self.rule) {
+            self.is_known_to_print = false;
+            return append_in_manner(&mut self.pieces, manner, words);
+        }
+        self.append_as_written(quotes, manner, words)
+    }
+
     /// Appends what is no text.
     fn push(&mut self, piece: Piece<'a>) -> Result<(), AllocError>
-        ensures { OnOk result ((self.new.tokens ≡ views.with_piece self.old.tokens piece.entry)
-            × (self.new.after_quote ≡ false)) }
+        ensures { OnOk result (self.new ≡ record self.old {
+          tokens = views.with_piece self.old.tokens piece.entry;
+          after_quote = false;
+        }) }
     {
         self.is_known_to_print = false;
         push_piece(&mut self.pieces, piece)?;
@@ -475,6 +577,53 @@ impl<'a> Page<'a> {
         }
     }
 
+    /// Appends a piece that goes on with a text.
+    fn push_further_chunk(
+        &mut self,
+        quotes: &[&str],
+        manner: Manner,
+        chunk: &'a StringChunk,
+    ) -> Result<(), AllocError>
+        ensures { OnOk result (self.new ≡ append_piece (quotes_view quotes.now) self.old
+            (further_piece (views.manner_view manner) (chunk_of chunk.now))) }
+    {
+        let words = Words::Borrowed(chunk.value.as_str());
+        self.append_further_chunk(quotes, manner, chunk.kind, words)
+    }
+
+    /// Appends a piece that goes on with a text and was made.
+    fn push_further_made_chunk(
+        &mut self,
+        quotes: &[&str],
+        manner: Manner,
+        chunk: StringChunk,
+    ) -> Result<(), AllocError>
+        ensures { OnOk result (self.new ≡ append_piece (quotes_view quotes.now) self.old
+            (further_piece (views.manner_view manner) (chunk_of chunk))) }
+    {
+        let StringChunk { value, kind } = chunk;
+        self.append_further_chunk(quotes, manner, kind, Words::Made(value))
+    }
+
+    /// Appends a piece that goes on with a text, by its kind.
+    fn append_further_chunk(
+        &mut self,
+        quotes: &[&str],
+        manner: Manner,
+        kind: ChunkKind,
+        words: Words<'a>,
+    ) -> Result<(), AllocError>
+        ensures { OnOk result (self.new ≡ append_piece (quotes_view quotes.now) self.old
+            (further_by kind (views.manner_view manner) (words_view words.entry))) }
+    {
+        match kind {
+            ChunkKind::Normal => self.append_further(quotes, manner, words),
+            ChunkKind::Verbatim | ChunkKind::Math => {
+                self.append_chunk(quotes, manner, kind, words)
+            }
+        }
+    }
+
     /// Appends a text as it is.
     fn append_verbatim_text(
         &mut self,
@@ -524,7 +673,7 @@ impl<'a> Page<'a> {
         ensures { OnOk result (self.new ≡ ended_as (quotes_view quotes.now)
             (views.manner_view manner) (chars suffix.now) is_element self.old) }
     {
-        if ends_in(&self.pieces, suffix) {
+        if self.is_repeated(suffix) {
             return self.push_end(last_pieces(is_element));
         }
         self.push_end(Piece::Unmark)?;
@@ -539,6 +688,13 @@ impl<'a> Page<'a> {
             → OnOk result (self.new ≡ ended_as quotes m suffix is_element self.old) }
     {
         self.push_end(last_pieces(is_element))
+    }
+
+    /// Whether a suffix is left out as the last text ends with it.
+    fn is_repeated(&self, suffix: &str) -> bool
+        ensures { result ≡ is_repeated (chars suffix.now) self.now }
+    {
+        !is_joined(self.rule) && ends_in(&self.pieces, suffix)
     }
 
     /// Removes the element that was begun last, with its prefix.

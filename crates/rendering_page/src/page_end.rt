@@ -6,6 +6,7 @@ ghost use Rattle.std.specs.Option.{option_map_or};
 ghost use Rattle.std.specs.Str.{chars};
 ghost use Rattle.rendering_tree.specs.Tokens.{last_backwards, last_text, with_letters};
 ghost use Rattle.rendering_page.specs.Tail.{ends_in};
+ghost use Rattle.rendering_page.specs.Joints.{first};
 ghost use Rattle.rendering_page.specs.Pages.{ends_spaced};
 ghost use Rattle.rendering_page.specs.Views.{with_piece, pieces_view};
 ghost use Rattle.rendering_page.specs.Cursors.{backwards_from, begins, parts, text_of};
@@ -130,16 +131,21 @@ fn ends_in_text(pieces: &[Piece<'_>], end: &str) -> bool
 pub(crate) fn ends_spaced(pieces: &[Piece<'_>]) -> bool
     ensures { result ≡ ends_spaced (last_backwards (pieces_view pieces.now)) }
 {
+    matches!(last_character(pieces), Some(' ' | '\u{a0}'))
+}
+
+/// The last character of the last text.
+pub(crate) fn last_character(pieces: &[Piece<'_>]) -> Option<char>
+    ensures { result ≡ first (last_backwards (pieces_view pieces.now)) }
+{
     let mut met = None;
     let mut i = pieces.len();
     while i > 0 {
         i -= 1;
-        let Some(text) = text_in(&pieces[i], &mut met) else {
-            return false;
-        };
+        let text = text_in(&pieces[i], &mut met)?;
         if let Some((c, _)) = split_last(text) {
-            return c == ' ' || c == '\u{a0}';
+            return Some(c);
         }
     }
-    false
+    None
 }

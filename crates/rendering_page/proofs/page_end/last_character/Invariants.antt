@@ -2,7 +2,7 @@ use Rattle.std.proofs.Common.{◌≡◌, ◌≤◌, length, take}
 use Rattle.rendering_tree.specs.Tokens.{last_backwards}
 use Rattle.rendering_page.specs.Cursors.{backwards_from}
 use Rattle.rendering_page.specs.Views.{pieces_view}
-use Rattle.rendering_page.proofs.page_end.ends_spaced.Given as goal
+use Rattle.rendering_page.proofs.page_end.last_character.Given as goal
 
 abbrev pub invariant-loop-i : goal.invariant-loop-i
 invariant-loop-i l =

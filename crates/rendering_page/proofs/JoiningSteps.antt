@@ -1,0 +1,189 @@
+-- Texts that are joined, piece by piece.
+use Rattle.std.proofs.Common.{◌≡◌, ℕ, Bool, true, false, true≢false, List, [], ◌∷◌, ◌++◌, refl, sym, ap, ◌∙◌, Some}
+use Rattle.std.specs.Prelude.{fold, if◌then◌else◌}
+use Rattle.std.specs.Option.{option_map}
+use Rattle.std.proofs.lemmas.List.Sums.{fold-append}
+use Rattle.laws.specs.Text.{is_filled}
+use Rattle.rendering_taxonomy.specs.declared.formatting.Formatting.{Formatting}
+use Rattle.rendering_tree.specs.Tokens.{Token, letter, link, opening, closing, mark, unmark, with_letters, last_backwards}
+use Rattle.rendering_tree.specs.Views.{meta_view}
+use Rattle.rendering_page.specs.Joints.{Joining, all_joined, ends_by, is_left_out, is_stop, is_taken_inside, joining, joining_token, meeting, nothing_joined, with_bound, with_character, with_first, with_inside, with_quote, with_room, with_token}
+use Rattle.rendering_page.specs.JoiningPieces.{is_bound, with_bounds, with_text}
+use Rattle.rendering_page.specs.Views.{words_view, with_piece, pieces_view}
+use Rattle.rendering_page.specs.declared.piece.Piece.{Piece}
+use Rattle.rendering_page.specs.declared.piece.Piece.TheVariants as pieces
+
+-- what a piece appends stands before what was there
+letters_onto : (f : Formatting) (cs : List ℕ) (ts us : List Token) → with_letters f cs (ts ++ us) ≡ with_letters f cs ts ++ us
+letters_onto f [] ts us = refl
+letters_onto f (c ∷ cs) ts us = letters_onto f cs (letter f c ∷ ts) us
+
+piece_onto : (p : Piece) (ts us : List Token) → with_piece (ts ++ us) p ≡ with_piece ts p ++ us
+piece_onto (pieces.Text f w) ts us = letters_onto f (words_view w) ts us
+piece_onto (pieces.Markup w) ts us = refl
+piece_onto (pieces.Link l) ts us = refl
+piece_onto (pieces.Transparent f n) ts us = refl
+piece_onto (pieces.Opening d m) ts us = refl
+piece_onto (pieces.MadeOpening d m) ts us = refl
+piece_onto (pieces.Begin d m) ts us = refl
+piece_onto (pieces.MadeBegin d m) ts us = refl
+piece_onto pieces.BareBegin ts us = refl
+piece_onto pieces.End ts us = refl
+piece_onto pieces.BareEnd ts us = refl
+piece_onto pieces.Closing ts us = refl
+piece_onto pieces.Mark ts us = refl
+piece_onto pieces.Unmark ts us = refl
+
+all_onto : (ps : List Piece) (ts us : List Token) → fold with_piece (ts ++ us) ps ≡ fold with_piece ts ps ++ us
+all_onto [] ts us = refl
+all_onto (p ∷ ps) ts us = ap (λ vs. fold with_piece vs ps) (piece_onto p ts us) ∙ all_onto ps (with_piece ts p) us
+
+-- pieces after others
+pub pieces_after : (ps qs rs : List Piece) → rs ≡ ps ++ qs → pieces_view rs ≡ pieces_view qs ++ pieces_view ps
+pieces_after ps qs rs e = ap pieces_view e ∙ fold-append with_piece [] ps qs ∙ all_onto qs [] (pieces_view ps)
+
+-- tokens more, one list after the other
+joining_after : (inside : Bool) (ts us : List Token) (j : Joining) → joining inside (ts ++ us) j ≡ joining inside ts (joining inside us j)
+joining_after inside [] us j = refl
+joining_after inside (t ∷ ts) us j = ap (joining_token inside t) (joining_after inside ts us j)
+
+-- a piece more
+joining_piece : (inside : Bool) (p : Piece) (ts : List Token) (j : Joining) → joining inside (with_piece ts p) j ≡ joining inside (with_piece [] p) (joining inside ts j)
+joining_piece inside p ts j = ap (λ us. joining inside us j) (piece_onto p [] ts) ∙ joining_after inside (with_piece [] p) ts j
+
+-- all pieces
+joining_from : (inside : Bool) (ps : List Piece) (ts : List Token) (j : Joining)
+    → fold (λ k p. joining inside (with_piece [] p) k) (joining inside ts j) ps ≡ joining inside (fold with_piece ts ps) j
+joining_from inside [] ts j = refl
+joining_from inside (p ∷ ps) ts j =
+    ap (λ k. fold (λ k p. joining inside (with_piece [] p) k) k ps) (sym (joining_piece inside p ts j)) ∙ joining_from inside ps (with_piece ts p) j
+
+pub joining_all : (inside : Bool) (ps : List Piece) → fold (λ k p. joining inside (with_piece [] p) k) nothing_joined ps ≡ joining inside (pieces_view ps) nothing_joined
+joining_all inside ps = joining_from inside ps [] nothing_joined
+
+-- more of a text
+more_of_text : (f : Formatting) (c : ℕ) (cs : List ℕ) (j : Joining) → with_text f cs (with_token (letter f c) true j) ≡ with_text f (c ∷ cs) j
+more_of_text f c [] j = refl
+more_of_text f c (d ∷ cs) j = refl
+
+text_goes_on : (inside : Bool) (f : Formatting) (c : ℕ) (j : Joining) → j.is_text ≡ true → with_character inside f c j ≡ with_token (letter f c) true j
+text_goes_on inside f c j e = ap (λ b. if b then with_token (letter f c) true j else with_first inside f c j) e
+
+joining_letters : (inside : Bool) (f : Formatting) (cs : List ℕ) (ts : List Token) (j : Joining) → (joining inside ts j).is_text ≡ true
+    → joining inside (with_letters f cs ts) j ≡ with_text f cs (joining inside ts j)
+joining_letters inside f [] ts j e = refl
+joining_letters inside f (c ∷ cs) ts j e =
+    let one = text_goes_on inside f c (joining inside ts j) e in
+    joining_letters inside f cs (letter f c ∷ ts) j (ap (λ (k : Joining). k.is_text) one)
+    ∙ ap (with_text f cs) one
+    ∙ more_of_text f c cs (joining inside ts j)
+
+-- a text that goes on
+pub text_more : (inside : Bool) (f : Formatting) (cs : List ℕ) (j : Joining) → j.is_text ≡ true → with_text f cs j ≡ joining inside (with_letters f cs []) j
+text_more inside f cs j e = sym (joining_letters inside f cs [] j e)
+
+-- its first character is part of a text
+either_text : (b : Bool) (j k : Joining) → j.is_text ≡ true → k.is_text ≡ true → (if b then j else k).is_text ≡ true
+either_text true j k e g = e
+either_text false j k e g = g
+
+inside_is_text : (f : Formatting) (c : ℕ) (j : Joining) → (with_inside f c j).is_text ≡ true
+inside_is_text f c j =
+    either_text (ends_by is_stop (last_backwards j.done)) (record j { is_text = true }) (record j { done = letter f c ∷ j.done; is_text = true }) refl refl
+
+meeting_is_text : (inside : Bool) (f : Formatting) (c : ℕ) (j : Joining) → (meeting inside f c j).is_text ≡ true
+meeting_is_text inside f c j =
+    either_text (ends_by (λ before. is_left_out before c) (last_backwards j.done)) (record j { is_text = true })
+    (if is_taken_inside inside c j then with_inside f c j else with_token (letter f c) true j) refl
+    (either_text (is_taken_inside inside c j) (with_inside f c j) (with_token (letter f c) true j) (inside_is_text f c j) refl)
+
+-- a text that begins
+pub text_begun : (inside : Bool) (f : Formatting) (cs ds : List ℕ) (c : ℕ) (j k : Joining) → cs ≡ c ∷ ds → j.is_text ≡ false → k ≡ with_text f ds (with_first inside f c j)
+    → k ≡ joining inside (with_letters f cs []) j
+text_begun inside f cs ds c j k is none e =
+    let one : with_character inside f c j ≡ with_first inside f c j = ap (λ b. if b then with_token (letter f c) true j else with_first inside f c j) none in
+    e
+    ∙ sym (joining_letters inside f ds (letter f c ∷ []) j (ap (λ (i : Joining). i.is_text) one ∙ meeting_is_text inside f c (with_room c j)) ∙ ap (with_text f ds) one)
+    ∙ ap (λ xs. joining inside (with_letters f xs []) j) (sym is)
+
+-- what its first character comes to
+pub first_left_out : (inside : Bool) (f : Formatting) (c : ℕ) (cs : List ℕ) (j k l : Joining) → k ≡ with_room c j → ends_by (λ before. is_left_out before c) (last_backwards k.done) ≡ true
+    → l ≡ with_text f cs (record k { is_text = true }) → l ≡ with_text f cs (with_first inside f c j)
+first_left_out inside f c cs j k l room out e =
+    e
+    ∙ sym (ap (λ b. with_text f cs (if b then record k { is_text = true } else if is_taken_inside inside c k then with_inside f c k else with_token (letter f c) true k)) out)
+    ∙ ap (λ (i : Joining). with_text f cs (meeting inside f c i)) room
+
+pub first_inside : (inside : Bool) (f : Formatting) (c : ℕ) (cs : List ℕ) (j k l : Joining) → k ≡ with_room c j → ends_by (λ before. is_left_out before c) (last_backwards k.done) ≡ false
+    → is_taken_inside inside c k ≡ true → l ≡ with_text f cs (with_inside f c k) → l ≡ with_text f cs (with_first inside f c j)
+first_inside inside f c cs j k l room out taken e =
+    e
+    ∙ sym (ap (λ b. with_text f cs (if b then with_inside f c k else with_token (letter f c) true k)) taken)
+    ∙ sym (ap (λ b. with_text f cs (if b then record k { is_text = true } else if is_taken_inside inside c k then with_inside f c k else with_token (letter f c) true k)) out)
+    ∙ ap (λ (i : Joining). with_text f cs (meeting inside f c i)) room
+
+pub first_outside : (inside : Bool) (f : Formatting) (c : ℕ) (cs ds : List ℕ) (j k l : Joining) → k ≡ with_room c j → ends_by (λ before. is_left_out before c) (last_backwards k.done) ≡ false
+    → is_taken_inside inside c k ≡ false → ds ≡ c ∷ cs → l ≡ with_text f ds k → l ≡ with_text f cs (with_first inside f c j)
+first_outside inside f c cs ds j k l room out none is e =
+    e
+    ∙ ap (λ xs. with_text f xs k) is
+    ∙ sym (more_of_text f c cs k)
+    ∙ sym (ap (λ b. with_text f cs (if b then with_inside f c k else with_token (letter f c) true k)) none)
+    ∙ sym (ap (λ b. with_text f cs (if b then record k { is_text = true } else if is_taken_inside inside c k then with_inside f c k else with_token (letter f c) true k)) out)
+    ∙ ap (λ (i : Joining). with_text f cs (meeting inside f c i)) room
+
+-- the start or the end of something
+quoted_bound : (t : Token) (j : Joining) → j.is_quoted ≡ true → with_bound t j ≡ record j { held = t ∷ j.held; is_text = false }
+quoted_bound t j e = ap (λ b. if b then record j { held = t ∷ j.held; is_text = false } else record j { done = t ∷ j.done; is_text = false }) e
+
+open_bound : (t : Token) (j : Joining) → j.is_quoted ≡ false → with_bound t j ≡ record j { done = t ∷ j.done; is_text = false }
+open_bound t j e = ap (λ b. if b then record j { held = t ∷ j.held; is_text = false } else record j { done = t ∷ j.done; is_text = false }) e
+
+quoted_bounds : (p : Piece) (j : Joining) → j.is_quoted ≡ true → with_bounds p j ≡ record j { held = with_piece j.held p; is_text = false }
+quoted_bounds p j e = ap (λ b. if b then record j { held = with_piece j.held p; is_text = false } else record j { done = with_piece j.done p; is_text = false }) e
+
+open_bounds : (p : Piece) (j : Joining) → j.is_quoted ≡ false → with_bounds p j ≡ record j { done = with_piece j.done p; is_text = false }
+open_bounds p j e = ap (λ b. if b then record j { held = with_piece j.held p; is_text = false } else record j { done = with_piece j.done p; is_text = false }) e
+
+one_bound : (b : Bool) (p : Piece) (t : Token) (j : Joining) → j.is_quoted ≡ b → ((ts : List Token) → with_piece ts p ≡ t ∷ ts) → with_bounds p j ≡ with_bound t j
+one_bound true p t j e is = quoted_bounds p j e ∙ ap (λ (ts : List Token). record j { held = ts; is_text = false }) (is j.held) ∙ sym (quoted_bound t j e)
+one_bound false p t j e is = open_bounds p j e ∙ ap (λ (ts : List Token). record j { done = ts; is_text = false }) (is j.done) ∙ sym (open_bound t j e)
+
+two_bounds : (b : Bool) (p : Piece) (t u : Token) (j : Joining) → j.is_quoted ≡ b → ((ts : List Token) → with_piece ts p ≡ u ∷ t ∷ ts) → with_bounds p j ≡ with_bound u (with_bound t j)
+two_bounds true p t u j e is =
+    quoted_bounds p j e
+    ∙ ap (λ (ts : List Token). record j { held = ts; is_text = false }) (is j.held)
+    ∙ sym (quoted_bound u (record j { held = t ∷ j.held; is_text = false }) e)
+    ∙ ap (with_bound u) (sym (quoted_bound t j e))
+two_bounds false p t u j e is =
+    open_bounds p j e
+    ∙ ap (λ (ts : List Token). record j { done = ts; is_text = false }) (is j.done)
+    ∙ sym (open_bound u (record j { done = t ∷ j.done; is_text = false }) e)
+    ∙ ap (with_bound u) (sym (open_bound t j e))
+
+-- a piece with which something begins or ends
+pub piece_of_bounds : (inside : Bool) (p : Piece) (j : Joining) → is_bound p ≡ true → with_bounds p j ≡ joining inside (with_piece [] p) j
+piece_of_bounds inside (pieces.Text f w) j e = absurd (true≢false (sym e))
+piece_of_bounds inside (pieces.Markup w) j e = absurd (true≢false (sym e))
+piece_of_bounds inside (pieces.Link l) j e = absurd (true≢false (sym e))
+piece_of_bounds inside (pieces.Transparent f n) j e = absurd (true≢false (sym e))
+piece_of_bounds inside (pieces.Opening d m) j e = one_bound j.is_quoted (pieces.Opening d m) (opening d (option_map (λ x. meta_view x.now) m)) j refl (λ ts. refl)
+piece_of_bounds inside (pieces.MadeOpening d m) j e = one_bound j.is_quoted (pieces.MadeOpening d m) (opening d (Some (meta_view m))) j refl (λ ts. refl)
+piece_of_bounds inside (pieces.Begin d m) j e = two_bounds j.is_quoted (pieces.Begin d m) (opening d (option_map (λ x. meta_view x.now) m)) mark j refl (λ ts. refl)
+piece_of_bounds inside (pieces.MadeBegin d m) j e = two_bounds j.is_quoted (pieces.MadeBegin d m) (opening d (Some (meta_view m))) mark j refl (λ ts. refl)
+piece_of_bounds inside pieces.BareBegin j e = two_bounds j.is_quoted pieces.BareBegin mark mark j refl (λ ts. refl)
+piece_of_bounds inside pieces.End j e = two_bounds j.is_quoted pieces.End unmark closing j refl (λ ts. refl)
+piece_of_bounds inside pieces.BareEnd j e = two_bounds j.is_quoted pieces.BareEnd unmark unmark j refl (λ ts. refl)
+piece_of_bounds inside pieces.Closing j e = one_bound j.is_quoted pieces.Closing closing j refl (λ ts. refl)
+piece_of_bounds inside pieces.Mark j e = one_bound j.is_quoted pieces.Mark mark j refl (λ ts. refl)
+piece_of_bounds inside pieces.Unmark j e = one_bound j.is_quoted pieces.Unmark unmark j refl (λ ts. refl)
+
+-- a link, or a close quote
+pub link_alone : (inside : Bool) (f : Formatting) (cs url : List ℕ) (j k : Joining) → is_filled url ≡ true
+    → k ≡ record { done = link f cs url ∷ all_joined j; held = []; is_quoted = false; is_text = false } → k ≡ joining inside (link f cs url ∷ []) j
+link_alone inside f cs [] j k e is = absurd (true≢false (sym e))
+link_alone inside f cs (u ∷ url) j k e is = is
+
+pub link_quote : (inside : Bool) (f : Formatting) (cs url : List ℕ) (j k : Joining) → is_filled url ≡ false → k ≡ with_quote f cs j → k ≡ joining inside (link f cs url ∷ []) j
+link_quote inside f cs [] j k e is = is
+link_quote inside f cs (u ∷ url) j k e is = absurd (true≢false e)

@@ -1,0 +1,48 @@
+//! Which characters remain where two meet.
+
+ghost use Rattle.std.specs.Prelude.{◌≡◌};
+ghost use Rattle.rendering_page.specs.Joints as specs;
+
+use crate::tail::is_punctuation;
+
+/// Whether a character is left out that meets another one.
+pub(crate) fn is_left_out(before: char, c: char) -> bool
+    ensures { result ≡ specs.is_left_out before c }
+{
+    match before {
+        ' ' => c == ' ',
+        '.' => c == '.',
+        ',' => c == ',',
+        ':' => matches!(c, ':' | '.'),
+        ';' => matches!(c, ';' | ':' | '.'),
+        '!' => matches!(c, '!' | ':' | '.'),
+        '?' => matches!(c, '?' | ':' | '.'),
+        _ => false,
+    }
+}
+
+/// Whether it takes the place of the one that it meets.
+pub(crate) fn is_replaced(before: char, c: char) -> bool
+    ensures { result ≡ specs.is_replaced before c }
+{
+    match before {
+        ' ' => matches!(c, ',' | '.'),
+        ':' => matches!(c, '!' | '?'),
+        ';' => matches!(c, '!' | '?'),
+        _ => false,
+    }
+}
+
+/// The punctuation that goes inside quotes.
+pub(crate) fn goes_inside(c: char) -> bool
+    ensures { result ≡ specs.goes_inside c }
+{
+    matches!(c, ',' | '.')
+}
+
+/// The punctuation after which none goes inside.
+pub(crate) fn is_stop(c: char) -> bool
+    ensures { result ≡ specs.is_stop c }
+{
+    is_punctuation(c) || c == ':'
+}
