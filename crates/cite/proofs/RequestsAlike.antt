@@ -185,12 +185,13 @@ answer_itself a (variables.Name v) = refl
 answer_itself a (variables.Date v) = refl
 
 pub alike_itself : (n : Named) (a : Answers) → AreAlike n a a
-alike_itself n a = record { variables = λ v has. answer_itself a v; kinds = λ k has. refl }
+alike_itself n a = record { variables = λ v has. answer_itself a v; kinds = λ k has. refl; english = refl }
 
 joined_alike : (m n : Named) (a b : Answers) → AreAlike m a b → AreAlike n a b → AreAlike (joined_named m n) a b
 joined_alike m n a b h g = record {
   variables = λ v has. elim (Contains-append_cases m.variables n.variables v has) as (λ _. AnswerAlike a b v) [ inl one ↦ h.variables v one | inr other ↦ g.variables v other ];
   kinds = λ k has. elim (Contains-append_cases m.kinds n.kinds k has) as (λ _. a.kind k ≡ b.kind k) [ inl one ↦ h.kinds k one | inr other ↦ g.kinds k other ];
+  english = h.english;
 }
 
 -- what answers alike to a style does so to all requests of that style

@@ -20,13 +20,6 @@ pub(crate) const FEATURES: &[Row] = &[
         "punctuation that meets is joined",
     ),
     (
-        "style",
-        ("page-range-format", ""),
-        NOTHING,
-        "",
-        "page-range-format",
-    ),
-    (
         "citation",
         ("disambiguate-add-names", "true"),
         NOTHING,

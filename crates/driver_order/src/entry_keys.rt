@@ -3,14 +3,12 @@
 ghost use Rattle.std.specs.Prelude.{◌≡◌, map, None, IfOk};
 ghost use Rattle.std.specs.Option.{option_map};
 ghost use Rattle.laws.specs.Text.{characters};
-ghost use Rattle.rendering.specs.Purposes.{locales_of};
+ghost use Rattle.rendering.specs.Words.{words_of, words_view};
 ghost use Rattle.rendering_context.specs.Cites.{year_suffix_of};
 ghost use Rattle.rendering.specs.Views.{style_context_view};
 ghost use Rattle.rendering_context.specs.Views.{cite_properties_view, locator_view};
-ghost use Rattle.rendering_locale.specs.Lookup.{close_quotes};
 ghost use Rattle.rendering_names.specs.Views.{resolved_options_view};
 ghost use Rattle.rendering_nodes.specs.Views.{walk_context};
-ghost use Rattle.rendering_page.specs.Views.{quotes_view};
 ghost use Rattle.rendering_style.specs.StyleViews.{style_view};
 ghost use Rattle.rendering_style.specs.Views.{sort_key_view};
 ghost use Rattle.driver_order.specs.EntryKeys.{inherited, keys_in, keys_of, keys_with, part_by, sorting_properties};
@@ -37,9 +35,7 @@ pub(crate) struct KeyContext<'k> {
     pub(crate) keys: &'k [SortKey],
     pub(crate) options: ResolvedNameOptions<'k>,
     pub(crate) is_bibliography: bool,
-    ghost locales: { words.now.locales ≡ locales_of (style_context_view context.now) None },
-    ghost quotes: { quotes_view words.now.quotes.items
-        ≡ close_quotes (locales_of (style_context_view context.now) None) },
+    ghost language: { words_view words.now ≡ words_of (style_context_view context.now) None },
     ghost sort: { map sort_key_view keys.now
         ≡ keys_of is_bibliography (style_context_view context.now).style },
     ghost names: { resolved_options_view options

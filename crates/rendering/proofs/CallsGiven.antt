@@ -5,13 +5,11 @@ use Rattle.rendering_context.specs.Cites.{CiteProperties, year_suffix_of}
 use Rattle.rendering_context.specs.Contexts.{Context}
 use Rattle.rendering_entries.specs.Answers.{Answers}
 use Rattle.rendering_leaves.specs.NodeSettings.{State, begun}
-use Rattle.rendering_locale.specs.Locales.{Locale}
-use Rattle.rendering_locale.specs.Lookup.{close_quotes}
-use Rattle.rendering_page.specs.Pages.{Quotes}
 use Rattle.rendering_style.specs.Styles.{Style}
 use Rattle.rendering_context.specs.Contexts.{StyleContext}
-use Rattle.rendering.specs.Purposes.{Rendered, locales_of, context_of, rendered}
-use Rattle.rendering.specs.Views.{rendering_view, in_words}
+use Rattle.rendering.specs.Purposes.{Rendered, context_of, in_words, rendered}
+use Rattle.rendering.specs.Views.{rendering_view}
+use Rattle.rendering.specs.Words.{CallWords, words_of}
 use Rattle.rendering.specs.declared.rendered.Rendering.{Rendering}
 
 -- what was appended from the start on
@@ -19,19 +17,19 @@ pub given_appended : {E : Type 0} (f : State → State) (first now : State) (r :
     → IfOk r (λ v. rendering_view v ≡ rendered now) → IfOk r (λ v. rendering_view v ≡ rendered (f begun))
 given_appended f first now r e h given = IfOk-weaker r (λ v. rendering_view v ≡ rendered now) (λ v. rendering_view v ≡ rendered (f begun)) (λ v known. known ∙ ap rendered (h ∙ ap f e)) given
 
-module _ {E : Type 0} (x : StyleContext) (a : Answers) (p : CiteProperties) (b : Bool) (locales : List Locale) (quotes : Quotes) (year_suffix : List ℕ) where
+module _ {E : Type 0} (x : StyleContext) (a : Answers) (p : CiteProperties) (b : Bool) (words : CallWords) (year_suffix : List ℕ) where
   -- what a call gives is what is given of what it prints from
   pub given_call : (f : Style → Context → Rendered) (s : Style) (c : Answers → Context) (r : Result Rendering E)
-      → s ≡ x.style → ((k : Answers) → c k ≡ in_words x.style k p locales quotes year_suffix b)
-      → IfOk r (λ v. rendering_view v ≡ f s (c a)) → IfOk r (λ v. rendering_view v ≡ f x.style (in_words x.style a p locales quotes year_suffix b))
+      → s ≡ x.style → ((k : Answers) → c k ≡ in_words x.style k p words year_suffix b)
+      → IfOk r (λ v. rendering_view v ≡ f s (c a)) → IfOk r (λ v. rendering_view v ≡ f x.style (in_words x.style a p words year_suffix b))
   given_call f s c r style context given =
-      IfOk-weaker r (λ v. rendering_view v ≡ f s (c a)) (λ v. rendering_view v ≡ f x.style (in_words x.style a p locales quotes year_suffix b))
+      IfOk-weaker r (λ v. rendering_view v ≡ f s (c a)) (λ v. rendering_view v ≡ f x.style (in_words x.style a p words year_suffix b))
       (λ v known. known ∙ (λ i. f (style i) (context a i))) given
 
   -- what is given in the words of a language
   pub given_words : (f : Context → Rendered) (locale : Option (List ℕ)) (r : Result Rendering E)
-      → locales ≡ locales_of x locale → quotes ≡ close_quotes (locales_of x locale) → year_suffix ≡ year_suffix_of p.disambiguation
-      → IfOk r (λ v. rendering_view v ≡ f (in_words x.style a p locales quotes year_suffix b)) → IfOk r (λ v. rendering_view v ≡ f (context_of x locale b a p))
-  given_words f locale r e h k given =
-      IfOk-weaker r (λ v. rendering_view v ≡ f (in_words x.style a p locales quotes year_suffix b)) (λ v. rendering_view v ≡ f (context_of x locale b a p))
-      (λ v known. known ∙ (λ i. f (in_words x.style a p (e i) (h i) (k i) b))) given
+      → words ≡ words_of x locale → year_suffix ≡ year_suffix_of p.disambiguation
+      → IfOk r (λ v. rendering_view v ≡ f (in_words x.style a p words year_suffix b)) → IfOk r (λ v. rendering_view v ≡ f (context_of x locale b a p))
+  given_words f locale r e k given =
+      IfOk-weaker r (λ v. rendering_view v ≡ f (in_words x.style a p words year_suffix b)) (λ v. rendering_view v ≡ f (context_of x locale b a p))
+      (λ v known. known ∙ (λ i. f (in_words x.style a p (e i) (k i) b))) given

@@ -1,5 +1,5 @@
 -- Cites and items of entries that answer alike are one.
-use Rattle.std.proofs.Common.{◌≡◌, ℕ, true, false, not, ◌&&◌, List, [], ◌∷◌, length, refl, ap, ◌∙◌, Option, Some, None, Contains, arith}
+use Rattle.std.proofs.Common.{◌≡◌, ℕ, Bool, true, false, not, ◌&&◌, List, [], ◌∷◌, length, refl, ap, ◌∙◌, Option, Some, None, Contains, arith}
 use Rattle.std.specs.Prelude.{if◌then◌else◌, filter_map, codes}
 use Rattle.std.specs.List.{cons_option}
 use Rattle.std.specs.Option.{option_map, option_map_or, unwrap_or}
@@ -15,7 +15,8 @@ use Rattle.rendering_style.specs.Nodes.{names, no_nodes, node}
 use Rattle.rendering_style.specs.Styles.{Layout, Bibliography, Style}
 use Rattle.rendering_context.specs.Contexts.{Context}
 use Rattle.rendering_leaves.specs.NodeSettings.{SpecialForm, whole, author_only, without_author, State, begun, append, noted}
-use Rattle.rendering_nodes.specs.Content.{stage}
+use Rattle.rendering_context.specs.Answering.{is_english}
+use Rattle.rendering_nodes.specs.Content.{contents, stage}
 use Rattle.rendering_nodes.specs.Named.{Named, AreAlike, AnswerAlike, joined_named, variable_named, always_named, named}
 use Rattle.rendering_nodes.specs.Laws.{with_answers}
 use Rattle.rendering_nodes.proofs.AnswersAlike.{first_alike, others_alike, has_same}
@@ -64,11 +65,13 @@ author_node_alike a b h = first_alike (variable_named (variables.Name name.Autho
 -- layouts
 layout_same : (a b : Answers) (c : Context) (s : Style) (l : Layout) (options : NameOptions) (form : SpecialForm) (st : State) → AreAlike always_named a b → AreAlike (named (layout_nodes s l)) a b
     → append_layout s (with_answers a c) l options form st ≡ append_layout s (with_answers b c) l options form st
-layout_same a b c s l options form st g h = contents_same a b c (setting_of s l options form) true (layout_nodes s l) st (labels_alike a b g) h
+layout_same a b c s l options form st g h =
+    ap (λ (e : Option Bool). contents (with_answers a c) (setting_of s (unwrap_or e c.in_english) l options form) true (layout_nodes s l) st) g.english
+    ∙ contents_same a b c (setting_of s (is_english (with_answers b c)) l options form) true (layout_nodes s l) st (labels_alike a b g) h
 
 asked_same : (a b : Answers) (c : Context) (s : Style) (l : Layout) (options : NameOptions) (form : SpecialForm) (st : State) → AreAlike always_named a b → AreAlike (named (layout_nodes s l)) a b
     → layout_survey s (with_answers a c) l options form st ≡ layout_survey s (with_answers b c) l options form st
-asked_same a b c s l options form st g h = surveys_same a b (stage c (setting_of s l options form) st) (layout_nodes s l) (labels_alike a b g) h
+asked_same a b c s l options form st g h = surveys_same a b (stage c (setting_of s (is_english c) l options form) st) (layout_nodes s l) (labels_alike a b g) h
 
 -- the year alone
 dates_same : (a b : Answers) → AreAlike always_named a b → filter_map a.date year_dates ≡ filter_map b.date year_dates
@@ -93,7 +96,9 @@ variable_same a b c h =
 
 made_same : (a b : Answers) (c : Context) (s : Style) (form : SpecialForm) (st : State) → AreAlike always_named a b → append_made s (with_answers a c) form st ≡ append_made s (with_answers b c) form st
 made_same a b c s form st h =
-    contents_same a b c (setting_of s s.citation.layout s.citation.name_options form) true (node (names author_node no_nodes) no_nodes) st (labels_alike a b h) (author_node_alike a b h)
+    let authors = node (names author_node no_nodes) no_nodes in
+    ap (λ (e : Option Bool). contents (with_answers a c) (setting_of s (unwrap_or e c.in_english) s.citation.layout s.citation.name_options form) true authors st) h.english
+    ∙ contents_same a b c (setting_of s (is_english (with_answers b c)) s.citation.layout s.citation.name_options form) true authors st (labels_alike a b h) (author_node_alike a b h)
 
 last_same : (a b : Answers) (c : Context) (s : Style) (form : SpecialForm) (o : Option Bibliography) (st : State) → AreAlike always_named a b → AreAlike (named_in_bibliography s o) a b
     → author_last s (with_answers a c) form o st ≡ author_last s (with_answers b c) form o st

@@ -1,3 +1,4 @@
+pub mod Words
 pub mod Purposes
 pub mod Alike
 pub mod Views

@@ -1,14 +1,13 @@
 -- What cites and items of a bibliography print.
 use Rattle.std.specs.Prelude.{ℕ, ◌+◌, Bool, true, false, not, ◌&&◌, ◌||◌, List, [], ◌∷◌, ◌++◌, filter_map, if◌then◌else◌, Option, Some, None, codes}
 use Rattle.std.specs.List.{list_any}
-use Rattle.std.specs.Option.{option_map, option_map_or, option_or, unwrap_or}
+use Rattle.std.specs.Option.{option_map, option_map_or, unwrap_or}
 use Rattle.std.specs.Char.{is_whitespace}
 use Rattle.laws.specs.Characters.{space, open_parenthesis, close_parenthesis}
 use Rattle.rendering_taxonomy.specs.Formats.{plain, changed}
 use Rattle.rendering_tree.specs.Tokens.{Token, with_letter_after}
 use Rattle.rendering_tree.specs.Trees.{Children, Elem, tree_of, flat, flat_child, Parted, parted}
-use Rattle.rendering_locale.specs.Locales.{Locale}
-use Rattle.rendering_locale.specs.Lookup.{term, asked, language, close_quotes}
+use Rattle.rendering_locale.specs.Lookup.{term}
 use Rattle.literature_values.specs.declared.date.Date.{Date}
 use Rattle.rendering_dates.specs.Dates.{years_text}
 use Rattle.rendering_page.specs.Pages.{Manner, Frame, append_space}
@@ -23,10 +22,11 @@ use Rattle.rendering_people.specs.Properties.{Properties}
 use Rattle.rendering_context.specs.Cites.{CiteProperties, year_suffix_of}
 use Rattle.rendering_context.specs.Contexts.{Context, StyleContext}
 use Rattle.rendering_leaves.specs.NodeSettings.{SpecialForm, whole, author_only, without_author, first_date_only, suffix_only, NodeSetting, State, begun, append, noted}
-use Rattle.rendering_context.specs.Answering.{has_answer}
+use Rattle.rendering_context.specs.Answering.{has_answer, is_english}
 use Rattle.rendering_nodes.specs.Admission.{Survey, surveys}
 use Rattle.rendering_nodes.specs.Content.{stage, contents}
 use Rattle.rendering_nodes.specs.Named.{has_suffix}
+use Rattle.rendering.specs.Words.{CallWords, words_of}
 use Rattle.rendering_taxonomy.specs.declared.cite.CitePurpose.{CitePurpose}
 use Rattle.rendering_taxonomy.specs.declared.cite.CitePurpose.TheVariants as purposes
 use Rattle.rendering_taxonomy.specs.declared.cite.CollapseVerdict.{CollapseVerdict}
@@ -46,10 +46,6 @@ use Rattle.rendering_taxonomy.specs.declared.variable.NameVariable.{NameVariable
 use Rattle.rendering_taxonomy.specs.declared.variable.NameVariable.TheVariants as name
 use Rattle.rendering_taxonomy.specs.declared.variable.Variable.TheVariants as variables
 
--- the locales that a call asks
-abbrev pub locales_of : StyleContext → Option (List ℕ) → List Locale
-locales_of x term_locale = asked (language (option_or term_locale x.locale) x.style.default_locale) x.style.locales x.locale_files
-
 -- the nodes of a layout with their macros opened
 abbrev pub layout_nodes : Style → Layout → Nodes
 layout_nodes s l = opened_nodes s.macros l.nodes
@@ -58,30 +54,37 @@ layout_nodes s l = opened_nodes s.macros l.nodes
 unfoldable pub prints_suffix : Style → Bool
 prints_suffix s = has_suffix (layout_nodes s s.citation.layout) || option_map_or (λ b. has_suffix (layout_nodes s b.layout)) s.bibliography false
 
--- what a call prints from
-abbrev pub context_of : StyleContext → Option (List ℕ) → Bool → Answers → CiteProperties → Context
-context_of x term_locale is_bibliography answers properties = record {
+-- what is printed from in these words, with this year suffix
+abbrev pub in_words : Style → Answers → CiteProperties → CallWords → List ℕ → Bool → Context
+in_words s answers properties words year_suffix is_bibliography = record {
   answers = answers;
   properties = properties;
-  locales = locales_of x term_locale;
-  quotes = close_quotes (locales_of x term_locale);
-  year_suffix = year_suffix_of properties.disambiguation;
+  locales = words.locales;
+  quotes = words.quotes;
+  year_suffix = year_suffix;
   is_bibliography = is_bibliography;
-  has_suffix_node = prints_suffix x.style;
+  has_suffix_node = prints_suffix s;
+  page_ranges = s.page_ranges;
+  in_english = words.are_english;
 }
 
--- how a layout's texts are appended
+-- what a call prints from
+abbrev pub context_of : StyleContext → Option (List ℕ) → Bool → Answers → CiteProperties → Context
+context_of x term_locale is_bibliography answers properties =
+    in_words x.style answers properties (words_of x term_locale) (year_suffix_of properties.disambiguation) is_bibliography
+
+-- how a layout's own texts are appended
 abbrev pub layout_manner : Layout → Manner
-layout_manner l = record { formatting = changed l.formatting plain; strips_periods = false }
+layout_manner l = record plain_manner { formatting = changed l.formatting plain }
 
 -- the options for names in the citation
 abbrev pub citation_options : Style → NameOptions
 citation_options s = options_over s.citation.name_options s.name_options
 
--- what a layout hands down, with its options for names over those of the style
-abbrev pub setting_of : Style → Layout → NameOptions → SpecialForm → NodeSetting
-setting_of s l options form = record {
-  manner = layout_manner l;
+-- what a layout hands down, with its options for names over those of the style; whether it prints English
+abbrev pub setting_of : Style → Bool → Layout → NameOptions → SpecialForm → NodeSetting
+setting_of s english l options form = record {
+  manner = record (layout_manner l) { is_english = english };
   inside_quotes = false;
   delimiter = None;
   options = options_over options s.name_options;
@@ -91,11 +94,11 @@ setting_of s l options form = record {
 
 -- a layout is appended in a form, without its affixes
 abbrev pub append_layout : Style → Context → Layout → NameOptions → SpecialForm → State → State
-append_layout s c l options form st = contents c (setting_of s l options form) true (layout_nodes s l) st
+append_layout s c l options form st = contents c (setting_of s (is_english c) l options form) true (layout_nodes s l) st
 
 -- whether anything of a layout is admitted in a form, and whether the test `disambiguate` was evaluated
 abbrev pub layout_survey : Style → Context → Layout → NameOptions → SpecialForm → State → Survey
-layout_survey s c l options form st = surveys (stage c (setting_of s l options form) st) (layout_nodes s l)
+layout_survey s c l options form st = surveys (stage c (setting_of s (is_english c) l options form) st) (layout_nodes s l)
 
 -- the layout of the citation
 abbrev pub append_citation : Style → Context → SpecialForm → State → State
@@ -157,7 +160,7 @@ author_node = record {
 
 -- a node for the authors is appended as the layout of the citation would have it
 abbrev pub append_made : Style → Context → SpecialForm → State → State
-append_made s c form st = contents c (setting_of s s.citation.layout s.citation.name_options form) true (node (names author_node no_nodes) no_nodes) st
+append_made s c form st = contents c (setting_of s (is_english c) s.citation.layout s.citation.name_options form) true (node (names author_node no_nodes) no_nodes) st
 
 -- the authors from the layout of the bibliography, where they are admitted there, else from a node of their own
 abbrev pub author_last : Style → Context → SpecialForm → Option Bibliography → State → State

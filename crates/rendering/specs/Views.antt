@@ -1,20 +1,16 @@
 -- The code's values without where they lie in memory.
-use Rattle.std.specs.Prelude.{ℕ, Bool, List, map}
+use Rattle.std.specs.Prelude.{map}
 use Rattle.std.specs.Option.{option_map}
-use Rattle.rendering_context.specs.Cites.{CiteProperties}
 use Rattle.rendering_context.specs.Contexts as contexts
 use Rattle.rendering_context.specs.Contexts.{Context}
 use Rattle.rendering_context.specs.Views.{context_view}
 use Rattle.rendering_entries.specs.Answers.{Answers}
-use Rattle.rendering_locale.specs.Locales.{Locale}
 use Rattle.rendering_locale.specs.CodeViews.{borrowed_code_view}
 use Rattle.rendering_locale.specs.Views.{locale_view}
-use Rattle.rendering_page.specs.Pages.{Quotes}
 use Rattle.rendering_style.specs.Styles.{Style}
 use Rattle.rendering_style.specs.StyleViews.{style_view}
 use Rattle.rendering_tree.specs.Views.{tree_view}
 use Rattle.rendering.specs.Purposes as purposes
-use Rattle.rendering.specs.Purposes.{prints_suffix}
 use Rattle.rendering.specs.declared.call.Call.{Call}
 use Rattle.rendering.specs.declared.rendered.Rendering.{Rendering}
 use Rattle.rendering.specs.declared.style_context.StyleContext.{StyleContext}
@@ -30,18 +26,6 @@ style_of c = style_view c.walk.style.now
 -- what a call prints from, with what the entry answers
 abbrev pub context_in : Answers → Call → Context
 context_in a c = context_view a c.walk.context
-
--- what is printed from in these words
-abbrev pub in_words : Style → Answers → CiteProperties → List Locale → Quotes → List ℕ → Bool → Context
-in_words s a p locales quotes year_suffix is_bibliography = record {
-  answers = a;
-  properties = p;
-  locales = locales;
-  quotes = quotes;
-  year_suffix = year_suffix;
-  is_bibliography = is_bibliography;
-  has_suffix_node = prints_suffix s;
-}
 
 -- what a call gives
 abbrev pub rendering_view : Rendering → purposes.Rendered

@@ -2,6 +2,7 @@
 
 ghost use Rattle.std.specs.Prelude.{◌≡◌, true, map, IfOk, OnOk};
 ghost use Rattle.laws.specs.Text.{spelled};
+ghost use Rattle.rendering_context.specs.Answering.{is_english};
 ghost use Rattle.rendering_leaves.specs.NodeSettings.{noted};
 ghost use Rattle.rendering_leaves.specs.Views.{form_view};
 ghost use Rattle.rendering_names.specs.Views.{resolved_options_view};
@@ -159,10 +160,13 @@ impl<'s, 'a> Call<'s, 'a> {
         ensures { (own : NameOptions)
             → resolved_options_view options.now ≡ options_over own (style_of self.now).name_options
             → OnOk result (state.new ≡ contents (context_in (E.answers entry.entry.now) self.now)
-            (setting_of (style_of self.now) (layout_view layout.now) own (form_view form)) true
+            (setting_of (style_of self.now)
+            (is_english (context_in (E.answers entry.entry.now) self.now))
+            (layout_view layout.now) own (form_view form)) true
             (opened_nodes (style_of self.now).macros (map node_view nodes.now)) state.old) }
     {
-        let setting = setting_of(layout, options, form);
+        let is_english = self.walk.context.is_english(entry);
+        let setting = setting_of(layout, options, form, is_english);
         self.walk.push_nodes(entry, &setting, nodes, state)
     }
 }

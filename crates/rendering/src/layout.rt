@@ -19,13 +19,14 @@ use rendering_page::{Frame, Manner, plain_manner};
 use rendering_style::{Bibliography, Layout, NameOptions, Style, StyleParts};
 use texts::text_or_empty;
 
-/// How a layout's texts are appended.
+/// How a layout's own texts are appended.
 pub(crate) fn layout_manner(layout: &Layout) -> Manner
     ensures { manner_view result ≡ layout_manner (layout_view layout.now) }
 {
+    let plain = plain_manner();
     Manner {
-        formatting: layout.formatting.over(plain_manner().formatting),
-        strips_periods: false,
+        formatting: layout.formatting.over(plain.formatting),
+        ..plain
     }
 }
 
@@ -49,18 +50,23 @@ pub(crate) fn citation_options<'a>(style: &'a Style) -> ResolvedNameOptions<'a>
     layout_options(parts, &parts.citation.name_options)
 }
 
-/// What a layout hands down in a form, with its options for names, which are over those of the style.
+/// What a layout hands down in a form, with its options for names, which are over those of the style; whether it prints English.
 pub(crate) fn setting_of<'a>(
     layout: &'a Layout,
     options: &ResolvedNameOptions<'a>,
     form: SpecialForm,
+    is_english: bool,
 ) -> NodeSetting<'a>
     ensures { (s : Styled) (own : Options)
         → resolved_options_view options.now ≡ options_over own s.name_options
-        → setting_view result ≡ setting_of s (layout_view layout.now) own (form_view form) }
+        → setting_view result
+        ≡ setting_of s is_english (layout_view layout.now) own (form_view form) }
 {
     NodeSetting {
-        manner: layout_manner(layout),
+        manner: Manner {
+            is_english,
+            ..layout_manner(layout)
+        },
         inside_quotes: false,
         delimiter: None,
         options: *options,

@@ -17,6 +17,8 @@ pub struct Words<'a> {
     pub locales: AskedLocales<'a>,
     /// Their close quotes inside which punctuation goes.
     pub quotes: Vec<&'a str>,
+    /// Whether their language is English.
+    pub are_english: bool,
 }
 
 /// The text of a year suffix; empty where there is none.

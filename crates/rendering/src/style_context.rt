@@ -4,13 +4,12 @@ ghost use Rattle.std.specs.Prelude.{◌≡◌, false, true, map, IfOk, None};
 ghost use Rattle.std.specs.Option.{option_map};
 ghost use Rattle.laws.specs.Text.{characters};
 ghost use Rattle.rendering_locale.specs.CodeViews.{borrowed_code_view};
-ghost use Rattle.rendering_locale.specs.Lookup.{close_quotes};
 ghost use Rattle.rendering_locale.specs.Views.{locale_view};
 ghost use Rattle.rendering_names.specs.Views.{resolved_options_view};
-ghost use Rattle.rendering_page.specs.Views.{quotes_view};
 ghost use Rattle.rendering_style.specs.StyleViews.{style_view};
 ghost use Rattle.rendering.specs.Alike.{ForAlikeAnswers};
-ghost use Rattle.rendering.specs.Purposes.{citation_options, locales_of, prints_suffix};
+ghost use Rattle.rendering.specs.Purposes.{citation_options, prints_suffix};
+ghost use Rattle.rendering.specs.Words.{words_of, words_view};
 
 use crate::author_node::AuthorNode;
 use crate::call::Call;
@@ -19,12 +18,12 @@ use crate::layout::{citation_options, prints_suffix};
 use crate::locale_words::{Words, YearSuffixText};
 use crate::rendered::Rendering;
 use rendering_context::{CiteProperties, Context};
-use rendering_entries::EntryLike;
+use rendering_entries::{EntryLike, is_english};
 use rendering_locale::{AskedLocales, Locale, LocaleCode, language};
 use rendering_names::ResolvedNameOptions;
 use rendering_nodes::Walk;
 use rendering_style::{Bibliography, Style};
-use rendering_taxonomy::{CitePurpose, CollapseVerdict};
+use rendering_taxonomy::{CitePurpose, CollapseVerdict, PageRangeFormat};
 use std::alloc::{AllocError, Global};
 
 /// A style with the language that is asked for, and the files with locales.
@@ -40,8 +39,7 @@ pub struct StyleContext<'a> {
     options: ResolvedNameOptions<'a>,
     /// The words of a call that asks for no language.
     own_words: Words<'a>,
-    ghost locales: { own_words.locales ≡ locales_of (record { style = style_view style.now; locale = option_map borrowed_code_view locale; locale_files = map locale_view locale_files.now }) None },
-    ghost quotes: { quotes_view own_words.quotes.items ≡ close_quotes (locales_of (record { style = style_view style.now; locale = option_map borrowed_code_view locale; locale_files = map locale_view locale_files.now }) None) },
+    ghost language: { words_view own_words ≡ words_of (record { style = style_view style.now; locale = option_map borrowed_code_view locale; locale_files = map locale_view locale_files.now }) None },
     ghost resolved: { resolved_options_view options ≡ citation_options (style_view style.now) },
     ghost suffix: { has_suffix_node ≡ prints_suffix (style_view style.now) },
 }
@@ -69,8 +67,8 @@ impl<'a> StyleContext<'a> {
     ghost use Rattle.rendering_style.specs.Views.{bibliography_layout_view};
     ghost use Rattle.rendering_leaves.specs.NodeSettings.{begun};
     ghost use Rattle.rendering_nodes.specs.Views.{walk_context};
-    ghost use Rattle.rendering.specs.Purposes.{bibliography, citation, context_of, append_item, rendered, rendered_for};
-    ghost use Rattle.rendering.specs.Views.{context_in, style_context_view, rendering_view, in_words, style_of};
+    ghost use Rattle.rendering.specs.Purposes.{bibliography, citation, context_of, append_item, in_words, rendered, rendered_for};
+    ghost use Rattle.rendering.specs.Views.{context_in, style_context_view, rendering_view, style_of};
 
     /// A style with the language that is asked for where a call asks for none, and the files with locales.
     ///
@@ -229,8 +227,8 @@ impl<'a> StyleContext<'a> {
     ) -> Result<Rendering, AllocError>
         ensures { IfOk result (λ r. rendering_view r ≡ rendered_for
             (style_context_view self.now).style (in_words (style_context_view self.now).style
-            (E.answers entry.now) (cite_properties_view properties.now) words.now.locales
-            (quotes_view words.now.quotes.items) (characters year_suffix.now.0) false)
+            (E.answers entry.now) (cite_properties_view properties.now) (words_view words.now)
+            (characters year_suffix.now.0) false)
             verdict purpose) }
     {
         let call = self.call(words, year_suffix, properties, false);
@@ -280,8 +278,8 @@ impl<'a> StyleContext<'a> {
     ) -> Result<Rendering, AllocError>
         ensures { IfOk result (λ r. rendering_view r ≡ rendered (append_item
             (style_context_view self.now).style (in_words (style_context_view self.now).style
-            (E.answers entry.now) (cite_properties_view properties.now) words.now.locales
-            (quotes_view words.now.quotes.items) (characters year_suffix.now.0) true)
+            (E.answers entry.now) (cite_properties_view properties.now) (words_view words.now)
+            (characters year_suffix.now.0) true)
             (bibliography_layout_view bibliography.now) begun)) }
     {
         let call = self.call(words, year_suffix, properties, true);
@@ -293,10 +291,8 @@ impl<'a> StyleContext<'a> {
     /// # Errors
     /// Out of memory.
     pub fn words<'c>(&'c self, term_locale: Option<&LocaleCode>) -> Result<Words<'c>, AllocError>
-        ensures locales { IfOk result (λ w. w.locales ≡ locales_of
-            (style_context_view self.now) (option_map borrowed_code_view term_locale.entry)) }
-        ensures quotes { IfOk result (λ w. quotes_view w.quotes.items ≡ close_quotes (locales_of
-            (style_context_view self.now) (option_map borrowed_code_view term_locale.entry))) }
+        ensures { IfOk result (λ w. words_view w ≡ words_of (style_context_view self.now)
+            (option_map borrowed_code_view term_locale.entry)) }
     {
         let code = term_locale.or(self.locale);
         words_in(self.alloc, self.style, code, self.locale_files)
@@ -314,8 +310,8 @@ impl<'a> StyleContext<'a> {
         ensures style { style_view result.style.now ≡ (style_context_view self.now).style }
         ensures context { (a : Answers)
             → walk_context a result ≡ in_words (style_context_view self.now).style a
-            (cite_properties_view properties.now) words.now.locales
-            (quotes_view words.now.quotes.items) (characters year_suffix.now.0) is_bibliography }
+            (cite_properties_view properties.now) (words_view words.now)
+            (characters year_suffix.now.0) is_bibliography }
     {
         let context = Context {
             alloc: self.alloc,
@@ -325,6 +321,8 @@ impl<'a> StyleContext<'a> {
             year_suffix: year_suffix.0.as_str(),
             is_bibliography,
             has_suffix_node: self.has_suffix_node,
+            page_ranges: page_ranges(self.style),
+            in_english: words.are_english,
         };
         Walk {
             context,
@@ -342,8 +340,8 @@ impl<'a> StyleContext<'a> {
         ensures style { style_of result ≡ (style_context_view self.now).style }
         ensures context { (a : Answers)
             → context_in a result ≡ in_words (style_context_view self.now).style a
-            (cite_properties_view properties.now) words.now.locales
-            (quotes_view words.now.quotes.items) (characters year_suffix.now.0) is_bibliography }
+            (cite_properties_view properties.now) (words_view words.now)
+            (characters year_suffix.now.0) is_bibliography }
     {
         Call {
             walk: self.walk(words, year_suffix, properties, is_bibliography),
@@ -360,12 +358,22 @@ fn words_in<'a>(
     locale: Option<&LocaleCode>,
     locale_files: &'a [Locale],
 ) -> Result<Words<'a>, AllocError>
-    ensures locales { IfOk result (λ w. w.locales ≡ locales_of (record { style = style_view style.now; locale = option_map borrowed_code_view locale.entry; locale_files = map locale_view locale_files.now }) None) }
-    ensures quotes { IfOk result (λ w. quotes_view w.quotes.items ≡ close_quotes (locales_of (record { style = style_view style.now; locale = option_map borrowed_code_view locale.entry; locale_files = map locale_view locale_files.now }) None)) }
+    ensures { IfOk result (λ w. words_view w ≡ words_of (record { style = style_view style.now; locale = option_map borrowed_code_view locale.entry; locale_files = map locale_view locale_files.now }) None) }
 {
     let parts = style.parts();
     let code = language(locale, parts.default_locale.as_ref());
     let locales = AskedLocales::new(alloc, code, &parts.locales, locale_files)?;
     let quotes = locales.close_quotes(alloc)?;
-    Ok(Words { locales, quotes })
+    Ok(Words {
+        locales,
+        quotes,
+        are_english: is_english(code),
+    })
+}
+
+/// How a style shortens ranges of pages.
+fn page_ranges(style: &Style) -> Option<PageRangeFormat>
+    ensures { result ≡ (style_view style.now).page_ranges }
+{
+    style.parts().page_ranges
 }

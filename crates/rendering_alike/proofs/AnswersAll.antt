@@ -25,20 +25,23 @@ module _ (n : Named) (a b : Answers) where
   abbrev KindAlike : Kind → Type 0
   KindAlike k = a.kind k ≡ b.kind k
 
-  pub all_alike : (so : Bool) → AllByRecursion KindAlike n.kinds → (IsTrue so ↔ AllByRecursion (AnswerAlike a b) n.variables) → IsTrue so ↔ AreAlike n a b
-  all_alike so kinds variables = (
-    λ is. record { variables = (each_member (AnswerAlike a b) n.variables).1 (variables.0 is); kinds = (each_member KindAlike n.kinds).1 kinds },
+  pub all_alike : (so : Bool) → a.english ≡ b.english → AllByRecursion KindAlike n.kinds → (IsTrue so ↔ AllByRecursion (AnswerAlike a b) n.variables) → IsTrue so ↔ AreAlike n a b
+  all_alike so english kinds variables = (
+    λ is. record { variables = (each_member (AnswerAlike a b) n.variables).1 (variables.0 is); kinds = (each_member KindAlike n.kinds).1 kinds; english = english },
     λ alike. variables.1 ((each_member (AnswerAlike a b) n.variables).0 alike.variables),
   )
 
   pub not_all_alike : (AllByRecursion KindAlike n.kinds → ⊥) → IsTrue false ↔ AreAlike n a b
   not_all_alike never = (λ is. absurd (true≢false (sym is)), λ alike. absurd (never ((each_member KindAlike n.kinds).0 alike.kinds)))
 
+  pub not_one_language : (a.english ≡ b.english → ⊥) → IsTrue false ↔ AreAlike n a b
+  not_one_language never = (λ is. absurd (true≢false (sym is)), λ alike. absurd (never alike.english))
+
   -- the same where as much is named, in another order or more often
   pub alike_same : (m : Named) → NameTheSame n m → AreAlike n a b ↔ AreAlike m a b
   alike_same m same = (
-    λ h. record { variables = λ v has. h.variables v ((same.variables v).1 has); kinds = λ k has. h.kinds k ((same.kinds k).1 has) },
-    λ h. record { variables = λ v has. h.variables v ((same.variables v).0 has); kinds = λ k has. h.kinds k ((same.kinds k).0 has) },
+    λ h. record { variables = λ v has. h.variables v ((same.variables v).1 has); kinds = λ k has. h.kinds k ((same.kinds k).1 has); english = h.english },
+    λ h. record { variables = λ v has. h.variables v ((same.variables v).0 has); kinds = λ k has. h.kinds k ((same.kinds k).0 has); english = h.english },
   )
 
 -- a text in both forms

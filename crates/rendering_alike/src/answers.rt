@@ -14,7 +14,8 @@ use rendering_taxonomy::{
 };
 use std::alloc::{AllocError, Global};
 
-/// Whether two entries answer alike, in all forms, to the variables and kinds that a style names. Each is asked once.
+/// Whether two entries answer alike, in all forms, to the variables and kinds that a style names, and to whether they are in English. Each
+/// is asked once.
 ///
 /// # Errors
 /// Out of memory.
@@ -27,10 +28,20 @@ pub fn answer_alike<E: EntryLike>(
     ensures { IfOk result (λ yes. IsTrue yes
         ↔ AreAlike (names_view names.now) (E.answers one.now) (E.answers other.now)) }
 {
+    if !are_in_one_language(one, other) {
+        return Ok(false);
+    }
     if !are_of_one_kind(&names.kinds, one, other) {
         return Ok(false);
     }
     answer_all_alike(alloc, &names.variables, one, other)
+}
+
+/// Whether two entries say the same of whether they are in English.
+fn are_in_one_language<E: EntryLike>(one: &E, other: &E) -> bool
+    ensures { IsTrue result ↔ ((E.answers one.now).english ≡ (E.answers other.now).english) }
+{
+    one.is_english() == other.is_english()
 }
 
 /// Whether two entries are of the same ones of some kinds.

@@ -1,10 +1,11 @@
 -- What is answered to the variable that is asked.
-use Rattle.std.proofs.Common.{◌≡◌, ℕ, false, cond, not, List, [], codes, refl, sym, ap, ◌∙◌}
+use Rattle.std.proofs.Common.{◌≡◌, ℕ, false, cond, not, List, [], codes, None, refl, sym, ap, ◌∙◌}
 use Rattle.std.specs.Prelude.{Result, IfOk}
 use Rattle.std.proofs.lemmas.Result.{IfOk-weaker}
 use Rattle.rendering_entries.specs.Library.{characters_of}
 use Rattle.rendering_taxonomy.specs.Variables.{is_among}
-use Rattle.rendering_context.specs.Answering.{no_answer, answer_of, answer_to, asked_for, has_answer, is_missing, of_address, or_no_answer, standard_answer}
+use Rattle.rendering_context.specs.Answering.{no_answer, answer_of, answer_to, asked_for, has_answer, is_missing, of_address, of_locator, of_payload, or_no_answer, standard_answer}
+use Rattle.rendering_context.specs.Cites.{SpecificLocator}
 use Rattle.rendering_context.specs.Contexts.{Context}
 use Rattle.rendering_taxonomy.specs.declared.date.LongShortForm.{LongShortForm}
 use Rattle.rendering_taxonomy.specs.declared.date.LongShortForm.TheVariants as lengths
@@ -42,3 +43,7 @@ doi_answer c form v start e f = rw (e, f) refl
 pub url_answer : (c : Context) (form : LongShortForm) (v : StandardVariable) (start : List ℕ) → v ≡ standard.Url → start ≡ []
     → or_no_answer (λ cs. of_address start (characters_of cs)) (c.answers.standard form v) ≡ standard_answer c form v
 url_answer c form v start e f = rw (e, f) refl
+
+-- in a style that names no format for ranges of pages a locator answers its text
+pub locator_without_format : (l : SpecificLocator) → of_locator None l ≡ of_payload l.payload
+locator_without_format l = refl

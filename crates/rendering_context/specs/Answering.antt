@@ -1,21 +1,22 @@
 -- What a cite and its entry answer.
-use Rattle.std.specs.Prelude.{ℕ, ◌+◌, ◌^◌, nat_lt, Bool, true, false, not, ◌==◌, ◌||◌, List, [], ◌∷◌, ◌++◌, map, filter, if◌then◌else◌, Option, Some, None, Result, Ok, Err, pos, codes}
+use Rattle.std.specs.Prelude.{ℕ, ◌+◌, ◌^◌, nat_lt, Bool, true, false, not, ◌==◌, ◌&&◌, ◌||◌, is_some, List, [], ◌∷◌, ◌++◌, map, filter, if◌then◌else◌, Option, Some, None, Result, Ok, Err, pos, codes}
 use Rattle.std.specs.Fmt.{decimal}
 use Rattle.std.specs.List.{list_any}
-use Rattle.std.specs.Option.{option_map_or}
+use Rattle.std.specs.Option.{option_map_or, unwrap_or}
 use Rattle.laws.specs.Characters.{ampersand, comma, hyphen, en_dash}
 use Rattle.literature_numbers.specs.Numerics.{Numeral, plain, numeral_of}
 use Rattle.literature_numbers.specs.NumericText.{is_plural}
-use Rattle.literature_numbers.specs.Pages.{Part, pages_text, has_more}
+use Rattle.literature_numbers.specs.Pages.{Part, pages_of, pages_text, has_more}
 use Rattle.literature_values.specs.PersonViews.{Named}
 use Rattle.literature_values.specs.TextViews.{Chunk}
 use Rattle.literature_values.specs.TypedViews.{ValueOrText, Value, Text}
+use Rattle.rendering_taxonomy.specs.Kinds.{is_locator}
 use Rattle.rendering_taxonomy.specs.Variables.{is_among}
 use Rattle.rendering_tree.specs.Metas.{Answered}
 use Rattle.laws.specs.Text.{is_filled}
 use Rattle.literature_values.specs.declared.date.Date.{Date}
 use Rattle.rendering_entries.specs.Library.{characters_of, one_chunk}
-use Rattle.rendering_context.specs.Cites.{Payload, written, transparent}
+use Rattle.rendering_context.specs.Cites.{Payload, written, transparent, SpecificLocator}
 use Rattle.rendering_context.specs.Contexts.{Context}
 use Rattle.literature_values.specs.declared.text.ChunkKind.{ChunkKind}
 use Rattle.literature_values.specs.declared.text.ChunkKind.TheVariants as chunk_kinds
@@ -24,6 +25,8 @@ use Rattle.rendering_taxonomy.specs.declared.cite.IdentifierUsage.{IdentifierUsa
 use Rattle.rendering_taxonomy.specs.declared.cite.IdentifierUsage.TheVariants as usages
 use Rattle.rendering_taxonomy.specs.declared.date.LongShortForm.{LongShortForm}
 use Rattle.rendering_taxonomy.specs.declared.date.LongShortForm.TheVariants as lengths
+use Rattle.rendering_taxonomy.specs.declared.locator.Locator.TheVariants as locators
+use Rattle.rendering_taxonomy.specs.declared.page.PageRangeFormat.{PageRangeFormat}
 use Rattle.rendering_taxonomy.specs.declared.variable.DateVariable.{DateVariable}
 use Rattle.rendering_taxonomy.specs.declared.variable.NameVariable.{NameVariable}
 use Rattle.rendering_taxonomy.specs.declared.variable.NumberVariable.{NumberVariable}
@@ -82,6 +85,21 @@ abbrev pub of_payload : Payload → Answer
 of_payload (written cs) = of_number (Text cs)
 of_payload transparent = own
 
+-- a text that spells pages answers these, another one itself
+abbrev pub spelled_pages : List ℕ → Result (List Part) Unreadable → Answer
+spelled_pages cs (Ok ps) = ranges (Value ps)
+spelled_pages cs (Err e) = of_number (Text cs)
+
+-- a locator that counts pages, by its text
+abbrev pub of_page_payload : Payload → Answer
+of_page_payload (written cs) = spelled_pages cs (pages_of cs)
+of_page_payload transparent = own
+
+-- a locator answers its text, but in a style that shortens ranges of pages the pages that it spells, where it counts pages
+abbrev pub of_locator : Option PageRangeFormat → SpecificLocator → Answer
+of_locator format l =
+    if is_some format && is_locator locators.Page l.label then of_page_payload l.payload else of_payload l.payload
+
 -- a number that counts from one; one that is too great for a number is a text in digits
 abbrev pub of_count : ℕ → Answer
 of_count n = count (if nat_lt n (2 ^ 31) then Value (plain (pos n)) else Text (decimal n))
@@ -90,7 +108,7 @@ of_count n = count (if nat_lt n (2 ^ 31) then Value (plain (pos n)) else Text (d
 abbrev pub number_answer : Context → NumberVariable → Answer
 number_answer c number.CitationNumber = of_count (c.properties.citation_number + 1)
 number_answer c number.FirstReferenceNoteNumber = or_no_answer of_count c.properties.first_note_number
-number_answer c number.Locator = or_no_answer (λ l. of_payload l.payload) c.properties.locator
+number_answer c number.Locator = or_no_answer (of_locator c.page_ranges) c.properties.locator
 number_answer c v = or_no_answer of_number (c.answers.number v)
 
 -- what the cite answers, and else the entry, to a variable that is a text; two of them are addresses
@@ -194,3 +212,7 @@ abbrev pub has_answer : Context → Variable → Bool
 has_answer c (variables.Name v) = with_people (c.answers.people v, v)
 has_answer c (variables.Date v) = option_map_or (λ d. true) (c.answers.date v) false
 has_answer c v = not (is_missing (answer_of c lengths.Long (asked_for c v)))
+
+-- whether texts are English: what the entry says, or else by the language of the call
+abbrev pub is_english : Context → Bool
+is_english c = unwrap_or c.answers.english c.in_english

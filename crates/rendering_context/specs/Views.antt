@@ -69,6 +69,8 @@ context_view a c = record {
   year_suffix = chars c.year_suffix.now;
   is_bibliography = c.is_bibliography;
   has_suffix_node = c.has_suffix_node;
+  page_ranges = c.page_ranges;
+  in_english = c.in_english;
 }
 
 -- what is printed

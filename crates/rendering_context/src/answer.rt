@@ -9,16 +9,22 @@ ghost use Rattle.literature_values.specs.TextViews.{chunk_view, chunks_view};
 ghost use Rattle.literature_values.specs.TypedViews.{Value, Text, typed_view};
 ghost use Rattle.literature_numbers.specs.Numerics.{plain};
 ghost use Rattle.literature_numbers.specs.PageViews.{pages_view};
+ghost use Rattle.literature_numbers.specs.Pages.{pages_of};
 ghost use Rattle.rendering_entries.specs.Library.{characters_of, one_chunk};
 ghost use Rattle.rendering_entries.specs.Views.{lent_number_view, lent_text_view};
 ghost use Rattle.rendering_context.specs.Answering as answering;
-ghost use Rattle.rendering_context.specs.Views.{payload_view, answer_view, answer_if};
+ghost use Rattle.rendering_context.specs.Views.{payload_view, locator_view, answer_view, answer_if};
 
-use crate::locator::LocatorPayload;
+use crate::locator::{LocatorPayload, SpecificLocator};
 use crate::pages::have_text;
-use literature_values::{ChunkKind, ChunkedString, MaybeTyped, Numeric, PageRanges, StringChunk};
+use crate::variables::is_locator;
+use literature_values::{
+    ChunkKind, ChunkedString, MaybeTyped, Numeric, PageRanges, PageRangesError, StringChunk,
+};
 use rendering_entries::EntryLike;
-use rendering_taxonomy::{LongShortForm, NumberVariable, StandardVariable};
+use rendering_taxonomy::{
+    Locator, LongShortForm, NumberVariable, PageRangeFormat, StandardVariable,
+};
 use std::alloc::{AllocError, Global};
 use std::borrow::Cow;
 use std::fmt::Write;
@@ -240,8 +246,50 @@ fn digits(alloc: Global, number: u128) -> Result<String, AllocError>
     Ok(text)
 }
 
+/// The locator's text, or in a style that shortens ranges of pages the pages that it spells, where it counts pages.
+pub(crate) fn locator<'a>(
+    alloc: Global,
+    format: Option<PageRangeFormat>,
+    locator: &SpecificLocator<'a, ()>,
+) -> Result<Option<Answer<'a>>, AllocError>
+    ensures { IfOk result (λ a. answer_if a
+        ≡ answering.of_locator format (locator_view locator.now)) }
+{
+    if format.is_some() && is_locator(Locator::Page, locator.label) {
+        page_payload(alloc, &locator.payload)
+    } else {
+        Ok(payload(&locator.payload))
+    }
+}
+
+/// The pages that the locator spells or its text, or that the caller prints it.
+fn page_payload<'a>(
+    alloc: Global,
+    payload: &LocatorPayload<'a, ()>,
+) -> Result<Option<Answer<'a>>, AllocError>
+    ensures { IfOk result (λ a. answer_if a
+        ≡ answering.of_page_payload (payload_view payload.now)) }
+{
+    match payload {
+        LocatorPayload::Str(text) => spelled_pages(alloc, text),
+        LocatorPayload::Transparent(_) => Ok(Some(Answer::Transparent)),
+    }
+}
+
+/// The pages that the locator's text spells, or else the text.
+fn spelled_pages<'a>(alloc: Global, text: &'a str) -> Result<Option<Answer<'a>>, AllocError>
+    ensures { IfOk result (λ a. answer_if a
+        ≡ answering.spelled_pages (chars text.now) (pages_of (chars text.now))) }
+{
+    match PageRanges::read(alloc, text) {
+        Ok(pages) => Ok(Some(Answer::Pages(MaybeTyped::Typed(pages)))),
+        Err(PageRangesError::Malformed) => Ok(locator_text(text)),
+        Err(PageRangesError::Memory) => Err(AllocError),
+    }
+}
+
 /// The locator's text, where it is not empty, or that the caller prints it.
-pub(crate) fn locator<'a>(payload: &LocatorPayload<'a, ()>) -> Option<Answer<'a>>
+fn payload<'a>(payload: &LocatorPayload<'a, ()>) -> Option<Answer<'a>>
     ensures { answer_if result ≡ answering.of_payload (payload_view payload.now) }
 {
     match payload {

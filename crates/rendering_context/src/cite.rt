@@ -13,7 +13,7 @@ use crate::answer::{Answer, count, locator};
 use crate::locator::SpecificLocator;
 use crate::variables::is_locator;
 use rendering_people::NameDisambiguationProperties;
-use rendering_taxonomy::{IbidState, IdentifierUsage, Locator};
+use rendering_taxonomy::{IbidState, IdentifierUsage, Locator, PageRangeFormat};
 use std::alloc::{AllocError, Global};
 
 /// The state of disambiguation of a cite: none, more of its names, other branches of the style, or a year suffix.
@@ -102,12 +102,19 @@ impl<'a> CiteProperties<'a> {
         }
     }
 
-    /// The locator as a node prints it, where there is one.
-    pub(crate) fn locator_answer(&self) -> Option<Answer<'a>>
-        ensures { answer_if result ≡ answering.or_no_answer
-            (λ l. answering.of_payload l.payload) (cite_properties_view self.now).locator }
+    /// The locator as a node prints it in a style that shortens ranges of pages so, where there is one.
+    pub(crate) fn locator_answer(
+        &self,
+        alloc: Global,
+        format: Option<PageRangeFormat>,
+    ) -> Result<Option<Answer<'a>>, AllocError>
+        ensures { IfOk result (λ a. answer_if a ≡ answering.or_no_answer
+            (answering.of_locator format) (cite_properties_view self.now).locator) }
     {
-        locator(&self.locator.as_ref()?.payload)
+        match &self.locator {
+            Some(cited) => locator(alloc, format, cited),
+            None => Ok(None),
+        }
     }
 
     /// Whether the locator is of more than one.

@@ -16,7 +16,8 @@ use rendering_entries::EntryLike;
 use rendering_locale::AskedLocales;
 use rendering_people::Answered;
 use rendering_taxonomy::{
-    DateVariable, LongShortForm, NameVariable, NumberVariable, StandardVariable, Variable,
+    DateVariable, LongShortForm, NameVariable, NumberVariable, PageRangeFormat, StandardVariable,
+    Variable,
 };
 use std::alloc::{AllocError, Global};
 use std::borrow::Cow;
@@ -36,6 +37,10 @@ pub struct Context<'s, 'a> {
     pub is_bibliography: bool,
     /// Whether a layout of the style prints the year suffix by itself.
     pub has_suffix_node: bool,
+    /// How the style shortens ranges of pages.
+    pub page_ranges: Option<PageRangeFormat>,
+    /// Whether the language of the call is English.
+    pub in_english: bool,
 }
 
 impl<'s, 'a> Context<'s, 'a> {
@@ -180,6 +185,13 @@ impl<'s, 'a> Context<'s, 'a> {
         }
     }
 
+    /// Whether texts of the entry are English: as the entry says, or else by the language of the call.
+    pub fn is_english<E: EntryLike>(&self, entry: &E) -> bool
+        ensures { result ≡ answering.is_english (context_view (E.answers entry.now) self.now) }
+    {
+        entry.is_english().unwrap_or(self.in_english)
+    }
+
     /// Whether the answer to the variable is a number or pages; of a locator whether its text spells a number.
     pub(crate) fn is_numeric<E: EntryLike>(
         &self,
@@ -253,7 +265,9 @@ impl<'s, 'a> Context<'s, 'a> {
             NumberVariable::FirstReferenceNoteNumber => self
                 .properties
                 .first_note_answer(self.alloc),
-            NumberVariable::Locator => Ok(self.properties.locator_answer()),
+            NumberVariable::Locator => {
+                self.properties.locator_answer(self.alloc, self.page_ranges)
+            }
             _ => number_of(self.alloc, entry, variable),
         }
     }

@@ -14,3 +14,4 @@ mod works;
 
 pub use entry_like::{EntryLike, are_one_entry};
 pub use labels::Alphanumerical;
+pub use library::is_english;

@@ -104,8 +104,8 @@ fn english_answer(entry: &Entry) -> Option<bool>
     }
 }
 
-/// Whether a language is English.
-fn is_english(code: &str) -> bool
+/// Whether a language is English, by the first letters of its code.
+pub fn is_english(code: &str) -> bool
     ensures { result ≡ is_english code.now }
 {
     code.starts_with("en")

@@ -1,3 +1,3 @@
-pub mod PagesTexts
+pub mod PagesWithoutFormat
 pub mod DatesInside
 pub mod StatesAppended

@@ -10,7 +10,7 @@ use Rattle.rendering_names.specs.Names.{pluralizes, label_manner}
 use Rattle.rendering_context.specs.Contexts.{Context}
 use Rattle.rendering_context.specs.Answering.{Answer}
 use Rattle.rendering_leaves.specs.NodeSettings.{NodeSetting}
-use Rattle.rendering_leaves.specs.Values.{frame, text_manner, look_manner, quote_before, quote_after, identified, answer_pieces, label_suffix, label_term, date_frame, date_inside}
+use Rattle.rendering_leaves.specs.Values.{frame, text_manner, number_manner, date_manner, quote_before, quote_after, identified, answer_pieces, label_suffix, label_term, date_frame, date_inside}
 use Rattle.rendering_taxonomy.specs.declared.number.NumberForm.TheVariants as number_forms
 use Rattle.rendering_taxonomy.specs.declared.variable.Variable.{Variable}
 
@@ -38,7 +38,7 @@ labelled c m v answer = identified m v (answer_pieces c m number_forms.Numeric a
 abbrev pub in_number : Context → NodeSetting → NumberNode → Answer → List Piece
 in_number c s n answer =
     framed (frame s.manner (Some metas.Number) n.look)
-    (identified (look_manner s.manner n.look) n.variable (answer_pieces c (look_manner s.manner n.look) n.form answer))
+    (identified (number_manner s.manner n) n.variable (answer_pieces c (number_manner s.manner n) n.form answer))
 
 -- the term of a variable in a label, for one or for more than one
 abbrev pub in_label : Context → NodeSetting → Variable → LabelLook → Bool → List Piece
@@ -48,7 +48,7 @@ in_label c s v l plural =
 
 -- a date in a date node, with a year suffix
 abbrev pub in_date : Context → NodeSetting → DateNode → List ℕ → Date → List Piece
-in_date c s d year_suffix day = framed (date_frame s s.form d) (date_inside c (look_manner s.manner d.look) s.form d year_suffix day)
+in_date c s d year_suffix day = framed (date_frame s s.form d) (date_inside c (date_manner s.manner d) s.form d year_suffix day)
 
 -- a date in a date node, with a year suffix; nothing where there is no date
 abbrev pub day_in : Context → NodeSetting → DateNode → List ℕ → Option Date → List Piece

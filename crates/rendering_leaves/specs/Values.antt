@@ -7,20 +7,24 @@ use Rattle.rendering_tree.specs.Metas as metas
 use Rattle.rendering_tree.specs.Metas.{Meta}
 use Rattle.rendering_locale.specs.Locales.{DatePart, LocalizedDate}
 use Rattle.rendering_locale.specs.Lookup.{term_text, quote_text, ordinals_of, date_found}
+use Rattle.literature_numbers.specs.Pages.{Part}
+use Rattle.literature_values.specs.TypedViews.{ValueOrText, Value, Text}
 use Rattle.rendering_numbers.specs.Numbers.{numeral_or_text}
+use Rattle.rendering_ranges.specs.Ranges.{pages_in}
 use Rattle.literature_values.specs.declared.date.Date.{Date}
 use Rattle.rendering_dates.specs.Dates.{DateShape, cut_to, date_pieces}
-use Rattle.rendering_page.specs.Pages.{Manner, Frame}
+use Rattle.rendering_page.specs.Pages.{Manner, uncased, with_case, Frame}
 use Rattle.rendering_page.specs.Pieces.{Piece, normal, close_quote, linked, own_locator, framed, chunk_pieces}
 use Rattle.rendering_style.specs.Nodes.{Look, TextSource, of_variable, of_term, of_value, TextLook, NumberNode, LabelLook, DateNode, Leaf}
 use Rattle.rendering_style.specs.Nodes as nodes
 use Rattle.rendering_names.specs.Names.{pluralizes, label_manner}
 use Rattle.rendering_context.specs.Contexts.{Context}
 use Rattle.rendering_leaves.specs.NodeSettings.{with_variable, SpecialForm, suffix_only, NodeSetting, State, append}
-use Rattle.rendering_context.specs.Answering.{Answer, no_answer, pieces, address, count, ranges, own, answer_to, asked_for, ranges_text, date_answer, is_plural_variable}
+use Rattle.rendering_context.specs.Answering.{Answer, no_answer, pieces, address, count, ranges, own, answer_to, asked_for, date_answer, is_plural_variable}
 use Rattle.rendering_taxonomy.specs.declared.date.LongShortForm.TheVariants as lengths
 use Rattle.rendering_taxonomy.specs.declared.number.NumberForm.{NumberForm}
 use Rattle.rendering_taxonomy.specs.declared.number.NumberForm.TheVariants as number_forms
+use Rattle.rendering_taxonomy.specs.declared.page.PageRangeFormat.{PageRangeFormat}
 use Rattle.rendering_taxonomy.specs.declared.term.OtherTerm.{OtherTerm}
 use Rattle.rendering_taxonomy.specs.declared.term.OtherTerm.TheVariants as others
 use Rattle.rendering_taxonomy.specs.declared.term.Term.{Term}
@@ -34,9 +38,18 @@ use Rattle.rendering_taxonomy.specs.declared.variable.Variable.TheVariants as va
 abbrev pub look_manner : Manner → Look → Manner
 look_manner m l = record m { formatting = changed l.formatting m.formatting }
 
--- a text node's look inside what is around it; its full stops may be left out
+-- a text node's look and case inside what is around it; its full stops may be left out
 abbrev pub text_manner : Manner → TextLook → Manner
-text_manner m t = record { formatting = changed t.look.formatting m.formatting; strips_periods = m.strips_periods || t.strips_periods }
+text_manner m t =
+    with_case t.text_case (record (look_manner m t.look) { strips_periods = m.strips_periods || t.strips_periods })
+
+-- a number node's look and case inside what is around it
+abbrev pub number_manner : Manner → NumberNode → Manner
+number_manner m n = with_case n.text_case (look_manner m n.look)
+
+-- a date node's look and case inside what is around it
+abbrev pub date_manner : Manner → DateNode → Manner
+date_manner m d = with_case d.text_case (look_manner m d.look)
 
 -- an element with a node's display and affixes, which look as what is around the node
 abbrev pub frame : Manner → Option Meta → Look → Frame
@@ -66,13 +79,18 @@ quote_after c m true inside = close_quote m (quote_text c.locales (terms.Other (
 abbrev pub meaning : Manner → Meta → List Piece → List Piece
 meaning m meta ps = framed (record { display = None; meta = Some meta; manner = m; prefix = []; suffix = [] }) ps
 
--- an answer, with numbers in a form
+-- pages in a format, where there is one, or a text instead of them
+abbrev pub ranges_in : Option PageRangeFormat → ValueOrText (List Part) → List ℕ
+ranges_in format (Value ps) = pages_in format ps
+ranges_in format (Text cs) = cs
+
+-- an answer, with numbers in a form, and ranges of pages as the style shortens them
 abbrev pub answer_pieces : Context → Manner → NumberForm → Answer → List Piece
 answer_pieces c m form no_answer = []
 answer_pieces c m form (pieces cs) = chunk_pieces m cs
 answer_pieces c m form (address cs url) = linked m.formatting cs url ∷ []
 answer_pieces c m form (count n) = normal m (numeral_or_text (ordinals_of c.locales) form n) ∷ []
-answer_pieces c m form (ranges ps) = normal m (ranges_text ps) ∷ []
+answer_pieces c m form (ranges ps) = normal m (ranges_in c.page_ranges ps) ∷ []
 answer_pieces c m form own = own_locator m.formatting c.properties.initial_idx ∷ []
 
 -- what one of the two variables that identify entries answers stands in an element of its own
@@ -115,8 +133,8 @@ text_pieces c s suppressed source look =
 abbrev pub number_pieces : Context → NodeSetting → List Variable → NumberNode → List Piece
 number_pieces c s suppressed n =
     framed (frame s.manner (Some metas.Number) n.look)
-    (identified (look_manner s.manner n.look) n.variable
-    (answer_pieces c (look_manner s.manner n.look) n.form (answer_to c suppressed lengths.Long n.variable)))
+    (identified (number_manner s.manner n) n.variable
+    (answer_pieces c (number_manner s.manner n) n.form (answer_to c suppressed lengths.Long n.variable)))
 
 -- the term of a variable; of a locator that of what it counts
 abbrev pub label_term : Context → Variable → Term
@@ -145,9 +163,9 @@ shape_of c d = record {
   delimiter = unwrap_or d.delimiter (option_map_or (λ l. l.delimiter) (localized c d) []);
 }
 
--- what a date prints: the year suffix alone where it is all that is wanted, else its parts
+-- what a date prints: the year suffix alone, as it is, where it is all that is wanted, else its parts
 abbrev pub date_inside : Context → Manner → SpecialForm → DateNode → List ℕ → Date → List Piece
-date_inside c m suffix_only d year_suffix day = normal m year_suffix ∷ []
+date_inside c m suffix_only d year_suffix day = normal (uncased m) year_suffix ∷ []
 date_inside c m form d year_suffix day = date_pieces c.locales m (cut_to d.parts (shape_of c d)) year_suffix day
 
 -- a date whose year suffix alone is printed has no affixes
@@ -162,7 +180,7 @@ date_suffix c has_date = if has_date then [] else own_year_suffix c
 -- what a date node prints, if it has an answer
 abbrev pub day_pieces : Context → NodeSetting → Bool → DateNode → Option Date → List Piece
 day_pieces c s has_date d None = []
-day_pieces c s has_date d (Some day) = framed (date_frame s s.form d) (date_inside c (look_manner s.manner d.look) s.form d (date_suffix c has_date) day)
+day_pieces c s has_date d (Some day) = framed (date_frame s s.form d) (date_inside c (date_manner s.manner d) s.form d (date_suffix c has_date) day)
 
 -- the state in which a variable that a substitute prints is not printed again
 abbrev pub suppressing : NodeSetting → Variable → State → State

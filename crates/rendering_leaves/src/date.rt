@@ -10,7 +10,7 @@ ghost use Rattle.rendering_dates.specs.Dates.{cut_to};
 ghost use Rattle.rendering_dates.specs.Views.{shape_view};
 ghost use Rattle.rendering_entries.specs.Answers.{Answers};
 ghost use Rattle.rendering_leaves.specs.Parts.{day_in, in_date};
-ghost use Rattle.rendering_leaves.specs.Values.{date_frame, date_inside, date_suffix, append_leaf, look_manner, shape_of};
+ghost use Rattle.rendering_leaves.specs.Values.{date_frame, date_inside, date_manner, date_suffix, append_leaf, shape_of};
 ghost use Rattle.rendering_leaves.specs.Views.{setting_view};
 ghost use Rattle.rendering_page.specs.Pieces.{append_pieces};
 ghost use Rattle.rendering_page.specs.Views.{frame_view, manner_view, quotes_view};
@@ -19,7 +19,7 @@ ghost use Rattle.rendering_style.specs.Views.{date_node_view};
 
 use crate::date_shape::date_shape;
 use crate::entry_identifiers::own_year_suffix;
-use crate::node_frame::{bare_frame, frame_of, look_manner};
+use crate::node_frame::{bare_frame, date_manner, frame_of};
 use crate::node_setting::{NodeSetting, SpecialForm};
 use crate::state::State;
 use crate::suppression::suppress_in_substitute;
@@ -27,7 +27,7 @@ use literature_values::Date as Day;
 use rendering_context::Context;
 use rendering_dates::DateStyle;
 use rendering_entries::EntryLike;
-use rendering_page::{Frame, Manner, Page};
+use rendering_page::{Frame, Manner, Page, uncased};
 use rendering_style::Date;
 use rendering_taxonomy::Variable;
 use rendering_tree::ElemMeta;
@@ -124,7 +124,7 @@ fn date_frame<'a>(setting: &NodeSetting<'a>, node: &'a Date) -> Frame<'a>
     }
 }
 
-/// Appends the year suffix alone where it is all that is wanted, else the parts of a date.
+/// Appends the year suffix alone, as it is, where it is all that is wanted, else the parts of a date.
 fn append_date_parts<'a>(
     context: &Context<'_, 'a>,
     setting: &NodeSetting<'a>,
@@ -135,13 +135,13 @@ fn append_date_parts<'a>(
 ) -> Result<(), AllocError>
     ensures { (a : Answers) → OnOk result (page.new ≡ append_pieces
         (quotes_view context.now.quotes.now) (date_inside (context_view a context.now)
-        (look_manner (manner_view setting.now.manner) (date_node_view node.now).look)
+        (date_manner (manner_view setting.now.manner) (date_node_view node.now))
         (setting_view setting.now).form (date_node_view node.now) (chars year_suffix.now) day.now)
         page.old) }
 {
-    let manner = look_manner(setting.manner, &node.look);
+    let manner = date_manner(setting.manner, node);
     match setting.form {
-        SpecialForm::SuffixOnly => page.push_text(context.quotes, manner, year_suffix),
+        SpecialForm::SuffixOnly => page.push_text(context.quotes, uncased(manner), year_suffix),
         _ => date_style(context, manner, node).push_date(page, year_suffix, day),
     }
 }

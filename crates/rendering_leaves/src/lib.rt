@@ -10,7 +10,6 @@ mod node_frame;
 mod node_setting;
 mod number;
 mod numeral;
-mod pages;
 mod printed_answers;
 mod quotes;
 mod state;

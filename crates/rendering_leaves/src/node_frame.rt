@@ -1,12 +1,12 @@
 //! How nodes look, and the elements round them.
 
 ghost use Rattle.std.specs.Prelude.{◌≡◌, [], None};
-ghost use Rattle.rendering_leaves.specs.Values.{frame, look_manner, text_manner};
+ghost use Rattle.rendering_leaves.specs.Values.{date_manner, frame, look_manner, number_manner, text_manner};
 ghost use Rattle.rendering_page.specs.Views.{manner_view, frame_view};
-ghost use Rattle.rendering_style.specs.Views.{look_view, text_look_view};
+ghost use Rattle.rendering_style.specs.Views.{date_node_view, look_view, number_node_view, text_look_view};
 
-use rendering_page::{Frame, Manner};
-use rendering_style::{Look, TextLook};
+use rendering_page::{Frame, Manner, with_case};
+use rendering_style::{Date, Look, Number, TextLook};
 use texts::no_text;
 
 /// How the texts of a node with that look are appended, inside what is around it.
@@ -15,18 +15,34 @@ pub fn look_manner(manner: Manner, look: &Look) -> Manner
 {
     Manner {
         formatting: look.formatting.over(manner.formatting),
-        strips_periods: manner.strips_periods,
+        ..manner
     }
 }
 
-/// How the texts of a text node with that look are appended, inside what is around it; their full stops may be left out.
+/// How the texts of a text node with that look are appended, inside what is around it, whose case comes first; their full stops may be
+/// left out.
 pub fn text_manner(manner: Manner, look: &TextLook) -> Manner
     ensures { manner_view result ≡ text_manner (manner_view manner) (text_look_view look.now) }
 {
-    Manner {
-        formatting: look.look.formatting.over(manner.formatting),
+    let inside = Manner {
         strips_periods: manner.strips_periods || look.strip_periods,
-    }
+        ..look_manner(manner, &look.look)
+    };
+    with_case(inside, look.text_case)
+}
+
+/// How the texts of a number node are appended, inside what is around it, whose case comes first.
+pub(crate) fn number_manner(manner: Manner, node: &Number) -> Manner
+    ensures { manner_view result ≡ number_manner (manner_view manner) (number_node_view node.now) }
+{
+    with_case(look_manner(manner, &node.look), node.text_case)
+}
+
+/// How the texts of a date node are appended, inside what is around it, whose case comes first.
+pub(crate) fn date_manner(manner: Manner, node: &Date) -> Manner
+    ensures { manner_view result ≡ date_manner (manner_view manner) (date_node_view node.now) }
+{
+    with_case(look_manner(manner, &node.look), node.text_case)
 }
 
 /// An element with the display and the affixes of a node, which look as what is around the node; whatever it stands for.

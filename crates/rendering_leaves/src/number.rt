@@ -12,7 +12,7 @@ ghost use Rattle.rendering_style.specs.Nodes as nodes;
 ghost use Rattle.rendering_style.specs.Views.{number_node_view};
 
 use crate::entry_identifiers::append_identified;
-use crate::node_frame::{frame_of, look_manner};
+use crate::node_frame::{frame_of, number_manner};
 use crate::node_setting::NodeSetting;
 use crate::state::State;
 use crate::suppression::after_variable;
@@ -55,7 +55,7 @@ fn append_number<'a>(
         (setting_view setting.now) (number_node_view node.now) (answer_if answer.entry)) page.old) }
 {
     let frame = frame_of(setting.manner, &node.look);
-    let manner = look_manner(setting.manner, &node.look);
+    let manner = number_manner(setting.manner, node);
     page.begin_element(&frame, ElemMeta::Number)?;
     append_identified(context, manner, node.variable, node.form, answer, page)?;
     page.end_element(context.quotes, &frame)?;

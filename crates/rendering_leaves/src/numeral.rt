@@ -46,7 +46,7 @@ fn append_numeral(
 }
 
 /// No endings of ordinal numbers.
-pub(crate) fn no_ordinals(alloc: Global) -> Ordinals
+fn no_ordinals(alloc: Global) -> Ordinals
     ensures { ordinals_view result ≡ record { endings = []; default = [] } }
 {
     Ordinals {

@@ -1,28 +1,30 @@
 //! Answers on a page.
 
-ghost use Rattle.std.specs.Prelude.{◌≡◌, OnOk};
+ghost use Rattle.std.specs.Prelude.{◌≡◌, IfOk, OnOk};
 ghost use Rattle.std.specs.Cow.{cow_value};
+ghost use Rattle.laws.specs.Text.{characters};
 ghost use Rattle.literature_numbers.specs.PageViews.{pages_view};
 ghost use Rattle.literature_values.specs.TypedViews.{typed_view};
-ghost use Rattle.rendering_context.specs.Answering.{ranges_text};
 ghost use Rattle.rendering_context.specs.Views.{answer_if, context_view};
 ghost use Rattle.rendering_entries.specs.Answers.{Answers};
 ghost use Rattle.rendering_entries.specs.Views.{lent_number_view, lent_text_view};
-ghost use Rattle.rendering_leaves.specs.Values.{answer_pieces};
+ghost use Rattle.rendering_leaves.specs.Values.{answer_pieces, ranges_in};
 ghost use Rattle.rendering_locale.specs.Lookup.{ordinals_of};
 ghost use Rattle.rendering_numbers.specs.Numbers.{numeral_or_text};
 ghost use Rattle.rendering_page.specs.Pages.{append_normal};
 ghost use Rattle.rendering_page.specs.Pieces.{append_pieces, chunk_pieces};
 ghost use Rattle.rendering_page.specs.Views.{quotes_view, manner_view};
+ghost use Rattle.rendering_ranges.specs.Ranges.{pages_in};
 
 use crate::numeral::numeral_text;
-use crate::pages::pages_text;
 use literature_values::{ChunkedString, MaybeTyped, Numeric, PageRanges};
 use rendering_context::{Answer, Context};
 use rendering_page::{Manner, Page};
-use rendering_taxonomy::NumberForm;
-use std::alloc::AllocError;
+use rendering_ranges::push_ranges;
+use rendering_taxonomy::{NumberForm, PageRangeFormat};
+use std::alloc::{AllocError, Global};
 use std::borrow::Cow;
+use texts::empty_text;
 
 /// Appends an answer, with numbers in a form. Without an answer nothing is appended.
 pub(crate) fn append_answer<'a>(
@@ -104,7 +106,7 @@ fn borrowed_numeral<'n>(numeral: &'n Cow<'_, Numeric>) -> &'n Numeric
     }
 }
 
-/// Appends pages, or the text instead of them.
+/// Appends pages as the style shortens them, or the text instead of them.
 fn append_pages<'a>(
     context: &Context<'_, 'a>,
     manner: Manner,
@@ -112,13 +114,27 @@ fn append_pages<'a>(
     page: &mut Page<'a>,
 ) -> Result<(), AllocError>
     ensures { OnOk result (page.new ≡ append_normal (quotes_view context.now.quotes.now)
-        (manner_view manner) (ranges_text (typed_view pages_view pages)) page.old) }
+        (manner_view manner) (ranges_in context.now.page_ranges (typed_view pages_view pages))
+        page.old) }
 {
     match pages {
         MaybeTyped::Typed(pages) => {
-            let text = pages_text(context.alloc, &pages)?;
+            let text = pages_in(context.alloc, &pages, context.page_ranges)?;
             page.push_made(context.quotes, manner, text)
         }
         MaybeTyped::String(text) => page.push_made(context.quotes, manner, text),
     }
+}
+
+/// Pages in a format, where there is one.
+fn pages_in(
+    alloc: Global,
+    pages: &PageRanges,
+    format: Option<PageRangeFormat>,
+) -> Result<String, AllocError>
+    ensures { IfOk result (λ s. characters s ≡ pages_in format (pages_view pages.now)) }
+{
+    let mut text = empty_text(alloc);
+    push_ranges(&mut text, pages, format)?;
+    Ok(text)
 }

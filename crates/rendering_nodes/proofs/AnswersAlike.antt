@@ -40,12 +40,14 @@ pub first_alike : (m n : Named) (a b : Answers) → AreAlike (joined_named m n) 
 first_alike m n a b h = record {
   variables = λ v k. h.variables v (Contains-append_left m.variables n.variables v k);
   kinds = λ k l. h.kinds k (Contains-append_left m.kinds n.kinds k l);
+  english = h.english;
 }
 
 pub others_alike : (m n : Named) (a b : Answers) → AreAlike (joined_named m n) a b → AreAlike n a b
 others_alike m n a b h = record {
   variables = λ v k. h.variables v (Contains-append_right m.variables n.variables v k);
   kinds = λ k l. h.kinds k (Contains-append_right m.kinds n.kinds k l);
+  english = h.english;
 }
 
 -- the one variable that is named

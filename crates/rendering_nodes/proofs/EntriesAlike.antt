@@ -18,7 +18,7 @@ use Rattle.rendering_context.specs.Contexts.{Context}
 use Rattle.rendering_context.specs.Answering.{Answer, no_answer, pieces, address, count, ranges, own, is_missing, answer_to, date_answer}
 use Rattle.rendering_context.specs.Choosing.{asks_disambiguate}
 use Rattle.rendering_leaves.specs.NodeSettings.{SpecialForm, whole, author_only, without_author, first_date_only, suffix_only, NodeSetting, State, noted, append}
-use Rattle.rendering_leaves.specs.Values.{look_manner, text_manner, frame, quote_before, quote_after, answer_pieces, identified, label_suffix, source_pieces, text_pieces, label_term, date_inside, date_frame, date_suffix, day_pieces, suppressing, after_variable, append_leaf}
+use Rattle.rendering_leaves.specs.Values.{text_manner, number_manner, date_manner, frame, quote_before, quote_after, answer_pieces, identified, label_suffix, source_pieces, text_pieces, label_term, date_inside, date_frame, date_suffix, day_pieces, suppressing, after_variable, append_leaf}
 use Rattle.rendering_nodes.specs.Admission.{Survey, Stage, nothing, both, containing, words_survey, variable_survey, allows_variable, allows_date, has_people, names_survey, leaf_survey, group_survey, survey, surveys, branch_survey}
 use Rattle.rendering_nodes.specs.Content.{taken, disambiguated, append_names, stage, entered, left, inside_macro, inside_group, inside_names, delimited, tried, accepted, people_of, names_or_substitute, content, contents, chosen, first_substitute}
 use Rattle.rendering_nodes.specs.Named.{joined_named, variable_named, named_in_source, named_in_leaf, named_in_tests, named_in, named, named_in_branches, always_named, AreAlike}
@@ -69,7 +69,7 @@ inside_same a b c m form d year_suffix day = refl
 
 day_same : (a b : Answers) (c : Context) (s : NodeSetting) (has_date : Bool) (d : DateNode) (o : Option Date) → day_pieces (with_answers a c) s has_date d o ≡ day_pieces (with_answers b c) s has_date d o
 day_same a b c s has_date d None = refl
-day_same a b c s has_date d (Some day) = ap (framed (date_frame s s.form d)) (inside_same a b c (look_manner s.manner d.look) s.form d (date_suffix c has_date) day)
+day_same a b c s has_date d (Some day) = ap (framed (date_frame s s.form d)) (inside_same a b c (date_manner s.manner d) s.form d (date_suffix c has_date) day)
 
 disambiguated_same : (a b : Answers) (c : Context) (o : Option Properties) (raised : Properties) → disambiguated (with_answers a c) o raised ≡ disambiguated (with_answers b c) o raised
 disambiguated_same a b c None raised = refl
@@ -130,7 +130,7 @@ leaf_same a b c s (nodes.text (of_variable v form) look) st l h = ap (λ ps. aft
 leaf_same a b c s (nodes.text (of_term name form plural) look) st l h = ap (λ ps. append c ps st) (text_same a b c s st.suppressed (of_term name form plural) look l h)
 leaf_same a b c s (nodes.text (of_value cs) look) st l h = ap (λ ps. append c ps st) (text_same a b c s st.suppressed (of_value cs) look l h)
 leaf_same a b c s (nodes.number n) st l h =
-    let m = look_manner s.manner n.look in
+    let m = number_manner s.manner n in
     ap (λ ps. after_variable c s n.variable (append c (framed (frame s.manner (Some metas.Number) n.look) (identified m n.variable ps)) st))
     (answered_same a b c st.suppressed m n.form lengths.Long n.variable l h)
 leaf_same a b c s (nodes.label v look) st l h =

@@ -16,7 +16,7 @@ use Rattle.rendering_tree.specs.Metas.{Meta, Answered}
 use Rattle.rendering_tree.specs.Metas as metas
 use Rattle.rendering_dates.specs.Dates as dates
 use Rattle.rendering_dates.specs.Dates.{DateShape, cut_to, date_pieces}
-use Rattle.rendering_page.specs.Pages.{Page, Manner, Frame}
+use Rattle.rendering_page.specs.Pages.{Page, Manner, uncased, Frame}
 use Rattle.rendering_page.specs.Pieces.{Piece, normal}
 use Rattle.rendering_style.specs.Options.{NameOptions}
 use Rattle.rendering_style.specs.Nodes.{LabelLook, TextSource, of_variable, of_term, of_value, TextLook, NumberNode, DateNode, NamesNode, Leaf}
@@ -26,9 +26,9 @@ use Rattle.rendering_names.specs.Names.{NameStyle, IndexedPerson, names_pieces}
 use Rattle.rendering_names.specs.Persons.{person_text}
 use Rattle.rendering_people.specs.Properties.{VariableProperties, Properties, all_shown}
 use Rattle.rendering_context.specs.Contexts.{Context}
-use Rattle.rendering_context.specs.Answering.{Answer, no_answer, pieces, address, count, ranges, own, answer_to, asked_for, ranges_text, date_answer, is_plural_variable}
+use Rattle.rendering_context.specs.Answering.{Answer, no_answer, pieces, address, count, ranges, own, answer_to, asked_for, date_answer, is_plural_variable}
 use Rattle.rendering_leaves.specs.NodeSettings.{with_variable, SpecialForm, suffix_only, NodeSetting, State, append}
-use Rattle.rendering_leaves.specs.Values.{look_manner, text_manner, frame, open_term, close_term, quote_before, quote_after, meaning, answer_pieces, identified, is_label_variable, is_number_variable, label_suffix, label_term, own_year_suffix, source_pieces, text_pieces, number_pieces, label_pieces, date_inside, date_frame, date_suffix, day_pieces, shape_of, suppressing, using, after_variable, append_leaf}
+use Rattle.rendering_leaves.specs.Values.{text_manner, number_manner, date_manner, frame, open_term, close_term, quote_before, quote_after, meaning, answer_pieces, identified, is_label_variable, is_number_variable, label_suffix, label_term, own_year_suffix, source_pieces, text_pieces, number_pieces, label_pieces, date_inside, date_frame, date_suffix, day_pieces, shape_of, suppressing, using, after_variable, append_leaf}
 use Rattle.rendering_taxonomy.specs.Variables.{is_variable}
 use Rattle.rendering_taxonomy.specs.declared.date.LongShortForm.TheVariants as lengths
 use Rattle.rendering_taxonomy.specs.declared.number.NumberForm.{NumberForm}
@@ -57,7 +57,7 @@ ends_answer c m form no_answer = ends_none
 ends_answer c m form (pieces cs) = ends_chunks m cs
 ends_answer c m form (address cs url) = ends_link m.formatting cs url
 ends_answer c m form (count n) = ends_normal m _
-ends_answer c m form (ranges ps) = ends_normal m (ranges_text ps)
+ends_answer c m form (ranges ps) = ends_normal m _
 ends_answer c m form own = ends_locator m.formatting c.properties.initial_idx
 
 ends_meaning : (m : Manner) (meta : Meta) (ps : List Piece) → EndAll ps → EndAll (meaning m meta ps)
@@ -91,7 +91,7 @@ ends_text c s vs source look =
 
 ends_number : (c : Context) (s : NodeSetting) (vs : List Variable) (n : NumberNode) → EndAll (number_pieces c s vs n)
 ends_number c s vs n =
-    let m = look_manner s.manner n.look in
+    let m = number_manner s.manner n in
     let answer = answer_pieces c m n.form (answer_to c vs lengths.Long n.variable) in
     ends_framed (frame s.manner (Some metas.Number) n.look) (identified m n.variable answer)
     (ends_identified m n.variable answer (ends_answer c m n.form (answer_to c vs lengths.Long n.variable)))
@@ -151,14 +151,14 @@ ends_to ls m shape year_suffix d (Some Open) =
     ends_both (dates.side_pieces ls m shape year_suffix d) (normal m dates.dash ∷ []) (ends_side ls m shape year_suffix d) (ends_normal m dates.dash)
 
 ends_inside : (c : Context) (m : Manner) (form : SpecialForm) (d : DateNode) (year_suffix : List ℕ) (day : Date) → EndAll (date_inside c m form d year_suffix day)
-ends_inside c m suffix_only d year_suffix day = ends_normal m year_suffix
+ends_inside c m suffix_only d year_suffix day = ends_normal (uncased m) year_suffix
 ends_inside c m form d year_suffix day = ends_to c.locales m (cut_to d.parts (shape_of c d)) year_suffix day day.end
 
 ends_day : (c : Context) (s : NodeSetting) (has_date : Bool) (d : DateNode) (o : Option Date) → EndAll (day_pieces c s has_date d o)
 ends_day c s has_date d None = ends_none
 ends_day c s has_date d (Some day) =
-    ends_framed (date_frame s s.form d) (date_inside c (look_manner s.manner d.look) s.form d (date_suffix c has_date) day)
-    (ends_inside c (look_manner s.manner d.look) s.form d (date_suffix c has_date) day)
+    ends_framed (date_frame s s.form d) (date_inside c (date_manner s.manner d) s.form d (date_suffix c has_date) day)
+    (ends_inside c (date_manner s.manner d) s.form d (date_suffix c has_date) day)
 
 -- names
 ends_before_last : (m : Manner) (o : NameOptions) (n : ℕ) (cs : List ℕ) → EndAll (names.before_last_by m o n cs)

@@ -1,7 +1,7 @@
 -- What a cite without a locator answers to the variable of locators.
 use Rattle.std.proofs.Common.{◌≡◌, Bool, true, false, List, refl, ap, ◌∙◌, if◌then◌else◌, Option, None, not, ◌&&◌}
 use Rattle.std.proofs.lemmas.Bool.{false≢true}
-use Rattle.rendering_context.specs.Answering.{Answer, answer_of, answer_to, asked_for, exchanged_for, is_missing, no_answer, of_payload, or_no_answer}
+use Rattle.rendering_context.specs.Answering.{Answer, answer_of, answer_to, asked_for, exchanged_for, is_missing, no_answer, of_locator, or_no_answer}
 use Rattle.rendering_context.specs.Cites as cites
 use Rattle.rendering_context.specs.Contexts.{Context}
 use Rattle.rendering_taxonomy.specs.Variables.{is_among}
@@ -36,7 +36,7 @@ pub no_locator : (c : Context) (suppressed : List Variable) (form : LongShortFor
 no_locator c suppressed form none =
     missing_by (is_among suppressed locator) (answer_of c form (asked_for c locator))
     (ap (λ (v : Variable). is_missing (answer_of c form v)) (asked_itself c.is_bibliography c.properties.identifier_usage)
-    ∙ ap (λ (l : Option cites.SpecificLocator). is_missing (or_no_answer (λ (k : cites.SpecificLocator). of_payload k.payload) l)) none)
+    ∙ ap (λ (l : Option cites.SpecificLocator). is_missing (or_no_answer (of_locator c.page_ranges) l)) none)
 
 -- what has no answer is not printed
 pub missing_never : (a b : Bool) → a ≡ true → false ≡ (not a && b)

@@ -94,10 +94,11 @@ AnswerAlike a b variables.Page = a.pages ≡ b.pages
 AnswerAlike a b (variables.Name v) = a.people v ≡ b.people v
 AnswerAlike a b (variables.Date v) = a.date v ≡ b.date v
 
--- two entries answer alike to all that is named
+-- two entries answer alike to all that is named, and to whether they are in English
 pub record AreAlike (n : Named) (a b : Answers) : Type 0 where
   pub variables : (v : Variable) → Contains n.variables v → AnswerAlike a b v
   pub kinds : (k : Kind) → Contains n.kinds k → a.kind k ≡ b.kind k
+  pub english : a.english ≡ b.english
 
 -- whether a leaf prints the year suffix by itself
 abbrev pub is_suffix_leaf : Leaf → Bool

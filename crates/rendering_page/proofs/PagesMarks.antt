@@ -8,8 +8,10 @@ use Rattle.rendering_taxonomy.specs.declared.formatting.Formatting.{Formatting}
 use Rattle.rendering_tree.specs.Tokens.{Token, letter, formula, link, transparent, opening, closing, mark, unmark, with_letters}
 use Rattle.std.proofs.lemmas.Bool.{false≢true}
 use Rattle.rendering_page.specs.Marks.{before_open, begins_nothing, closes, first_part, is_first, is_something, known_to_print, opens, prints_itself, with_part}
-use Rattle.rendering_page.specs.Pages.{prints, before_mark, before_prefix, is_begun}
-use Rattle.rendering_page.specs.Tail.{stripped}
+use Rattle.rendering_taxonomy.specs.declared.text_case.TextCase.{TextCase}
+use Rattle.rendering_cases.specs.Cases.{applies, cased_text}
+use Rattle.rendering_cases.proofs.Kept.{same_text}
+use Rattle.rendering_page.specs.Pages.{prints, before_mark, before_prefix, is_begun, stripped_if}
 use Rattle.rendering_page.specs.Views.{words_view, with_piece, pieces_view}
 use Rattle.rendering_page.specs.declared.piece.Piece.{Piece}
 use Rattle.rendering_page.specs.declared.piece.Piece.TheVariants as pieces
@@ -359,11 +361,15 @@ pub known_push : (b : Bool) (ps qs : List Piece) (p : Piece) → begins_nothing 
 known_push false ps qs p g e f = refl
 known_push true ps qs p g e f = ap (λ rs. prints 0 (pieces_view rs)) f ∙ ap (prints 0) (tokens_push ps p) ∙ still_prints p (pieces_view ps) g e
 
--- a text prints that does not begin with white space, where no full stops go
-pub known_by : (strips w b : Bool) (f : Formatting) (c : ℕ) (cs : List ℕ) (ts : List Token) → w ≡ is_whitespace c → b ≡ (not strips && not w)
-    → known_to_print b (with_letters f (if strips then stripped (c ∷ cs) else c ∷ cs) ts) ≡ true
-known_by strips w false f c cs ts white is = refl
-known_by true w true f c cs ts white is = absurd (false≢true (sym is))
-known_by false true true f c cs ts white is = absurd (false≢true (sym is))
-known_by false false true f c cs ts white is =
-    prints_letters f (c ∷ cs) 0 ts ∙ ap (λ (a : Bool). (not a || list_any (λ d. not (is_whitespace d)) cs) || prints 0 ts) (sym white)
+-- a text prints that does not begin with white space, where no full stops go and no case applies
+pub known_by : (case : Option TextCase) (is_english strips cased w b : Bool) (f : Formatting) (c : ℕ) (cs : List ℕ) (ts : List Token)
+    → cased ≡ applies case is_english → w ≡ is_whitespace c → b ≡ (not strips && (not cased && not w))
+    → known_to_print b (with_letters f (stripped_if strips (cased_text case is_english (c ∷ cs))) ts) ≡ true
+known_by case is_english strips cased w false f c cs ts applied white is = refl
+known_by case is_english true cased w true f c cs ts applied white is = absurd (false≢true (sym is))
+known_by case is_english false true w true f c cs ts applied white is = absurd (false≢true (sym is))
+known_by case is_english false false true true f c cs ts applied white is = absurd (false≢true (sym is))
+known_by case is_english false false false true f c cs ts applied white is =
+    ap (λ (xs : List ℕ). prints 0 (with_letters f xs ts)) (same_text case is_english (c ∷ cs) (sym applied))
+    ∙ prints_letters f (c ∷ cs) 0 ts
+    ∙ ap (λ (a : Bool). (not a || list_any (λ d. not (is_whitespace d)) cs) || prints 0 ts) (sym white)

@@ -1,6 +1,7 @@
 -- Pages: what was appended so far, and what appending the next thing makes of it.
 use Rattle.std.specs.Prelude.{ℕ, zero, suc, Bool, true, false, not, ◌==◌, ◌&&◌, ◌||◌, List, [], ◌∷◌, length, find, if◌then◌else◌, Option, Some, None}
 use Rattle.std.specs.Char.{is_whitespace}
+use Rattle.std.specs.Option.{option_or}
 use Rattle.laws.specs.Characters.{space, no_break_space}
 use Rattle.laws.specs.Text.{is_filled}
 use Rattle.rendering_taxonomy.specs.Formats.{plain}
@@ -11,6 +12,8 @@ use Rattle.rendering_taxonomy.specs.declared.formatting.Display.{Display}
 use Rattle.rendering_taxonomy.specs.declared.formatting.Formatting.{Formatting}
 use Rattle.rendering_taxonomy.specs.declared.page.PageRule.{PageRule}
 use Rattle.rendering_taxonomy.specs.declared.page.PageRule.TheVariants as rules
+use Rattle.rendering_taxonomy.specs.declared.text_case.TextCase.{TextCase}
+use Rattle.rendering_cases.specs.Cases.{cased_text}
 
 -- whether texts are joined by what punctuation they have
 abbrev pub is_joined : PageRule → Bool
@@ -32,10 +35,21 @@ empty_page_by rule = record { tokens = []; after_quote = false; rule = rule }
 abbrev pub empty_page : Page
 empty_page = empty_page_by rules.AsWritten
 
--- How the texts of a node are appended: how they look, and whether their full stops are left out.
+-- How the texts of a node are appended: how they look, whether their full stops are left out, in which case, and whether they are in
+-- English, in which alone titles are capitalised.
 pub record Manner : Type 0 where
   pub formatting : Formatting
   pub strips_periods : Bool
+  pub text_case : Option TextCase
+  pub is_english : Bool
+
+-- the same in the case that texts have
+abbrev pub uncased : Manner → Manner
+uncased m = record m { text_case = None }
+
+-- the same in a case, unless there is one already: what is around texts comes first
+abbrev pub with_case : Option TextCase → Manner → Manner
+with_case case m = record m { text_case = option_or m.text_case case }
 
 -- The close quotes inside which punctuation goes, in the order in which they are tried; none where it stays outside.
 abbrev pub Quotes : Type 0
@@ -45,9 +59,17 @@ Quotes = List (List ℕ)
 abbrev pub quote_at_end : Quotes → List Token → Option (List ℕ)
 quote_at_end quotes ts = find (λ q. is_filled q && ends_in q (last_text ts)) quotes
 
+-- a text in the case of a manner
+abbrev pub in_case : Manner → List ℕ → List ℕ
+in_case m cs = cased_text m.text_case m.is_english cs
+
+-- a text whose full stops are left out, or not
+abbrev pub stripped_if : Bool → List ℕ → List ℕ
+stripped_if strips cs = if strips then stripped cs else cs
+
 -- a text as it is appended in a manner
 abbrev pub in_manner : Manner → List ℕ → List ℕ
-in_manner m cs = if m.strips_periods then stripped cs else cs
+in_manner m cs = stripped_if m.strips_periods (in_case m cs)
 
 -- a text after what remains of the page
 abbrev pub appended : Manner → List ℕ → Page → Page

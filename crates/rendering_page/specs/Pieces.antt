@@ -3,8 +3,9 @@ use Rattle.std.specs.Prelude.{ℕ, List, [], ◌∷◌, ◌++◌, map, fold}
 use Rattle.literature_values.specs.TextViews.{Chunk}
 use Rattle.literature_values.specs.declared.text.ChunkKind.{ChunkKind}
 use Rattle.literature_values.specs.declared.text.ChunkKind.TheVariants as kinds
+use Rattle.rendering_cases.specs.Cases.{cased_chunks}
 use Rattle.rendering_tree.specs.Tokens as tokens
-use Rattle.rendering_page.specs.Pages.{Page, Manner, Quotes, Frame, append_normal, append_further, append_verbatim, append_token, append_quote, begun, ended}
+use Rattle.rendering_page.specs.Pages.{Page, Manner, uncased, Quotes, Frame, append_normal, append_further, append_verbatim, append_token, append_quote, begun, ended}
 use Rattle.rendering_taxonomy.specs.declared.formatting.Formatting.{Formatting}
 
 -- An ordinary text; one that goes on with the text before it; a text as it is; a close quote; a formula; a link from a text to an
@@ -59,7 +60,11 @@ further_by kind m cs = chunk_by kind m cs
 abbrev pub further_piece : Manner → Chunk → Piece
 further_piece m c = further_by c.kind m c.value
 
--- a text in pieces
+-- pieces of a text, each by itself
+abbrev pub each_piece : Manner → List Chunk → List Piece
+each_piece m [] = []
+each_piece m (c ∷ cs) = chunk_piece m c ∷ map (further_piece m) cs
+
+-- a text in pieces, in the case that all of it has as one text
 abbrev pub chunk_pieces : Manner → List Chunk → List Piece
-chunk_pieces m [] = []
-chunk_pieces m (c ∷ cs) = chunk_piece m c ∷ map (further_piece m) cs
+chunk_pieces m cs = each_piece (uncased m) (cased_chunks m.text_case m.is_english cs)

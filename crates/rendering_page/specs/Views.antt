@@ -47,7 +47,12 @@ pieces_view ps = fold with_piece [] ps
 
 -- how the texts of a node are appended
 abbrev pub manner_view : Manner → pages.Manner
-manner_view m = record { formatting = m.formatting; strips_periods = m.strips_periods }
+manner_view m = record {
+  formatting = m.formatting;
+  strips_periods = m.strips_periods;
+  text_case = m.text_case;
+  is_english = m.is_english;
+}
 
 -- an element
 abbrev pub frame_view : Frame → pages.Frame

@@ -17,6 +17,7 @@ use crate::manner::{Frame, Manner};
 use crate::page_end::ends_in;
 use crate::piece::{Piece, Words};
 use crate::tail::{length, make_room, stripped};
+use rendering_cases::{applies, cased_text};
 use rendering_taxonomy::Formatting;
 use rendering_tree::ElemMeta;
 use std::alloc::AllocError;
@@ -79,7 +80,7 @@ pub(crate) fn append<'a>(
     append_in_manner(pieces, manner, words)
 }
 
-/// Appends a text as a manner has it.
+/// Appends a text as a manner has it. A text that stays in the case that it has is not copied.
 #[inline(always)]
 pub(crate) fn append_in_manner<'a>(
     pieces: &mut Vec<Piece<'a>>,
@@ -88,6 +89,38 @@ pub(crate) fn append_in_manner<'a>(
 ) -> Result<(), AllocError>
     ensures { OnOk result (pieces_view pieces.new.items ≡ with_letters manner.formatting
         (pages.in_manner (views.manner_view manner) (words_view words.entry))
+        (pieces_view pieces.old.items)) }
+{
+    if applies(manner.text_case, manner.is_english) {
+        return append_cased(pieces, manner, words.as_str());
+    }
+    append_uncased(pieces, manner, words)
+}
+
+/// Appends a text in the case of a manner.
+fn append_cased<'a>(
+    pieces: &mut Vec<Piece<'a>>,
+    manner: Manner,
+    text: &str,
+) -> Result<(), AllocError>
+    ensures { OnOk result (pieces_view pieces.new.items ≡ with_letters manner.formatting
+        (pages.in_manner (views.manner_view manner) (chars text.now))
+        (pieces_view pieces.old.items)) }
+{
+    let alloc = *pieces.allocator();
+    let cased = cased_text(alloc, text, manner.text_case, manner.is_english)?;
+    append_uncased(pieces, manner, Words::Made(cased))
+}
+
+/// Appends a text in the case that it has.
+#[inline(always)]
+fn append_uncased<'a>(
+    pieces: &mut Vec<Piece<'a>>,
+    manner: Manner,
+    words: Words<'a>,
+) -> Result<(), AllocError>
+    ensures { OnOk result (pieces_view pieces.new.items ≡ with_letters manner.formatting
+        (pages.stripped_if manner.strips_periods (words_view words.entry))
         (pieces_view pieces.old.items)) }
 {
     if manner.strips_periods {

@@ -15,7 +15,7 @@ mod piece;
 mod plain;
 mod tail;
 
-pub use manner::{Frame, Manner};
+pub use manner::{Frame, Manner, uncased, with_case};
 pub use page::Page;
 pub use piece::{Link, Piece, Words, looks_like, no_words};
 pub use plain::plain_manner;

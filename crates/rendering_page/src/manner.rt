@@ -2,8 +2,10 @@
 
 ghost use Rattle.std.specs.Prelude.{◌≡◌};
 ghost use Rattle.rendering_page.specs.Pages as pages;
+ghost use Rattle.rendering_page.specs.Pieces.{chunk_pieces, each_piece};
+ghost use Rattle.rendering_page.specs.Views.{manner_view};
 
-use rendering_taxonomy::{Display, Formatting, PageRule};
+use rendering_taxonomy::{Display, Formatting, PageRule, TextCase};
 use rendering_tree::ElemMeta;
 
 /// How the texts of a node are appended.
@@ -13,6 +15,10 @@ pub struct Manner {
     pub formatting: Formatting,
     /// Whether their full stops go, but for those after a full stop.
     pub strips_periods: bool,
+    /// The case of their letters, where they do not stay as they are.
+    pub text_case: Option<TextCase>,
+    /// Whether they are in English, in which alone titles are capitalised.
+    pub is_english: bool,
 }
 
 /// An element, as it begins and ends.
@@ -28,6 +34,30 @@ pub struct Frame<'a> {
     pub prefix: &'a str,
     /// The text after what it contains, an ordinary text; none where the last text ends with it.
     pub suffix: &'a str,
+}
+
+/// The same in a case, unless there is one already: what is around texts comes first.
+pub fn with_case(manner: Manner, text_case: Option<TextCase>) -> Manner
+    ensures { manner_view result ≡ pages.with_case text_case (manner_view manner) }
+{
+    Manner {
+        text_case: manner.text_case.or(text_case),
+        ..manner
+    }
+}
+
+/// The same in the case that texts have: each is appended as it is, but for its full stops, and so is each piece of a text.
+pub fn uncased(manner: Manner) -> Manner
+    ensures uncased { manner_view result ≡ pages.uncased (manner_view manner) }
+    ensures texts { (cs : _) → pages.in_manner (manner_view result) cs
+        ≡ pages.stripped_if manner.strips_periods cs }
+    ensures pieces { (ks : _) → chunk_pieces (manner_view result) ks
+        ≡ each_piece (manner_view result) ks }
+{
+    Manner {
+        text_case: None,
+        ..manner
+    }
 }
 
 /// Whether texts are joined by what punctuation they have.

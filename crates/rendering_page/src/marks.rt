@@ -12,6 +12,7 @@ ghost use Rattle.rendering_tree.specs.Tokens.{Token, with_letters};
 
 use crate::manner::Manner;
 use crate::piece::{Piece, Words};
+use rendering_cases::applies;
 use std::alloc::AllocError;
 use texts::has_text;
 
@@ -161,7 +162,8 @@ pub(crate) fn is_known_by(manner: Manner, first: char) -> bool
         (with_letters manner.formatting (in_manner (views.manner_view manner) (first ∷ cs)) ts)
         ≡ true }
 {
-    !manner.strips_periods && !first.is_whitespace()
+    let is_cased = applies(manner.text_case, manner.is_english);
+    !manner.strips_periods && (!is_cased && !first.is_whitespace())
 }
 
 /// Whether anything was appended.

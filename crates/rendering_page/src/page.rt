@@ -10,7 +10,7 @@ ghost use Rattle.rendering_tree.specs.Views.{meta_view};
 ghost use Rattle.rendering_page.specs.Marks.{begins_nothing};
 ghost use Rattle.rendering_page.specs.Pages.{Manner as Manners, Quotes, before_mark, before_prefix, begun, empty_page, empty_page_by, ended, ended_as, append_as_written, append_further, append_normal, append_to_join, is_joined, is_repeated, prints, append_quote, append_space, append_token, append_verbatim};
 ghost use Rattle.rendering_page.specs.Joints.{joined};
-ghost use Rattle.rendering_page.specs.Pieces.{append_pieces, chunk_by, chunk_piece, chunk_pieces, further_by, further_piece, append_piece};
+ghost use Rattle.rendering_page.specs.Pieces.{append_pieces, chunk_by, chunk_piece, chunk_pieces, each_piece, further_by, further_piece, append_piece};
 ghost use Rattle.rendering_page.specs.PageCharacters.{page_text};
 ghost use Rattle.rendering_page.specs.Views as views;
 ghost use Rattle.rendering_page.specs.Views.{pieces_view, words_view, quotes_view};
@@ -21,13 +21,14 @@ use crate::appending::{
 };
 use crate::copies::copied_pieces;
 use crate::joining::join;
-use crate::manner::{Frame, Manner, is_joined};
+use crate::manner::{Frame, Manner, is_joined, uncased};
 use crate::marks::{cut_prefix, cut_to_mark, is_begun, is_known_by, prints};
 use crate::page_characters::{push_shown, show_the_same};
 use crate::page_end::{ends_in, ends_spaced};
 use crate::piece::{Link, Piece, Words, no_words};
 use crate::tail::is_punctuation;
 use literature_values::{ChunkKind, ChunkedString, StringChunk};
+use rendering_cases::{applies, cased_chunks};
 use rendering_taxonomy::{Formatting, PageRule};
 use rendering_tree::ElemMeta;
 use std::alloc::{AllocError, Global};
@@ -321,7 +322,8 @@ impl<'a> Page<'a> {
         self.push_verbatim(Formatting::plain(), " ")
     }
 
-    /// Appends a text in pieces: formulas, texts as they are, and ordinary texts.
+    /// Appends a text in pieces: formulas, texts as they are, and ordinary texts, which have the case of one text. What stays in the case
+    /// that it has is not copied.
     ///
     /// # Errors
     /// Out of memory.
@@ -334,14 +336,10 @@ impl<'a> Page<'a> {
         ensures { OnOk result (self.new ≡ append_pieces (quotes_view quotes.now)
             (chunk_pieces (views.manner_view manner) (map chunk_of chunks.now)) self.old) }
     {
-        let Some((first, rest)) = chunks.split_first() else {
-            return Ok(());
-        };
-        self.push_chunk(quotes, manner, first)?;
-        for chunk in rest {
-            self.push_further_chunk(quotes, manner, chunk)?;
+        if applies(manner.text_case, manner.is_english) {
+            return self.push_cased_chunks(quotes, manner, chunks);
         }
-        Ok(())
+        self.push_each_chunk(quotes, uncased(manner), chunks)
     }
 
     /// Appends a text in pieces that were made.
@@ -357,15 +355,10 @@ impl<'a> Page<'a> {
         ensures { OnOk result (self.new ≡ append_pieces (quotes_view quotes.now)
             (chunk_pieces (views.manner_view manner) (chunks_of chunks)) self.old) }
     {
-        let mut chunks = chunks.0.into_iter();
-        let Some(first) = chunks.next() else {
-            return Ok(());
-        };
-        self.push_made_chunk(quotes, manner, first)?;
-        for chunk in chunks {
-            self.push_further_made_chunk(quotes, manner, chunk)?;
+        if applies(manner.text_case, manner.is_english) {
+            return self.push_cased_chunks(quotes, manner, &chunks.0);
         }
-        Ok(())
+        self.push_each_made_chunk(quotes, uncased(manner), chunks)
     }
 
     /// Whether what was begun last and has not ended has printed anything but white space.
@@ -528,6 +521,62 @@ impl<'a> Page<'a> {
             ≡ record self.old { tokens = views.with_piece self.old.tokens piece.entry }) }
     {
         push_piece(&mut self.pieces, piece)?;
+        Ok(())
+    }
+
+    /// Appends a text in pieces, in the case of a manner.
+    fn push_cased_chunks(
+        &mut self,
+        quotes: &[&str],
+        manner: Manner,
+        chunks: &[StringChunk],
+    ) -> Result<(), AllocError>
+        ensures { OnOk result (self.new ≡ append_pieces (quotes_view quotes.now)
+            (chunk_pieces (views.manner_view manner) (map chunk_of chunks.now)) self.old) }
+    {
+        let alloc = *self.pieces.allocator();
+        let cased = cased_chunks(alloc, chunks, manner.text_case, manner.is_english)?;
+        self.push_each_made_chunk(quotes, uncased(manner), cased)
+    }
+
+    /// Appends pieces of a text, each by itself.
+    fn push_each_chunk(
+        &mut self,
+        quotes: &[&str],
+        manner: Manner,
+        chunks: &'a [StringChunk],
+    ) -> Result<(), AllocError>
+        ensures { OnOk result (self.new ≡ append_pieces (quotes_view quotes.now)
+            (each_piece (views.manner_view manner) (map chunk_of chunks.now)) self.old) }
+    {
+        let Some((first, rest)) = chunks.split_first() else {
+            return Ok(());
+        };
+        self.push_chunk(quotes, manner, first)?;
+        for chunk in rest {
+            self.push_further_chunk(quotes, manner, chunk)?;
+        }
+        Ok(())
+    }
+
+    /// Appends pieces of a text that were made, each by itself.
+    fn push_each_made_chunk(
+        &mut self,
+        quotes: &[&str],
+        manner: Manner,
+        chunks: ChunkedString,
+    ) -> Result<(), AllocError>
+        ensures { OnOk result (self.new ≡ append_pieces (quotes_view quotes.now)
+            (each_piece (views.manner_view manner) (chunks_of chunks)) self.old) }
+    {
+        let mut chunks = chunks.0.into_iter();
+        let Some(first) = chunks.next() else {
+            return Ok(());
+        };
+        self.push_made_chunk(quotes, manner, first)?;
+        for chunk in chunks {
+            self.push_further_made_chunk(quotes, manner, chunk)?;
+        }
         Ok(())
     }
 

@@ -9,7 +9,7 @@ use rendering_taxonomy::{
     FontStyle, FontVariant, FontWeight, Formatting, TextDecoration, VerticalAlign,
 };
 
-/// How texts are appended in the default formatting, with their full stops.
+/// How texts are appended in the default formatting, with their full stops and in the case that they have.
 pub fn plain_manner() -> Manner
     ensures { manner_view result ≡ plain_manner }
 {
@@ -22,5 +22,7 @@ pub fn plain_manner() -> Manner
             vertical_align: VerticalAlign::None,
         },
         strips_periods: false,
+        text_case: None,
+        is_english: false,
     }
 }

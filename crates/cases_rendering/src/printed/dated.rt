@@ -98,7 +98,7 @@ fn put_listed(session: &mut Session, case: &Value<'_>, own: &[Locale], files: &[
 }
 
 /// The members of a case.
-const MEMBERS: [&str; 13] = [
+const MEMBERS: [&str; 15] = [
     "case",
     "name",
     "date",
@@ -108,6 +108,8 @@ const MEMBERS: [&str; 13] = [
     "letters",
     "formatting",
     "strips_periods",
+    "text_case",
+    "english",
     "quotes",
     "code",
     "own",

@@ -5,6 +5,7 @@ use crate::printed::metas::maybe_meta;
 use crate::printed::written_trees::put_tree;
 use crate::styles::{DISPLAYS, formatting};
 use cases::{Session, Value, maybe_given, member};
+use csl_words::TEXT_CASES;
 use literature::StringChunk;
 use rendering_building::into_tree;
 use rendering_page::{Frame, Manner, Page};
@@ -26,6 +27,8 @@ pub(crate) fn manner(session: &mut Session, item: &Value<'_>) -> Manner {
     Manner {
         formatting: formatting(session, item),
         strips_periods: session.is_set(item, "strips_periods"),
+        text_case: session.maybe_word(item, "text_case", TEXT_CASES),
+        is_english: session.is_set(item, "english"),
     }
 }
 
@@ -47,7 +50,17 @@ fn put_ordinary<'a>(
     page: &mut Page<'a>,
     item: &'a Value<'_>,
 ) {
-    session.only(item, &["text", "made", "formatting", "strips_periods"]);
+    session.only(
+        item,
+        &[
+            "text",
+            "made",
+            "formatting",
+            "strips_periods",
+            "text_case",
+            "english",
+        ],
+    );
     let manner = manner(session, item);
     let text = session.text(item, "text");
     if session.is_set(item, "made") {
@@ -65,7 +78,16 @@ fn put_quote<'a>(
     page: &mut Page<'a>,
     item: &'a Value<'_>,
 ) {
-    session.only(item, &["close_quote", "formatting", "strips_periods"]);
+    session.only(
+        item,
+        &[
+            "close_quote",
+            "formatting",
+            "strips_periods",
+            "text_case",
+            "english",
+        ],
+    );
     let manner = manner(session, item);
     let text = session.text(item, "close_quote");
     session.check(page.push_close_quote(setting.quotes, manner, text));
@@ -103,7 +125,16 @@ fn put_chunks<'a>(
     page: &mut Page<'a>,
     item: &'a Value<'_>,
 ) {
-    session.only(item, &["chunks", "formatting", "strips_periods"]);
+    session.only(
+        item,
+        &[
+            "chunks",
+            "formatting",
+            "strips_periods",
+            "text_case",
+            "english",
+        ],
+    );
     let manner = manner(session, item);
     session.check(page.push_chunks(setting.quotes, manner, setting.chunks));
 }
@@ -181,12 +212,14 @@ fn end<'a>(
 }
 
 /// The members of an element.
-const MEMBERS: [&str; 7] = [
+const MEMBERS: [&str; 9] = [
     "elem",
     "display",
     "meta",
     "formatting",
     "strips_periods",
+    "text_case",
+    "english",
     "prefix",
     "suffix",
 ];

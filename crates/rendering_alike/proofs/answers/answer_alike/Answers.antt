@@ -6,8 +6,13 @@ use Rattle.rendering_nodes.specs.Named.{AnswerAlike}
 use Rattle.rendering_taxonomy.specs.declared.kind.Kind.{Kind}
 use Rattle.rendering_taxonomy.specs.declared.variable.Variable.{Variable}
 use Rattle.rendering_alike.specs.Naming.{names_view}
-use Rattle.rendering_alike.proofs.AnswersAll.{all_alike, not_all_alike}
+use Rattle.rendering_alike.proofs.AnswersAll.{all_alike, not_all_alike, not_one_language}
 use Rattle.rendering_alike.proofs.answers.answer_alike.Goals as goal
+
+pub returns-then-not-are_in_one_language : goal.returns-then-not-are_in_one_language
+returns-then-not-are_in_one_language g c =
+    not_one_language (names_view c.args.names.now) (g.E.EntryLike.answers c.args.one.now) (g.E.EntryLike.answers c.args.other.now)
+    (iff_false c.are_in_one_language.ensures c.if-not-are_in_one_language.true)
 
 pub returns-then-not-are_of_one_kind : goal.returns-then-not-are_of_one_kind
 returns-then-not-are_of_one_kind g c =
@@ -22,6 +27,6 @@ returns g c =
     let b = g.E.EntryLike.answers c.args.other.now in
     IfOk-weaker c.answer_all_alike.result _ _
     (λ yes e.
-    all_alike (names_view c.args.names.now) a b yes (subst (AllByRecursion (λ (k : Kind). a.kind k ≡ b.kind k)) c.deref.ensures.value (c.are_of_one_kind.ensures.0 c.if-not-are_of_one_kind.false))
+    all_alike (names_view c.args.names.now) a b yes (c.are_in_one_language.ensures.0 c.if-not-are_in_one_language.false) (subst (AllByRecursion (λ (k : Kind). a.kind k ≡ b.kind k)) c.deref.ensures.value (c.are_of_one_kind.ensures.0 c.if-not-are_of_one_kind.false))
     (subst (λ (vs : List Variable). IsTrue yes ↔ AllByRecursion (AnswerAlike a b) vs) c.deref-2.ensures.value e))
     c.answer_all_alike.ensures
