@@ -19,7 +19,7 @@ mod variables;
 
 use cases::{Session, Value};
 pub use date_words::PARTS;
-pub use dates::date_parts;
+pub use dates::{date_parts, part_changes};
 pub use given_locales::{locale, locales, maybe_code, maybe_ordinals};
 pub use leaves::NUMBER_FORMS;
 pub use looks::{DISPLAYS, formatting, is_plain, put_formatting};

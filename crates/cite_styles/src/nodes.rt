@@ -158,7 +158,7 @@ pub(crate) fn year(alloc: Global) -> Result<Node, AllocError>
         form: None,
         parts: DateParts::YearMonthDay,
         own_parts,
-        overrides_form: false,
+        part_changes: Vec::new(alloc),
         delimiter: None,
         text_case: None,
         look: Look::plain(alloc),

@@ -129,20 +129,6 @@ pub(crate) const FEATURES: &[Row] = &[
         "editors who are the translators too are printed once",
     ),
     ("name-part", NOTHING, NOTHING, "", "name-part"),
-    (
-        "date",
-        ("variable", ""),
-        ("form", ""),
-        "date-part",
-        "date-part in a date with a form",
-    ),
-    (
-        "date-part",
-        ("range-delimiter", ""),
-        NOTHING,
-        "",
-        "range-delimiter",
-    ),
     ("term", ("gender-form", ""), NOTHING, "", "gender-form"),
     ("term", ("match", ""), NOTHING, "", "match"),
     (

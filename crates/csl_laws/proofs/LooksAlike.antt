@@ -6,6 +6,7 @@ use Rattle.laws.specs.Text.{text}
 use Rattle.xml_tree.specs.Trees.{Element, Tagged, Content, Last, Next}
 use Rattle.rendering_style.specs.Nodes as nodes
 use Rattle.rendering_style.specs.Nodes.{Test, is_alike, TextSource, of_variable, of_term, of_value, leaf, number, label, date, Node, call}
+use Rattle.rendering_style.specs.declared.node.ChangedDatePart.TheVariants as changed
 use Rattle.rendering_taxonomy.specs.declared.date.DatePartForm.{DatePartForm}
 use Rattle.rendering_taxonomy.specs.declared.date.DatePartForm.TheVariants as parts
 use Rattle.rendering_taxonomy.specs.declared.date.DateParts.TheVariants as cuts
@@ -22,7 +23,7 @@ use Rattle.csl_words.specs.declared.options.TheConstants.{ALIGNMENTS, ANDS, DATE
 use Rattle.csl_words.specs.declared.terms.TheConstants.{TERM_FORMS}
 use Rattle.csl_words.specs.declared.variables.TheConstants.{DATE_VARIABLES, NAME_VARIABLES, NUMBER_VARIABLES}
 use Rattle.csl_nodes.specs.Conditions.{condition}
-use Rattle.csl_nodes.specs.Dates.{in_form, part_of, date_part, date_parts}
+use Rattle.csl_nodes.specs.Dates.{in_form, part_of, named_part, date_part, date_parts, changed_in, change_of, part_change, part_changes}
 use Rattle.csl_nodes.specs.Leaves.{answered, text_of_source, variable_text, text_by, text_node, number_of, number_node, label_node, date_form, date_of, date_node}
 use Rattle.csl_nodes.specs.Looks.{formatting, text_case, look, text_look, term_form, label_look}
 use Rattle.csl_nodes.specs.Names.{name_part, is_part, first_part, part_for, name_look, et_al, label_leads, merges, names_node}
@@ -105,6 +106,20 @@ module _ (x y : Element) (h : SaySame x y) where
   in_form_same (parts.Month form) = λ j. parts.Month (unwrap_or (value_same x y h (table MONTH_FORMS.now) (codes "form") j) form)
   in_form_same (parts.Year form) = λ j. parts.Year (unwrap_or (value_same x y h (table LENGTHS.now) (codes "form") j) form)
 
+  changed_same : (form : DatePartForm) → changed_in x form ≡ changed_in y form
+  changed_same (parts.Day form) = λ j. changed.Day (value_same x y h (table DAY_FORMS.now) (codes "form") j)
+  changed_same (parts.Month form) = λ j. changed.Month (value_same x y h (table MONTH_FORMS.now) (codes "form") j)
+  changed_same (parts.Year form) = λ j. changed.Year (value_same x y h (table LENGTHS.now) (codes "form") j)
+
+  pub change_same : (form : DatePartForm) → change_of x form ≡ change_of y form
+  change_same form = λ j. record {
+    part = changed_same form j;
+    strips_periods = set_same x y h (codes "strip-periods") j;
+    text_case = case_same j;
+    formatting = formatting_same j;
+    range_delimiter = h (codes "range-delimiter") j;
+  }
+
   pub part_same : (form : DatePartForm) → part_of x form ≡ part_of y form
   part_same form = λ j. record {
     form = in_form_same form j;
@@ -166,10 +181,11 @@ module _ (x y : Element) (h : SaySame x y) where
   condition_same = rw (h (codes "match"), h (codes "disambiguate"), h (codes "type"), h (codes "variable"), h (codes "is-numeric"), h (codes "is-uncertain-date"), h (codes "locator"), h (codes "position")) refl
 
 -- the parts of a date
+named_part_same : (x y : Element) → Alike x y → named_part x ≡ named_part y
+named_part_same x y a = λ j. cond (is_called (codes "date-part") (names_same x y a j)) (value_same x y (alike_said x y a) (table DATE_PART_NAMES.now) (codes "name") j) None
+
 date_part_same : (x y : Element) → Alike x y → date_part x ≡ date_part y
-date_part_same x y a =
-    let h : SaySame x y = alike_said x y a in
-    (λ j. cond (is_called (codes "date-part") (names_same x y a j)) (option_map (λ (form : DatePartForm). part_same x y h form j) (value_same x y h (table DATE_PART_NAMES.now) (codes "name") j)) None)
+date_part_same x y a = λ j. option_map (λ (form : DatePartForm). part_same x y (alike_said x y a) form j) (named_part_same x y a j)
 
 pub date_parts_same : (here : Bool) (c d : Content) → AreAlikeInside text_counts here c d → date_parts c ≡ date_parts d
 date_parts_same here (Last t) (Last u) a = refl
@@ -179,6 +195,18 @@ date_parts_same here (Next t e c) (Next u f d) (ts, es, rest) = λ j. cons_optio
 
 pub own_parts_same : (x y : Element) → Alike x y → date_parts (content_in x) ≡ date_parts (content_in y)
 own_parts_same (Tagged left n ps c) (Tagged right m bs d) a = date_parts_same (text_counts (Tagged left n ps c)) c d a.2
+
+part_change_same : (x y : Element) → Alike x y → part_change x ≡ part_change y
+part_change_same x y a = λ j. option_map (λ (form : DatePartForm). change_same x y (alike_said x y a) form j) (named_part_same x y a j)
+
+part_changes_same : (here : Bool) (c d : Content) → AreAlikeInside text_counts here c d → part_changes c ≡ part_changes d
+part_changes_same here (Last t) (Last u) a = refl
+part_changes_same here (Last t) (Next u f d) a = absurd a
+part_changes_same here (Next t e c) (Last u) a = absurd a
+part_changes_same here (Next t e c) (Next u f d) (ts, es, rest) = λ j. cons_option (part_change_same e f es j) (part_changes_same here c d rest j)
+
+own_changes_same : (x y : Element) → Alike x y → part_changes (content_in x) ≡ part_changes (content_in y)
+own_changes_same (Tagged left n ps c) (Tagged right m bs d) a = part_changes_same (text_counts (Tagged left n ps c)) c d a.2
 
 date_form_same : (x y : Element) → SaySame x y → date_form x ≡ date_form y
 date_form_same x y h = value_same x y h (table DATE_FORMS.now) (codes "form")
@@ -191,7 +219,7 @@ date_of_same x y a v =
       form = date_form_same x y h j;
       parts = unwrap_or (value_same x y h (table DATE_PARTS.now) (codes "date-parts") j) cuts.YearMonthDay;
       own_parts = cond (is_some (date_form_same x y h j)) [] (own_parts_same x y a j);
-      overrides_form = false;
+      part_changes = cond (is_some (date_form_same x y h j)) (own_changes_same x y a j) [];
       delimiter = h (codes "delimiter") j;
       text_case = case_same x y h j;
       look = look_same x y h j;

@@ -14,7 +14,7 @@ use Rattle.rendering_taxonomy.specs.declared.variable.DateVariable.{DateVariable
 use Rattle.rendering_taxonomy.specs.declared.variable.StandardVariable.TheVariants as standard
 use Rattle.rendering_taxonomy.specs.declared.variable.Variable.{Variable}
 use Rattle.rendering_taxonomy.specs.declared.variable.Variable.TheVariants as variables
-use Rattle.rendering_style.specs.Nodes.{TextSource, of_variable, of_term, of_value, NumberNode, DateNode, Condition, has_answer, Leaf, number, label, date, Node, leaf, call, choose, no_nodes, node, otherwise, branch}
+use Rattle.rendering_style.specs.Nodes.{TextSource, of_variable, of_term, of_value, NumberNode, DatePartChange, DateNode, Condition, has_answer, Leaf, number, label, date, Node, leaf, call, choose, no_nodes, node, otherwise, branch}
 use Rattle.rendering_style.specs.Nodes as nodes
 use Rattle.csl_words.specs.Elements.{content_in}
 use Rattle.csl_words.specs.Looking.{table, attribute, value_by, is_true, text_of}
@@ -22,7 +22,7 @@ use Rattle.csl_words.specs.declared.options.TheConstants.{DATE_FORMS, DATE_PARTS
 use Rattle.csl_words.specs.declared.variables.TheConstants.{DATE_VARIABLES, NUMBER_VARIABLES}
 use Rattle.csl_nodes.specs.Terms.{printed_variable, term_of}
 use Rattle.csl_nodes.specs.Looks.{look, text_case, text_look, term_form, label_look}
-use Rattle.csl_nodes.specs.Dates.{date_parts}
+use Rattle.csl_nodes.specs.Dates.{date_parts, part_changes}
 
 -- the year suffix
 abbrev pub year_suffix : Variable
@@ -87,6 +87,10 @@ date_form e = value_by (table DATE_FORMS.now) (codes "form") e
 abbrev pub own_parts : Element → List DatePart
 own_parts e = if is_some (date_form e) then [] else date_parts (content_in e)
 
+-- what a date changes of the parts of the locale, where it says a form
+abbrev pub form_changes : Element → List DatePartChange
+form_changes e = if is_some (date_form e) then part_changes (content_in e) else []
+
 -- the answer to a variable of a date
 abbrev pub date_of : Element → DateVariable → DateNode
 date_of e v = record {
@@ -94,7 +98,7 @@ date_of e v = record {
   form = date_form e;
   parts = unwrap_or (value_by (table DATE_PARTS.now) (codes "date-parts") e) cuts.YearMonthDay;
   own_parts = own_parts e;
-  overrides_form = false;
+  part_changes = form_changes e;
   delimiter = attribute (codes "delimiter") e;
   text_case = text_case e;
   look = look e;

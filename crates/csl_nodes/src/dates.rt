@@ -3,18 +3,20 @@
 ghost use Rattle.std.specs.Prelude.{◌≡◌, ℕ, List, map, IfOk};
 ghost use Rattle.std.specs.Option.{option_map};
 ghost use Rattle.rendering_locale.specs.Views.{part_view};
+ghost use Rattle.rendering_style.specs.Views.{part_change_view};
 ghost use Rattle.xml_tree.specs.Trees.{content_of};
 ghost use Rattle.xml_tree.specs.Views.{element_view, children_of};
 ghost use Rattle.csl_words.specs.Elements.{content_in};
-ghost use Rattle.csl_nodes.specs.Dates.{in_form, part_of, date_part, date_parts};
+ghost use Rattle.csl_nodes.specs.Dates.{in_form, part_of, named_part, date_part, date_parts, changed_in, change_of, part_change, part_changes};
 
 use crate::looks::{formatting, text_case};
 use crate::pushing::push_if;
 use csl_words::{
-    DATE_PART_NAMES, DAY_FORMS, LENGTHS, MONTH_FORMS, children_of, is_called, is_true,
+    DATE_PART_NAMES, DAY_FORMS, LENGTHS, MONTH_FORMS, children_of, is_called, is_set, is_true,
     optional_text, text_of, value_by,
 };
 use rendering_locale::DatePart;
+use rendering_style::{ChangedDatePart, DatePartChange};
 use rendering_taxonomy::DatePartForm;
 use std::alloc::{AllocError, Global};
 use xml_tree::Element;
@@ -54,14 +56,21 @@ fn part_of(alloc: Global, element: &Element<'_>, form: DatePartForm) -> Result<D
     })
 }
 
+/// The part of a date that an element names, in the form that it has where nothing else is said.
+fn named_part(element: &Element<'_>) -> Option<DatePartForm>
+    ensures { result ≡ named_part (element_view element.now) }
+{
+    if !is_called("date-part", element) {
+        return None;
+    }
+    value_by(DATE_PART_NAMES, "name", element)
+}
+
 /// The part of a date that an element is, if it is one.
 fn date_part(alloc: Global, element: &Element<'_>) -> Result<Option<DatePart>, AllocError>
     ensures { IfOk result (λ p. option_map part_view p ≡ date_part (element_view element.now)) }
 {
-    if !is_called("date-part", element) {
-        return Ok(None);
-    }
-    match value_by(DATE_PART_NAMES, "name", element) {
+    match named_part(element) {
         Some(form) => Ok(Some(part_of(alloc, element, form)?)),
         None => Ok(None),
     }
@@ -92,4 +101,71 @@ pub fn date_parts(alloc: Global, element: &Element<'_>) -> Result<Vec<DatePart>,
         ≡ date_parts (content_in (element_view element.now))) }
 {
     parts_among(alloc, children_of(element))
+}
+
+/// Which part an element changes, and the form that it says.
+fn changed_in(element: &Element<'_>, form: DatePartForm) -> ChangedDatePart
+    ensures { result ≡ changed_in (element_view element.now) form }
+{
+    match form {
+        DatePartForm::Day(_) => ChangedDatePart::Day(value_by(DAY_FORMS, "form", element)),
+        DatePartForm::Month(_) => ChangedDatePart::Month(value_by(MONTH_FORMS, "form", element)),
+        DatePartForm::Year(_) => ChangedDatePart::Year(value_by(LENGTHS, "form", element)),
+    }
+}
+
+/// What an element changes of a part of a date, but for its affixes.
+fn change_of(
+    alloc: Global,
+    element: &Element<'_>,
+    form: DatePartForm,
+) -> Result<DatePartChange, AllocError>
+    ensures { IfOk result (λ c. part_change_view c ≡ change_of (element_view element.now) form) }
+{
+    let range_delimiter = optional_text(alloc, "range-delimiter", element)?;
+    Ok(DatePartChange {
+        part: changed_in(element, form),
+        strip_periods: is_set("strip-periods", element),
+        text_case: text_case(element),
+        formatting: formatting(element),
+        range_delimiter,
+    })
+}
+
+/// The change of a part of a date that an element is, if it is one.
+fn part_change(alloc: Global, element: &Element<'_>) -> Result<Option<DatePartChange>, AllocError>
+    ensures { IfOk result (λ c. option_map part_change_view c
+        ≡ part_change (element_view element.now)) }
+{
+    match named_part(element) {
+        Some(form) => Ok(Some(change_of(alloc, element, form)?)),
+        None => Ok(None),
+    }
+}
+
+/// The changes of parts of a date among these elements, in their order.
+fn changes_among(
+    alloc: Global,
+    children: &[(String, Element<'_>)],
+) -> Result<Vec<DatePartChange>, AllocError>
+    ensures { IfOk result (λ v. (t : List ℕ) → map part_change_view v.items
+        ≡ part_changes (content_of (children_of children.now) t)) }
+{
+    let mut changes = Vec::new(alloc);
+    for child in children {
+        let change = part_change(alloc, &child.1)?;
+        push_if(&mut changes, change)?;
+    }
+    Ok(changes)
+}
+
+/// The changes of parts of a date in an element, in their order.
+pub(crate) fn part_changes(
+    alloc: Global,
+    element: &Element<'_>,
+) -> Result<Vec<DatePartChange>, AllocError>
+    ensures { IfOk result (λ v. map part_change_view v.items
+        ≡ part_changes (content_in (element_view element.now))) }
+{
+    changes_among(alloc, children_of(element))
 }

@@ -7,15 +7,15 @@ ghost use Rattle.laws.specs.Text.{text};
 ghost use Rattle.rendering_locale.specs.Views.{part_view};
 ghost use Rattle.rendering_taxonomy.specs.Variables.{is_variable};
 ghost use Rattle.rendering_style.specs.Nodes.{leaf, call, number, label, date, node, no_nodes};
-ghost use Rattle.rendering_style.specs.Views.{node_view, text_node_view, branch_view, condition_view};
+ghost use Rattle.rendering_style.specs.Views.{node_view, part_change_view, text_node_view, branch_view, condition_view};
 ghost use Rattle.xml_tree.specs.Views.{element_view};
 ghost use Rattle.csl_words.specs.Looking.{attribute};
 ghost use Rattle.csl_nodes.specs.Looks.{text_look, label_look};
 ghost use Rattle.csl_nodes.specs.Terms as terms;
-ghost use Rattle.csl_nodes.specs.Leaves.{year_suffix, has_suffix, where_suffixed, answered, variable_text, term_text, text_by, text_node, number_of, number_node, label_node, own_parts, date_of, date_node};
+ghost use Rattle.csl_nodes.specs.Leaves.{year_suffix, has_suffix, where_suffixed, answered, variable_text, term_text, text_by, text_node, number_of, number_node, label_node, own_parts, form_changes, date_of, date_node};
 ghost use Rattle.csl_nodes.specs.Views.{words_view};
 
-use crate::dates::date_parts;
+use crate::dates::{date_parts, part_changes};
 use crate::looks::{label_look, look, term_form, text_case, text_look};
 use crate::terms::{printed_variable, term_of};
 use crate::words::Words;
@@ -25,7 +25,8 @@ use csl_words::{
 };
 use rendering_locale::DatePart;
 use rendering_style::{
-    ChooseBranch, ChooseTest, Condition, Date, Label, Node, Number, Text, TextTarget,
+    ChooseBranch, ChooseTest, Condition, Date, DatePartChange, Label, Node, Number, Text,
+    TextTarget,
 };
 use rendering_taxonomy::{
     ChooseMatch, DateParts, DateVariable, LongShortForm, NumberForm, StandardVariable, Variable,
@@ -257,6 +258,17 @@ fn own_parts(alloc: Global, element: &Element<'_>) -> Result<Vec<DatePart>, Allo
     }
 }
 
+/// What a date changes of the parts of the locale: nothing, where it is printed in no form of the locale's.
+fn form_changes(alloc: Global, element: &Element<'_>) -> Result<Vec<DatePartChange>, AllocError>
+    ensures { IfOk result (λ v. map part_change_view v.items
+        ≡ form_changes (element_view element.now)) }
+{
+    match value_by(DATE_FORMS, "form", element) {
+        Some(_) => part_changes(alloc, element),
+        None => Ok(Vec::new(alloc)),
+    }
+}
+
 /// The answer to a variable of a date.
 fn date_of(alloc: Global, element: &Element<'_>, variable: DateVariable) -> Result<Node, AllocError>
     ensures { IfOk result (λ n. node_view n
@@ -264,6 +276,7 @@ fn date_of(alloc: Global, element: &Element<'_>, variable: DateVariable) -> Resu
 {
     let form = value_by(DATE_FORMS, "form", element);
     let own_parts = own_parts(alloc, element)?;
+    let part_changes = form_changes(alloc, element)?;
     let delimiter = optional_text(alloc, "delimiter", element)?;
     let look = look(alloc, element)?;
     Ok(Node::Date(Date {
@@ -271,7 +284,7 @@ fn date_of(alloc: Global, element: &Element<'_>, variable: DateVariable) -> Resu
         form,
         parts: value_by(DATE_PARTS, "date-parts", element).unwrap_or(DateParts::YearMonthDay),
         own_parts,
-        overrides_form: false,
+        part_changes,
         delimiter,
         text_case: text_case(element),
         look,

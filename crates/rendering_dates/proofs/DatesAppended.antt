@@ -25,11 +25,11 @@ append-between quotes m ps qs cs old first middle new a b c =
     c ∙ ap (append_pieces quotes qs) (append-after quotes m ps cs old first middle a b) ∙ sym (fold-append (append_piece quotes) old (ps ++ normal m cs ∷ []) qs)
 
 -- where two do not print alike, the first without a year suffix, a text and the other
-pub append-apart : (quotes : Quotes) (m : Manner) (alike : Bool) (side : List ℕ → List Piece) (ps qs : List Piece) (cs : List ℕ) (old first middle new : Page)
-    → alike ≡ false → first ≡ append_pieces quotes (side (chars [])) old → middle ≡ append_normal quotes m cs first → new ≡ append_pieces quotes qs middle
+pub append-apart : (quotes : Quotes) (m : Manner) (alike : Bool) (side : List ℕ → List Piece) (ps qs : List Piece) (cs ds : List ℕ) (old first middle new : Page)
+    → alike ≡ false → ds ≡ cs → first ≡ append_pieces quotes (side (chars [])) old → middle ≡ append_normal quotes m ds first → new ≡ append_pieces quotes qs middle
     → new ≡ append_pieces quotes (if alike then ps else side [] ++ normal m cs ∷ [] ++ qs) old
-append-apart quotes m alike side ps qs cs old first middle new apart a b c =
-    append-between quotes m (side (chars [])) qs cs old first middle new a b c
+append-apart quotes m alike side ps qs cs ds old first middle new apart is a b c =
+    append-between quotes m (side (chars [])) qs cs old first middle new a (b ∙ ap (λ (t : List ℕ). append_normal quotes m t first) is) c
     ∙ (λ i. append_pieces quotes (if sym apart i then ps else side (chars-nil i) ++ normal m cs ∷ [] ++ qs) old)
 
 -- what a side prints on a page of its own

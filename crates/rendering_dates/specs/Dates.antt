@@ -1,7 +1,7 @@
 -- Dates as they are printed, alone and as ranges. A side of a range is viewed as a date of its own.
-use Rattle.std.specs.Prelude.{ℕ, ◌+◌, Bool, true, false, ◌||◌, List, [], ◌∷◌, ◌++◌, filter, if◌then◌else◌, Option, Some, None, ℤ, pos, codes}
-use Rattle.std.specs.List.{flat_map}
-use Rattle.std.specs.Option.{option_map_or, unwrap_or}
+use Rattle.std.specs.Prelude.{ℕ, ◌+◌, Bool, true, false, not, ◌&&◌, ◌||◌, ◌==◌, List, [], ◌∷◌, ◌++◌, filter, if◌then◌else◌, Option, Some, None, ℤ, pos, codes}
+use Rattle.std.specs.List.{find, flat_map}
+use Rattle.std.specs.Option.{option_and_then, option_eq, option_map_or, unwrap_or}
 use Rattle.std.specs.Ordering.{int_eq}
 use Rattle.std.specs.Fmt.{decimal}
 use Rattle.std.specs.Str.{bytes_eq}
@@ -15,7 +15,7 @@ use Rattle.rendering_locale.specs.Locales.{Locale, DatePart}
 use Rattle.rendering_locale.specs.Lookup.{term, term_text, ordinals_of}
 use Rattle.rendering_numbers.specs.Numbers.{ordinal_text}
 use Rattle.rendering_numbers.specs.Years.{year_text}
-use Rattle.rendering_page.specs.Pages.{Manner, Frame, empty_page}
+use Rattle.rendering_page.specs.Pages.{Manner, uncased, with_case, Frame, empty_page}
 use Rattle.rendering_page.specs.Pieces.{Piece, normal, framed, append_pieces}
 use Rattle.rendering_page.specs.PageCharacters.{page_text}
 use Rattle.rendering_taxonomy.specs.declared.date.LongShortForm.{LongShortForm}
@@ -87,7 +87,7 @@ cut_to cut s = record s { parts = filter (λ p. is_within cut p.form) s.parts }
 
 -- how a part's own text is appended
 abbrev pub part_manner : Manner → DatePart → Manner
-part_manner m p = record { formatting = changed p.formatting m.formatting; strips_periods = m.strips_periods || p.strips_periods }
+part_manner m p = with_case p.text_case (record m { formatting = changed p.formatting m.formatting; strips_periods = m.strips_periods || p.strips_periods })
 
 -- a part's affixes, which look as what is around the part
 abbrev pub part_frame : Manner → DatePart → Frame
@@ -98,10 +98,10 @@ abbrev pub year_suffix_of : DatePartForm → List ℕ → List ℕ
 year_suffix_of (parts.Year form) year_suffix = year_suffix
 year_suffix_of p year_suffix = []
 
--- a text of a part, with the year suffix directly after it, in the part's affixes
+-- a text of a part, with the year suffix, whose case stays, directly after it, in the part's affixes
 abbrev pub text_pieces : Manner → List ℕ → DatePart → List ℕ → List Piece
 text_pieces m year_suffix p cs =
-    framed (part_frame m p) (normal (part_manner m p) cs ∷ normal (part_manner m p) (year_suffix_of p.form year_suffix) ∷ [])
+    framed (part_frame m p) (normal (part_manner m p) cs ∷ normal (uncased (part_manner m p)) (year_suffix_of p.form year_suffix) ∷ [])
 
 -- the pieces of a text of a part, or nothing where the text is empty
 abbrev pub filled_pieces : Manner → List ℕ → DatePart → List ℕ → List (List Piece)
@@ -128,16 +128,34 @@ side_pieces ls m shape year_suffix d = joined_with (normal m shape.delimiter ∷
 abbrev pub side_text : List Locale → Manner → DateShape → Date → List ℕ
 side_text ls m shape d = page_text (append_pieces [] (side_pieces ls m shape [] d) empty_page).tokens
 
--- the text between the sides of a range: an en dash
+-- an en dash
 abbrev pub dash : List ℕ
 dash = codes "–"
 
--- the first side, a dash and the last side, which has the year suffix; where both print the same, the first alone
+-- whether two dates are of one year
+abbrev pub is_same_year : Date → Date → Bool
+is_same_year first last = int_eq first.year last.year
+
+-- whether they are of one month, whatever their years are, or both of none
+abbrev pub is_same_month : Date → Date → Bool
+is_same_month first last = option_eq (λ m n. m == n) first.month last.month
+
+-- whether a part is the largest in which they differ, if they differ
+abbrev pub differs_first : Date → Date → DatePartForm → Bool
+differs_first first last (parts.Year form) = not (is_same_year first last)
+differs_first first last (parts.Month form) = is_same_year first last && not (is_same_month first last)
+differs_first first last (parts.Day form) = is_same_year first last && is_same_month first last
+
+-- what stands between the sides of a range: the delimiter of the part that is the largest in which they differ, or an en dash
+abbrev pub range_delimiter : Date → Date → List DatePart → List ℕ
+range_delimiter first last ps = unwrap_or (option_and_then (λ p. p.range_delimiter) (find (λ p. differs_first first last p.form) ps)) dash
+
+-- the first side, what stands between and the last side, which has the year suffix; where both print the same, the first alone
 abbrev pub both_pieces : List Locale → Manner → DateShape → List ℕ → Date → Date → List Piece
 both_pieces ls m shape year_suffix first last =
     if bytes_eq (side_text ls m shape first) (side_text ls m shape last)
     then side_pieces ls m shape year_suffix first
-    else side_pieces ls m shape [] first ++ normal m dash ∷ [] ++ side_pieces ls m shape year_suffix last
+    else side_pieces ls m shape [] first ++ normal m (range_delimiter first last shape.parts) ∷ [] ++ side_pieces ls m shape year_suffix last
 
 -- what a range ends with, as a date of its own
 abbrev pub last_side : Date → ℤ → Option ℕ → Option ℕ → Date

@@ -1,3 +1,4 @@
+pub mod Changes
 pub mod Dates
 pub mod Joined
 pub mod Views

@@ -1,22 +1,43 @@
 -- The code's values without where they lie in memory.
 use Rattle.std.specs.Prelude.{ℕ, List, [], ◌∷◌, map, filter, if◌then◌else◌}
 use Rattle.std.specs.List.{flat_map}
+use Rattle.std.specs.Option.{option_map}
 use Rattle.laws.specs.Text.{characters, spelled}
 use Rattle.literature_values.specs.declared.date.Date.{Date}
 use Rattle.rendering_locale.specs.Locales.{DatePart}
 use Rattle.rendering_locale.specs.Views.{part_view}
+use Rattle.rendering_style.specs.Views.{part_change_view}
+use Rattle.rendering_taxonomy.specs.Views.{changes_view}
 use Rattle.rendering_page.specs.Pieces.{Piece, normal}
 use Rattle.rendering_page.specs.Views.{manner_view}
+use Rattle.rendering_dates.specs.Changes.{changed_part}
 use Rattle.rendering_dates.specs.Dates as dates
 use Rattle.rendering_dates.specs.Dates.{cut_to, is_within, part_pieces, side_pieces}
+use Rattle.rendering_dates.specs.declared.changes.PrintedPart.{PrintedPart}
 use Rattle.rendering_dates.specs.declared.parts.PartText.{PartText}
 use Rattle.rendering_dates.specs.declared.parts.PartText.TheVariants.{Absent, Word, Number}
 use Rattle.rendering_dates.specs.declared.shape.DateShape.{DateShape}
 use Rattle.rendering_dates.specs.declared.sides.DateStyle.{DateStyle}
 
+-- a part as it is printed
+abbrev pub printed_view : PrintedPart → DatePart
+printed_view p = record {
+  form = p.form;
+  strips_periods = p.strip_periods;
+  text_case = p.text_case;
+  formatting = changes_view p.formatting;
+  prefix = spelled p.prefix;
+  suffix = spelled p.suffix;
+  range_delimiter = option_map spelled p.range_delimiter;
+}
+
+-- parts with the changes of a shape
+abbrev pub changed_by : DateShape → List DatePart → List DatePart
+changed_by s ps = map (changed_part (map part_change_view s.changes.now)) ps
+
 -- all parts of a shape, and the text between two of them
 abbrev pub whole_shape : DateShape → dates.DateShape
-whole_shape s = record { parts = map part_view s.parts.now; delimiter = spelled s.delimiter }
+whole_shape s = record { parts = changed_by s (map part_view s.parts.now); delimiter = spelled s.delimiter }
 
 -- a shape with the parts that are printed
 abbrev pub shape_view : DateShape → dates.DateShape

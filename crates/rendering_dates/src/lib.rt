@@ -2,6 +2,8 @@
 //! affixes; both sides of a range; and years alone.
 #![tactic(auto)]
 
+mod changes;
+mod delimiters;
 mod parts;
 mod printed;
 mod ranges;

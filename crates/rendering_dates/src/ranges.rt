@@ -16,8 +16,9 @@ use std::alloc::AllocError;
 impl<'s, 'a> DateStyle<'s, 'a> {
     /// Appends a date: the parts of the shape that it has, each with its look and its affixes, with the delimiter between any
     /// two, and the year suffix. Of a range that prints its two sides alike the first side is appended, of
-    /// another one the first side, an en dash and the last side, which alone has the year suffix; of a range that has no end yet the
-    /// first side with the year suffix, and an en dash. Nothing is promised of the page after an error.
+    /// another one the first side, the delimiter of the part that is the largest in which they differ, or an en dash, and the last
+    /// side, which alone has the year suffix; of a range that has no end yet the first side with the year suffix, and an en dash.
+    /// Nothing is promised of the page after an error.
     ///
     /// # Errors
     /// Out of memory alone.
@@ -43,7 +44,7 @@ impl<'s, 'a> DateStyle<'s, 'a> {
         }
     }
 
-    /// Appends both sides of a range with an en dash between them, or the first alone where they print the same.
+    /// Appends both sides of a range with what stands between them, or the first alone where they print the same.
     fn push_both(
         &self,
         page: &mut Page<'a>,
@@ -58,8 +59,9 @@ impl<'s, 'a> DateStyle<'s, 'a> {
         if self.prints_alike(first, last)? {
             return self.push_side(page, year_suffix, first);
         }
+        let delimiter = self.shape.range_delimiter(first, last);
         self.push_side(page, "", first)?;
-        self.push_dash(page)?;
+        page.push_text(self.quotes, self.manner, delimiter)?;
         self.push_side(page, year_suffix, last)
     }
 

@@ -4,6 +4,7 @@ ghost use Rattle.std.specs.Prelude.{◌≡◌};
 ghost use Rattle.rendering_dates.specs.Dates.{is_within};
 
 use rendering_locale::DatePart;
+use rendering_style::DatePartChange;
 use rendering_taxonomy::{DatePartForm, DateParts};
 
 /// The parts of a date to print, and what stands between them.
@@ -11,6 +12,8 @@ use rendering_taxonomy::{DatePartForm, DateParts};
 pub struct DateShape<'a> {
     /// The parts in the order in which they are printed.
     pub parts: &'a [DatePart],
+    /// What is changed of the parts. Of several changes of a part the first counts.
+    pub changes: &'a [DatePartChange],
     /// How much of a date is printed. A part that is finer is left out.
     pub cut: DateParts,
     /// The text between two parts that are printed.

@@ -4,16 +4,16 @@ ghost use Rattle.std.specs.Prelude.{◌≡◌, IfOk, OnOk};
 ghost use Rattle.std.specs.Str.{chars};
 ghost use Rattle.rendering_dates.specs.Dates.{filled_pieces};
 ghost use Rattle.rendering_dates.specs.Joined.{joined_from, still_first, before_next};
-ghost use Rattle.rendering_dates.specs.Views.{part_text_view, delimiter_by, part_by, side_by};
-ghost use Rattle.rendering_locale.specs.Views.{part_view};
+ghost use Rattle.rendering_dates.specs.Views.{part_text_view, printed_view, delimiter_by, part_by, side_by};
 ghost use Rattle.rendering_page.specs.Pieces.{append_pieces};
 ghost use Rattle.rendering_page.specs.Views.{quotes_view, manner_view};
 
+use crate::changes::{PrintedPart, printed_part};
 use crate::parts::{PartText, part_text};
 use crate::printed::push_part;
 use crate::shape::{DateShape, is_within};
 use literature_values::Date;
-use rendering_locale::{AskedLocales, DatePart};
+use rendering_locale::AskedLocales;
 use rendering_page::{Manner, Page};
 use std::alloc::{AllocError, Global};
 
@@ -43,7 +43,8 @@ impl<'s, 'a> DateStyle<'s, 'a> {
     {
         let mut is_first = true;
         for part in self.shape.parts {
-            is_first = self.push_next(page, year_suffix, date, is_first, part)?;
+            let part = printed_part(part, self.shape.changes);
+            is_first = self.push_next(page, year_suffix, date, is_first, &part)?;
         }
         Ok(())
     }
@@ -55,13 +56,13 @@ impl<'s, 'a> DateStyle<'s, 'a> {
         year_suffix: &'a str,
         date: &Date,
         is_first: bool,
-        part: &'a DatePart,
+        part: &PrintedPart<'a>,
     ) -> Result<bool, AllocError>
         ensures page { OnOk result (page.new ≡ append_pieces
             (quotes_view self.now.quotes.now) (joined_from is_first (delimiter_by self.now)
-            (part_by self.now (chars year_suffix.now) date.now (part_view part.now))) page.old) }
+            (part_by self.now (chars year_suffix.now) date.now (printed_view part.now))) page.old) }
         ensures first { IfOk result (λ b. b ≡ still_first is_first
-            (part_by self.now (chars year_suffix.now) date.now (part_view part.now))) }
+            (part_by self.now (chars year_suffix.now) date.now (printed_view part.now))) }
     {
         if !is_within(self.shape.cut, part.form) {
             return Ok(is_first);
@@ -77,16 +78,16 @@ impl<'s, 'a> DateStyle<'s, 'a> {
         page: &mut Page<'a>,
         year_suffix: &'a str,
         is_first: bool,
-        part: &'a DatePart,
+        part: &PrintedPart<'a>,
         text: PartText<'a>,
     ) -> Result<bool, AllocError>
         ensures page { OnOk result (page.new
             ≡ append_pieces (quotes_view self.now.quotes.now) (joined_from is_first
             (delimiter_by self.now) (filled_pieces (manner_view self.now.manner)
-            (chars year_suffix.now) (part_view part.now) (part_text_view text.entry))) page.old) }
+            (chars year_suffix.now) (printed_view part.now) (part_text_view text.entry))) page.old) }
         ensures first { IfOk result (λ b. b
             ≡ still_first is_first (filled_pieces (manner_view self.now.manner)
-            (chars year_suffix.now) (part_view part.now) (part_text_view text.entry))) }
+            (chars year_suffix.now) (printed_view part.now) (part_text_view text.entry))) }
     {
         if !text.is_filled() {
             return Ok(is_first);

@@ -1,5 +1,5 @@
 -- What text, number, label and date nodes append.
-use Rattle.std.specs.Prelude.{ℕ, Bool, true, false, ◌||◌, List, [], ◌∷◌, ◌++◌, if◌then◌else◌, Option, Some, None}
+use Rattle.std.specs.Prelude.{ℕ, Bool, true, false, ◌||◌, List, [], ◌∷◌, ◌++◌, map, if◌then◌else◌, Option, Some, None}
 use Rattle.std.specs.Option.{option_and_then, option_map_or, unwrap_or}
 use Rattle.rendering_taxonomy.specs.Formats.{changed}
 use Rattle.rendering_taxonomy.specs.Variables.{is_variable}
@@ -12,6 +12,7 @@ use Rattle.literature_values.specs.TypedViews.{ValueOrText, Value, Text}
 use Rattle.rendering_numbers.specs.Numbers.{numeral_or_text}
 use Rattle.rendering_ranges.specs.Ranges.{pages_in}
 use Rattle.literature_values.specs.declared.date.Date.{Date}
+use Rattle.rendering_dates.specs.Changes.{changed_part}
 use Rattle.rendering_dates.specs.Dates.{DateShape, cut_to, date_pieces}
 use Rattle.rendering_page.specs.Pages.{Manner, uncased, with_case, Frame}
 use Rattle.rendering_page.specs.Pieces.{Piece, normal, close_quote, linked, own_locator, framed, chunk_pieces}
@@ -156,10 +157,10 @@ abbrev pub own_or : List DatePart → List DatePart → List DatePart
 own_or [] others = others
 own_or (p ∷ ps) others = p ∷ ps
 
--- the parts of a date and what stands between them: a node's own, or else those of the locale for its form
+-- the parts of a date, with what is changed of them, and what stands between them: a node's own, or else those of the locale for its form
 abbrev pub shape_of : Context → DateNode → DateShape
 shape_of c d = record {
-  parts = own_or d.own_parts (option_map_or (λ l. l.parts) (localized c d) []);
+  parts = map (changed_part d.part_changes) (own_or d.own_parts (option_map_or (λ l. l.parts) (localized c d) []));
   delimiter = unwrap_or d.delimiter (option_map_or (λ l. l.delimiter) (localized c d) []);
 }
 

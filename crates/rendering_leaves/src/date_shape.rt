@@ -1,4 +1,4 @@
-//! The parts of a date node and what stands between them: its own, or else those of a locale.
+//! The parts of a date node, what is changed of them, and what stands between them: its own, or else those of a locale.
 
 ghost use Rattle.std.specs.Prelude.{◌≡◌, [], map};
 ghost use Rattle.std.specs.Option.{option_and_then, option_map, option_map_or, unwrap_or};
@@ -19,7 +19,7 @@ use rendering_style::Date;
 use rendering_taxonomy::DateForm;
 use texts::no_text;
 
-/// The parts of a date node, cut to so much of a date, and what stands between them.
+/// The parts of a date node with what is changed of them, cut to so much of a date, and what stands between them.
 pub(crate) fn date_shape<'a>(context: &Context<'_, 'a>, node: &'a Date) -> DateShape<'a>
     ensures { (a : Answers) → shape_view result
         ≡ cut_to node.now.parts (shape_of (context_view a context.now) (date_node_view node.now)) }
@@ -27,6 +27,7 @@ pub(crate) fn date_shape<'a>(context: &Context<'_, 'a>, node: &'a Date) -> DateS
     let localized = localized(context.locales, node.form);
     DateShape {
         parts: own_or_localized(&node.own_parts, localized),
+        changes: &node.part_changes,
         cut: node.parts,
         delimiter: delimiter_of(&node.delimiter, localized),
     }

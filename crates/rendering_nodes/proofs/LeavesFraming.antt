@@ -138,11 +138,12 @@ ends_side ls m shape year_suffix d =
 ends_sides : (ls : List Locale) (m : Manner) (shape : DateShape) (year_suffix : List ℕ) (first last : Date) → EndAll (dates.both_pieces ls m shape year_suffix first last)
 ends_sides ls m shape year_suffix first last =
     let one = dates.side_pieces ls m shape [] first in
-    let dash = normal m dates.dash ∷ [] in
+    let delimiter = dates.range_delimiter first last shape.parts in
+    let between = normal m delimiter ∷ [] in
     let other = dates.side_pieces ls m shape year_suffix last in
-    let begins = ends_both one dash (ends_side ls m shape [] first) (ends_normal m dates.dash) in
-    ends_either (bytes_eq (dates.side_text ls m shape first) (dates.side_text ls m shape last)) (dates.side_pieces ls m shape year_suffix first) ((one ++ dash) ++ other)
-    (ends_side ls m shape year_suffix first) (ends_both (one ++ dash) other begins (ends_side ls m shape year_suffix last))
+    let begins = ends_both one between (ends_side ls m shape [] first) (ends_normal m delimiter) in
+    ends_either (bytes_eq (dates.side_text ls m shape first) (dates.side_text ls m shape last)) (dates.side_pieces ls m shape year_suffix first) ((one ++ between) ++ other)
+    (ends_side ls m shape year_suffix first) (ends_both (one ++ between) other begins (ends_side ls m shape year_suffix last))
 
 ends_to : (ls : List Locale) (m : Manner) (shape : DateShape) (year_suffix : List ℕ) (d : Date) (e : Option DateEnd) → EndAll (dates.ended_pieces ls m shape year_suffix d e)
 ends_to ls m shape year_suffix d None = ends_side ls m shape year_suffix d

@@ -3,6 +3,7 @@ use Rattle.std.specs.Prelude.{ℕ, Bool, List, [], ◌∷◌, Option, None}
 use Rattle.rendering_taxonomy.specs.Formats.{Changes, unchanged}
 use Rattle.rendering_locale.specs.Locales.{DatePart}
 use Rattle.rendering_style.specs.Options.{NameOptions}
+use Rattle.rendering_style.specs.declared.node.ChangedDatePart.{ChangedDatePart}
 use Rattle.rendering_taxonomy.specs.declared.choose.ChooseMatch.{ChooseMatch}
 use Rattle.rendering_taxonomy.specs.declared.choose.TestPosition.{TestPosition}
 use Rattle.rendering_taxonomy.specs.declared.date.LongShortForm.{LongShortForm}
@@ -60,14 +61,23 @@ pub record LabelLook : Type 0 where
   pub text_case : Option TextCase
   pub look : Look
 
--- The answer to a date variable: in parts of the style's own, or in those of the locale's dates of a form; cut to so much of it. Own parts
--- may say how the locale's are printed.
+-- what changes of a part of a date: its form, whether its full stops go, the case of its letters, its look, and what stands between the
+-- sides of a range that differ in it, each if it is said
+pub record DatePartChange : Type 0 where
+  pub part : ChangedDatePart
+  pub strips_periods : Option Bool
+  pub text_case : Option TextCase
+  pub formatting : Changes
+  pub range_delimiter : Option (List ℕ)
+
+-- The answer to a date variable: in parts of the style's own, or in those of the locale's dates of a form; cut to so much of it. The parts
+-- may be changed.
 pub record DateNode : Type 0 where
   pub variable : DateVariable
   pub form : Option DateForm
   pub parts : DateParts
   pub own_parts : List DatePart
-  pub overrides_form : Bool
+  pub part_changes : List DatePartChange
   pub delimiter : Option (List ℕ)
   pub text_case : Option TextCase
   pub look : Look

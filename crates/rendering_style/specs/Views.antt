@@ -18,6 +18,7 @@ use Rattle.rendering_style.specs.declared.node.TextTarget.{TextTarget}
 use Rattle.rendering_style.specs.declared.node.TextTarget.TheVariants as targets
 use Rattle.rendering_style.specs.declared.node.Number.{Number}
 use Rattle.rendering_style.specs.declared.node.LabelLook.{LabelLook}
+use Rattle.rendering_style.specs.declared.node.DatePartChange.{DatePartChange}
 use Rattle.rendering_style.specs.declared.node.Date.{Date}
 use Rattle.rendering_style.specs.declared.node.Name.{Name}
 use Rattle.rendering_style.specs.declared.node.NamePart.{NamePart}
@@ -85,6 +86,16 @@ number_node_view n = record { variable = n.variable; form = n.form; text_case = 
 abbrev pub label_look_view : LabelLook → nodes.LabelLook
 label_look_view l = record { form = l.form; plural = l.plural; strips_periods = l.strip_periods; text_case = l.text_case; look = look_view l.look }
 
+-- what changes of a part of a date
+abbrev pub part_change_view : DatePartChange → nodes.DatePartChange
+part_change_view c = record {
+  part = c.part;
+  strips_periods = c.strip_periods;
+  text_case = c.text_case;
+  formatting = changes_view c.formatting;
+  range_delimiter = option_map characters c.range_delimiter;
+}
+
 -- a date
 abbrev pub date_node_view : Date → nodes.DateNode
 date_node_view d = record {
@@ -92,7 +103,7 @@ date_node_view d = record {
   form = d.form;
   parts = d.parts;
   own_parts = map part_view d.own_parts.items;
-  overrides_form = d.overrides_form;
+  part_changes = map part_change_view d.part_changes.items;
   delimiter = option_map characters d.delimiter;
   text_case = d.text_case;
   look = look_view d.look;

@@ -13,8 +13,8 @@ mod style;
 
 pub use error::StyleError;
 pub use node::{
-    ChooseBranch, ChooseTest, Condition, Date, EtAl, Group, Label, LabelLook, Look, Name, NamePart,
-    Names, Node, Number, Text, TextLook, TextTarget,
+    ChangedDatePart, ChooseBranch, ChooseTest, Condition, Date, DatePartChange, EtAl, Group, Label,
+    LabelLook, Look, Name, NamePart, Names, Node, Number, Text, TextLook, TextTarget,
 };
 pub use opening::opening_deeper_changes_nothing;
 pub use options::NameOptions;

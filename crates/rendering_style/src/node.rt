@@ -3,9 +3,9 @@
 use crate::options::NameOptions;
 use rendering_locale::DatePart;
 use rendering_taxonomy::{
-    ChooseMatch, DateForm, DateParts, DateVariable, Display, EtAlTerm, FormattingChanges, Kind,
-    LabelPluralize, Locator, LongShortForm, NameVariable, NumberForm, Term, TermForm, TestPosition,
-    TextCase, Variable,
+    ChooseMatch, DateDayForm, DateForm, DateMonthForm, DateParts, DateVariable, Display, EtAlTerm,
+    FormattingChanges, Kind, LabelPluralize, Locator, LongShortForm, NameVariable, NumberForm,
+    Term, TermForm, TestPosition, TextCase, Variable,
 };
 use std::alloc::Global;
 use texts::empty_text;
@@ -99,6 +99,27 @@ pub struct Label {
     pub label: LabelLook,
 }
 
+/// Which part of a date is changed, and the form in which it is printed then, if one is said.
+#[derive(Clone, Copy, Debug, PartialEq, Eq)]
+pub enum ChangedDatePart {
+    Day(Option<DateDayForm>),
+    Month(Option<DateMonthForm>),
+    Year(Option<LongShortForm>),
+}
+
+/// What changes of a part of a date. What is left open stays as it is, and so do the affixes of the part.
+#[derive(Debug, PartialEq, Eq, Drop)]
+pub struct DatePartChange {
+    pub part: ChangedDatePart,
+    /// Whether its full stops are left out.
+    pub strip_periods: Option<bool>,
+    /// Which letters of what it prints are made small or capitals.
+    pub text_case: Option<TextCase>,
+    pub formatting: FormattingChanges,
+    /// The text between the sides of a range that differ in it.
+    pub range_delimiter: Option<String>,
+}
+
 /// The answer to a date variable.
 #[derive(Debug, PartialEq, Eq, Drop)]
 pub struct Date {
@@ -109,8 +130,8 @@ pub struct Date {
     pub parts: DateParts,
     /// The parts that are printed instead of the locale's, where there are any.
     pub own_parts: Vec<DatePart>,
-    /// Whether its own parts say how the locale's parts are printed, instead of standing for them.
-    pub overrides_form: bool,
+    /// What changes of the parts that are printed. Of several changes of a part the first counts.
+    pub part_changes: Vec<DatePartChange>,
     /// The text between its parts.
     pub delimiter: Option<String>,
     /// Which letters of what it prints are made small or capitals.

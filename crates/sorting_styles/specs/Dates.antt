@@ -1,5 +1,5 @@
 -- Dates as they print for sorting: year, month and day in digits, each where the date prints it.
-use Rattle.std.specs.Prelude.{Bool, true, false, not, ◌&&◌, ◌||◌, List, [], ◌∷◌, ◌++◌, if◌then◌else◌, Some, None, is_none}
+use Rattle.std.specs.Prelude.{Bool, true, false, not, ◌||◌, List, [], ◌∷◌, ◌++◌, if◌then◌else◌, Some, None, is_none}
 use Rattle.std.specs.List.{list_any}
 use Rattle.laws.specs.Text.{is_filled}
 use Rattle.rendering_taxonomy.specs.Formats.{unchanged}
@@ -37,7 +37,7 @@ has_part ps form = list_any (λ p. is_same_part p.form form) ps
 
 -- Whether a date prints its own parts alone: they stand for those of the locale, or there is no form of the locale's.
 abbrev pub prints_own : DateNode → Bool
-prints_own d = not d.overrides_form && (is_filled d.own_parts || is_none d.form)
+prints_own d = is_filled d.own_parts || is_none d.form
 
 -- whether a date may print a part, before it is cut
 abbrev pub may_print : DateNode → DatePartForm → Bool
@@ -59,6 +59,6 @@ sorting_date d =
     record d {
       form = None;
       own_parts = sorting_parts d;
-      overrides_form = false;
+      part_changes = [];
       delimiter = Some [];
     }

@@ -55,7 +55,7 @@ fn has_part(parts: &[DatePart], form: DatePartForm) -> bool
 fn prints_own(date: &Date) -> bool
     ensures { result ≡ specs.prints_own (date_node_view date.now) }
 {
-    !date.overrides_form && (!date.own_parts.is_empty() || date.form.is_none())
+    !date.own_parts.is_empty() || date.form.is_none()
 }
 
 /// Whether a date may print a part, before it is cut.
@@ -116,7 +116,7 @@ pub(crate) fn change_date(alloc: Global, date: &mut Date) -> Result<(), AllocErr
     let own_parts = sorting_parts(alloc, date)?;
     date.form = None;
     date.own_parts = own_parts;
-    date.overrides_form = false;
+    date.part_changes = Vec::new(alloc);
     date.delimiter = Some(empty_text(alloc));
     Ok(())
 }

@@ -1,12 +1,13 @@
 //! Dates as styles print them.
 
 use crate::printed::pages::{manner, put_characters, put_page_tree};
-use crate::styles::{PARTS, date_parts, locales};
+use crate::styles::{PARTS, date_parts, locales, part_changes};
 use cases::{Refusal, Session, Value, given};
 use literature::Date;
 use rendering_dates::{DateShape, DateStyle, push_years};
 use rendering_locale::{AskedLocales, DatePart, Locale};
 use rendering_page::Page;
+use rendering_style::DatePartChange;
 use rendering_taxonomy::DateParts;
 
 /// Writes the years of a date as the member `years`.
@@ -42,26 +43,31 @@ pub(crate) fn text_or_none<'v>(
 }
 
 /// The parts that a case prints, and what stands between them.
-fn shape<'a>(session: &mut Session, case: &'a Value<'_>, parts: &'a [DatePart]) -> DateShape<'a> {
+fn shape<'a>(
+    session: &mut Session,
+    case: &'a Value<'_>,
+    parts: &'a [DatePart],
+    changes: &'a [DatePartChange],
+) -> DateShape<'a> {
     let cut = session.word_or(case, "parts", PARTS, DateParts::YearMonthDay);
     let delimiter = text_or_none(session, case, "delimiter");
     DateShape {
         parts,
+        changes,
         cut,
         delimiter,
     }
 }
 
-/// Writes how the date of a case is printed by these locales and parts.
+/// Writes how the date of a case is printed by these locales and in this shape.
 fn put_shaped<'s, 'a>(
     session: &mut Session,
     case: &'a Value<'_>,
     quotes: &'s [&'s str],
     locales: &'s AskedLocales<'a>,
-    parts: &'a [DatePart],
+    shape: DateShape<'a>,
 ) {
     let manner = manner(session, case);
-    let shape = shape(session, case, parts);
     let style = DateStyle {
         alloc: session.alloc,
         quotes,
@@ -75,18 +81,18 @@ fn put_shaped<'s, 'a>(
     put_years(session, locales, &date);
 }
 
-/// Writes how the date of a case is printed by these locales and parts, with the close quotes of the case.
+/// Writes how the date of a case is printed by these locales and in this shape, with the close quotes of the case.
 fn put_asked<'a>(
     session: &mut Session,
     case: &'a Value<'_>,
     own: &'a [Locale],
     files: &'a [Locale],
-    parts: &'a [DatePart],
+    shape: DateShape<'a>,
 ) {
     let quotes = session.texts(case, "quotes");
     let code = session.text(case, "code");
     match AskedLocales::new(session.alloc, code, own, files) {
-        Ok(asked) => put_shaped(session, case, quotes.as_slice(), &asked, parts),
+        Ok(asked) => put_shaped(session, case, quotes.as_slice(), &asked, shape),
         Err(_) => session.refuse(Refusal::Memory),
     }
 }
@@ -94,15 +100,18 @@ fn put_asked<'a>(
 /// Writes how the date of a case is printed by these locales.
 fn put_listed(session: &mut Session, case: &Value<'_>, own: &[Locale], files: &[Locale]) {
     let parts = date_parts(session, case);
-    put_asked(session, case, own, files, parts.as_slice());
+    let changes = part_changes(session, case);
+    let shape = shape(session, case, parts.as_slice(), changes.as_slice());
+    put_asked(session, case, own, files, shape);
 }
 
 /// The members of a case.
-const MEMBERS: [&str; 15] = [
+const MEMBERS: [&str; 16] = [
     "case",
     "name",
     "date",
     "date_parts",
+    "part_changes",
     "parts",
     "delimiter",
     "letters",

@@ -2,6 +2,8 @@
 
 use crate::styles::terms::form_of;
 use cases::{Session, Value};
+use csl_words::LENGTHS;
+use rendering_style::ChangedDatePart;
 use rendering_taxonomy::{DateDayForm, DateForm, DateMonthForm, DatePartForm, DateParts};
 
 /// Forms of a locale's dates.
@@ -30,8 +32,17 @@ const DAYS: &[(&str, DateDayForm)] = &[
     ("ordinal", DateDayForm::Ordinal),
 ];
 
+/// The name of a part of a date.
+fn part_name<'v>(session: &mut Session, part: &Value<'v>) -> &'v str {
+    let name = session.text(part, "name");
+    if !matches!(name, "year" | "month" | "day") {
+        session.want("name", "year, month or day");
+    }
+    name
+}
+
 pub(crate) fn part_form(session: &mut Session, part: &Value<'_>) -> DatePartForm {
-    match session.text(part, "name") {
+    match part_name(session, part) {
         "month" => {
             let form = session.word_or(part, "form", MONTHS, DateMonthForm::Long);
             DatePartForm::Month(form)
@@ -40,11 +51,15 @@ pub(crate) fn part_form(session: &mut Session, part: &Value<'_>) -> DatePartForm
             let form = session.word_or(part, "form", DAYS, DateDayForm::Numeric);
             DatePartForm::Day(form)
         }
-        name => {
-            if name != "year" {
-                session.want("name", "year, month or day");
-            }
-            DatePartForm::Year(form_of(session, part))
-        }
+        _ => DatePartForm::Year(form_of(session, part)),
+    }
+}
+
+/// The part that a change is of, and the form that the part gets, if one is given.
+pub(crate) fn changed_part(session: &mut Session, change: &Value<'_>) -> ChangedDatePart {
+    match part_name(session, change) {
+        "month" => ChangedDatePart::Month(session.maybe_word(change, "form", MONTHS)),
+        "day" => ChangedDatePart::Day(session.maybe_word(change, "form", DAYS)),
+        _ => ChangedDatePart::Year(session.maybe_word(change, "form", LENGTHS)),
     }
 }

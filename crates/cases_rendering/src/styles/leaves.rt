@@ -1,7 +1,7 @@
 //! Nodes without nodes in them.
 
 use crate::styles::date_words::{FORMS as DATE_FORMS, PARTS};
-use crate::styles::dates::date_parts;
+use crate::styles::dates::{date_parts, part_changes};
 use crate::styles::looks::look;
 use crate::styles::names::label_look;
 use crate::styles::terms::{form_of, term_of};
@@ -133,12 +133,13 @@ fn label_node(session: &mut Session, node: &Value<'_>) -> Node {
 }
 
 /// The members of a date node.
-const DATE_MEMBERS: [&str; 10] = [
+const DATE_MEMBERS: [&str; 11] = [
     "node",
     "variable",
     "form",
     "parts",
     "date_parts",
+    "part_changes",
     "delimiter",
     "formatting",
     "prefix",
@@ -154,7 +155,7 @@ fn date_node(session: &mut Session, node: &Value<'_>) -> Node {
         form: session.maybe_word(node, "form", DATE_FORMS),
         parts: session.word_or(node, "parts", PARTS, DateParts::YearMonthDay),
         own_parts: date_parts(session, node),
-        overrides_form: false,
+        part_changes: part_changes(session, node),
         delimiter: session.maybe_owned_text(node, "delimiter"),
         text_case: None,
         look: look(session, node),
