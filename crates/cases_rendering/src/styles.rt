@@ -24,7 +24,7 @@ pub use given_locales::{locale, locales, maybe_code, maybe_ordinals};
 pub use leaves::NUMBER_FORMS;
 pub use looks::{DISPLAYS, formatting, is_plain, put_formatting};
 pub use parts::ALIGNS;
-pub use styles::{accepted, style_of};
+pub use styles::{PAGE_RULES, accepted, style_of};
 pub use terms::{form_of, locator, locator_word};
 pub use variables::variable_of;
 

@@ -13,13 +13,6 @@ const NOTHING: Wanted = ("", "");
 /// All of them, in order.
 pub(crate) const FEATURES: &[Row] = &[
     (
-        "style",
-        NOTHING,
-        NOTHING,
-        "",
-        "punctuation that meets is joined",
-    ),
-    (
         "citation",
         ("disambiguate-add-names", "true"),
         NOTHING,

@@ -4,12 +4,11 @@ use Rattle.std.specs.Option.{option_map}
 use Rattle.rendering_context.specs.Cites.{CiteProperties}
 use Rattle.rendering_context.specs.Contexts.{StyleContext}
 use Rattle.rendering_entries.specs.Answers.{Answers}
-use Rattle.rendering_leaves.specs.NodeSettings.{begun}
 use Rattle.rendering_style.specs.Styles.{Bibliography}
 use Rattle.rendering_taxonomy.specs.declared.cite.CitePurpose.{CitePurpose}
 use Rattle.rendering_taxonomy.specs.declared.cite.CollapseVerdict.{CollapseVerdict}
 use Rattle.rendering.specs.Alike.{ForAlikeAnswers}
-use Rattle.rendering.specs.Purposes.{Rendered, append_item, bibliography, citation, context_of, rendered}
+use Rattle.rendering.specs.Purposes.{Rendered, bibliography, citation, context_of, item_of}
 use Rattle.rendering.proofs.CitesAlike.{cites_alike, items_alike}
 
 module _ (x : StyleContext) (a : Answers) (p : CiteProperties) (locale : Option (List ℕ)) where
@@ -18,7 +17,7 @@ module _ (x : StyleContext) (a : Answers) (p : CiteProperties) (locale : Option 
   cite_for_alike view purpose verdict (Ok v) h = λ b alike. h ∙ cites_alike x a b p locale purpose verdict alike
   cite_for_alike view purpose verdict (Err f) h = λ b alike. tt
 
-  pub item_for_alike : (y : Bibliography) (r : Rendered) → Some y ≡ x.style.bibliography → r ≡ rendered (append_item x.style (context_of x locale true a p) y begun)
+  pub item_for_alike : (y : Bibliography) (r : Rendered) → Some y ≡ x.style.bibliography → r ≡ item_of x.style (context_of x locale true a p) y
       → ForAlikeAnswers x.style a (λ b. Some r ≡ bibliography x b p locale)
   item_for_alike y r e h = λ b alike.
-      ap Some h ∙ ap (option_map (λ z. rendered (append_item x.style (context_of x locale true a p) z begun))) e ∙ items_alike x a b p locale alike
+      ap Some h ∙ ap (option_map (item_of x.style (context_of x locale true a p))) e ∙ items_alike x a b p locale alike

@@ -4,7 +4,8 @@ use Rattle.std.proofs.lemmas.Result.{IfOk-weaker}
 use Rattle.rendering_context.specs.Cites.{CiteProperties, year_suffix_of}
 use Rattle.rendering_context.specs.Contexts.{Context}
 use Rattle.rendering_entries.specs.Answers.{Answers}
-use Rattle.rendering_leaves.specs.NodeSettings.{State, begun}
+use Rattle.rendering_leaves.specs.NodeSettings.{State}
+use Rattle.rendering_page.specs.Pages.{Quotes}
 use Rattle.rendering_style.specs.Styles.{Style}
 use Rattle.rendering_context.specs.Contexts.{StyleContext}
 use Rattle.rendering.specs.Purposes.{Rendered, context_of, in_words, rendered}
@@ -13,9 +14,10 @@ use Rattle.rendering.specs.Words.{CallWords, words_of}
 use Rattle.rendering.specs.declared.rendered.Rendering.{Rendering}
 
 -- what was appended from the start on
-pub given_appended : {E : Type 0} (f : State → State) (first now : State) (r : Result Rendering E) → first ≡ begun → now ≡ f first
-    → IfOk r (λ v. rendering_view v ≡ rendered now) → IfOk r (λ v. rendering_view v ≡ rendered (f begun))
-given_appended f first now r e h given = IfOk-weaker r (λ v. rendering_view v ≡ rendered now) (λ v. rendering_view v ≡ rendered (f begun)) (λ v known. known ∙ ap rendered (h ∙ ap f e)) given
+pub given_appended : {E : Type 0} (quotes : Quotes) (f : State → State) (start first now : State) (r : Result Rendering E) → first ≡ start → now ≡ f first
+    → IfOk r (λ v. rendering_view v ≡ rendered quotes now) → IfOk r (λ v. rendering_view v ≡ rendered quotes (f start))
+given_appended quotes f start first now r e h given =
+    IfOk-weaker r (λ v. rendering_view v ≡ rendered quotes now) (λ v. rendering_view v ≡ rendered quotes (f start)) (λ v known. known ∙ ap (rendered quotes) (h ∙ ap f e)) given
 
 module _ {E : Type 0} (x : StyleContext) (a : Answers) (p : CiteProperties) (b : Bool) (words : CallWords) (year_suffix : List ℕ) where
   -- what a call gives is what is given of what it prints from

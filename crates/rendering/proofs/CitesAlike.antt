@@ -14,14 +14,14 @@ use Rattle.rendering_style.specs.Options.{NameOptions}
 use Rattle.rendering_style.specs.Nodes.{names, no_nodes, node}
 use Rattle.rendering_style.specs.Styles.{Layout, Bibliography, Style}
 use Rattle.rendering_context.specs.Contexts.{Context}
-use Rattle.rendering_leaves.specs.NodeSettings.{SpecialForm, whole, author_only, without_author, State, begun, append, noted}
+use Rattle.rendering_leaves.specs.NodeSettings.{SpecialForm, whole, author_only, without_author, State, append, noted}
 use Rattle.rendering_context.specs.Answering.{is_english}
 use Rattle.rendering_nodes.specs.Content.{contents, stage}
 use Rattle.rendering_nodes.specs.Named.{Named, AreAlike, AnswerAlike, joined_named, variable_named, always_named, named}
 use Rattle.rendering_nodes.specs.Laws.{with_answers}
 use Rattle.rendering_nodes.proofs.AnswersAlike.{first_alike, others_alike, has_same}
 use Rattle.rendering_nodes.proofs.EntriesAlike.{labels_alike, surveys_same, contents_same}
-use Rattle.rendering.specs.Purposes.{layout_nodes, context_of, setting_of, append_layout, layout_survey, append_citation, citation_survey, citation_normal, year_dates, first_dated, append_year, author_variable, elsewhere, author_node, append_made, author_last, author_elsewhere, append_author, prints_identifiers, space_before, append_enclosed, append_prose, form_of, fields_joined, rendered_as, rendered, full_of, rendered_for, layout_frame, append_item}
+use Rattle.rendering.specs.Purposes.{layout_nodes, context_of, setting_of, append_layout, layout_survey, append_citation, citation_survey, citation_normal, year_dates, first_dated, append_year, author_variable, elsewhere, author_node, append_made, author_last, author_elsewhere, append_author, prints_identifiers, space_before, append_enclosed, append_prose, form_of, begun_in, rendered_aligned, rendered, full_of, rendered_for, layout_frame, append_item, item_of}
 use Rattle.rendering.specs.Alike.{named_in_bibliography, style_named, AlikeCitesAreOne, AlikeItemsAreOne}
 use Rattle.rendering_taxonomy.specs.declared.cite.CitePurpose.{CitePurpose}
 use Rattle.rendering_taxonomy.specs.declared.cite.CitePurpose.TheVariants as purposes
@@ -169,28 +169,28 @@ prose_same a b c s st h =
 -- the whole item
 full_same : (a b : Answers) (c : Context) (s : Style) (verdict : Option CollapseVerdict) (o : Option Bibliography) → StyleAlike s a b → AreAlike (named_in_bibliography s o) a b
     → full_of s (with_answers a c) verdict o ≡ full_of s (with_answers b c) verdict o
-full_same a b c s verdict None h k = ap rendered (citation_same a b c s (form_of verdict) begun h)
+full_same a b c s verdict None h k = ap (rendered c.quotes) (citation_same a b c s (form_of verdict) (begun_in s) h)
 full_same a b c s verdict (Some y) h k =
-    ap (λ (st : State). rendered_as (fields_joined y.second_field_align st) st) (layout_same a b c s y.layout y.name_options whole begun h.always k)
+    ap (rendered_aligned c.quotes y.second_field_align) (layout_same a b c s y.layout y.name_options whole (begun_in s) h.always k)
 
 purpose_same : (a b : Answers) (c : Context) (s : Style) (verdict : Option CollapseVerdict) (purpose : Option CitePurpose) → StyleAlike s a b
     → rendered_for s (with_answers a c) verdict purpose ≡ rendered_for s (with_answers b c) verdict purpose
-purpose_same a b c s verdict None h = ap rendered (citation_same a b c s (form_of verdict) begun h)
-purpose_same a b c s verdict (Some purposes.Author) h = ap rendered (author_same a b c s begun h)
-purpose_same a b c s verdict (Some purposes.Year) h = ap rendered (year_same a b c begun h.always)
+purpose_same a b c s verdict None h = ap (rendered c.quotes) (citation_same a b c s (form_of verdict) (begun_in s) h)
+purpose_same a b c s verdict (Some purposes.Author) h = ap (rendered c.quotes) (author_same a b c s (begun_in s) h)
+purpose_same a b c s verdict (Some purposes.Year) h = ap (rendered c.quotes) (year_same a b c (begun_in s) h.always)
 purpose_same a b c s verdict (Some purposes.Full) h = full_same a b c s verdict s.bibliography h h.in_bibliography
-purpose_same a b c s verdict (Some purposes.Prose) h = ap rendered (prose_same a b c s begun h)
+purpose_same a b c s verdict (Some purposes.Prose) h = ap (rendered c.quotes) (prose_same a b c s (begun_in s) h)
 
 pub cites_alike : AlikeCitesAreOne
 cites_alike x a b p locale purpose verdict h = purpose_same a b (context_of x locale false a p) x.style verdict purpose (style_alike x.style a b h)
 
 -- an item of the bibliography
 item_same : (a b : Answers) (c : Context) (s : Style) (o : Option Bibliography) → AreAlike always_named a b → AreAlike (named_in_bibliography s o) a b
-    → option_map (λ y. rendered (append_item s (with_answers a c) y begun)) o ≡ option_map (λ y. rendered (append_item s (with_answers b c) y begun)) o
+    → option_map (item_of s (with_answers a c)) o ≡ option_map (item_of s (with_answers b c)) o
 item_same a b c s None g h = refl
 item_same a b c s (Some y) g h =
-    ap (λ st. Some (rendered (append c (end (layout_frame y.layout) ∷ []) st)))
-    (layout_same a b c s y.layout y.name_options whole (append c (begin (layout_frame y.layout) ∷ []) begun) g h)
+    ap (λ st. Some (rendered c.quotes (append c (end (layout_frame y.layout) ∷ []) st)))
+    (layout_same a b c s y.layout y.name_options whole (append c (begin (layout_frame y.layout) ∷ []) (begun_in s)) g h)
 
 pub items_alike : AlikeItemsAreOne
 items_alike x a b p locale h =

@@ -4,13 +4,15 @@ use Rattle.std.specs.List.{list_any}
 use Rattle.std.specs.Option.{option_map, option_map_or, unwrap_or}
 use Rattle.std.specs.Char.{is_whitespace}
 use Rattle.laws.specs.Characters.{space, open_parenthesis, close_parenthesis}
+use Rattle.laws.specs.Text.{is_filled}
 use Rattle.rendering_taxonomy.specs.Formats.{plain, changed}
 use Rattle.rendering_tree.specs.Tokens.{Token, with_letter_after}
 use Rattle.rendering_tree.specs.Trees.{Children, Elem, tree_of, flat, flat_child, Parted, parted}
 use Rattle.rendering_locale.specs.Lookup.{term}
 use Rattle.literature_values.specs.declared.date.Date.{Date}
 use Rattle.rendering_dates.specs.Dates.{years_text}
-use Rattle.rendering_page.specs.Pages.{Manner, Frame, append_space}
+use Rattle.rendering_page.specs.Joints.{joined}
+use Rattle.rendering_page.specs.Pages.{Page, Manner, Quotes, Frame, append_space, empty_page_by}
 use Rattle.rendering_page.specs.Pieces.{normal, begin, end}
 use Rattle.rendering_page.specs.PageCharacters.{plain_manner}
 use Rattle.rendering_entries.specs.Answers.{Answers}
@@ -225,9 +227,9 @@ in_front ts None = tree_of ts
 in_front ts (Some (e, others)) = tree_of (flat others ++ with_letter_after space (flat_child (Elem e.display e.meta e.children)))
 
 -- an item whose second field is aligned has its first field in front
-abbrev pub fields_joined : Option SecondFieldAlign → State → Children
-fields_joined None st = tree_of st.page.tokens
-fields_joined (Some align) st = in_front st.page.tokens (parted (tree_of st.page.tokens))
+abbrev pub fields_joined : Option SecondFieldAlign → Page → Children
+fields_joined None p = tree_of p.tokens
+fields_joined (Some align) p = in_front p.tokens (parted (tree_of p.tokens))
 
 -- which identifiers were printed
 abbrev pub usage_by : Bool → Bool → IdentifierUsage
@@ -248,22 +250,34 @@ pub record Rendered : Type 0 where
 abbrev pub rendered_as : Children → State → Rendered
 rendered_as tree st = record { tree = tree; met_disambiguate = st.met_disambiguate; names = st.names; usage = usage_by st.used.label st.used.number }
 
+-- the state before anything was appended, on a page by the style's rule
+abbrev pub begun_in : Style → State
+begun_in s = record begun { page = empty_page_by s.page_rule }
+
+-- a page once all is appended: where its rule says so, texts are joined; punctuation goes inside quotes if there are some for that
+abbrev pub completed : Quotes → Page → Page
+completed quotes p = joined (is_filled quotes) p
+
+-- the tree of what was appended, with the facts, where the second field is aligned or not
+abbrev pub rendered_aligned : Quotes → Option SecondFieldAlign → State → Rendered
+rendered_aligned quotes align st = rendered_as (fields_joined align (completed quotes st.page)) st
+
 -- the tree of what was appended, with the facts
-abbrev pub rendered : State → Rendered
-rendered st = rendered_as (tree_of st.page.tokens) st
+abbrev pub rendered : Quotes → State → Rendered
+rendered quotes st = rendered_aligned quotes None st
 
 -- the whole item, or without a bibliography what is printed for no purpose
 abbrev pub full_of : Style → Context → Option CollapseVerdict → Option Bibliography → Rendered
-full_of s c verdict None = rendered (append_citation s c (form_of verdict) begun)
-full_of s c verdict (Some b) = let st = append_bibliography s c whole b begun in rendered_as (fields_joined b.second_field_align st) st
+full_of s c verdict None = rendered c.quotes (append_citation s c (form_of verdict) (begun_in s))
+full_of s c verdict (Some b) = rendered_aligned c.quotes b.second_field_align (append_bibliography s c whole b (begun_in s))
 
 -- a cite by its purpose
 abbrev pub rendered_for : Style → Context → Option CollapseVerdict → Option CitePurpose → Rendered
-rendered_for s c verdict None = rendered (append_citation s c (form_of verdict) begun)
-rendered_for s c verdict (Some purposes.Author) = rendered (append_author s c begun)
-rendered_for s c verdict (Some purposes.Year) = rendered (append_year c begun)
+rendered_for s c verdict None = rendered c.quotes (append_citation s c (form_of verdict) (begun_in s))
+rendered_for s c verdict (Some purposes.Author) = rendered c.quotes (append_author s c (begun_in s))
+rendered_for s c verdict (Some purposes.Year) = rendered c.quotes (append_year c (begun_in s))
 rendered_for s c verdict (Some purposes.Full) = full_of s c verdict s.bibliography
-rendered_for s c verdict (Some purposes.Prose) = rendered (append_prose s c begun)
+rendered_for s c verdict (Some purposes.Prose) = rendered c.quotes (append_prose s c (begun_in s))
 
 -- what a call prints of a cite
 abbrev pub citation : StyleContext → Answers → CiteProperties → Option (List ℕ) → Option CitePurpose → Option CollapseVerdict → Rendered
@@ -277,7 +291,11 @@ layout_frame l = record { display = None; meta = None; manner = layout_manner l;
 abbrev pub append_item : Style → Context → Bibliography → State → State
 append_item s c b st = append c (end (layout_frame b.layout) ∷ []) (append_bibliography s c whole b (append c (begin (layout_frame b.layout) ∷ []) st))
 
+-- an item of the bibliography
+abbrev pub item_of : Style → Context → Bibliography → Rendered
+item_of s c b = rendered c.quotes (append_item s c b (begun_in s))
+
 -- what a call prints of an item of the bibliography, where the style has one
 abbrev pub bibliography : StyleContext → Answers → CiteProperties → Option (List ℕ) → Option Rendered
 bibliography x answers properties term_locale =
-    option_map (λ b. rendered (append_item x.style (context_of x term_locale true answers properties) b begun)) x.style.bibliography
+    option_map (λ b. item_of x.style (context_of x term_locale true answers properties) b) x.style.bibliography

@@ -3,15 +3,15 @@
 ghost use Rattle.std.specs.Prelude.{◌≡◌, IfOk, OnOk, Some, None};
 ghost use Rattle.rendering_leaves.specs.Views.{form_view};
 ghost use Rattle.rendering_style.specs.Views.{bibliography_layout_view};
-ghost use Rattle.rendering.specs.Purposes.{form_of, full_of, append_item, rendered, rendered_for};
-ghost use Rattle.rendering_leaves.specs.NodeSettings.{begun};
+ghost use Rattle.rendering.specs.Purposes.{begun_in, form_of, full_of, append_item, item_of, rendered_for};
 ghost use Rattle.rendering.specs.Views.{context_in, rendering_view, style_of};
 
 use crate::call::Call;
 use crate::layout::layout_frame;
-use crate::rendered::{Rendering, joined, rendered};
+use crate::rendered::{Rendering, rendered, rendered_aligned};
 use rendering_entries::EntryLike;
 use rendering_leaves::{SpecialForm, State};
+use rendering_page::Page;
 use rendering_style::Bibliography;
 use rendering_taxonomy::{CitePurpose, CollapseVerdict};
 use std::alloc::AllocError;
@@ -41,13 +41,13 @@ impl<'s, 'a> Call<'s, 'a> {
         entry: &'a E,
         bibliography: &'a Bibliography,
     ) -> Result<Rendering, AllocError>
-        ensures { IfOk result (λ r. rendering_view r ≡ rendered
-            (append_item (style_of self.now) (context_in (E.answers entry.entry.now) self.now)
-            (bibliography_layout_view bibliography.now) begun)) }
+        ensures { IfOk result (λ r. rendering_view r
+            ≡ item_of (style_of self.now) (context_in (E.answers entry.entry.now) self.now)
+            (bibliography_layout_view bibliography.now)) }
     {
-        let mut state = State::new(self.walk.context.alloc);
+        let mut state = self.begun();
         self.push_item(entry, bibliography, &mut state)?;
-        rendered(state)
+        rendered(self.walk.context.quotes, state)
     }
 
     /// What collapsing leaves of a cite.
@@ -59,9 +59,9 @@ impl<'s, 'a> Call<'s, 'a> {
         ensures { IfOk result (λ r. rendering_view r ≡ rendered_for (style_of self.now)
             (context_in (E.answers entry.entry.now) self.now) verdict None) }
     {
-        let mut state = State::new(self.walk.context.alloc);
+        let mut state = self.begun();
         self.push_citation(entry, form_of(verdict), &mut state)?;
-        rendered(state)
+        rendered(self.walk.context.quotes, state)
     }
 
     /// The authors alone.
@@ -69,9 +69,9 @@ impl<'s, 'a> Call<'s, 'a> {
         ensures { IfOk result (λ r. rendering_view r ≡ rendered_for (style_of self.now)
             (context_in (E.answers entry.entry.now) self.now) None (Some CitePurpose.Author)) }
     {
-        let mut state = State::new(self.walk.context.alloc);
+        let mut state = self.begun();
         self.push_author(entry, &mut state)?;
-        rendered(state)
+        rendered(self.walk.context.quotes, state)
     }
 
     /// The year alone.
@@ -79,9 +79,9 @@ impl<'s, 'a> Call<'s, 'a> {
         ensures { IfOk result (λ r. rendering_view r ≡ rendered_for (style_of self.now)
             (context_in (E.answers entry.entry.now) self.now) None (Some CitePurpose.Year)) }
     {
-        let mut state = State::new(self.walk.context.alloc);
+        let mut state = self.begun();
         self.push_year(entry, &mut state)?;
-        rendered(state)
+        rendered(self.walk.context.quotes, state)
     }
 
     /// The whole item; without a bibliography what is printed for no purpose.
@@ -110,9 +110,10 @@ impl<'s, 'a> Call<'s, 'a> {
             ≡ full_of (style_of self.now) (context_in (E.answers entry.entry.now) self.now) None
             (Some (bibliography_layout_view bibliography.now))) }
     {
-        let mut state = State::new(self.walk.context.alloc);
+        let mut state = self.begun();
         self.push_bibliography(entry, SpecialForm::Whole, bibliography, &mut state)?;
-        joined(state, bibliography.second_field_align)
+        let align = bibliography.second_field_align;
+        rendered_aligned(self.walk.context.quotes, align, state)
     }
 
     /// A cite in the middle of a sentence.
@@ -120,9 +121,19 @@ impl<'s, 'a> Call<'s, 'a> {
         ensures { IfOk result (λ r. rendering_view r ≡ rendered_for (style_of self.now)
             (context_in (E.answers entry.entry.now) self.now) None (Some CitePurpose.Prose)) }
     {
-        let mut state = State::new(self.walk.context.alloc);
+        let mut state = self.begun();
         self.push_prose(entry, &mut state)?;
-        rendered(state)
+        rendered(self.walk.context.quotes, state)
+    }
+
+    /// The state before anything was appended, on a page by the style's rule.
+    fn begun(&self) -> State<'a>
+        ensures { result ≡ begun_in (style_of self.now) }
+    {
+        let alloc = self.walk.context.alloc;
+        let mut state = State::new(alloc);
+        state.page = Page::with_rule(alloc, self.walk.style.parts().page_rule);
+        state
     }
 
     /// Appends an item of the bibliography in the affixes of its layout.

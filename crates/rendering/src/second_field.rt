@@ -3,7 +3,6 @@
 ghost use Rattle.std.specs.Prelude.{◌≡◌, ◌++◌, [], List, IfOk, OnOk};
 ghost use Rattle.laws.specs.Characters.{space};
 ghost use Rattle.laws.specs.Text.{characters};
-ghost use Rattle.rendering_leaves.specs.NodeSettings.{begun};
 ghost use Rattle.rendering_tree.specs.Tokens.{Token, with_letter_after, with_letters};
 ghost use Rattle.rendering_tree.specs.Trees.{Elem as Element, flat, flat_child, parted, tree_of};
 ghost use Rattle.rendering_tree.specs.Views.{child_view, element_view, children_view, tree_view};
@@ -23,8 +22,7 @@ pub(crate) fn joined_tree(
     page: Page<'_>,
     align: Option<SecondFieldAlign>,
 ) -> Result<ElemChildren, AllocError>
-    ensures { IfOk result (λ t. tree_view t
-        ≡ fields_joined align (record begun { page = page.entry })) }
+    ensures { IfOk result (λ t. tree_view t ≡ fields_joined align page.entry) }
 {
     let tree = into_tree(page)?;
     match align {

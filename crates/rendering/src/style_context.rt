@@ -65,9 +65,8 @@ impl<'a> StyleContext<'a> {
     ghost use Rattle.rendering_context.specs.Views.{cite_properties_view};
     ghost use Rattle.rendering_entries.specs.Answers.{Answers};
     ghost use Rattle.rendering_style.specs.Views.{bibliography_layout_view};
-    ghost use Rattle.rendering_leaves.specs.NodeSettings.{begun};
     ghost use Rattle.rendering_nodes.specs.Views.{walk_context};
-    ghost use Rattle.rendering.specs.Purposes.{bibliography, citation, context_of, append_item, in_words, rendered, rendered_for};
+    ghost use Rattle.rendering.specs.Purposes.{bibliography, citation, context_of, in_words, item_of, rendered_for};
     ghost use Rattle.rendering.specs.Views.{context_in, style_context_view, rendering_view, style_of};
 
     /// A style with the language that is asked for where a call asks for none, and the files with locales.
@@ -172,10 +171,10 @@ impl<'a> StyleContext<'a> {
         bibliography: &'c Bibliography,
     ) -> Result<Rendering, AllocError>
         ensures { IfOk result (λ r. rendering_view r
-            ≡ rendered (append_item (style_context_view self.now).style (context_of
+            ≡ item_of (style_context_view self.now).style (context_of
             (style_context_view self.now) (option_map borrowed_code_view term_locale.entry) true
             (E.answers entry.now) (cite_properties_view properties.now))
-            (bibliography_layout_view bibliography.now) begun)) }
+            (bibliography_layout_view bibliography.now)) }
     {
         let year_suffix = YearSuffixText::new(self.alloc, &properties.disambiguation)?;
         self.listed(&year_suffix, entry, properties, term_locale, bibliography)
@@ -247,10 +246,10 @@ impl<'a> StyleContext<'a> {
         requires { characters year_suffix.now.0
             ≡ year_suffix_of (cite_properties_view properties.now).disambiguation }
         ensures { IfOk result (λ r. rendering_view r
-            ≡ rendered (append_item (style_context_view self.now).style (context_of
+            ≡ item_of (style_context_view self.now).style (context_of
             (style_context_view self.now) (option_map borrowed_code_view term_locale.entry) true
             (E.answers entry.now) (cite_properties_view properties.now))
-            (bibliography_layout_view bibliography.now) begun)) }
+            (bibliography_layout_view bibliography.now)) }
     {
         match term_locale {
             None => self.listed_in(
@@ -276,11 +275,11 @@ impl<'a> StyleContext<'a> {
         properties: &'s CiteProperties<'c>,
         bibliography: &'c Bibliography,
     ) -> Result<Rendering, AllocError>
-        ensures { IfOk result (λ r. rendering_view r ≡ rendered (append_item
+        ensures { IfOk result (λ r. rendering_view r ≡ item_of
             (style_context_view self.now).style (in_words (style_context_view self.now).style
             (E.answers entry.now) (cite_properties_view properties.now) (words_view words.now)
             (characters year_suffix.now.0) true)
-            (bibliography_layout_view bibliography.now) begun)) }
+            (bibliography_layout_view bibliography.now)) }
     {
         let call = self.call(words, year_suffix, properties, true);
         call.item(entry, bibliography)

@@ -3,12 +3,13 @@
 use crate::printed::dated::text_or_none;
 use crate::printed::metas::maybe_meta;
 use crate::printed::written_trees::put_tree;
-use crate::styles::{DISPLAYS, formatting};
+use crate::styles::{DISPLAYS, PAGE_RULES, formatting};
 use cases::{Session, Value, maybe_given, member};
 use csl_words::TEXT_CASES;
 use literature::StringChunk;
 use rendering_building::into_tree;
 use rendering_page::{Frame, Manner, Page};
+use rendering_taxonomy::PageRule;
 
 /// How deep elements may nest.
 const DEPTH: u32 = 400;
@@ -308,10 +309,12 @@ pub(crate) fn put_page_tree(session: &mut Session, page: Page<'_>) {
     }
 }
 
-/// Writes what the page of a case shows, and its tree.
+/// Writes what the page of a case shows, and its tree. Its texts are joined once all are appended, if its rule says so.
 fn put_page<'a>(session: &mut Session, setting: &PageSetting<'_, 'a>, case: &'a Value<'_>) {
-    let mut page = Page::new(session.alloc);
+    let rule = session.word_or(case, "rule", PAGE_RULES, PageRule::AsWritten);
+    let mut page = Page::with_rule(session.alloc, rule);
     put_all(session, setting, &mut page, case, "put", DEPTH);
+    session.check(page.join(!setting.quotes.is_empty()));
     put_characters(session, &page);
     put_compared(session, setting, case, &page);
     put_page_tree(session, page);
@@ -319,7 +322,7 @@ fn put_page<'a>(session: &mut Session, setting: &PageSetting<'_, 'a>, case: &'a 
 
 /// `page`: what a page shows to which things were appended, and its tree.
 pub(crate) fn answer(session: &mut Session, case: &Value<'_>) {
-    session.only(case, &["case", "name", "quotes", "chunks", "put", "other"]);
+    session.only(case, &["case", "name", "rule", "quotes", "chunks", "put", "other"]);
     let quotes = session.texts(case, "quotes");
     let chunks: Option<Vec<StringChunk>> = maybe_given(session, case, "chunks");
     let chunks = chunks.unwrap_or(Vec::new(session.alloc));

@@ -21,6 +21,12 @@ const CATEGORIES: &[(&str, StyleCategory)] = &[
     ("numeric", StyleCategory::Numeric),
 ];
 
+/// How the texts of a page meet.
+pub const PAGE_RULES: &[(&str, PageRule)] = &[
+    ("as-written", PageRule::AsWritten),
+    ("joined", PageRule::Joined),
+];
+
 /// The macros of a style.
 fn macros(session: &mut Session, style: &Value<'_>) -> Vec<Macro> {
     let mut macros = Vec::new(session.alloc);
@@ -39,10 +45,11 @@ fn macros(session: &mut Session, style: &Value<'_>) -> Vec<Macro> {
 }
 
 /// The members of a style.
-const MEMBERS: [&str; 8] = [
+const MEMBERS: [&str; 9] = [
     "class",
     "categories",
     "default_locale",
+    "page_rule",
     "name_options",
     "locales",
     "macros",
@@ -58,7 +65,7 @@ pub fn parts_of(session: &mut Session, style: &Value<'_>) -> StyleParts {
         categories: session.words(style, "categories", CATEGORIES),
         default_locale: maybe_code(session, style, "default_locale"),
         page_ranges: None,
-        page_rule: PageRule::AsWritten,
+        page_rule: session.word_or(style, "page_rule", PAGE_RULES, PageRule::AsWritten),
         name_options: name_options(session, style),
         locales: locales(session, style, "locales"),
         macros: macros(session, style),
