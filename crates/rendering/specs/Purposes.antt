@@ -21,6 +21,7 @@ use Rattle.rendering_style.specs.Nodes.{NamesNode, Nodes, names, no_nodes, node,
 use Rattle.rendering_style.specs.Styles.{Layout, Bibliography, Style}
 use Rattle.rendering_style.specs.Opening.{opened_nodes}
 use Rattle.rendering_people.specs.Properties.{Properties}
+use Rattle.rendering_names.specs.Around.{not_overriding}
 use Rattle.rendering_context.specs.Cites.{CiteProperties, year_suffix_of}
 use Rattle.rendering_context.specs.Contexts.{Context, StyleContext}
 use Rattle.rendering_leaves.specs.NodeSettings.{SpecialForm, whole, author_only, without_author, first_date_only, suffix_only, NodeSetting, State, begun, append, noted}
@@ -89,7 +90,7 @@ setting_of s english l options form = record {
   manner = record (layout_manner l) { is_english = english };
   inside_quotes = false;
   delimiter = None;
-  options = options_over options s.name_options;
+  options = not_overriding (options_over options s.name_options);
   in_substitute = false;
   form = form;
 }

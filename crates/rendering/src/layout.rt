@@ -13,7 +13,7 @@ ghost use Rattle.rendering_style.specs.Views.{bibliography_layout_view, layout_v
 ghost use Rattle.rendering.specs.Purposes.{citation_options, layout_frame, layout_manner, layout_nodes, prints_suffix, setting_of};
 
 use rendering_leaves::{NodeSetting, SpecialForm};
-use rendering_names::ResolvedNameOptions;
+use rendering_names::{NamesAround, ResolvedNameOptions};
 use rendering_nodes::has_suffix;
 use rendering_page::{Frame, Manner, plain_manner};
 use rendering_style::{Bibliography, Layout, NameOptions, Style, StyleParts};
@@ -69,7 +69,7 @@ pub(crate) fn setting_of<'a>(
         },
         inside_quotes: false,
         delimiter: None,
-        options: *options,
+        options: NamesAround::not_overriding(options),
         in_substitute: false,
         form,
     }

@@ -3,7 +3,7 @@ use Rattle.std.specs.Prelude.{ℕ, Bool, false, ◌||◌, List, [], ◌∷◌, �
 use Rattle.rendering_people.specs.Properties.{Properties}
 use Rattle.rendering_page.specs.Pages.{Page, Manner, empty_page}
 use Rattle.rendering_page.specs.Pieces.{Piece, append_pieces}
-use Rattle.rendering_style.specs.Options.{NameOptions}
+use Rattle.rendering_names.specs.Around.{NamesAround}
 use Rattle.rendering_taxonomy.specs.Variables.{is_among}
 use Rattle.rendering_context.specs.Contexts.{Context}
 use Rattle.rendering_taxonomy.specs.declared.variable.NameVariable.{NameVariable}
@@ -19,12 +19,12 @@ pub data SpecialForm : Type 0 where
   suffix_only : SpecialForm
 
 -- What is handed down: how texts are appended, whether quotes are inner ones, what stands between the children of the group around, the
--- options for names of the layout and the style, whether a substitute for names is printed, and what is printed of the layout.
+-- options for names of the layout and the style, or of a key, whether a substitute for names is printed, and what is printed of the layout.
 pub record NodeSetting : Type 0 where
   pub manner : Manner
   pub inside_quotes : Bool
   pub delimiter : Option (List ℕ)
-  pub options : NameOptions
+  pub options : NamesAround
   pub in_substitute : Bool
   pub form : SpecialForm
 

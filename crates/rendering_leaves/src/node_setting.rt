@@ -1,6 +1,6 @@
 //! What is handed down from node to node.
 
-use rendering_names::ResolvedNameOptions;
+use rendering_names::NamesAround;
 use rendering_page::Manner;
 use rendering_taxonomy::NameVariable;
 
@@ -28,8 +28,8 @@ pub struct NodeSetting<'a> {
     pub inside_quotes: bool,
     /// What stands between the children of the group around.
     pub delimiter: Option<&'a str>,
-    /// What the layout and the style say of names.
-    pub options: ResolvedNameOptions<'a>,
+    /// What the layout and the style, or a key, say of names.
+    pub options: NamesAround<'a>,
     /// Whether a substitute for names is printed.
     pub in_substitute: bool,
     /// What is printed of the layout.

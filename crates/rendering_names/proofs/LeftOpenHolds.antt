@@ -1,5 +1,5 @@
 -- What is left open changes nothing of how names are printed.
-use Rattle.std.proofs.Common.{◌≡◌, ℕ, Bool, true, List, [], ◌∷◌, Option, Some, None, refl, ap, ◌∙◌}
+use Rattle.std.proofs.Common.{◌≡◌, ℕ, Bool, true, false, List, [], ◌∷◌, Option, Some, None, refl, ap, ◌∙◌}
 use Rattle.std.specs.Prelude.{if◌then◌else◌}
 use Rattle.std.specs.Option.{option_or, unwrap_or}
 use Rattle.laws.specs.Characters.{space}
@@ -7,7 +7,7 @@ use Rattle.literature_values.specs.GivenNames.{given_by}
 use Rattle.literature_values.specs.Initials.{style}
 use Rattle.rendering_taxonomy.specs.Formats.{changed}
 use Rattle.rendering_page.specs.Pieces.{normal}
-use Rattle.rendering_names.specs.LeftOpen.{TermIsDelimitedFromTwo, HyphensStay, RunsAreCut, NodeDelimitsPeople}
+use Rattle.rendering_names.specs.LeftOpen.{TermIsDelimitedFromTwo, HyphensStay, RunsAreCut, NodeDelimitsPeople, NodesSayTheirOwn}
 use Rattle.rendering_names.specs.Names.{delimiter_by, delimits_et_al}
 use Rattle.rendering_names.specs.Persons.{comma_and_space, stop_and_space, given_of, rule_by, initials_rule}
 use Rattle.rendering_taxonomy.specs.declared.name.DelimiterBehavior.{DelimiterBehavior}
@@ -33,3 +33,6 @@ or_none (Some cs) = refl
 
 pub node_delimits : NodeDelimitsPeople
 node_delimits o h e = ap (λ (d : Option (List ℕ)). unwrap_or (option_or h.delimiter d) comma_and_space) e ∙ or_none h.delimiter
+
+pub nodes_say : NodesSayTheirOwn
+nodes_say h o = refl

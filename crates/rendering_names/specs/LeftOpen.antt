@@ -9,7 +9,8 @@ use Rattle.rendering_taxonomy.specs.Formats.{changed}
 use Rattle.rendering_page.specs.Pieces.{Piece, normal}
 use Rattle.rendering_style.specs.Options.{NameOptions}
 use Rattle.rendering_style.specs.Nodes.{NamesNode}
-use Rattle.rendering_names.specs.Names.{NameStyle, delimiter_by, et_al_by, people_delimiter}
+use Rattle.rendering_names.specs.Around.{not_overriding}
+use Rattle.rendering_names.specs.Names.{NameStyle, delimiter_by, et_al_by, node_options, own_over, people_delimiter}
 use Rattle.rendering_names.specs.Persons.{comma_and_space, stop_and_space, given_of, initials_rule, initials_by}
 
 -- the term for those left out, after the delimiter where two or more are shown, else after a space; without a term neither
@@ -41,3 +42,7 @@ RunsAreCut =
 -- Where the options say nothing of what stands between the people of two variables, the node alone does.
 abbrev pub NodeDelimitsPeople : Type 0
 NodeDelimitsPeople = (o : NameOptions) (h : NamesNode) → o.names_delimiter ≡ None → people_delimiter o h ≡ unwrap_or h.delimiter comma_and_space
+
+-- Where nothing overrides what a node says of names, that goes over what is said around it.
+abbrev pub NodesSayTheirOwn : Type 0
+NodesSayTheirOwn = (h : NamesNode) (o : NameOptions) → node_options h (not_overriding o) ≡ own_over h o

@@ -14,6 +14,7 @@ use Rattle.rendering_page.specs.Pieces.{Piece, normal, framed}
 use Rattle.rendering_style.specs.Options.{NameOptions, options_over, open_options}
 use Rattle.rendering_style.specs.Nodes.{NameLook, EtAl, LabelLook, NamesNode}
 use Rattle.rendering_people.specs.Properties.{VariableProperties, Properties, all_shown}
+use Rattle.rendering_names.specs.Around.{NamesAround}
 use Rattle.rendering_names.specs.Persons.{comma_and_space, person_text}
 use Rattle.rendering_taxonomy.specs.declared.name.NameAnd.{NameAnd}
 use Rattle.rendering_taxonomy.specs.declared.name.NameAnd.TheVariants as ands
@@ -221,11 +222,15 @@ abbrev pub plain_et_al : EtAl
 plain_et_al = record { name = et_al_terms.EtAl; formatting = unchanged }
 
 -- the options of a names node over those around it
-abbrev pub node_options : NamesNode → NameOptions → NameOptions
-node_options h around = option_map_or (λ n. options_over n.options around) h.name around
+abbrev pub own_over : NamesNode → NameOptions → NameOptions
+own_over h around = option_map_or (λ n. options_over n.options around) h.name around
+
+-- the same, and over them what overrides what the node says
+abbrev pub node_options : NamesNode → NamesAround → NameOptions
+node_options h around = options_over around.overriding (own_over h around.options)
 
 -- how the names of a node are appended
-abbrev pub style_of : List Locale → Manner → NamesNode → NameOptions → NameStyle
+abbrev pub style_of : List Locale → Manner → NamesNode → NamesAround → NameStyle
 style_of ls m h around = record {
   locales = ls;
   manner = m;
@@ -267,7 +272,7 @@ abbrev pub names_manner : Manner → NamesNode → Manner
 names_manner m h = record m { formatting = changed h.look.formatting m.formatting }
 
 -- a names node with its people, by what is to be printed of them
-abbrev pub names_pieces : List Locale → Manner → NamesNode → NameOptions → Properties → List Answered → List Piece
+abbrev pub names_pieces : List Locale → Manner → NamesNode → NamesAround → Properties → List Answered → List Piece
 names_pieces ls m h around ps people = framed (names_frame m h people) (people_pieces (style_of ls (names_manner m h) h around) h ps people)
 
 -- What a names node says of names where it is a substitute for another: without a name and without a term for others it takes those of that

@@ -11,12 +11,15 @@ use Rattle.rendering_page.specs.Pages.{Page}
 use Rattle.rendering_page.specs.Pieces.{Piece, append_pieces}
 use Rattle.rendering_page.specs.Views.{quotes_view, manner_view}
 use Rattle.rendering_style.specs.Nodes as nodes
-use Rattle.rendering_style.specs.Options.{NameOptions}
+use Rattle.rendering_style.specs.Options.{NameOptions, open_options}
 use Rattle.rendering_style.specs.Views.{name_look_view, et_al_view, label_look_view, look_view}
 use Rattle.rendering_style.specs.declared.node.EtAl.{EtAl}
 use Rattle.rendering_style.specs.declared.node.Name.{Name}
+use Rattle.rendering_names.specs.Around as arounds
 use Rattle.rendering_names.specs.Names as names
 use Rattle.rendering_names.specs.Names.{IndexedPerson, no_look, plain_et_al}
+use Rattle.rendering_names.specs.declared.around.NamesAround.{NamesAround}
+use Rattle.rendering_names.specs.declared.around.OverridingOptions.{OverridingOptions}
 use Rattle.rendering_names.specs.declared.options.ResolvedNameOptions.{ResolvedNameOptions}
 use Rattle.rendering_names.specs.declared.parts.NamesParts.{NamesParts}
 use Rattle.rendering_names.specs.declared.style.NameStyle.{NameStyle}
@@ -43,6 +46,22 @@ resolved_options_view o = record {
   initialize_with_hyphen = o.initialize_with_hyphen;
   splits_initials = o.splits_initials;
   names_delimiter = option_map spelled o.names_delimiter;
+}
+
+-- what counts whatever a node says of names
+abbrev pub overriding_view : OverridingOptions → NameOptions
+overriding_view o = record open_options {
+  et_al_min = o.et_al_min;
+  et_al_use_first = o.et_al_use_first;
+  et_al_use_last = o.et_al_use_last;
+  name_as_sort_order = o.name_as_sort_order;
+}
+
+-- what is said of names around their node
+abbrev pub names_around_view : NamesAround → arounds.NamesAround
+names_around_view a = record {
+  overriding = overriding_view a.overriding;
+  options = resolved_options_view a.options;
 }
 
 -- what is specified for single names, where something is

@@ -1,6 +1,6 @@
 //! What is left open changes nothing of how names are printed.
 
-ghost use Rattle.rendering_names.specs.LeftOpen.{HyphensStay, NodeDelimitsPeople, RunsAreCut, TermIsDelimitedFromTwo};
+ghost use Rattle.rendering_names.specs.LeftOpen.{HyphensStay, NodeDelimitsPeople, NodesSayTheirOwn, RunsAreCut, TermIsDelimitedFromTwo};
 
 /// Where nothing is specified of the delimiter before the term for those left out, it stands there where two or more are shown.
 #[tactic(auto, using(crate::proofs::LeftOpenHolds::term_delimited))]
@@ -24,4 +24,10 @@ pub fn runs_are_cut()
 #[tactic(auto, using(crate::proofs::LeftOpenHolds::node_delimits))]
 pub fn node_delimits_people()
     ensures { NodeDelimitsPeople }
+{}
+
+/// Where nothing overrides what a node says of names, that goes over what is said around it.
+#[tactic(auto, using(crate::proofs::LeftOpenHolds::nodes_say))]
+pub fn nodes_say_their_own()
+    ensures { NodesSayTheirOwn }
 {}

@@ -2,6 +2,7 @@
 //! that disambiguate cites.
 #![tactic(auto)]
 
+mod around;
 mod label;
 mod left_open;
 mod list;
@@ -13,8 +14,9 @@ mod person;
 mod style;
 mod words;
 
+pub use around::{NamesAround, OverridingOptions};
 pub use label::{label_manner, pluralizes};
-pub use left_open::{hyphens_stay, node_delimits_people, runs_are_cut, term_is_delimited_from_two};
+pub use left_open::{hyphens_stay, node_delimits_people, nodes_say_their_own, runs_are_cut, term_is_delimited_from_two};
 pub use names::push_names;
 pub use options::ResolvedNameOptions;
 pub use own::properties_by;

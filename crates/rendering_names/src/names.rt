@@ -5,11 +5,11 @@ ghost use Rattle.std.specs.Fmt.{decimal};
 ghost use Rattle.std.specs.List.{enumerate_from, flat_map};
 ghost use Rattle.laws.specs.Text.{characters, spelled};
 ghost use Rattle.rendering_people.specs.Counts.{cut};
+ghost use Rattle.rendering_names.specs.Around.{NamesAround};
 ghost use Rattle.rendering_names.specs.Names.{before_people, people_delimiter, beside, label_pieces, list_pieces, names_frame, names_manner, names_pieces, node_options, people_pieces, indexed_variable, variable_frame, variable_pieces};
 ghost use Rattle.rendering_people.specs.Views.{all_lent_answered_view, lent_answered_view};
 ghost use Rattle.rendering_names.specs.Views.{append_here, names_parts_view, resolved_options_view, indexed, name_style_view};
 ghost use Rattle.rendering_page.specs.Pieces.{append_pieces, normal};
-ghost use Rattle.rendering_style.specs.Options.{NameOptions};
 ghost use Rattle.rendering_page.specs.Views.{quotes_view, manner_view, frame_view};
 
 use crate::options::ResolvedNameOptions;
@@ -28,7 +28,7 @@ use texts::{empty_text, first_text, no_text, text_or};
 
 /// Appends the people of a names node in an element that stands for them: of each variable the names that the properties
 /// show, each in its form, with the label of the variable; or only how many are shown, where the options say so. The options are those
-/// of the node over those around it. The properties are those of the same people, variable by variable. Nothing is promised of the page
+/// of the node by what is said around it. The properties are those of the same people, variable by variable. Nothing is promised of the page
 /// after an error.
 ///
 /// # Errors
@@ -41,7 +41,7 @@ pub fn push_names<'a>(
     properties: &NameDisambiguationProperties,
     people: &[Answered<'_>],
 ) -> Result<(), AllocError>
-    ensures { (around : NameOptions)
+    ensures { (around : NamesAround)
         → resolved_options_view options.now ≡ node_options (names_parts_view node.now) around
         → OnOk result (page.new ≡ append_pieces (quotes_view setting.now.quotes.now)
         (names_pieces setting.now.locales.now (manner_view setting.now.manner)

@@ -2,10 +2,11 @@
 
 ghost use Rattle.std.specs.Prelude.{◌≡◌, ◌||◌, is_some, if◌then◌else◌};
 ghost use Rattle.std.specs.Option.{option_map, option_or};
-ghost use Rattle.rendering_names.specs.Names.{completed, node_options};
-ghost use Rattle.rendering_names.specs.Views.{names_parts_view, resolved_options_view};
+ghost use Rattle.rendering_names.specs.Names.{completed, node_options, own_over};
+ghost use Rattle.rendering_names.specs.Views.{names_around_view, names_parts_view, resolved_options_view};
 ghost use Rattle.rendering_style.specs.Views.{names_node_view, label_look_view};
 
+use crate::around::NamesAround;
 use crate::options::ResolvedNameOptions;
 use rendering_style::{EtAl, LabelLook, Look, Name, Names};
 use rendering_taxonomy::NameVariable;
@@ -84,10 +85,19 @@ impl<'a> NamesParts<'a> {
         }
     }
 
-    /// What it says of names, and where it says nothing what is specified around it.
-    pub fn options(&self, around: &ResolvedNameOptions<'a>) -> ResolvedNameOptions<'a>
+    /// What it says of names, and where it says nothing what is specified around it; over both stands what overrides them.
+    pub fn options(&self, around: &NamesAround<'a>) -> ResolvedNameOptions<'a>
         ensures { resolved_options_view result
-            ≡ node_options (names_parts_view self.now) (resolved_options_view around.now) }
+            ≡ node_options (names_parts_view self.now) (names_around_view around.now) }
+    {
+        let own = self.own_over(&around.options);
+        around.overriding.over(&own)
+    }
+
+    /// What it says of names, and where it says nothing what is specified around it.
+    fn own_over(&self, around: &ResolvedNameOptions<'a>) -> ResolvedNameOptions<'a>
+        ensures { resolved_options_view result
+            ≡ own_over (names_parts_view self.now) (resolved_options_view around.now) }
     {
         match self.name {
             Some(name) => ResolvedNameOptions::new(&name.options).over(around),

@@ -3,10 +3,10 @@
 ghost use Rattle.std.specs.Prelude.{◌≡◌, None};
 ghost use Rattle.laws.specs.Text.{spelled};
 ghost use Rattle.rendering_taxonomy.specs.Views.{changes_view};
+ghost use Rattle.rendering_names.specs.Around.{NamesAround};
 ghost use Rattle.rendering_names.specs.Names.{style_of, and_text, et_al_term, node_options};
 ghost use Rattle.rendering_names.specs.Views.{names_parts_view, resolved_options_view, name_style_view};
 ghost use Rattle.rendering_page.specs.Views.{manner_view, frame_view};
-ghost use Rattle.rendering_style.specs.Options.{NameOptions};
 ghost use Rattle.rendering_taxonomy.specs.Formats.{changed};
 
 use crate::options::ResolvedNameOptions;
@@ -46,7 +46,7 @@ impl<'s, 'a> NameStyle<'s, 'a> {
         node: &NamesParts<'a>,
         options: &ResolvedNameOptions<'a>,
     ) -> NameStyle<'s, 'a>
-        ensures style { (around : NameOptions)
+        ensures style { (around : NamesAround)
             → resolved_options_view options.now ≡ node_options (names_parts_view node.now) around
             → name_style_view result ≡ style_of setting.entry.locales.now
             (manner_view setting.entry.manner) (names_parts_view node.now) around }

@@ -21,6 +21,7 @@ use Rattle.rendering_page.specs.Pieces.{Piece, normal}
 use Rattle.rendering_style.specs.Options.{NameOptions}
 use Rattle.rendering_style.specs.Nodes.{LabelLook, TextSource, of_variable, of_term, of_value, TextLook, NumberNode, DateNode, NamesNode, Leaf}
 use Rattle.rendering_style.specs.Nodes as nodes
+use Rattle.rendering_names.specs.Around.{NamesAround}
 use Rattle.rendering_names.specs.Names as names
 use Rattle.rendering_names.specs.Names.{NameStyle, IndexedPerson, names_pieces}
 use Rattle.rendering_names.specs.Persons.{person_text}
@@ -242,7 +243,7 @@ ends_people s h ps people =
     ends_either (names.is_count s.options.form) (normal s.manner (decimal (all_shown ps)) ∷ []) (flat_map (names.indexed_variable s h) (enumerate_from 0 (zip ps people)))
     (ends_normal s.manner (decimal (all_shown ps))) (ends_each (names.indexed_variable s h) (ends_indexed_variable s h) (enumerate_from 0 (zip ps people)))
 
-pub ends_names : (ls : List Locale) (m : Manner) (h : NamesNode) (around : NameOptions) (ps : Properties) (people : List Answered) → EndAll (names_pieces ls m h around ps people)
+pub ends_names : (ls : List Locale) (m : Manner) (h : NamesNode) (around : NamesAround) (ps : Properties) (people : List Answered) → EndAll (names_pieces ls m h around ps people)
 ends_names ls m h around ps people =
     ends_framed (names.names_frame m h people) (names.people_pieces (names.style_of ls (names.names_manner m h) h around) h ps people)
     (ends_people (names.style_of ls (names.names_manner m h) h around) h ps people)

@@ -3,12 +3,12 @@
 ghost use Rattle.std.specs.Prelude.{◌≡◌, [], map, IfOk};
 ghost use Rattle.std.specs.Option.{option_map};
 ghost use Rattle.rendering_leaves.specs.Views.{setting_view};
-ghost use Rattle.rendering_names.specs.Views.{resolved_options_view};
+ghost use Rattle.rendering_names.specs.Views.{names_around_view, overriding_view, resolved_options_view};
 ghost use Rattle.rendering_nodes.specs.Views.{macros_of, walk_context};
 ghost use Rattle.rendering_style.specs.Opening.{opened_nodes};
 ghost use Rattle.rendering_style.specs.StyleViews.{style_view};
 ghost use Rattle.rendering_style.specs.Views.{node_view, sort_key_view};
-ghost use Rattle.rendering_sorting.specs.Printed.{goes_behind, key_setting, key_value, own_options, printed_text};
+ghost use Rattle.rendering_sorting.specs.Printed.{goes_behind, key_options, key_setting, key_value, own_options, printed_text};
 ghost use Rattle.rendering_context.specs.Answering.{answer_to, date_answer};
 ghost use Rattle.rendering_taxonomy.specs.declared.date.LongShortForm.TheVariants.{Long};
 ghost use Rattle.rendering_sorting.specs.Values.{of_answer, of_date, of_people, of_text, value_of_variable};
@@ -19,7 +19,7 @@ use crate::names::people_value;
 use crate::values::{date_value, text_value, value_of_answer};
 use rendering_entries::EntryLike;
 use rendering_leaves::{NodeSetting, SpecialForm, State};
-use rendering_names::ResolvedNameOptions;
+use rendering_names::{NamesAround, OverridingOptions, ResolvedNameOptions};
 use rendering_nodes::Walk;
 use rendering_page::plain_manner;
 use rendering_style::{Node, SortKey, SortTarget};
@@ -27,8 +27,8 @@ use rendering_taxonomy::{DateVariable, LongShortForm, NameAsSortOrder, NameVaria
 use std::alloc::{AllocError, Global};
 use texts::empty_text;
 
-/// The value of a key, where an entry has one: of the answer to its variable, or of what its macro prints from there with what the key says
-/// of names, or else the layout around it. Particles of the people of a variable go behind their family names, unless the layout says that
+/// The value of a key, where an entry has one: of the answer to its variable, or of what its macro prints from there. What the key says of
+/// names goes over what their nodes say, and that over what the layout says. Particles of the people of a variable go behind their family names, unless the layout says that
 /// they do not.
 ///
 /// # Errors
@@ -155,34 +155,31 @@ fn key_setting<'a>(key: &SortKey, layout: &ResolvedNameOptions<'a>) -> NodeSetti
         manner: plain_manner(),
         inside_quotes: false,
         delimiter: None,
-        options: own_options(key).over(layout),
+        options: key_options(key, layout),
         in_substitute: false,
         form: SpecialForm::Whole,
     }
 }
 
-/// What a key says of names by itself.
-fn own_options<'a>(key: &SortKey) -> ResolvedNameOptions<'a>
-    ensures { resolved_options_view result ≡ own_options (sort_key_view key.now) }
+/// What is said of names around the nodes of a key.
+fn key_options<'a>(key: &SortKey, layout: &ResolvedNameOptions<'a>) -> NamesAround<'a>
+    ensures { names_around_view result
+        ≡ key_options (resolved_options_view layout.now) (sort_key_view key.now) }
 {
-    ResolvedNameOptions {
-        and: None,
-        delimiter: None,
-        delimiter_precedes_last: None,
+    NamesAround {
+        options: *layout,
+        overriding: own_options(key),
+    }
+}
+
+/// What a key says of names, whatever their nodes say.
+fn own_options(key: &SortKey) -> OverridingOptions
+    ensures { overriding_view result ≡ own_options (sort_key_view key.now) }
+{
+    OverridingOptions {
         et_al_min: key.names_min,
         et_al_use_first: key.names_use_first,
-        et_al_subsequent_min: None,
-        et_al_subsequent_use_first: None,
         et_al_use_last: key.names_use_last,
-        form: None,
-        initialize_with: None,
         name_as_sort_order: Some(NameAsSortOrder::All),
-        sort_separator: None,
-        demote_non_dropping_particle: None,
-        delimiter_precedes_et_al: None,
-        initialize: None,
-        initialize_with_hyphen: None,
-        splits_initials: None,
-        names_delimiter: None,
     }
 }

@@ -6,6 +6,7 @@ use Rattle.rendering_page.specs.Pieces.{normal, linked, own_locator, chunk_piece
 use Rattle.rendering_page.specs.PageCharacters.{plain_manner}
 use Rattle.rendering_style.specs.Options.{NameOptions, open_options, options_over}
 use Rattle.rendering_style.specs.Nodes.{Nodes}
+use Rattle.rendering_names.specs.Around.{NamesAround, not_overriding}
 use Rattle.rendering_context.specs.Contexts.{Context}
 use Rattle.rendering_leaves.specs.NodeSettings.{NodeSetting, State, whole, append}
 use Rattle.rendering_nodes.specs.Admission.{Survey, surveys}
@@ -15,7 +16,7 @@ use Rattle.rendering_nodes.specs.Content.{stage, contents}
 pub record Writing : Type 0 where
   pub state : State
   pub setting : NodeSetting
-  pub options_around : List NameOptions
+  pub options_around : List NamesAround
 
 -- what is handed down where nothing was specified
 abbrev pub setting_begun : NodeSetting
@@ -23,7 +24,7 @@ setting_begun = record {
   manner = plain_manner;
   inside_quotes = false;
   delimiter = None;
-  options = open_options;
+  options = not_overriding open_options;
   in_substitute = false;
   form = whole;
 }
@@ -32,12 +33,19 @@ setting_begun = record {
 abbrev pub with_page : Page → Writing → Writing
 with_page p w = record w { state = record w.state { page = p } }
 
+-- further options for names over those that are said
+abbrev pub further_options : NameOptions → NamesAround → NamesAround
+further_options o around = record around { options = options_over o around.options }
+
 -- further options for names count over those that count now
 abbrev pub options_pushed : NameOptions → Writing → Writing
-options_pushed o w = record w { setting = record w.setting { options = options_over o w.setting.options }; options_around = w.setting.options ∷ w.options_around }
+options_pushed o w = record w {
+  setting = record w.setting { options = further_options o w.setting.options };
+  options_around = w.setting.options ∷ w.options_around;
+}
 
 -- those before them count again; where nothing was pushed nothing changes
-abbrev pub options_popped_to : List NameOptions → Writing → Writing
+abbrev pub options_popped_to : List NamesAround → Writing → Writing
 options_popped_to [] w = w
 options_popped_to (o ∷ os) w = record w { setting = record w.setting { options = o }; options_around = os }
 

@@ -6,7 +6,8 @@ ghost use Rattle.laws.specs.Text.{characters};
 ghost use Rattle.literature_values.specs.TextViews.{chunks_view as chunks_of};
 ghost use Rattle.rendering_leaves.specs.NodeSettings.{begun};
 ghost use Rattle.rendering_leaves.specs.Views.{setting_view};
-ghost use Rattle.rendering_names.specs.Views.{resolved_options_view};
+ghost use Rattle.rendering_names.specs.Around.{not_overriding};
+ghost use Rattle.rendering_names.specs.Views.{names_around_view, resolved_options_view};
 ghost use Rattle.rendering_page.specs.Pages.{append_normal, append_token};
 ghost use Rattle.rendering_page.specs.Pieces.{append_pieces, chunk_pieces};
 ghost use Rattle.rendering_page.specs.Views.{quotes_view};
@@ -17,13 +18,13 @@ ghost use Rattle.rendering_style.specs.Views.{node_view, options_view};
 ghost use Rattle.rendering_tree.specs.Tokens.{link, transparent};
 ghost use Rattle.rendering_tree.specs.Trees.{tree_of};
 ghost use Rattle.rendering_tree.specs.Views.{tree_view};
-ghost use Rattle.rendering_writing.specs.Writing.{nodes_asked, nodes_rendered, options_popped, options_pushed, setting_begun, space_ensured, with_page};
+ghost use Rattle.rendering_writing.specs.Writing.{further_options, nodes_asked, nodes_rendered, options_popped, options_pushed, setting_begun, space_ensured, with_page};
 
 use literature_values::ChunkedString;
 use rendering_building::into_tree;
 use rendering_entries::EntryLike;
 use rendering_leaves::{NodeSetting, SpecialForm, State};
-use rendering_names::ResolvedNameOptions;
+use rendering_names::{NamesAround, ResolvedNameOptions};
 use rendering_nodes::{Survey, Walk};
 use rendering_page::plain_manner;
 use rendering_style::{NameOptions, Node};
@@ -35,7 +36,7 @@ use std::marker::Model;
 pub struct WritingContext<'a> {
     state: State<'a>,
     setting: NodeSetting<'a>,
-    options_around: Vec<ResolvedNameOptions<'a>>,
+    options_around: Vec<NamesAround<'a>>,
 }
 
 impl Drop for WritingContext<'_> {
@@ -51,12 +52,12 @@ impl Drop for WritingContext<'_> {
 impl<'a> Model for WritingContext<'a> {
     ghost use Rattle.std.specs.Prelude.{map, reverse};
     ghost use Rattle.rendering_leaves.specs.Views.{setting_view};
-    ghost use Rattle.rendering_names.specs.Views.{resolved_options_view};
+    ghost use Rattle.rendering_names.specs.Views.{names_around_view};
     ghost use Rattle.rendering_writing.specs.Writing as writings;
 
     ghost Value = { writings.Writing };
 
-    ghost view = { λ w. record { state = w.state; setting = setting_view w.setting; options_around = reverse (map resolved_options_view w.options_around.items) } };
+    ghost view = { λ w. record { state = w.state; setting = setting_view w.setting; options_around = reverse (map names_around_view w.options_around.items) } };
 }
 
 impl<'a> WritingContext<'a> {
@@ -88,7 +89,7 @@ impl<'a> WritingContext<'a> {
     {
         let around = self.setting.options;
         self.options_around.push(around)?;
-        self.setting.options = ResolvedNameOptions::new(options).over(&around);
+        self.setting.options = further(options, &around);
         Ok(())
     }
 
@@ -215,10 +216,28 @@ fn plain_setting<'a>() -> NodeSetting<'a>
         manner: plain_manner(),
         inside_quotes: false,
         delimiter: None,
-        options: open_options(),
+        options: nothing_around(),
         in_substitute: false,
         form: SpecialForm::Whole,
     }
+}
+
+/// Further options for names over those that are said.
+fn further<'a>(options: &'a NameOptions, around: &NamesAround<'a>) -> NamesAround<'a>
+    ensures { names_around_view result
+        ≡ further_options (options_view options.now) (names_around_view around.now) }
+{
+    NamesAround {
+        options: ResolvedNameOptions::new(options).over(&around.options),
+        overriding: around.overriding,
+    }
+}
+
+/// Nothing is said of names.
+fn nothing_around<'a>() -> NamesAround<'a>
+    ensures { names_around_view result ≡ not_overriding open_options }
+{
+    NamesAround::not_overriding(&open_options())
 }
 
 /// Options by which nothing is specified for names.

@@ -1,59 +1,32 @@
 //! The style by which keys print.
 
 ghost use Rattle.std.specs.Prelude.{◌≡◌, None, map, IfOk, OnOk};
-ghost use Rattle.std.specs.List.{list_any};
 ghost use Rattle.std.specs.Option.{option_map};
 ghost use Rattle.rendering_style.specs.Opening.{IsAnswer};
 ghost use Rattle.rendering_style.specs.StyleViews.{style_view};
-ghost use Rattle.rendering_style.specs.Views.{bibliography_layout_view, macro_view, sort_key_view, style_parts_view};
+ghost use Rattle.rendering_style.specs.Views.{bibliography_layout_view, macro_view, style_parts_view};
 ghost use Rattle.sorting_styles.specs.Styles as specs;
 
 use crate::locales::change_locales;
 use crate::nodes::change_nodes;
-use rendering_style::{Bibliography, Macro, SortKey, Style, StyleError, StyleParts};
+use rendering_style::{Bibliography, Macro, Style, StyleError, StyleParts};
 use std::alloc::{AllocError, Global};
 
-/// Whether a key says how many names are shown.
-fn counts_names(key: &SortKey) -> bool
-    ensures { result ≡ specs.counts_names (sort_key_view key.now) }
-{
-    key.names_min.is_some() || key.names_use_first.is_some()
-}
-
-/// Whether one of these keys says how many names are shown.
-fn some_count_names(keys: &[SortKey]) -> bool
-    ensures { result ≡ list_any specs.counts_names (map sort_key_view keys.now) }
-{
-    for key in keys {
-        if counts_names(key) {
-            return true;
-        }
-    }
-    false
-}
-
-/// Whether one of the keys of a style says how many names are shown.
-fn has_counted_names(parts: &StyleParts) -> bool
-    ensures { result ≡ specs.has_counted_names (style_parts_view parts.now) }
-{
-    some_count_names(&parts.citation_sort) || some_count_names(&parts.bibliography_sort)
-}
-
 /// Makes a macro print for sorting.
-fn change_macro(alloc: Global, called: &mut Macro, counted: bool) -> Result<(), AllocError>
+fn change_macro(alloc: Global, called: &mut Macro) -> Result<(), AllocError>
     ensures { OnOk result (macro_view called.new
-        ≡ specs.sorting_macro counted (macro_view called.old)) }
+        ≡ specs.sorting_macro (macro_view called.old)) }
 {
-    change_nodes(alloc, &mut called.nodes, counted)
+    change_nodes(alloc, &mut called.nodes)
 }
 
 /// Makes macros print for sorting.
-fn change_macros(alloc: Global, macros: &mut [Macro], counted: bool) -> Result<(), AllocError>
+fn change_macros(alloc: Global, macros: &mut [Macro]) -> Result<(), AllocError>
     ensures { OnOk result (map macro_view macros.new
-        ≡ map (specs.sorting_macro counted) (map macro_view macros.old)) }
+        ≡ map specs.sorting_macro (map macro_view macros.old)) }
 {
     for called in macros.iter_mut() {
-        change_macro(alloc, called, counted)?;
+        change_macro(alloc, called)?;
     }
     Ok(())
 }
@@ -74,13 +47,12 @@ fn change_parts(alloc: Global, parts: &mut StyleParts, demotes: bool) -> Result<
     ensures { OnOk result (style_parts_view parts.new
         ≡ specs.sorting_style demotes (style_parts_view parts.old)) }
 {
-    let counted = has_counted_names(parts);
     parts.name_options.and = None;
     parts.name_options.demote_non_dropping_particle = Some(demotes);
     parts.citation.name_options.and = None;
     change_bibliography(&mut parts.bibliography);
     change_locales(alloc, &mut parts.locales)?;
-    change_macros(alloc, &mut parts.macros, counted)
+    change_macros(alloc, &mut parts.macros)
 }
 
 /// The style of parts that are not refused.

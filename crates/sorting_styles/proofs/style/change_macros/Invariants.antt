@@ -4,4 +4,4 @@ use Rattle.sorting_styles.proofs.Changed.{AreChanged, IsUnvisited}
 use Rattle.sorting_styles.proofs.style.change_macros.Given as goal
 
 abbrev pub invariant-loop-called : goal.invariant-loop-called
-invariant-loop-called l = IsUnvisited l.fn.macros l.macros l.called-index × AreChanged macro_view (sorting_macro l.counted) l.fn.macros l.macros l.called-index
+invariant-loop-called l = IsUnvisited l.fn.macros l.macros l.called-index × AreChanged macro_view sorting_macro l.fn.macros l.macros l.called-index
