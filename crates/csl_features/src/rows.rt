@@ -106,7 +106,6 @@ pub(crate) const FEATURES: &[Row] = &[
         "",
         "ibid-with-locator follows citations of one cite alone",
     ),
-    ("", ("text-case", ""), NOTHING, "", "text-case"),
     (
         "number",
         ("form", "long-ordinal"),
@@ -121,7 +120,6 @@ pub(crate) const FEATURES: &[Row] = &[
         "",
         "editors who are the translators too are printed once",
     ),
-    ("name-part", NOTHING, NOTHING, "", "name-part"),
     ("term", ("gender-form", ""), NOTHING, "", "gender-form"),
     ("term", ("match", ""), NOTHING, "", "match"),
     (

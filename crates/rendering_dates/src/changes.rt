@@ -12,6 +12,7 @@ ghost use Rattle.rendering_dates.specs.Views.{printed_view};
 use rendering_locale::DatePart;
 use rendering_style::{ChangedDatePart, DatePartChange};
 use rendering_taxonomy::{DatePartForm, FormattingChanges, TextCase};
+use texts::{borrowed_text, first_text};
 
 /// A part of a date as it is printed.
 #[derive(Clone, Copy)]
@@ -74,7 +75,7 @@ fn unchanged(part: &DatePart) -> PrintedPart<'_>
         formatting: part.formatting,
         prefix: part.prefix.as_str(),
         suffix: part.suffix.as_str(),
-        range_delimiter: part.range_delimiter.as_deref(),
+        range_delimiter: borrowed_text(&part.range_delimiter),
     }
 }
 
@@ -89,10 +90,10 @@ fn part_with<'a>(change: &'a DatePartChange, part: &'a DatePart) -> PrintedPart<
         formatting: looks_with(change.formatting, part.formatting),
         prefix: part.prefix.as_str(),
         suffix: part.suffix.as_str(),
-        range_delimiter: change
-            .range_delimiter
-            .as_deref()
-            .or(part.range_delimiter.as_deref()),
+        range_delimiter: first_text(
+            borrowed_text(&change.range_delimiter),
+            borrowed_text(&part.range_delimiter),
+        ),
     }
 }
 

@@ -1,15 +1,16 @@
 -- What is left open changes nothing of how names are printed.
 use Rattle.std.proofs.Common.{◌≡◌, ℕ, Bool, true, false, List, [], ◌∷◌, Option, Some, None, refl, ap, ◌∙◌}
-use Rattle.std.specs.Prelude.{if◌then◌else◌}
+use Rattle.std.specs.Prelude.{◌||◌, is_some, if◌then◌else◌}
 use Rattle.std.specs.Option.{option_or, unwrap_or}
 use Rattle.laws.specs.Characters.{space}
 use Rattle.literature_values.specs.GivenNames.{given_by}
 use Rattle.literature_values.specs.Initials.{style}
 use Rattle.rendering_taxonomy.specs.Formats.{changed}
 use Rattle.rendering_page.specs.Pieces.{normal}
-use Rattle.rendering_names.specs.LeftOpen.{TermIsDelimitedFromTwo, HyphensStay, RunsAreCut, NodeDelimitsPeople, NodesSayTheirOwn}
+use Rattle.rendering_names.specs.LeftOpen.{TermIsDelimitedFromTwo, HyphensStay, RunsAreCut, NodeDelimitsPeople, NodesSayTheirOwn, NamesAreOneText}
 use Rattle.rendering_names.specs.Names.{delimiter_by, delimits_et_al}
-use Rattle.rendering_names.specs.Persons.{comma_and_space, stop_and_space, given_of, rule_by, initials_rule}
+use Rattle.rendering_names.specs.NameParts.{person_words, words_pieces}
+use Rattle.rendering_names.specs.Persons.{comma_and_space, stop_and_space, given_of, rule_by, initials_rule, person_text}
 use Rattle.rendering_taxonomy.specs.declared.name.DelimiterBehavior.{DelimiterBehavior}
 use Rattle.rendering_taxonomy.specs.declared.name.DelimiterBehavior.TheVariants as behaviors
 
@@ -36,3 +37,7 @@ node_delimits o h e = ap (λ (d : Option (List ℕ)). unwrap_or (option_or h.del
 
 pub nodes_say : NodesSayTheirOwn
 nodes_say h o = refl
+
+pub one_text : NamesAreOneText
+one_text m l o is_inverted f p given family =
+    λ i. if is_some (given i) || is_some (family i) then words_pieces m false (person_words l o is_inverted f p) else normal m (person_text o is_inverted f p) ∷ []

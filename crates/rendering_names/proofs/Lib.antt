@@ -1,5 +1,6 @@
 pub mod NamesTexts
 pub mod PersonsJoined
+pub mod NameWords
 pub mod NamesCases
 pub mod PiecesAppended
 pub mod IndexedSteps

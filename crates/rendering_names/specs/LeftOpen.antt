@@ -1,17 +1,20 @@
 -- How names are printed where nothing is specified of what may be left open.
-use Rattle.std.specs.Prelude.{◌≡◌, ℕ, true, nat_le, List, [], ◌∷◌, if◌then◌else◌, None}
+use Rattle.std.specs.Prelude.{◌≡◌, ℕ, Bool, true, nat_le, List, [], ◌∷◌, if◌then◌else◌, None}
 use Rattle.std.specs.Option.{unwrap_or}
 use Rattle.laws.specs.Characters.{space}
 use Rattle.literature_values.specs.GivenNames.{given_by}
 use Rattle.literature_values.specs.Initials.{style, initials_of}
 use Rattle.literature_values.specs.PersonViews.{Named}
 use Rattle.rendering_taxonomy.specs.Formats.{changed}
+use Rattle.rendering_page.specs.Pages.{Manner}
 use Rattle.rendering_page.specs.Pieces.{Piece, normal}
 use Rattle.rendering_style.specs.Options.{NameOptions}
-use Rattle.rendering_style.specs.Nodes.{NamesNode}
+use Rattle.rendering_style.specs.Nodes.{NameLook, NamesNode}
 use Rattle.rendering_names.specs.Around.{not_overriding}
 use Rattle.rendering_names.specs.Names.{NameStyle, delimiter_by, et_al_by, node_options, own_over, people_delimiter}
-use Rattle.rendering_names.specs.Persons.{comma_and_space, stop_and_space, given_of, initials_rule, initials_by}
+use Rattle.rendering_names.specs.NameParts.{person_pieces}
+use Rattle.rendering_names.specs.Persons.{comma_and_space, stop_and_space, given_of, initials_rule, initials_by, person_text}
+use Rattle.rendering_taxonomy.specs.declared.name.DisambiguatedNameForm.{DisambiguatedNameForm}
 
 -- the term for those left out, after the delimiter where two or more are shown, else after a space; without a term neither
 abbrev pub et_al_from_two : NameStyle → ℕ → List ℕ → List Piece
@@ -46,3 +49,9 @@ NodeDelimitsPeople = (o : NameOptions) (h : NamesNode) → o.names_delimiter ≡
 -- Where nothing overrides what a node says of names, that goes over what is said around it.
 abbrev pub NodesSayTheirOwn : Type 0
 NodesSayTheirOwn = (h : NamesNode) (o : NameOptions) → node_options h (not_overriding o) ≡ own_over h o
+
+-- Where nothing is specified for the parts of a name, it is one text.
+abbrev pub NamesAreOneText : Type 0
+NamesAreOneText =
+    (m : Manner) (l : NameLook) (o : NameOptions) (is_inverted : Bool) (f : DisambiguatedNameForm) (p : Named) → l.given ≡ None → l.family ≡ None
+    → person_pieces m l o is_inverted f p ≡ normal m (person_text o is_inverted f p) ∷ []

@@ -1,4 +1,5 @@
 pub mod Persons
+pub mod NameParts
 pub mod Around
 pub mod Names
 pub mod Counts

@@ -9,13 +9,14 @@ use Rattle.rendering_taxonomy.specs.Formats.{changed, unchanged}
 use Rattle.rendering_tree.specs.Metas.{Answered, NameVariableOf, Name, Names}
 use Rattle.rendering_locale.specs.Locales.{Locale}
 use Rattle.rendering_locale.specs.Lookup.{term_text}
-use Rattle.rendering_page.specs.Pages.{Manner, Frame}
+use Rattle.rendering_page.specs.Pages.{Manner, Frame, with_case}
 use Rattle.rendering_page.specs.Pieces.{Piece, normal, framed}
 use Rattle.rendering_style.specs.Options.{NameOptions, options_over, open_options}
 use Rattle.rendering_style.specs.Nodes.{NameLook, EtAl, LabelLook, NamesNode}
 use Rattle.rendering_people.specs.Properties.{VariableProperties, Properties, all_shown}
 use Rattle.rendering_names.specs.Around.{NamesAround}
-use Rattle.rendering_names.specs.Persons.{comma_and_space, person_text}
+use Rattle.rendering_names.specs.NameParts.{person_pieces}
+use Rattle.rendering_names.specs.Persons.{comma_and_space}
 use Rattle.rendering_taxonomy.specs.declared.name.NameAnd.{NameAnd}
 use Rattle.rendering_taxonomy.specs.declared.name.NameAnd.TheVariants as ands
 use Rattle.rendering_taxonomy.specs.declared.name.DelimiterBehavior.{DelimiterBehavior}
@@ -34,6 +35,8 @@ use Rattle.rendering_taxonomy.specs.declared.term.OtherTerm.{OtherTerm}
 use Rattle.rendering_taxonomy.specs.declared.term.OtherTerm.TheVariants as others
 use Rattle.rendering_taxonomy.specs.declared.term.Term.TheVariants as terms
 use Rattle.rendering_taxonomy.specs.declared.term.TermForm.TheVariants as term_forms
+use Rattle.rendering_taxonomy.specs.declared.text_case.TextCase.{TextCase}
+use Rattle.rendering_taxonomy.specs.declared.text_case.TextCase.TheVariants as text_cases
 use Rattle.rendering_taxonomy.specs.declared.variable.NameVariable.{NameVariable}
 use Rattle.rendering_taxonomy.specs.declared.variable.Variable.TheVariants as variables
 
@@ -112,11 +115,15 @@ pub record NameStyle : Type 0 where
   pub et_al : EtAl
   pub options : NameOptions
 
+-- how single names are appended
+abbrev pub name_manner : NameStyle → Manner
+name_manner s = record s.manner { formatting = changed s.look.formatting s.manner.formatting }
+
 -- a single name, in its own look and its affixes in that of the node, as the person at an index
 abbrev pub name_pieces : NameStyle → NameVariable → ℕ → DisambiguatedNameForm → Named → List Piece
 name_pieces s v i f p =
     framed (record { display = None; meta = Some (Name v i); manner = s.manner; prefix = s.look.prefix; suffix = s.look.suffix })
-    (normal (record s.manner { formatting = changed s.look.formatting s.manner.formatting }) (person_text s.options (inverts s.options.name_as_sort_order i) f p) ∷ [])
+    (person_pieces (name_manner s) s.look s.options (inverts s.options.name_as_sort_order i) f p)
 
 -- a person of a variable with a form, under its index
 abbrev pub IndexedPerson : Type 0
@@ -183,9 +190,12 @@ pluralizes plurals.Contextual plural = plural
 pluralizes plurals.Always plural = true
 pluralizes plurals.Never plural = false
 
--- how a label's text is appended
+-- how a label's text is appended: in its own look over that around it, and in its own case, where none is handed down
 abbrev pub label_manner : Manner → LabelLook → Manner
-label_manner m l = record { formatting = changed l.look.formatting m.formatting; strips_periods = m.strips_periods || l.strips_periods }
+label_manner m l = with_case l.text_case (record m {
+  formatting = changed l.look.formatting m.formatting;
+  strips_periods = m.strips_periods || l.strips_periods;
+})
 
 -- a label by its term, in its affixes
 abbrev pub label_text_pieces : Manner → LabelLook → List ℕ → List Piece
@@ -267,13 +277,23 @@ people_pieces s h ps people =
 abbrev pub names_frame : Manner → NamesNode → List Answered → Frame
 names_frame m h people = record { display = h.look.display; meta = Some (Names people); manner = m; prefix = h.look.prefix; suffix = h.look.suffix }
 
--- how a names node's own texts are appended
+-- what a names node hands down, to its people or to their substitute
 abbrev pub names_manner : Manner → NamesNode → Manner
 names_manner m h = record m { formatting = changed h.look.formatting m.formatting }
 
+-- a case of all letters; the others, which are of a text as a whole, are none of its words
+abbrev pub every_letter : Option TextCase → Option TextCase
+every_letter (Some text_cases.Lowercase) = Some text_cases.Lowercase
+every_letter (Some text_cases.Uppercase) = Some text_cases.Uppercase
+every_letter case = None
+
+-- how people are appended: in a case that is handed down, where it is one of all letters
+abbrev pub people_manner : Manner → NamesNode → Manner
+people_manner m h = record (names_manner m h) { text_case = every_letter m.text_case }
+
 -- a names node with its people, by what is to be printed of them
 abbrev pub names_pieces : List Locale → Manner → NamesNode → NamesAround → Properties → List Answered → List Piece
-names_pieces ls m h around ps people = framed (names_frame m h people) (people_pieces (style_of ls (names_manner m h) h around) h ps people)
+names_pieces ls m h around ps people = framed (names_frame m h people) (people_pieces (style_of ls (people_manner m h) h around) h ps people)
 
 -- What a names node says of names where it is a substitute for another: without a name and without a term for others it takes those of that
 -- node, and its label with the label's position, if it has none itself.

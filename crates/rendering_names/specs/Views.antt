@@ -12,14 +12,17 @@ use Rattle.rendering_page.specs.Pieces.{Piece, append_pieces}
 use Rattle.rendering_page.specs.Views.{quotes_view, manner_view}
 use Rattle.rendering_style.specs.Nodes as nodes
 use Rattle.rendering_style.specs.Options.{NameOptions, open_options}
-use Rattle.rendering_style.specs.Views.{name_look_view, et_al_view, label_look_view, look_view}
+use Rattle.rendering_style.specs.Views.{name_look_view, name_part_view, et_al_view, label_look_view, look_view}
 use Rattle.rendering_style.specs.declared.node.EtAl.{EtAl}
 use Rattle.rendering_style.specs.declared.node.Name.{Name}
+use Rattle.rendering_style.specs.declared.node.NamePart.{NamePart}
 use Rattle.rendering_names.specs.Around as arounds
+use Rattle.rendering_names.specs.NameParts as parts
 use Rattle.rendering_names.specs.Names as names
 use Rattle.rendering_names.specs.Names.{IndexedPerson, no_look, plain_et_al}
 use Rattle.rendering_names.specs.declared.around.NamesAround.{NamesAround}
 use Rattle.rendering_names.specs.declared.around.OverridingOptions.{OverridingOptions}
+use Rattle.rendering_names.specs.declared.name_parts.Word.{Word}
 use Rattle.rendering_names.specs.declared.options.ResolvedNameOptions.{ResolvedNameOptions}
 use Rattle.rendering_names.specs.declared.parts.NamesParts.{NamesParts}
 use Rattle.rendering_names.specs.declared.style.NameStyle.{NameStyle}
@@ -67,6 +70,20 @@ names_around_view a = record {
 -- what is specified for single names, where something is
 abbrev pub lent_name_view : Option (Bor Name) → Option nodes.NameLook
 lent_name_view n = option_map (λ b. name_look_view b.now) n
+
+-- what is specified for a part of single names, where something is
+abbrev pub lent_part_view : Option (Bor NamePart) → Option nodes.NamePart
+lent_part_view p = option_map (λ b. name_part_view b.now) p
+
+-- a word of a name
+abbrev pub word_view : Word → parts.Word
+word_view w = record {
+  before = spelled w.before;
+  prefix = spelled w.prefix;
+  suffix = spelled w.suffix;
+  part = lent_part_view w.part;
+  text = spelled w.text;
+}
 
 -- the term for those left out, where something is specified for it
 abbrev pub lent_et_al_view : Option (Bor EtAl) → Option nodes.EtAl

@@ -9,7 +9,7 @@ ghost use Rattle.rendering_page.specs.Views.{manner_view, frame_view};
 ghost use Rattle.rendering_style.specs.Views.{label_look_view};
 
 use crate::style::{NameStyle, changed_manner};
-use rendering_page::{Frame, Manner, Page};
+use rendering_page::{Frame, Manner, Page, with_case};
 use rendering_style::LabelLook;
 use rendering_taxonomy::{LabelPluralize, NameVariable, Term, Variable};
 use std::alloc::AllocError;
@@ -30,10 +30,11 @@ pub fn label_manner(manner: Manner, label: &LabelLook) -> Manner
     ensures { manner_view result ≡ label_manner (manner_view manner) (label_look_view label.now) }
 {
     let own = changed_manner(label.look.formatting, manner);
-    Manner {
-        formatting: own.formatting,
+    let stripped = Manner {
         strips_periods: manner.strips_periods || label.strip_periods,
-    }
+        ..own
+    };
+    with_case(stripped, label.text_case)
 }
 
 impl<'s, 'a> NameStyle<'s, 'a> {

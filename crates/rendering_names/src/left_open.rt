@@ -1,6 +1,6 @@
 //! What is left open changes nothing of how names are printed.
 
-ghost use Rattle.rendering_names.specs.LeftOpen.{HyphensStay, NodeDelimitsPeople, NodesSayTheirOwn, RunsAreCut, TermIsDelimitedFromTwo};
+ghost use Rattle.rendering_names.specs.LeftOpen.{HyphensStay, NamesAreOneText, NodeDelimitsPeople, NodesSayTheirOwn, RunsAreCut, TermIsDelimitedFromTwo};
 
 /// Where nothing is specified of the delimiter before the term for those left out, it stands there where two or more are shown.
 #[tactic(auto, using(crate::proofs::LeftOpenHolds::term_delimited))]
@@ -30,4 +30,10 @@ pub fn node_delimits_people()
 #[tactic(auto, using(crate::proofs::LeftOpenHolds::nodes_say))]
 pub fn nodes_say_their_own()
     ensures { NodesSayTheirOwn }
+{}
+
+/// Where nothing is specified for the parts of a name, it is one text.
+#[tactic(auto, using(crate::proofs::LeftOpenHolds::one_text))]
+pub fn names_are_one_text()
+    ensures { NamesAreOneText }
 {}

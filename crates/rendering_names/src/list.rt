@@ -1,16 +1,15 @@
 //! The names of one variable on a page: those that are shown, and what stands for the rest.
 
-ghost use Rattle.std.specs.Prelude.{◌≡◌, ◌+◌, ◌<◌, ◌≤◌, ◌∷◌, [], IfOk, OnOk, length, take, if◌then◌else◌};
+ghost use Rattle.std.specs.Prelude.{◌≡◌, ◌+◌, ◌<◌, ◌≤◌, ◌∷◌, [], OnOk, length, take, if◌then◌else◌};
 ghost use Rattle.laws.specs.Characters.{space};
-ghost use Rattle.laws.specs.Text.{characters, spelled};
+ghost use Rattle.laws.specs.Text.{spelled};
 ghost use Rattle.literature_values.specs.PersonViews.{person_view, lent_person_view};
-ghost use Rattle.rendering_names.specs.Names.{after_ellipsis, and_text, before_last_by, before_name, delimiter_by, et_al_by, et_al_pieces, inverts, last_pieces, list_pieces, name_pieces, rest_pieces, shown_pieces};
-ghost use Rattle.rendering_names.specs.Persons.{person_text};
+ghost use Rattle.rendering_names.specs.Names.{after_ellipsis, and_text, before_last_by, before_name, delimiter_by, et_al_by, et_al_pieces, inverts, last_pieces, list_pieces, name_manner, name_pieces, rest_pieces, shown_pieces};
+ghost use Rattle.rendering_names.specs.NameParts.{person_pieces};
 ghost use Rattle.rendering_names.specs.Views.{append_here, resolved_options_view, indexed, name_style_view};
 ghost use Rattle.rendering_page.specs.Pages.{append_normal};
 ghost use Rattle.rendering_page.specs.Views.{quotes_view};
 
-use crate::person::person_text;
 use crate::style::NameStyle;
 use crate::words::{ellipsis, space};
 use literature_values::Person;
@@ -146,25 +145,28 @@ impl<'s, 'a> NameStyle<'s, 'a> {
             (lent_person_view person.now)) page.old) }
     {
         let frame = self.name_frame();
-        let text = self.name_text(index, form, borrowed_person(person))?;
         page.begin_element(&frame, ElemMeta::Name(variable, index))?;
-        page.push_made(self.setting.quotes, self.name_manner(), text)?;
+        self.push_inverted_by(page, index, form, borrowed_person(person))?;
         page.end_element(self.setting.quotes, &frame)?;
         Ok(())
     }
 
-    fn name_text(
+    /// Appends a name, which is inverted or not by its index.
+    fn push_inverted_by(
         &self,
+        page: &mut Page<'a>,
         index: usize,
         form: DisambiguatedNameForm,
         person: &Person,
-    ) -> Result<String, AllocError>
-        ensures { IfOk result (λ s. characters s
-            ≡ person_text (resolved_options_view self.now.options)
-            (inverts self.now.options.name_as_sort_order index) form (person_view person.now)) }
+    ) -> Result<(), AllocError>
+        ensures { OnOk result (page.new ≡ append_here self.now
+            (person_pieces (name_manner (name_style_view self.now)) (name_style_view self.now).look
+            (resolved_options_view self.now.options)
+            (inverts self.now.options.name_as_sort_order index) form (person_view person.now))
+            page.old) }
     {
         let is_inverted = self.options.inverts(index);
-        person_text(self.setting.alloc, &self.options, is_inverted, form, person)
+        self.push_person(page, is_inverted, form, person)
     }
 
     /// Appends what stands for those who are not shown: the last one, after an ellipsis, where that is wanted and two or more

@@ -6,7 +6,7 @@ ghost use Rattle.std.specs.List.{enumerate_from, flat_map};
 ghost use Rattle.laws.specs.Text.{characters, spelled};
 ghost use Rattle.rendering_people.specs.Counts.{cut};
 ghost use Rattle.rendering_names.specs.Around.{NamesAround};
-ghost use Rattle.rendering_names.specs.Names.{before_people, people_delimiter, beside, label_pieces, list_pieces, names_frame, names_manner, names_pieces, node_options, people_pieces, indexed_variable, variable_frame, variable_pieces};
+ghost use Rattle.rendering_names.specs.Names.{before_people, people_delimiter, beside, label_pieces, list_pieces, names_frame, every_letter, people_manner, names_pieces, node_options, people_pieces, indexed_variable, variable_frame, variable_pieces};
 ghost use Rattle.rendering_people.specs.Views.{all_lent_answered_view, lent_answered_view};
 ghost use Rattle.rendering_names.specs.Views.{append_here, names_parts_view, resolved_options_view, indexed, name_style_view};
 ghost use Rattle.rendering_page.specs.Pieces.{append_pieces, normal};
@@ -20,7 +20,7 @@ use rendering_page::{Frame, Manner, Page};
 use rendering_people::{
     Answered, NameDisambiguationProperties, PeopleCount, names_meta, split_forms,
 };
-use rendering_taxonomy::{DisambiguatedNameForm, NameVariable};
+use rendering_taxonomy::{DisambiguatedNameForm, NameVariable, TextCase};
 use rendering_tree::ElemMeta;
 use std::alloc::{AllocError, Global};
 use std::fmt::Write;
@@ -71,7 +71,7 @@ fn names_frame<'a>(manner: Manner, node: &NamesParts<'a>) -> Frame<'a>
     }
 }
 
-/// The setting in which the names of a node are appended: that around it, with the look of the node.
+/// The setting in which the people of a node are appended: that around it, with the look of the node.
 fn names_setting<'s, 'a>(
     setting: &NameSetting<'s, 'a>,
     node: &NamesParts<'a>,
@@ -79,13 +79,39 @@ fn names_setting<'s, 'a>(
     ensures quotes { result.quotes.now ≡ setting.now.quotes.now }
     ensures locales { result.locales.now ≡ setting.now.locales.now }
     ensures manner { manner_view result.manner
-        ≡ names_manner (manner_view setting.now.manner) (names_parts_view node.now) }
+        ≡ people_manner (manner_view setting.now.manner) (names_parts_view node.now) }
 {
     NameSetting {
         alloc: setting.alloc,
         quotes: setting.quotes,
         locales: setting.locales,
-        manner: changed_manner(node.look.formatting, setting.manner),
+        manner: people_manner(setting.manner, node),
+    }
+}
+
+/// How people are appended: in the look of their node, and in a case that is handed down, where it is one of all letters.
+fn people_manner(manner: Manner, node: &NamesParts<'_>) -> Manner
+    ensures { manner_view result ≡ people_manner (manner_view manner) (names_parts_view node.now) }
+{
+    let own = changed_manner(node.look.formatting, manner);
+    Manner {
+        text_case: every_letter(manner.text_case),
+        ..own
+    }
+}
+
+/// A case of all letters; another one is none.
+fn every_letter(case: Option<TextCase>) -> Option<TextCase>
+    ensures { result ≡ every_letter case }
+{
+    match case {
+        Some(TextCase::Lowercase) => Some(TextCase::Lowercase),
+        Some(TextCase::Uppercase) => Some(TextCase::Uppercase),
+        Some(TextCase::CapitalizeFirst)
+        | Some(TextCase::CapitalizeAll)
+        | Some(TextCase::Sentence)
+        | Some(TextCase::Title)
+        | None => None,
     }
 }
 

@@ -41,7 +41,7 @@ pub(crate) fn person_text(
 }
 
 /// Particle and family name.
-fn short_text(alloc: Global, person: &Person) -> Result<String, AllocError>
+pub(crate) fn short_text(alloc: Global, person: &Person) -> Result<String, AllocError>
     ensures { IfOk result (λ s. characters s ≡ short_text (person_view person.now)) }
 {
     let mut out = empty_text(alloc);
@@ -66,7 +66,7 @@ fn initialized_text(
 }
 
 /// The given name with initials.
-fn initials(
+pub(crate) fn initials(
     alloc: Global,
     options: &ResolvedNameOptions,
     person: &Person,
@@ -160,7 +160,7 @@ fn demoted(
 }
 
 /// What stands before a particle after a given name: a space, or the separator where there is no given name.
-fn after_given<'a>(separator: &'a str, given: &str) -> &'a str
+pub(crate) fn after_given<'a>(separator: &'a str, given: &str) -> &'a str
     ensures { spelled result
         ≡ (if is_filled (chars given.now) then space ∷ [] else spelled separator.entry) }
 {

@@ -155,6 +155,6 @@ pub(crate) fn changed_manner(changes: FormattingChanges, around: Manner) -> Mann
 {
     Manner {
         formatting: changes.over(around.formatting),
-        strips_periods: around.strips_periods,
+        ..around
     }
 }

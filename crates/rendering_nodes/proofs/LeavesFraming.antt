@@ -6,10 +6,10 @@ use Rattle.std.specs.Fmt.{decimal}
 use Rattle.std.specs.Option.{unwrap_or}
 use Rattle.laws.specs.Characters.{space}
 use Rattle.laws.specs.Text.{is_filled}
+use Rattle.literature_values.specs.PersonViews.{Named}
 use Rattle.literature_values.specs.declared.date.Date.{Date}
 use Rattle.literature_values.specs.declared.date.DateEnd.{DateEnd}
 use Rattle.literature_values.specs.declared.date.DateEnd.TheVariants.{On, Open}
-use Rattle.rendering_taxonomy.specs.Formats.{changed}
 use Rattle.rendering_locale.specs.Locales.{Locale, DatePart}
 use Rattle.rendering_locale.specs.Lookup.{term_text, quote_text}
 use Rattle.rendering_tree.specs.Metas.{Meta, Answered}
@@ -19,11 +19,12 @@ use Rattle.rendering_dates.specs.Dates.{DateShape, cut_to, date_pieces}
 use Rattle.rendering_page.specs.Pages.{Page, Manner, uncased, Frame}
 use Rattle.rendering_page.specs.Pieces.{Piece, normal}
 use Rattle.rendering_style.specs.Options.{NameOptions}
-use Rattle.rendering_style.specs.Nodes.{LabelLook, TextSource, of_variable, of_term, of_value, TextLook, NumberNode, DateNode, NamesNode, Leaf}
+use Rattle.rendering_style.specs.Nodes.{LabelLook, NameLook, TextSource, of_variable, of_term, of_value, TextLook, NumberNode, DateNode, NamesNode, Leaf}
 use Rattle.rendering_style.specs.Nodes as nodes
 use Rattle.rendering_names.specs.Around.{NamesAround}
 use Rattle.rendering_names.specs.Names as names
 use Rattle.rendering_names.specs.Names.{NameStyle, IndexedPerson, names_pieces}
+use Rattle.rendering_names.specs.NameParts.{Word, has_parts, part_manner, person_pieces, person_words, word_pieces, words_pieces}
 use Rattle.rendering_names.specs.Persons.{person_text}
 use Rattle.rendering_people.specs.Properties.{VariableProperties, Properties, all_shown}
 use Rattle.rendering_context.specs.Contexts.{Context}
@@ -32,6 +33,7 @@ use Rattle.rendering_leaves.specs.NodeSettings.{with_variable, SpecialForm, suff
 use Rattle.rendering_leaves.specs.Values.{text_manner, number_manner, date_manner, frame, open_term, close_term, quote_before, quote_after, meaning, answer_pieces, identified, is_label_variable, is_number_variable, label_suffix, label_term, own_year_suffix, source_pieces, text_pieces, number_pieces, label_pieces, date_inside, date_frame, date_suffix, day_pieces, shape_of, suppressing, using, after_variable, append_leaf}
 use Rattle.rendering_taxonomy.specs.Variables.{is_variable}
 use Rattle.rendering_taxonomy.specs.declared.date.LongShortForm.TheVariants as lengths
+use Rattle.rendering_taxonomy.specs.declared.name.DisambiguatedNameForm.{DisambiguatedNameForm}
 use Rattle.rendering_taxonomy.specs.declared.number.NumberForm.{NumberForm}
 use Rattle.rendering_taxonomy.specs.declared.number.NumberForm.TheVariants as number_forms
 use Rattle.rendering_taxonomy.specs.declared.term.Term.TheVariants as terms
@@ -174,12 +176,30 @@ ends_before_name ls m o n i =
     ends_either (i == 0) [] (if i + 1 == n then last else other) ends_none
     (ends_either (i + 1 == n) last other (ends_before_last m o n (names.and_text ls o.and_term)) (ends_normal m (names.delimiter_by o)))
 
+ends_word : (m : Manner) (before : List ℕ) (w : Word) → EndAll (word_pieces m before w)
+ends_word m before w =
+    ends_either (is_filled w.text)
+    (normal m before ∷ normal (uncased m) w.prefix ∷ normal (part_manner m w.part) w.text ∷ normal (uncased m) w.suffix ∷ []) []
+    (ends_more _ _ (ends_normal m before) (ends_more _ _ (ends_normal (uncased m) w.prefix) (ends_more _ _ (ends_normal (part_manner m w.part) w.text) (ends_normal (uncased m) w.suffix))))
+    ends_none
+
+ends_words : (m : Manner) (is_after : Bool) (ws : List Word) → EndAll (words_pieces m is_after ws)
+ends_words m is_after [] = ends_none
+ends_words m is_after (w ∷ ws) =
+    ends_both (word_pieces m (if is_after then w.before else []) w) (words_pieces m (is_after || is_filled w.text) ws)
+    (ends_word m (if is_after then w.before else []) w) (ends_words m (is_after || is_filled w.text) ws)
+
+ends_person : (m : Manner) (l : NameLook) (o : NameOptions) (is_inverted : Bool) (f : DisambiguatedNameForm) (p : Named) → EndAll (person_pieces m l o is_inverted f p)
+ends_person m l o is_inverted f p =
+    ends_either (has_parts l) (words_pieces m false (person_words l o is_inverted f p)) (normal m (person_text o is_inverted f p) ∷ [])
+    (ends_words m false (person_words l o is_inverted f p)) (ends_normal m (person_text o is_inverted f p))
+
 ends_indexed : (s : NameStyle) (v : NameVariable) (p : IndexedPerson) → EndAll (names.indexed_pieces s v p)
 ends_indexed s v p =
-    let m : Manner = record s.manner { formatting = changed s.look.formatting s.manner.formatting } in
-    let cs = person_text s.options (names.inverts s.options.name_as_sort_order p.0) (p.1).0 (p.1).1 in
+    let is_inverted = names.inverts s.options.name_as_sort_order p.0 in
     let f : Frame = record { display = None; meta = Some (metas.Name v p.0); manner = s.manner; prefix = s.look.prefix; suffix = s.look.suffix } in
-    ends_framed f (normal m cs ∷ []) (ends_normal m cs)
+    ends_framed f (person_pieces (names.name_manner s) s.look s.options is_inverted (p.1).0 (p.1).1)
+    (ends_person (names.name_manner s) s.look s.options is_inverted (p.1).0 (p.1).1)
 
 ends_shown : (s : NameStyle) (v : NameVariable) (n : ℕ) (ps : List IndexedPerson) → EndAll (names.shown_pieces s v n ps)
 ends_shown s v n ps =
@@ -245,8 +265,8 @@ ends_people s h ps people =
 
 pub ends_names : (ls : List Locale) (m : Manner) (h : NamesNode) (around : NamesAround) (ps : Properties) (people : List Answered) → EndAll (names_pieces ls m h around ps people)
 ends_names ls m h around ps people =
-    ends_framed (names.names_frame m h people) (names.people_pieces (names.style_of ls (names.names_manner m h) h around) h ps people)
-    (ends_people (names.style_of ls (names.names_manner m h) h around) h ps people)
+    ends_framed (names.names_frame m h people) (names.people_pieces (names.style_of ls (names.people_manner m h) h around) h ps people)
+    (ends_people (names.style_of ls (names.people_manner m h) h around) h ps people)
 
 -- what is open on the page of a state is what was on the other one's
 abbrev pub KeepsOpen : State → State → Type 0

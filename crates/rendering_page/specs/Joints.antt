@@ -1,5 +1,5 @@
 -- How the texts of a page are joined where they meet. A page has its last token first.
-use Rattle.std.specs.Prelude.{ℕ, Bool, true, false, ◌==◌, ◌&&◌, ◌||◌, List, [], ◌∷◌, ◌++◌, if◌then◌else◌, Option, Some, None}
+use Rattle.std.specs.Prelude.{ℕ, Bool, true, false, not, ◌==◌, ◌&&◌, ◌||◌, List, [], ◌∷◌, ◌++◌, if◌then◌else◌, Option, Some, None}
 use Rattle.std.specs.Option.{option_map_or}
 use Rattle.laws.specs.Characters.{space, exclamation_mark, comma, full_stop, colon, semicolon, question_mark}
 use Rattle.rendering_taxonomy.specs.declared.formatting.Formatting.{Formatting}
@@ -84,10 +84,15 @@ with_inside f c j =
     then record j { is_text = true }
     else record j { done = letter f c ∷ j.done; is_text = true }
 
+-- whether it takes the place of the one that it meets, or of a full stop that is equal, unless a close quote stands between them
+abbrev pub makes_room : Bool → ℕ → ℕ → Bool
+makes_room is_quoted before c =
+    is_replaced before c || (not is_quoted && (before == full_stop && c == full_stop))
+
 -- without the character whose place another one takes
 abbrev pub with_room : ℕ → Joining → Joining
 with_room c j =
-    if ends_by (λ before. is_replaced before c) (last_backwards j.done)
+    if ends_by (λ before. makes_room j.is_quoted before c) (last_backwards j.done)
     then record j { done = without_letters 1 j.done }
     else j
 

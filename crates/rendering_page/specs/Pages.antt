@@ -125,9 +125,10 @@ append_quote quotes m (c ∷ cs) p =
 abbrev pub is_repeated : List ℕ → Page → Bool
 is_repeated suffix p = not (is_joined p.rule) && ends_in suffix (last_text p.tokens)
 
--- a suffix, unless it is repeated
+-- a suffix in the case that it has, unless it is repeated
 abbrev pub append_suffix : Quotes → Manner → List ℕ → Page → Page
-append_suffix quotes m suffix p = if is_repeated suffix p then p else append_normal quotes m suffix p
+append_suffix quotes m suffix p =
+    if is_repeated suffix p then p else append_normal quotes (uncased m) suffix p
 
 -- An element: its display and what it stands for, how its affixes are appended, and these.
 pub record Frame : Type 0 where

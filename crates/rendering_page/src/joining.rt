@@ -2,14 +2,14 @@
 
 ghost use Rattle.std.specs.Prelude.{◌≡◌, ◌∷◌, [], false, true, Bool, List, ℕ, IfOk, OnOk};
 ghost use Rattle.rendering_tree.specs.Tokens.{last_backwards, with_letters};
-ghost use Rattle.rendering_page.specs.Joints.{all_joined, ends_by, is_left_out, is_replaced, is_taken_inside, joining, nothing_joined, with_first, with_inside, with_quote, with_room};
+ghost use Rattle.rendering_page.specs.Joints.{all_joined, ends_by, is_left_out, is_taken_inside, makes_room, joining, nothing_joined, with_first, with_inside, with_quote, with_room};
 ghost use Rattle.rendering_page.specs.Joints as specs;
 ghost use Rattle.rendering_page.specs.JoiningPieces.{with_bounds, with_piece_alone, with_text};
 ghost use Rattle.rendering_page.specs.Views.{link_view, pieces_view, with_piece, words_view};
 
 use crate::appending::push_piece;
 use crate::cutting::cut;
-use crate::joints::{goes_inside, is_left_out, is_replaced, is_stop};
+use crate::joints::{goes_inside, is_left_out, is_stop, makes_room};
 use crate::page_end::last_character;
 use crate::piece::{Link, Piece, Words};
 use rendering_taxonomy::Formatting;
@@ -197,11 +197,11 @@ impl<'a> Joining<'a> {
 
     /// Whether this character takes the place of the last one.
     fn is_replaced_by(&self, first: char) -> bool
-        ensures { result
-            ≡ ends_by (λ before. is_replaced before first) (last_backwards self.now.done) }
+        ensures { result ≡ ends_by (λ before. makes_room self.now.is_quoted before first)
+            (last_backwards self.now.done) }
     {
         match last_character(&self.done) {
-            Some(before) => is_replaced(before, first),
+            Some(before) => makes_room(self.is_quoted, before, first),
             None => false,
         }
     }

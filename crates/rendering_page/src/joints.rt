@@ -22,7 +22,7 @@ pub(crate) fn is_left_out(before: char, c: char) -> bool
 }
 
 /// Whether it takes the place of the one that it meets.
-pub(crate) fn is_replaced(before: char, c: char) -> bool
+fn is_replaced(before: char, c: char) -> bool
     ensures { result ≡ specs.is_replaced before c }
 {
     match before {
@@ -31,6 +31,13 @@ pub(crate) fn is_replaced(before: char, c: char) -> bool
         ';' => matches!(c, '!' | '?'),
         _ => false,
     }
+}
+
+/// Whether it takes the place of the one that it meets, or of a full stop that is equal, unless a close quote stands between them.
+pub(crate) fn makes_room(is_quoted: bool, before: char, c: char) -> bool
+    ensures { result ≡ specs.makes_room is_quoted before c }
+{
+    is_replaced(before, c) || (!is_quoted && before == '.' && c == '.')
 }
 
 /// The punctuation that goes inside quotes.

@@ -726,7 +726,7 @@ impl<'a> Page<'a> {
             return self.push_end(last_pieces(is_element));
         }
         self.push_end(Piece::Unmark)?;
-        self.push_text(quotes, manner, suffix)?;
+        self.push_text(quotes, uncased(manner), suffix)?;
         self.push_end(last_piece(is_element))
     }
 
