@@ -12,9 +12,8 @@ use Rattle.xml_tree.specs.declared.tree.Element.{out-Element}
 use Rattle.xml_schema.specs.Faults.{left_at}
 use Rattle.xml_schema.proofs.Contents.{element_opened}
 use Rattle.fault_lines.specs.Messages.{fault_lines}
-use Rattle.csl_styles.specs.Faults.{faults}
-use Rattle.csl_styles.specs.Files.{Csl, meaning}
-use Rattle.csl_styles.specs.Reading.{Refusal, IsRefused, Means}
+use Rattle.csl_styles.specs.Files.{Csl}
+use Rattle.csl_styles.specs.Reading.{Refusal, IsRefused, MeansBy}
 use Rattle.cite_csl_styles.specs.Answers.{IsStop, IsRefusal}
 use Rattle.cite_csl_styles.specs.CslLines.{refusal_left, refusal_text}
 use Rattle.cite_csl_styles.specs.Sheets.{Found, IsCslRead, ParentsAt, parents_of, root_lines}
@@ -28,19 +27,17 @@ use Rattle.cite_csl_styles.specs.declared.stop.Stop.TheVariants as stops
 use Rattle.cite_csl_styles.proofs.Stopped.{stopped}
 
 -- a text that means something
-pub text_found : (file : SourceFile) (t : List ℕ) (x : Element) (m : Csl) → t ≡ file.bytes → IsUtf8 t → Spells x (chars t) → ((e : Element) → Spells e (chars t) → x ≡ e) → Means (chars t) m
-    → IsCslRead file (Ok (record { file = file; root = x; means = m }))
-text_found file t x m same utf8 spelled only (y, spells, sound, meant, answered) =
-    let one : x ≡ y = only y spells in (
-      refl,
-      record {
-        is_text = subst (λ (bs : List ℕ). is_utf8 bs ≡ true) same (is_utf8-from_IsUtf8 t utf8);
-        spelled = subst (λ (bs : List ℕ). Spells x (chars bs)) same spelled;
-        sound = ap faults one ∙ sound;
-        meant = ap meaning one ∙ meant;
-        answered = answered;
-      },
-    )
+pub text_found : (file : SourceFile) (t : List ℕ) (x : Element) (m : Csl) → t ≡ file.bytes → IsUtf8 t → MeansBy (chars t) x m → IsCslRead file (Ok (record { file = file; root = x; means = m }))
+text_found file t x m same utf8 (spelled, sound, meant, answered) = (
+  refl,
+  record {
+    is_text = subst (λ (bs : List ℕ). is_utf8 bs ≡ true) same (is_utf8-from_IsUtf8 t utf8);
+    spelled = subst (λ (bs : List ℕ). Spells x (chars bs)) same spelled;
+    sound = sound;
+    meant = meant;
+    answered = answered;
+  },
+)
 
 -- bytes that are no text
 pub no_text : (file : SourceFile) (at : ℕ) (e : Stop) → (IsUtf8 file.bytes → ⊥) → at ≡ utf8_valid_len file.bytes → IsRefusal e (fault_lines file.path file.bytes at (codes "not UTF-8")) → IsStop e (IsCslRead file)

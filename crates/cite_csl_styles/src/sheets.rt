@@ -2,7 +2,6 @@
 
 ghost use Rattle.std.specs.Prelude.{◌≡◌, true, IfNone, IfOk, IfSome};
 ghost use Rattle.std.specs.Option.{option_map};
-ghost use Rattle.std.specs.Str.{chars};
 ghost use Rattle.programs.specs.Files.{read_at};
 ghost use Rattle.rendering_locale.specs.CodeViews.{code_view};
 ghost use Rattle.rendering_style.specs.StyleViews.{style_view};
@@ -10,9 +9,8 @@ ghost use Rattle.sorting_styles.specs.Styles.{sorting_style};
 ghost use Rattle.xml_tree.specs.Views.{element_view};
 ghost use Rattle.csl_nodes.specs.Views.{words_view};
 ghost use Rattle.csl_styles.specs.Files.{meaning};
-ghost use Rattle.csl_styles.specs.Reading.{Means};
 ghost use Rattle.csl_styles.specs.Styles as styles;
-ghost use Rattle.csl_styles.specs.Views.{csl_view, refusal_of};
+ghost use Rattle.csl_styles.specs.Views.{refusal_of};
 ghost use Rattle.cite_csl_styles.specs.Answers.{Answers, IsRefusal, Returns};
 ghost use Rattle.cite_csl_styles.specs.CslLines as said;
 ghost use Rattle.cite_csl_styles.specs.Sheets as specs;
@@ -26,14 +24,14 @@ use crate::parents::{ParentPaths, parent_left};
 use crate::sources::{SourceFile, file_at, path_at, refused_at, refused_left};
 use crate::stop::Stop;
 use csl_nodes::Words;
-use csl_styles::{Csl, CslError, read};
+use csl_styles::{Csl, CslError, read_tree};
 use csl_words::says;
 use programs::FileRead;
 use rendering_locale::LocaleCode;
 use rendering_style::Style;
 use sorting_styles::sorting_style;
 use std::alloc::{AllocError, Global};
-use xml_tree::{Element, parse};
+use xml_tree::Element;
 
 /// What a file of CSL was found to be.
 #[derive(Drop)]
@@ -70,23 +68,6 @@ fn text_refused(alloc: Global, file: SourceFile<'_>, error: CslError<'_>) -> Sto
     }
 }
 
-/// What a text of a file is, which means this.
-fn found_in<'f>(
-    alloc: Global,
-    file: SourceFile<'f>,
-    text: &'f str,
-    means: Csl,
-) -> Result<Found<'f>, Stop>
-    requires text { text.now ≡ file.bytes.now }
-    requires means { Means (chars text.now) (csl_view means) }
-    ensures { Answers found_view result (IsCslRead (source_view file.entry)) }
-{
-    match parse(alloc, text) {
-        Ok(root) => Ok(Found { file, root, means }),
-        Err(_) => Err(Stop::Memory),
-    }
-}
-
 /// What a file is, as one of CSL.
 pub fn found_at<'f>(alloc: Global, file: SourceFile<'f>) -> Result<Found<'f>, Stop>
     ensures { Answers found_view result (IsCslRead (source_view file.entry)) }
@@ -95,8 +76,8 @@ pub fn found_at<'f>(alloc: Global, file: SourceFile<'f>) -> Result<Found<'f>, St
         Ok(text) => text,
         Err(error) => return Err(refused_at(alloc, file, error.valid_up_to(), "not UTF-8")),
     };
-    match read(alloc, text) {
-        Ok(means) => found_in(alloc, file, text, means),
+    match read_tree(alloc, text) {
+        Ok((root, means)) => Ok(Found { file, root, means }),
         Err(error) => Err(text_refused(alloc, file, error)),
     }
 }

@@ -5,7 +5,7 @@ use Rattle.xml_tree.specs.Grammar.{Spells}
 use Rattle.xml_tree.specs.Building.{tree_of}
 use Rattle.xml_tree.proofs.SpelledAgain.{tree_is}
 use Rattle.xml_schema.specs.Faults.{first_of}
-use Rattle.csl_styles.specs.Faults.{Fault, faults}
+use Rattle.csl_styles.specs.Faults.{Fault, faults, placed_in}
 use Rattle.csl_styles.specs.Files.{Csl, meaning}
 use Rattle.csl_styles.specs.Reading.{Refusal, OfText, OfTree, OfStyle, blamed, IsAnswered, Means, IsRefused}
 use Rattle.csl_laws.specs.Trees.{Alike}
@@ -43,11 +43,11 @@ refused_too : (t u : List ℕ) (x y : Element) → Spells x t → Spells y u →
 refused_too t u x y spelled other a (OfText r) e =
     let is : tree_of t ≡ Ok x = tree_is t x spelled in
     absurd cc
-refused_too t u x y spelled other a (OfTree f) (z, again, first) =
+refused_too t u x y spelled other a (OfTree f) (z, again, first, is, placed) =
     let same : z ≡ x = one_tree t z x again spelled in
-    let here : first_of (faults x) ≡ Some f = ap (λ (w : Element). first_of (faults w)) (sym same) ∙ first in
-    let there : (g : Fault) × (first_of (faults y) ≡ Some g) = some_first (faults y) (λ none. has_first f (faults x) here (files_sound y x (alike_back x y a) none)) in
-    (OfTree there.0, (y, other, there.1))
+    let here : first_of (faults x) ≡ Some first = ap (λ (w : Element). first_of (faults w)) (sym same) ∙ is in
+    let there : (g : Fault) × (first_of (faults y) ≡ Some g) = some_first (faults y) (λ none. has_first first (faults x) here (files_sound y x (alike_back x y a) none)) in
+    (OfTree (placed_in u there.0), (y, other, there.0, there.1, refl))
 refused_too t u x y spelled other a (OfStyle r left) (z, again, none, answered, place) =
     let same : z ≡ x = one_tree t z x again spelled in (
       OfStyle r (blamed r y),

@@ -1,5 +1,5 @@
 -- What reading a text comes to, step by step.
-use Rattle.std.proofs.Common.{◌≡◌, ℕ, Bool, true, false, cond, codes, List, [], Option, Some, None, Result, Ok, Err, refl, sym, ap, ◌∙◌, subst, IfSome, MatchResult}
+use Rattle.std.proofs.Common.{◌≡◌, ℕ, Bool, true, false, cond, codes, List, [], Option, Some, None, Result, Ok, Err, refl, sym, ap, ◌∙◌, subst, IfSome}
 use Rattle.laws.specs.Results.{GivesBack, EndsWith}
 use Rattle.xml_tree.specs.Trees.{Element}
 use Rattle.xml_tree.specs.Grammar.{Spells}
@@ -14,14 +14,14 @@ use Rattle.rendering_style.specs.Opening.{IsAnswer}
 use Rattle.rendering_style.specs.Styles.{Style}
 use Rattle.csl_words.specs.Elements.{is_called}
 use Rattle.csl_locales.specs.Locales.{locale}
-use Rattle.csl_styles.specs.Faults.{Fault, faults}
+use Rattle.csl_styles.specs.Faults.{Fault, faults, placed_in}
 use Rattle.csl_styles.specs.Files as files
-use Rattle.csl_styles.specs.Files.{Independent, Localized, localized, style_by, meaning}
+use Rattle.csl_styles.specs.Files.{Independent, localized, style_by, meaning}
 use Rattle.csl_styles.specs.Information.{parent_of}
 use Rattle.csl_styles.specs.Outcomes.{text_error, IsPlaced, IsStyleRefused, IsReadAs, IsTreeRefused, IsChecked}
-use Rattle.csl_styles.specs.Reading.{Refusal, OfText, OfTree, OfStyle, blamed, IsAnswered, Means, IsRefused}
+use Rattle.csl_styles.specs.Reading.{Refusal, OfText, OfTree, OfStyle, IsAnswered, MeansBy, IsRefused}
 use Rattle.csl_styles.specs.Styles.{style}
-use Rattle.csl_styles.specs.Views.{csl_view, refusal_of}
+use Rattle.csl_styles.specs.Views.{refusal_of}
 use Rattle.csl_styles.specs.declared.error.CslError.{CslError}
 use Rattle.csl_styles.specs.declared.file.Csl.{Csl}
 use Rattle.csl_styles.proofs.Answering.{answered_once}
@@ -57,39 +57,44 @@ pub style_meant : (x : Element) (o : Option (List ℕ)) → is_called (codes "lo
 style_meant x o is same = ap (λ (p : Option (List ℕ)). style_by p x) same ∙ sym (ap (λ (b : Bool). cond b (localized x) (style_by (parent_of x) x)) is)
 
 -- a tree without a fault
-pub checked_by : (x : Element) (r : Result Csl CslError) → None ≡ first_of (faults x) → IsReadAs x (meaning x) r → IsChecked x r
-checked_by x (Ok c) none h = (none_first (faults x) none, h.0, h.1)
-checked_by x (Err e) none h = by_refusal (refusal_of e) h
+pub checked_by : (t : List ℕ) (x : Element) (r : Result Csl CslError) → None ≡ first_of (faults x) → IsReadAs x (meaning x) r → IsChecked t x r
+checked_by t x (Ok c) none h = (none_first (faults x) none, h.0, h.1)
+checked_by t x (Err e) none h = by_refusal (refusal_of e) h
   where
-    by_refusal : (q : Option Refusal) → IfSome q (IsStyleRefused x (meaning x)) → IfSome q (IsTreeRefused x)
+    by_refusal : (q : Option Refusal) → IfSome q (IsStyleRefused x (meaning x)) → IfSome q (IsTreeRefused t x)
     by_refusal None g = tt
     by_refusal (Some (OfText r)) g = absurd g
     by_refusal (Some (OfTree f)) g = absurd g
     by_refusal (Some (OfStyle r left)) g = (none_first (faults x) none, g.0, g.1)
 
--- what a text means, and why it is refused, by the tree that it spells
-pub exact_by : (x : Element) (t : List ℕ) (r : Result Csl CslError) → Spells x t → IsChecked x r
-    → MatchResult r (λ (c : Csl). Means t (csl_view c)) (λ (e : CslError). IfSome (refusal_of e) (IsRefused t))
-exact_by x t (Ok c) spelled h = (x, spelled, h.0, sym h.1, subst (λ (m : files.Csl). IsAnswered m None) (sym h.1) h.2)
-exact_by x t (Err e) spelled h = by_refusal (refusal_of e) h
-  where
-    by_refusal : (q : Option Refusal) → IfSome q (IsTreeRefused x) → IfSome q (IsRefused t)
-    by_refusal None g = tt
-    by_refusal (Some (OfText r)) g = absurd g
-    by_refusal (Some (OfTree f)) g = (x, spelled, g)
-    by_refusal (Some (OfStyle r left)) g = (x, spelled, g.0, g.1, g.2)
+-- a tree with a first fault
+pub checked_refused : (t : List ℕ) (x : Element) (f : Fault) (q : Option Refusal) → Some f ≡ first_of (faults x) → IfSome q (λ r. r ≡ OfTree (placed_in t f)) → IfSome q (IsTreeRefused t x)
+checked_refused t x f None some placed = tt
+checked_refused t x f (Some r) some placed = subst (λ (q : Refusal). IsTreeRefused t x q) (sym placed) (f, sym some, refl)
 
-pub only_by : (x y : Element) (r : Result Csl CslError) → x ≡ y → IsChecked x r → faults y ≡ [] → IsAnswered (meaning y) None → GivesBack refusal_of csl_view r (meaning y)
-only_by x y (Ok c) same h none taken = h.1 ∙ ap meaning same
-only_by x y (Err e) same h none taken = by_refusal (refusal_of e) h
-  where
-    by_refusal : (q : Option Refusal) → IfSome q (IsTreeRefused x) → q ≡ None
-    by_refusal None g = refl
-    by_refusal (Some (OfText r)) g = absurd g
-    by_refusal (Some (OfTree f)) g =
-        let all : first_of (faults x) ≡ None = ap (λ (z : Element). first_of (faults z)) same ∙ ap first_of none in
-        absurd cc
-    by_refusal (Some (OfStyle r left)) g = absurd (answered_once (meaning y) r taken (subst (λ (z : Element). IsAnswered (meaning z) (Some r)) same g.1))
+-- what a text means, and why it is refused, by the tree that it spells
+pub means_by : (x : Element) (t : List ℕ) (c : files.Csl) → Spells x t → (faults x ≡ []) × (c ≡ meaning x) × IsAnswered (meaning x) None → MeansBy t x c
+means_by x t c spelled h = (spelled, h.0, sym h.1, subst (λ (m : files.Csl). IsAnswered m None) (sym h.1) h.2)
+
+pub refused_by : (x : Element) (t : List ℕ) (q : Option Refusal) → Spells x t → IfSome q (IsTreeRefused t x) → IfSome q (IsRefused t)
+refused_by x t None spelled g = tt
+refused_by x t (Some (OfText r)) spelled g = absurd g
+refused_by x t (Some (OfTree f)) spelled g = (x, spelled, g)
+refused_by x t (Some (OfStyle r left)) spelled g = (x, spelled, g.0, g.1, g.2)
+
+-- a tree without a fault whose style is not refused is not refused
+pub not_refused : (t : List ℕ) (x : Element) (q : Option Refusal) → IfSome q (IsTreeRefused t x) → faults x ≡ [] → IsAnswered (meaning x) None → q ≡ None
+not_refused t x None g none taken = refl
+not_refused t x (Some (OfText r)) g none taken = absurd g
+not_refused t x (Some (OfTree f)) (first, is, placed) none taken =
+    let all : first_of (faults x) ≡ None = ap first_of none in
+    absurd cc
+not_refused t x (Some (OfStyle r left)) g none taken = absurd (answered_once (meaning x) r taken g.1)
+
+-- what was given back for a tree is that for the tree of the text
+pub given_for : {V : Type 0} (r : Result V CslError) (view : V → files.Csl) (x y : Element) → x ≡ y → (faults x ≡ [] → IsAnswered (meaning x) None → GivesBack refusal_of view r (meaning x)) → faults y ≡ []
+    → IsAnswered (meaning y) None → GivesBack refusal_of view r (meaning y)
+given_for r view x y same given = subst (λ (z : Element). faults z ≡ [] → IsAnswered (meaning z) None → GivesBack refusal_of view r (meaning z)) same given
 
 -- a text that spells no tree
 pub text_refused : (t : List ℕ) (e : TreeError) → EndsWith (trees.refusal_of e) (tree_of t) → IfSome (refusal_of (text_error e)) (IsRefused t)

@@ -7,6 +7,7 @@ use Rattle.laws.specs.Text.{text}
 use Rattle.xml_tree.specs.Trees.{Element, Tagged, Content, Last, Next}
 use Rattle.xml_schema.specs.Faults as schema
 use Rattle.xml_schema.specs.Faults.{left_at, name_of}
+use Rattle.xml_schema.specs.Placing.{fault_left}
 use Rattle.csl_schema.specs.Faults.{csl_faults}
 use Rattle.csl_words.specs.Looking.{attribute, text_of}
 use Rattle.csl_words.specs.Elements.{is_called, part_called, content_in}
@@ -118,3 +119,14 @@ earlier_of (Some f) (Some g) = if nat_lt f.left g.left then Some g else Some f
 -- all faults of a style or of a locale
 abbrev pub faults : Element → List Fault
 faults root = merged (map by_schema (csl_faults root)) (own_faults root)
+
+-- where that is wrong with the element whose start-tag begins at that place of a text
+abbrev pub wrong_left : List ℕ → Wrong → ℕ → ℕ
+wrong_left t (BySchema wrong) left = fault_left t wrong left
+wrong_left t NoCitation left = left
+wrong_left t SecondMacro left = left
+wrong_left t UnknownMacro left = left
+
+-- a fault of a tree, at its place in the text: text where it begins, all else at a start-tag
+abbrev pub placed_in : List ℕ → Fault → Fault
+placed_in t f = fault (wrong_left t f.wrong f.left) f.wrong

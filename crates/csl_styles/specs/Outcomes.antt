@@ -1,9 +1,8 @@
 -- What functions of this crate return, against what trees mean and why they are refused. Memory may run out at any time, which is no refusal.
-use Rattle.std.specs.Prelude.{◌≡◌, List, [], Option, Some, None, Result, Ok, Err, IfSome}
+use Rattle.std.specs.Prelude.{◌≡◌, ℕ, List, [], Option, Some, None, Result, Ok, Err, IfSome}
 use Rattle.xml_tree.specs.Trees as trees
 use Rattle.xml_tree.specs.declared.error.TreeError.{TreeError}
 use Rattle.xml_tree.specs.declared.error.TreeError.TheVariants as tree_errors
-use Rattle.xml_schema.specs.Faults.{first_of}
 use Rattle.rendering_style.specs.Opening as styles
 use Rattle.rendering_style.specs.Opening.{IsAnswer}
 use Rattle.rendering_style.specs.Styles as styled
@@ -12,7 +11,7 @@ use Rattle.rendering_style.specs.declared.style.Style.{Style}
 use Rattle.csl_styles.specs.Faults.{faults}
 use Rattle.csl_styles.specs.Files as files
 use Rattle.csl_styles.specs.Files.{Independent, meaning}
-use Rattle.csl_styles.specs.Reading.{Refusal, OfText, OfTree, OfStyle, blamed, IsAnswered}
+use Rattle.csl_styles.specs.Reading.{Refusal, OfText, OfTree, OfStyle, blamed, IsAnswered, IsFirstFault}
 use Rattle.csl_styles.specs.Views.{csl_view, refusal_of}
 use Rattle.csl_styles.specs.declared.error.CslError.{CslError}
 use Rattle.csl_styles.specs.declared.error.CslError.TheVariants as errors
@@ -43,13 +42,13 @@ abbrev pub IsReadAs : trees.Element → files.Csl → Result Csl CslError → Ty
 IsReadAs x m (Ok c) = (csl_view c ≡ m) × IsAnswered m None
 IsReadAs x m (Err e) = IfSome (refusal_of e) (IsStyleRefused x m)
 
--- why a tree is refused
-abbrev pub IsTreeRefused : trees.Element → Refusal → Type 0
-IsTreeRefused x (OfText r) = ⊥
-IsTreeRefused x (OfTree f) = first_of (faults x) ≡ Some f
-IsTreeRefused x (OfStyle r left) = (faults x ≡ []) × IsAnswered (meaning x) (Some r) × (left ≡ blamed r x)
+-- why the tree of a text is refused
+abbrev pub IsTreeRefused : List ℕ → trees.Element → Refusal → Type 0
+IsTreeRefused t x (OfText r) = ⊥
+IsTreeRefused t x (OfTree f) = IsFirstFault t x f
+IsTreeRefused t x (OfStyle r left) = (faults x ≡ []) × IsAnswered (meaning x) (Some r) × (left ≡ blamed r x)
 
--- what a tree means, or why it is refused
-abbrev pub IsChecked : trees.Element → Result Csl CslError → Type 0
-IsChecked x (Ok c) = (faults x ≡ []) × (csl_view c ≡ meaning x) × IsAnswered (meaning x) None
-IsChecked x (Err e) = IfSome (refusal_of e) (IsTreeRefused x)
+-- what the tree of a text means, or why it is refused
+abbrev pub IsChecked : List ℕ → trees.Element → Result Csl CslError → Type 0
+IsChecked t x (Ok c) = (faults x ≡ []) × (csl_view c ≡ meaning x) × IsAnswered (meaning x) None
+IsChecked t x (Err e) = IfSome (refusal_of e) (IsTreeRefused t x)

@@ -12,9 +12,9 @@ use Rattle.rendering_style.specs.Opening as styles
 use Rattle.rendering_style.specs.Opening.{macro_ring, too_deep, IsAnswer}
 use Rattle.csl_locales.specs.Called.{called}
 use Rattle.csl_styles.specs.Files.{Csl, Dependent, Independent, Localized, meaning}
-use Rattle.csl_styles.specs.Faults.{Fault, macro_name, faults}
+use Rattle.csl_styles.specs.Faults.{Fault, macro_name, faults, placed_in}
 
--- Why a text is refused: it spells no tree; its tree has this fault first; its style is refused, by that macro or as a whole, whose start-tag
+-- Why a text is refused: it spells no tree; its tree has this fault first, at its place; its style is refused, by that macro or as a whole, whose start-tag
 -- begins where so much of the text is left.
 pub data Refusal : Type 0 where
   OfText : trees.Refusal → Refusal
@@ -32,13 +32,21 @@ IsAnswered (Dependent parent default) r = r ≡ None
 IsAnswered (Independent words s) r = IsAnswer s r
 IsAnswered (Localized words l) r = r ≡ None
 
--- A text means a file: it spells a tree without a fault whose meaning is that, and no style is refused.
-abbrev pub Means : List ℕ → Csl → Type 0
-Means t c = (x : Element) × Spells x t × (faults x ≡ []) × (meaning x ≡ c) × IsAnswered c None
+-- A text means a file by its tree: it spells that, which has no fault and means the file, and no style is refused.
+abbrev pub MeansBy : List ℕ → Element → Csl → Type 0
+MeansBy t x c = Spells x t × (faults x ≡ []) × (meaning x ≡ c) × IsAnswered c None
 
--- A text is refused: it spells no tree, by that first fault of XML; or the tree that it spells has that fault first; or it has none, and its
+-- the same by some tree
+abbrev pub Means : List ℕ → Csl → Type 0
+Means t c = (x : Element) × MeansBy t x c
+
+-- a tree of a text has that fault first, at its place in the text
+abbrev pub IsFirstFault : List ℕ → Element → Fault → Type 0
+IsFirstFault t x f = (first : Fault) × (first_of (faults x) ≡ Some first) × (f ≡ placed_in t first)
+
+-- A text is refused: it spells no tree, by that first fault of XML; or the tree that it spells has that fault first, at its place; or it has none, and its
 -- style is refused.
 abbrev pub IsRefused : List ℕ → Refusal → Type 0
 IsRefused t (OfText r) = tree_of t ≡ Err r
-IsRefused t (OfTree f) = (x : Element) × Spells x t × (first_of (faults x) ≡ Some f)
+IsRefused t (OfTree f) = (x : Element) × Spells x t × IsFirstFault t x f
 IsRefused t (OfStyle r left) = (x : Element) × Spells x t × (faults x ≡ []) × IsAnswered (meaning x) (Some r) × (left ≡ blamed r x)

@@ -13,7 +13,8 @@ pub enum CslError<'s> {
     Memory,
     /// The text is no XML, and this many of its bytes are left where that shows.
     Text { fault: xml_text::Fault, left: usize },
-    /// The tree of the text has this fault first.
+    /// The tree of the text has this fault first, at its place in the text: text where its first line begins that is more than white space, anything
+    /// else at the start-tag of the element.
     Tree(Fault<'s>),
     /// The macro of that name, the first in order, reaches itself through the macros that it calls; this many bytes of the text are left where
     /// its start-tag begins.

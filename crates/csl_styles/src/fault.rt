@@ -16,7 +16,7 @@ pub enum Wrong<'s> {
 /// A fault of a tree.
 #[derive(Clone, Copy)]
 pub struct Fault<'s> {
-    /// How many bytes of the text are left where the start-tag of the element begins.
+    /// How many bytes of the text are left where the start-tag of the element begins; in a `CslError` those that are left where the fault stands.
     pub left: usize,
     pub wrong: Wrong<'s>,
 }

@@ -1,6 +1,6 @@
 //! Texts of styles and of locales.
 
-ghost use Rattle.std.specs.Prelude.{◌≡◌, ◌&&◌, [], ℕ, List, codes, Some, None, IfSome, MatchResult};
+ghost use Rattle.std.specs.Prelude.{◌≡◌, ◌&&◌, [], ℕ, List, codes, Some, None, IfOk, IfSome, MatchResult};
 ghost use Rattle.std.specs.List.{find};
 ghost use Rattle.std.specs.Option.{option_map_or};
 ghost use Rattle.std.specs.Str.{chars, bytes_eq};
@@ -15,14 +15,15 @@ ghost use Rattle.rendering_style.specs.Opening.{macro_ring};
 ghost use Rattle.rendering_style.specs.Errors as styles;
 ghost use Rattle.rendering_style.specs.Views.{style_parts_view};
 ghost use Rattle.csl_locales.specs.Called.{all_called};
-ghost use Rattle.csl_styles.specs.Faults.{faults, macro_name, is_macro};
+ghost use Rattle.csl_styles.specs.Faults.{faults, macro_name, is_macro, wrong_left, placed_in};
 ghost use Rattle.csl_styles.specs.Files as files;
 ghost use Rattle.csl_styles.specs.Files.{meaning, style_by};
-ghost use Rattle.csl_styles.specs.Reading.{blamed, IsAnswered, Means, IsRefused};
+ghost use Rattle.csl_styles.specs.Reading.{blamed, IsAnswered, Means, MeansBy, IsRefused, OfTree};
 ghost use Rattle.csl_styles.specs.Outcomes.{IsPlaced, IsBuilt, IsReadAs, IsChecked, text_error};
-ghost use Rattle.csl_styles.specs.Views.{csl_view, refusal_of};
+ghost use Rattle.csl_styles.specs.Views.{csl_view, fault_view, refusal_of, wrong_view};
 
 use crate::error::CslError;
+use crate::fault::{Fault, Wrong};
 use crate::faults::{first_fault, left_of, macro_name};
 use crate::file::Csl;
 use crate::information::parent_of;
@@ -30,8 +31,9 @@ use crate::styles::{default_locale, style};
 use csl_locales::{locale, unlisted_words};
 use csl_words::{children_of, is_called};
 use rendering_style::{Style, StyleError, StyleParts};
-use std::alloc::Global;
+use std::alloc::{AllocError, Global};
 use texts::owned;
+use xml_schema::fault_left;
 use xml_tree::{Element, TreeError, parse};
 
 /// Whether an element is a macro of that name.
@@ -136,13 +138,59 @@ fn file_of<'s>(alloc: Global, root: &Element<'s>) -> Result<Csl, CslError<'s>>
     }
 }
 
-/// What a tree means, unless it has a fault.
-fn checked<'s>(alloc: Global, root: &Element<'s>) -> Result<Csl, CslError<'s>>
-    ensures { IsChecked (element_view root.now) result }
+/// How many bytes of a text are left where that is wrong with an element of its tree whose start-tag begins where so many are left.
+fn wrong_left(alloc: Global, text: &str, wrong: Wrong<'_>, left: usize) -> Result<usize, AllocError>
+    ensures { IfOk result (λ n. n ≡ wrong_left (chars text.now) (wrong_view wrong.entry) left) }
+{
+    match wrong {
+        Wrong::Schema(wrong) => fault_left(alloc, text, wrong, left),
+        Wrong::NoCitation => Ok(left),
+        Wrong::SecondMacro => Ok(left),
+        Wrong::UnknownMacro => Ok(left),
+    }
+}
+
+/// The refusal of a text whose tree has this fault first.
+fn tree_error<'s>(alloc: Global, text: &str, fault: Fault<'s>) -> CslError<'s>
+    ensures { IfSome (refusal_of result)
+        (λ r. r ≡ OfTree (placed_in (chars text.now) (fault_view fault.entry))) }
+{
+    match wrong_left(alloc, text, fault.wrong, fault.left) {
+        Ok(left) => CslError::Tree(Fault {
+            left,
+            wrong: fault.wrong,
+        }),
+        Err(_) => CslError::Memory,
+    }
+}
+
+/// What the tree of a text means, unless it has a fault.
+fn checked<'s>(alloc: Global, text: &str, root: &Element<'s>) -> Result<Csl, CslError<'s>>
+    ensures { IsChecked (chars text.now) (element_view root.now) result }
 {
     match first_fault(alloc, root)? {
-        Some(fault) => Err(CslError::Tree(fault)),
+        Some(fault) => Err(tree_error(alloc, text, fault)),
         None => file_of(alloc, root),
+    }
+}
+
+/// The tree of a text, and what it means, unless it has a fault.
+fn with_meaning<'s>(
+    alloc: Global,
+    text: &str,
+    root: Element<'s>,
+) -> Result<(Element<'s>, Csl), CslError<'s>>
+    requires { Spells (element_view root.entry) (chars text.now) }
+    ensures exact { MatchResult result
+        (λ p. MeansBy (chars text.now) (element_view p.0) (csl_view p.1))
+        (λ e. IfSome (refusal_of e) (IsRefused (chars text.now))) }
+    ensures only { faults (element_view root.entry) ≡ []
+        → IsAnswered (meaning (element_view root.entry)) None
+        → GivesBack refusal_of (λ p. csl_view p.1) result (meaning (element_view root.entry)) }
+{
+    match checked(alloc, text, &root) {
+        Ok(csl) => Ok((root, csl)),
+        Err(error) => Err(error),
     }
 }
 
@@ -156,10 +204,30 @@ fn text_error<'s>(error: TreeError) -> CslError<'s>
     }
 }
 
+/// The tree of a text, and what it means: a style, a dependent style or a locale.
+///
+/// # Errors
+/// Those of `read`.
+pub fn read_tree<'s>(alloc: Global, text: &'s str) -> Result<(Element<'s>, Csl), CslError<'s>>
+    // What is read the text means by its tree, and what is refused it refuses for that reason.
+    ensures exact { MatchResult result
+        (λ p. MeansBy (chars text.now) (element_view p.0) (csl_view p.1))
+        (λ e. IfSome (refusal_of e) (IsRefused (chars text.now))) }
+    // What the text means is read, unless memory runs out.
+    ensures only { (x : trees.Element) → Spells x (chars text.now) → faults x ≡ []
+        → IsAnswered (meaning x) None
+        → GivesBack refusal_of (λ p. csl_view p.1) result (meaning x) }
+{
+    match parse(alloc, text) {
+        Ok(root) => with_meaning(alloc, text, root),
+        Err(error) => Err(text_error(error)),
+    }
+}
+
 /// What a text means: a style, a dependent style or a locale.
 ///
 /// # Errors
-/// `Text` where the text is no XML with namespaces; else `Tree` with the first fault of its tree; else `Ring` or `TooDeep` where its style is
+/// `Text` where the text is no XML with namespaces; else `Tree` with the first fault of its tree, at its place; else `Ring` or `TooDeep` where its style is
 /// refused. `Memory` where a request for memory was refused.
 pub fn read<'s>(alloc: Global, text: &'s str) -> Result<Csl, CslError<'s>>
     // What is read the text means, and what is refused it refuses for that reason.
@@ -169,8 +237,8 @@ pub fn read<'s>(alloc: Global, text: &'s str) -> Result<Csl, CslError<'s>>
     ensures only { (x : trees.Element) → Spells x (chars text.now) → faults x ≡ []
         → IsAnswered (meaning x) None → GivesBack refusal_of csl_view result (meaning x) }
 {
-    match parse(alloc, text) {
-        Ok(root) => checked(alloc, &root),
-        Err(error) => Err(text_error(error)),
+    match read_tree(alloc, text) {
+        Ok((_root, csl)) => Ok(csl),
+        Err(error) => Err(error),
     }
 }

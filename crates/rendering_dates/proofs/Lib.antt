@@ -1,6 +1,7 @@
 pub mod DatesTexts
-pub mod DelimitersFound
 pub mod DatesAppended
 pub mod DatesUnchanged
 pub mod DatesValues
 pub mod JoinedSteps
+pub mod PartsFound
+pub mod PartsNext

@@ -27,10 +27,7 @@ pub(crate) struct PrintedPart<'a> {
 }
 
 /// A part with the first of these changes that is of it, if there is one.
-pub(crate) fn printed_part<'a>(
-    part: &'a DatePart,
-    changes: &'a [DatePartChange],
-) -> PrintedPart<'a>
+pub(crate) fn printed_part<'a>(part: &'a DatePart, changes: &'a [DatePartChange]) -> PrintedPart<'a>
     ensures { printed_view result
         ≡ changed_part (map part_change_view changes.now) (part_view part.now) }
 {

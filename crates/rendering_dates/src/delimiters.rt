@@ -30,9 +30,9 @@ impl<'a> DateShape<'a> {
             (find (λ p. differs_first first.now last.now p.form) (shape_view self.now).parts) }
     {
         for part in self.parts {
-            let part = printed_part(part, self.changes);
-            if self.shows_first(first, last, part.form) {
-                return part.range_delimiter;
+            let printed = printed_part(part, self.changes);
+            if self.shows_first(first, last, printed.form) {
+                return printed.range_delimiter;
             }
         }
         None

@@ -43,8 +43,8 @@ impl<'s, 'a> DateStyle<'s, 'a> {
     {
         let mut is_first = true;
         for part in self.shape.parts {
-            let part = printed_part(part, self.shape.changes);
-            is_first = self.push_next(page, year_suffix, date, is_first, &part)?;
+            let printed = printed_part(part, self.shape.changes);
+            is_first = self.push_next(page, year_suffix, date, is_first, &printed)?;
         }
         Ok(())
     }

@@ -1,3 +1,5 @@
 pub mod PagesWithoutFormat
 pub mod DatesInside
 pub mod StatesAppended
+pub mod SuffixesCased
+pub mod LeavesAppended

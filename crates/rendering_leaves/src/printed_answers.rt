@@ -2,11 +2,13 @@
 
 ghost use Rattle.std.specs.Prelude.{◌≡◌, IfOk, OnOk};
 ghost use Rattle.std.specs.Cow.{cow_value};
+ghost use Rattle.std.specs.Str.{chars};
 ghost use Rattle.laws.specs.Text.{characters};
 ghost use Rattle.literature_numbers.specs.PageViews.{pages_view};
 ghost use Rattle.literature_values.specs.TypedViews.{typed_view};
 ghost use Rattle.rendering_context.specs.Views.{answer_if, context_view};
 ghost use Rattle.rendering_entries.specs.Answers.{Answers};
+ghost use Rattle.rendering_entries.specs.Library.{one_chunk};
 ghost use Rattle.rendering_entries.specs.Views.{lent_number_view, lent_text_view};
 ghost use Rattle.rendering_leaves.specs.Values.{answer_pieces, ranges_in};
 ghost use Rattle.rendering_locale.specs.Lookup.{ordinals_of};
@@ -18,8 +20,9 @@ ghost use Rattle.rendering_ranges.specs.Ranges.{pages_in};
 
 use crate::numeral::numeral_text;
 use literature_values::{ChunkedString, MaybeTyped, Numeric, PageRanges};
+use rendering_cases::cased_text;
 use rendering_context::{Answer, Context};
-use rendering_page::{Manner, Page};
+use rendering_page::{Manner, Page, uncased};
 use rendering_ranges::push_ranges;
 use rendering_taxonomy::{NumberForm, PageRangeFormat};
 use std::alloc::{AllocError, Global};
@@ -43,7 +46,7 @@ pub(crate) fn append_answer<'a>(
     };
     match answer {
         Answer::Text(text) => append_chunks(context, manner, text, page),
-        Answer::YearSuffix(year_suffix) => page.push_text(context.quotes, manner, year_suffix),
+        Answer::YearSuffix(year_suffix) => append_suffix(context, manner, year_suffix, page),
         Answer::Address { text, url } => page.push_made_link(manner.formatting, text, url),
         Answer::Number(number) => append_number(context, manner, form, number, page),
         Answer::Locator(text) => page.push_text(context.quotes, manner, text),
@@ -68,6 +71,41 @@ fn append_chunks<'a>(
         Cow::Borrowed(text) => page.push_chunks(context.quotes, manner, &text.0),
         Cow::Owned(text) => page.push_made_chunks(context.quotes, manner, text),
     }
+}
+
+/// Appends a year suffix, as a text of one piece.
+fn append_suffix<'a>(
+    context: &Context<'_, 'a>,
+    manner: Manner,
+    year_suffix: &'a str,
+    page: &mut Page<'a>,
+) -> Result<(), AllocError>
+    ensures { OnOk result (page.new ≡ append_pieces (quotes_view context.now.quotes.now)
+        (chunk_pieces (manner_view manner) (one_chunk (chars year_suffix.now))) page.old) }
+{
+    match manner.text_case {
+        Some(_) => append_cased_suffix(context, manner, year_suffix, page),
+        None => page.push_text(context.quotes, uncased(manner), year_suffix),
+    }
+}
+
+/// Appends a year suffix in the case of a manner.
+fn append_cased_suffix<'a>(
+    context: &Context<'_, 'a>,
+    manner: Manner,
+    year_suffix: &str,
+    page: &mut Page<'a>,
+) -> Result<(), AllocError>
+    ensures { OnOk result (page.new ≡ append_pieces (quotes_view context.now.quotes.now)
+        (chunk_pieces (manner_view manner) (one_chunk (chars year_suffix.now))) page.old) }
+{
+    let text = cased_text(
+        context.alloc,
+        year_suffix,
+        manner.text_case,
+        manner.is_english,
+    )?;
+    page.push_made(context.quotes, uncased(manner), text)
 }
 
 /// Appends a number in a form, or the text instead of it.

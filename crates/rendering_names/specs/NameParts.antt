@@ -40,7 +40,7 @@ abbrev pub word_pieces : Manner → List ℕ → Word → List Piece
 word_pieces m before w =
     if is_filled w.text
     then normal m before ∷ normal (uncased m) w.prefix ∷ normal (part_manner m w.part) w.text
-        ∷ normal (uncased m) w.suffix ∷ []
+    ∷ normal (uncased m) w.suffix ∷ []
     else []
 
 -- words one after the other; nothing stands before the first of them that is not empty
@@ -68,33 +68,40 @@ abbrev pub closing : Word → Word → Word
 closing v w = record w { prefix = if is_filled v.text then [] else v.prefix; suffix = v.suffix }
 
 -- given name, particle and family name, suffix, of which the last two stand in one pair of affixes
-abbrev pub straight_words : NameLook → List ℕ → Named → List Word
-straight_words l given p =
-    let family = part_word l.family (space ∷ []) (short_text p) in
-    let suffix = part_word None (space ∷ []) (suffix_of p) in
-    part_word l.given [] given ∷ opening family suffix ∷ closing family suffix ∷ []
+abbrev pub straight_words : NameLook → List ℕ → List ℕ → List ℕ → List Word
+straight_words l given short suffix =
+    let family = part_word l.family (space ∷ []) short in
+    let last = part_word None (space ∷ []) suffix in
+    part_word l.given [] given ∷ opening family last ∷ closing family last ∷ []
 
 -- what stands before a particle behind a given name
 abbrev pub after_given : List ℕ → List ℕ → List ℕ
 after_given separator given = if is_filled given then space ∷ [] else separator
 
--- particle and family name, given name, suffix, with the separator between; where the particle is demoted it goes after the given name, into
--- the affixes of that
-abbrev pub inverted_words : Bool → NameLook → List ℕ → List ℕ → Named → List Word
-inverted_words false l separator given p =
-    part_word l.family [] (short_text p) ∷ part_word l.given separator given
-    ∷ part_word None separator (suffix_of p) ∷ []
-inverted_words true l separator given p =
+-- particle and family name, given name, suffix, with the separator between
+abbrev pub inverted_words : NameLook → List ℕ → List ℕ → List ℕ → List ℕ → List Word
+inverted_words l separator given short suffix =
+    part_word l.family [] short ∷ part_word l.given separator given
+    ∷ part_word None separator suffix ∷ []
+
+-- family name, given name, particle, suffix; the particle stands in the affixes of the given name
+abbrev pub demoted_words : NameLook → List ℕ → List ℕ → Named → List Word
+demoted_words l separator given p =
     let first = part_word l.given separator given in
     let particle = part_word l.family (after_given separator given) (prefix_of p) in
     part_word l.family [] p.name ∷ opening first particle ∷ closing first particle
     ∷ part_word None separator (suffix_of p) ∷ []
 
+-- a name with its family name first; the particle goes after the given name where it is demoted
+abbrev pub turned_words : Bool → NameLook → List ℕ → List ℕ → Named → List Word
+turned_words false l separator given p = inverted_words l separator given (short_text p) (suffix_of p)
+turned_words true l separator given p = demoted_words l separator given p
+
 -- a name with its given name, inverted or not
 abbrev pub long_words : NameLook → NameOptions → Bool → List ℕ → Named → List Word
-long_words l o false given p = straight_words l given p
+long_words l o false given p = straight_words l given (short_text p) (suffix_of p)
 long_words l o true given p =
-    inverted_words (unwrap_or o.demote false) l (unwrap_or o.sort_separator comma_and_space) given p
+    turned_words (unwrap_or o.demote false) l (unwrap_or o.sort_separator comma_and_space) given p
 
 -- a name in a form
 abbrev pub person_words : NameLook → NameOptions → Bool → DisambiguatedNameForm → Named → List Word

@@ -6,7 +6,7 @@ ghost use Rattle.std.specs.Str.{chars};
 ghost use Rattle.laws.specs.Text.{is_filled, spelled};
 ghost use Rattle.literature_values.specs.PersonViews.{person_view};
 ghost use Rattle.rendering_names.specs.Names.{name_manner};
-ghost use Rattle.rendering_names.specs.NameParts.{closing, has_parts, inverted_words, long_words, opening, part_manner, part_prefix, part_suffix, part_word, person_pieces, person_words, straight_words, word_pieces, words_pieces};
+ghost use Rattle.rendering_names.specs.NameParts.{closing, demoted_words, has_parts, inverted_words, long_words, opening, part_manner, part_prefix, part_suffix, part_word, person_pieces, person_words, straight_words, turned_words, word_pieces, words_pieces};
 ghost use Rattle.rendering_names.specs.Persons.{comma_and_space};
 ghost use Rattle.rendering_names.specs.Views.{append_here, lent_part_view, name_style_view, resolved_options_view, word_view};
 ghost use Rattle.rendering_page.specs.Views.{manner_view};
@@ -166,7 +166,10 @@ impl<'s, 'a> NameStyle<'s, 'a> {
             false DisambiguatedNameForm.ShortFull (person_view person.now))) page.old) }
     {
         let short = short_text(self.setting.alloc, person)?;
-        self.push_words(page, &[part_word(self.family_part(), no_text(), short.as_str())])
+        self.push_words(
+            page,
+            &[part_word(self.family_part(), no_text(), short.as_str())],
+        )
     }
 
     /// Appends a name with this given name, inverted or not.
@@ -182,18 +185,16 @@ impl<'s, 'a> NameStyle<'s, 'a> {
             (long_words (name_style_view self.now).look (resolved_options_view self.now.options)
             is_inverted (chars given.now) (person_view person.now))) page.old) }
     {
-        if !is_inverted {
-            return self.push_straight(page, given, person);
+        if is_inverted {
+            return self.push_turned(page, given, person);
         }
-        if self.options.demote_non_dropping_particle.unwrap_or(false) {
-            self.push_demoted(page, given, person)
-        } else {
-            self.push_inverted(page, given, person)
-        }
+        let short = short_text(self.setting.alloc, person)?;
+        let suffix = text_or_empty(&person.suffix);
+        self.push_straight(page, given, short.as_str(), suffix)
     }
 
-    /// Appends given name, particle and family name, suffix.
-    fn push_straight(
+    /// Appends a name with its family name first; the particle goes after the given name where it is demoted.
+    fn push_turned(
         &self,
         page: &mut Page<'a>,
         given: &str,
@@ -201,39 +202,62 @@ impl<'s, 'a> NameStyle<'s, 'a> {
     ) -> Result<(), AllocError>
         ensures { OnOk result (page.new ≡ append_here self.now
             (words_pieces (name_manner (name_style_view self.now)) false
-            (straight_words (name_style_view self.now).look (chars given.now)
-            (person_view person.now))) page.old) }
+            (turned_words
+            (unwrap_or (resolved_options_view self.now.options).demote false)
+            (name_style_view self.now).look
+            (unwrap_or (resolved_options_view self.now.options).sort_separator comma_and_space)
+            (chars given.now) (person_view person.now))) page.old) }
     {
+        if self.options.demote_non_dropping_particle.unwrap_or(false) {
+            return self.push_demoted(page, given, person);
+        }
         let short = short_text(self.setting.alloc, person)?;
-        let family = part_word(self.family_part(), space(), short.as_str());
-        let suffix = part_word(None, space(), text_or_empty(&person.suffix));
+        let suffix = text_or_empty(&person.suffix);
+        self.push_inverted(page, given, short.as_str(), suffix)
+    }
+
+    /// Appends given name, particle and family name, suffix.
+    fn push_straight<'w>(
+        &self,
+        page: &mut Page<'a>,
+        given: &'w str,
+        short: &'w str,
+        suffix: &'w str,
+    ) -> Result<(), AllocError>
+        ensures { OnOk result (page.new ≡ append_here self.now
+            (words_pieces (name_manner (name_style_view self.now)) false
+            (straight_words (name_style_view self.now).look (chars given.now) (chars short.now)
+            (chars suffix.now))) page.old) }
+    {
+        let family = part_word(self.family_part(), space(), short);
+        let last = part_word(None, space(), suffix);
         let words = [
             part_word(self.given_part(), no_text(), given),
-            opening(&family, &suffix),
-            closing(&family, &suffix),
+            opening(&family, &last),
+            closing(&family, &last),
         ];
         self.push_words(page, &words)
     }
 
     /// Appends particle and family name, given name, suffix, with the separator between.
-    fn push_inverted(
+    fn push_inverted<'w>(
         &self,
         page: &mut Page<'a>,
-        given: &str,
-        person: &Person,
+        given: &'w str,
+        short: &'w str,
+        suffix: &'w str,
     ) -> Result<(), AllocError>
         ensures { OnOk result (page.new ≡ append_here self.now
             (words_pieces (name_manner (name_style_view self.now)) false
-            (inverted_words false (name_style_view self.now).look
+            (inverted_words (name_style_view self.now).look
             (unwrap_or (resolved_options_view self.now.options).sort_separator comma_and_space)
-            (chars given.now) (person_view person.now))) page.old) }
+            (chars given.now) (chars short.now) (chars suffix.now))) page.old) }
     {
         let separator = self.options.sort_separator();
-        let short = short_text(self.setting.alloc, person)?;
         let words = [
-            part_word(self.family_part(), no_text(), short.as_str()),
+            part_word(self.family_part(), no_text(), short),
             part_word(self.given_part(), separator, given),
-            part_word(None, separator, text_or_empty(&person.suffix)),
+            part_word(None, separator, suffix),
         ];
         self.push_words(page, &words)
     }
@@ -247,7 +271,7 @@ impl<'s, 'a> NameStyle<'s, 'a> {
     ) -> Result<(), AllocError>
         ensures { OnOk result (page.new ≡ append_here self.now
             (words_pieces (name_manner (name_style_view self.now)) false
-            (inverted_words true (name_style_view self.now).look
+            (demoted_words (name_style_view self.now).look
             (unwrap_or (resolved_options_view self.now.options).sort_separator comma_and_space)
             (chars given.now) (person_view person.now))) page.old) }
     {

@@ -3,6 +3,7 @@ pub mod Values
 pub mod Faults
 pub mod Views
 pub mod Waiting
+pub mod Placing
 pub mod Valid
 pub mod ValidViews
 pub mod Constants

@@ -3,6 +3,10 @@ use Rattle.std.specs.Global.{Global}
 use Rattle.std.specs.Prelude.{[], List, map, reverse, Vec, String}
 use Rattle.laws.specs.Borrowed.{borrowed}
 use Rattle.laws.specs.Text.{spelled}
+use Rattle.xml_text.specs.Tokens.{At, Token}
+use Rattle.xml_text.specs.Views.{placed_view, token_view}
+use Rattle.xml_text.specs.declared.token.Placed.{Placed}
+use Rattle.xml_text.specs.declared.token.Token as code
 use Rattle.xml_tree.specs.Trees.{content_of}
 use Rattle.xml_tree.specs.Views.{children_of}
 use Rattle.xml_tree.specs.declared.tree.Element.{Element}
@@ -41,3 +45,6 @@ waiting_of ws = map waiting_view (reverse ws)
 
 abbrev pub waiting_list : Vec Waiting Global → List specs.Waiting
 waiting_list v = waiting_of v.items
+
+abbrev pub tokens_view : Vec (Placed code.Token) Global → List (At Token)
+tokens_view v = map (placed_view token_view) v.items

@@ -67,6 +67,10 @@ fn child_wrong<'s>(
     ensures { (t : List ℕ) → option_map wrong_view result
         ≡ child_wrong schema.now (content_of (children_of children.now) t) rule.now }
 {
+    match rule.2 {
+        Times::Any => return None,
+        _ => {}
+    }
     times_wrong(rule.2, rule.0, count_called(schema.space, rule.0, children))
 }
 

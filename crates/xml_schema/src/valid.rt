@@ -1,17 +1,20 @@
 //! Texts of valid trees.
 
-ghost use Rattle.std.specs.Prelude.{◌≡◌, [], IfOk};
+ghost use Rattle.std.specs.Prelude.{◌≡◌, [], IfOk, IfSome};
 ghost use Rattle.std.specs.Str.{chars};
 ghost use Rattle.laws.specs.Results.{Gives, GivesBack};
 ghost use Rattle.xml_tree.specs.Grammar.{Spells};
 ghost use Rattle.xml_tree.specs.Trees as trees;
 ghost use Rattle.xml_tree.specs.Views.{element_view};
 ghost use Rattle.xml_schema.specs.Faults.{faults};
-ghost use Rattle.xml_schema.specs.Valid.{checked, valid_tree_of};
+ghost use Rattle.xml_schema.specs.Placing.{placed_in};
+ghost use Rattle.xml_schema.specs.Valid.{checked, valid_tree_of, OfTree};
 ghost use Rattle.xml_schema.specs.ValidViews.{refusal_of, text_error};
+ghost use Rattle.xml_schema.specs.Views.{fault_view};
 
 use crate::fault::Fault;
 use crate::finding::first_fault;
+use crate::placing::fault_left;
 use crate::schema::Schema;
 use std::alloc::Global;
 use xml_tree::{Element, TreeError, parse};
@@ -23,7 +26,8 @@ pub enum ValidError<'s> {
     Memory,
     /// The text is no XML, and this many of its bytes are left where that shows.
     Text { fault: xml_text::Fault, left: usize },
-    /// The tree of the text has this fault first.
+    /// The tree of the text has this fault first, at its place in the text: text where its first line begins that is more than white space, anything
+    /// else at the start-tag of the element.
     Tree(Fault<'s>),
 }
 
@@ -37,18 +41,33 @@ fn text_error<'s>(error: TreeError) -> ValidError<'s>
     }
 }
 
-/// The tree, unless it has a fault.
+/// The same of a text whose tree has this fault first.
+fn tree_error<'s>(alloc: Global, text: &str, fault: Fault<'s>) -> ValidError<'s>
+    ensures { IfSome (refusal_of result)
+        (λ r. r ≡ OfTree (placed_in (chars text.now) (fault_view fault.entry))) }
+{
+    match fault_left(alloc, text, fault.wrong, fault.left) {
+        Ok(left) => ValidError::Tree(Fault {
+            left,
+            wrong: fault.wrong,
+        }),
+        Err(_) => ValidError::Memory,
+    }
+}
+
+/// The tree of a text, unless it has a fault.
 fn checked<'s>(
     alloc: Global,
     schema: &Schema,
+    text: &str,
     root: Element<'s>,
 ) -> Result<Element<'s>, ValidError<'s>>
     ensures { Gives refusal_of element_view result
-        (checked schema.now (element_view root.entry)) }
+        (checked schema.now (chars text.now) (element_view root.entry)) }
 {
     match first_fault(alloc, schema, &root) {
         Ok(None) => Ok(root),
-        Ok(Some(fault)) => Err(ValidError::Tree(fault)),
+        Ok(Some(fault)) => Err(tree_error(alloc, text, fault)),
         Err(_) => Err(ValidError::Memory),
     }
 }
@@ -56,7 +75,7 @@ fn checked<'s>(
 /// The tree of a text that is valid by a schema.
 ///
 /// # Errors
-/// `Text` where the text is no XML with namespaces; else `Tree` with the first fault of its tree. `Memory` where a request for memory was
+/// `Text` where the text is no XML with namespaces; else `Tree` with the first fault of its tree, at its place. `Memory` where a request for memory was
 /// refused.
 pub fn parse_valid<'s>(
     alloc: Global,
@@ -74,7 +93,7 @@ pub fn parse_valid<'s>(
         (valid_tree_of schema.now (chars text.now)) }
 {
     match parse(alloc, text) {
-        Ok(root) => checked(alloc, schema, root),
+        Ok(root) => checked(alloc, schema, text, root),
         Err(error) => Err(text_error(error)),
     }
 }

@@ -27,6 +27,7 @@ impl Quote {
     }
 
     /// What may stand between two of them beside references.
+    #[inline(always)]
     fn class(self) -> Class
         ensures { result ≡ quoted_class self }
     {
@@ -38,6 +39,7 @@ impl Quote {
 }
 
 /// The next piece of a value, or nothing where it ends.
+#[inline(always)]
 fn next_piece<'s>(reader: &mut Reader<'s>, quote: Quote) -> Result<Option<Piece<'s>>, Fault>
     ensures { Reads (option_map piece_view) result (left reader.new)
         (piece_at quote (left reader.old)) }
@@ -75,6 +77,7 @@ fn take_quoted<'s>(
 }
 
 /// The pieces of a value.
+#[inline(always)]
 fn take_pieces<'s>(
     alloc: Global,
     reader: &mut Reader<'s>,

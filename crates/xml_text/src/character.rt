@@ -36,6 +36,7 @@ pub(crate) enum Quote {
 }
 
 /// Whether the character may stand in a text of XML.
+#[inline(always)]
 fn is_legal(c: char) -> bool
     ensures { result ≡ lies_in_one legal_ranges c }
 {
@@ -43,6 +44,7 @@ fn is_legal(c: char) -> bool
 }
 
 /// Whether a name may begin with the character.
+#[inline(always)]
 fn is_name_start(c: char) -> bool
     ensures { result ≡ lies_in_one name_start_ranges c }
 {
@@ -67,6 +69,7 @@ fn is_name_start(c: char) -> bool
 }
 
 /// Whether the character may stand in a name after its first, but not as its first.
+#[inline(always)]
 fn is_name_more(c: char) -> bool
     ensures { result ≡ lies_in_one name_more_ranges c }
 {
@@ -76,6 +79,7 @@ fn is_name_more(c: char) -> bool
 impl CharacterClass for Class {
     ghost passes = { passes };
 
+    #[inline(always)]
     #[tactic(auto, unfolding(crate::specs::Character::passes))]
     fn contains(self, c: char) -> bool {
         match self {

@@ -46,6 +46,7 @@ impl Ending {
     }
 
     /// Whether such a text may end before the character.
+    #[inline(always)]
     fn may_end(self, c: char) -> bool
         ensures { result ≡ may_end self c }
     {
@@ -60,6 +61,7 @@ impl Ending {
 }
 
 /// The characters before the first place where such a text ends, and what follows them.
+#[inline(always)]
 fn split_ending(text: &str, ending: Ending) -> (&str, &str)
     ensures prefix { spelled result.0 ≡ before_end ending (chars text.now) }
     ensures rest { spelled result.1 ≡ from_end ending (chars text.now) }
@@ -76,6 +78,7 @@ fn split_ending(text: &str, ending: Ending) -> (&str, &str)
 }
 
 /// Takes the text that ends there.
+#[inline(always)]
 pub(crate) fn take_text<'s>(reader: &mut Reader<'s>, ending: Ending) -> &'s str
     ensures text { spelled result ≡ before_end ending (left reader.old) }
     ensures rest { left reader.new ≡ from_end ending (left reader.old) }

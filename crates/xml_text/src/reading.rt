@@ -22,6 +22,7 @@ pub fn byte_len(text: &str) -> usize
 }
 
 /// Takes the character, which must stand here.
+#[inline(always)]
 pub(crate) fn take_character(reader: &mut Reader<'_>, wanted: char) -> Result<(), Fault>
     ensures { Passes result (left reader.new) (character_at wanted (left reader.old)) }
 {
@@ -68,6 +69,7 @@ pub(crate) fn is_word_in_any_case(text: &str, word: &str) -> bool
 }
 
 /// Whether the text begins with a character of the class.
+#[inline(always)]
 pub(crate) fn begins(text: &str, class: Class) -> bool
     ensures { result ≡ begins class (chars text.now) }
 {
@@ -78,6 +80,7 @@ pub(crate) fn begins(text: &str, class: Class) -> bool
 }
 
 /// The longest run of the class that stands here.
+#[inline(always)]
 pub(crate) fn run<'s>(reader: &mut Reader<'s>, class: Class) -> &'s str
     ensures prefix { spelled result ≡ prefix_of (passes class) (left reader.old) }
     ensures rest { left reader.new ≡ after (passes class) (left reader.old) }

@@ -7,6 +7,7 @@ pub mod NamesMet
 pub mod Attributes
 pub mod Bound
 pub mod Lines
+pub mod PlainLines
 pub mod Read
 pub mod TokenSteps
 pub mod Completing

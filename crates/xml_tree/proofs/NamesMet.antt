@@ -1,5 +1,5 @@
 -- Sets of names, name after name.
-use Rattle.std.proofs.Common.{◌≡◌, ℕ, ◌+◌, ◌<◌, ◌≤◌, Bool, true, false, cond, not, ◌&&◌, ◌||◌, List, [], ◌∷◌, ◌++◌, length, map, drop, get_or, Option, Some, None, refl, sym, ap, ◌∙◌}
+use Rattle.std.proofs.Common.{◌≡◌, ℕ, ◌+◌, ◌<◌, ◌≤◌, Bool, true, false, cond, not, ◌&&◌, ◌||◌, List, [], ◌∷◌, ◌++◌, length, map, drop, get_or, Option, Some, None, refl, sym, ap, ◌∙◌, arith}
 use Rattle.std.proofs.Math.Path.{fun_ext}
 use Rattle.std.proofs.lemmas.List.{at_drop_more, at_drop_all}
 use Rattle.std.proofs.lemmas.List.Folds.{list_any-append}
@@ -121,3 +121,9 @@ module _ (s : BTreeSet Key) (xs : List (Placed Attribute)) (i : ℕ) (x : Placed
 
 pub repeated_nowhere : (s : BTreeSet Key) (xs : List (Placed Attribute)) (i : ℕ) (all : Option ℕ) → repeated (has_full s) (map (placed_view attribute_view) (drop i xs)) ≡ all → length xs ≤ i → all ≡ None
 repeated_nowhere s xs i all so_far past = sym so_far ∙ at_drop_all (λ (ys : List (Placed Attribute)). repeated (has_full s) (map (placed_view attribute_view) ys)) xs i past
+
+-- a name alone is not repeated
+pub alone_unrepeated : (xs : List (Placed Attribute)) → length xs < 2 → None ≡ repeated (λ n. false) (map (placed_view attribute_view) xs)
+alone_unrepeated [] few = refl
+alone_unrepeated (x ∷ []) few = refl
+alone_unrepeated (x ∷ y ∷ xs) few = absurd (omega arith)

@@ -1,6 +1,7 @@
 pub mod Trees
 pub mod Folding
 pub mod Values
+pub mod Plain
 pub mod Scope
 pub mod Names
 pub mod Met

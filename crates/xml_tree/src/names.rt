@@ -9,7 +9,7 @@ ghost use Rattle.xml_text.specs.Views.{placed_view, name_view, tag_view};
 ghost use Rattle.xml_text.specs.Views as written;
 ghost use Rattle.xml_tree.specs.Met.{AreMet};
 ghost use Rattle.xml_tree.specs.Scope.{over, declared_prefix, or_unbound, space_of, default_of, element_space, attribute_space};
-ghost use Rattle.xml_tree.specs.Names.{valued_as, with_value, valued, with_declaration, declare, declared, named_in, with_named, expand, expanded, repeated, distinct, said};
+ghost use Rattle.xml_tree.specs.Names.{is_written, valued_as, with_value, valued, with_declaration, declare, declared, named_in, with_named, expand, expanded, repeated, distinct, said};
 ghost use Rattle.xml_tree.specs.Building.{scope_of};
 ghost use Rattle.xml_tree.specs.Views.{refusal_of, space_view, attribute_view, attributes_view, bindings_view, valued_view, values_view, said_view, opens_of};
 
@@ -17,13 +17,16 @@ use crate::bindings::Bindings;
 use crate::building::{Open, found_around};
 use crate::error::TreeError;
 use crate::met::{add_full_name, add_name};
-use crate::scope::{declared_prefix, is_allowed, is_word, space_if_filled, xml_space};
+use crate::scope::{declared_prefix, is_allowed, is_word, same_name, space_if_filled, xml_space};
 use crate::tree::{Attribute, FullName};
 use crate::value::value_of;
 use std::alloc::{AllocError, Global};
 use std::collections::BTreeSet;
 use std::rc::RcStr;
 use xml_text::{Fault, Name, Placed, Tag};
+
+/// So many attributes of a tag are looked through for a name.
+const FEW: usize = 8;
 
 /// An attribute with its value.
 #[derive(Drop)]
@@ -83,8 +86,78 @@ fn push_valued<'s>(
     Ok(())
 }
 
-/// The attributes of a tag with their values.
+/// Whether one of these attributes has the name, as it is written.
+fn is_among(values: &[Placed<Valued<'_>>], name: &Name<'_>) -> bool
+    ensures { result
+        ≡ is_written (map (placed_view valued_view) values.now) (name_view name.now) }
+{
+    for value in values {
+        if same_name(&value.v.name, name) {
+            return true;
+        }
+    }
+    false
+}
+
+/// The same of a list.
+fn is_written(values: &Vec<Placed<Valued<'_>>>, name: &Name<'_>) -> bool
+    ensures { result ≡ is_written (values_view values.now) (name_view name.now) }
+{
+    is_among(values.as_slice(), name)
+}
+
+/// Appends an attribute with its value, unless an earlier one has its name. Those are looked through.
+fn push_beside_few<'s>(
+    alloc: Global,
+    values: &mut Vec<Placed<Valued<'s>>>,
+    attribute: &Placed<xml_text::Attribute<'s>>,
+) -> Result<(), TreeError>
+    ensures { Leaves refusal_of result (values_view values.new)
+        (with_value (values_view values.old) (placed_view written.attribute_view attribute.now)) }
+{
+    if is_written(values, &attribute.v.name) {
+        return Err(TreeError::Fault {
+            fault: Fault::Repeated,
+            left: attribute.left,
+        });
+    }
+    let value = value_of(alloc, attribute.v.value.as_slice())?;
+    push_value(values, attribute, value)?;
+    Ok(())
+}
+
+/// The attributes of a tag with their values, where they are few.
+fn few_valued<'s>(
+    alloc: Global,
+    attributes: &[Placed<xml_text::Attribute<'s>>],
+) -> Result<Vec<Placed<Valued<'s>>>, TreeError>
+    ensures { Gives refusal_of values_view result
+        (valued (map (placed_view written.attribute_view) attributes.now)) }
+{
+    let mut values = Vec::new(alloc);
+    for attribute in attributes {
+        push_beside_few(alloc, &mut values, attribute)?;
+    }
+    Ok(values)
+}
+
+/// The attributes of a tag with their values. A few names are looked through, more are kept in a set.
 fn all_valued<'s>(
+    alloc: Global,
+    attributes: &[Placed<xml_text::Attribute<'s>>],
+) -> Result<Vec<Placed<Valued<'s>>>, TreeError>
+    ensures { Gives refusal_of values_view result
+        (valued (map (placed_view written.attribute_view) attributes.now)) }
+{
+    if attributes.len() <= FEW {
+        few_valued(alloc, attributes)
+    } else {
+        many_valued(alloc, attributes)
+    }
+}
+
+/// The attributes of a tag with their values, whose names are kept in a set.
+fn many_valued<'s>(
     alloc: Global,
     attributes: &[Placed<xml_text::Attribute<'s>>],
 ) -> Result<Vec<Placed<Valued<'s>>>, TreeError>
@@ -329,7 +402,23 @@ fn expanded<'s>(
 }
 
 /// Where the first attribute stands that has the expanded name of an earlier one.
+#[tactic(auto, using(crate::proofs::NamesMet::alone_unrepeated))]
 fn repeated(
+    alloc: Global,
+    attributes: &[Placed<Attribute<'_>>],
+) -> Result<Option<usize>, AllocError>
+    ensures { IfOk result (λ left. left ≡ repeated (λ n. false)
+        (map (placed_view attribute_view) attributes.now)) }
+{
+    if attributes.len() < 2 {
+        Ok(None)
+    } else {
+        repeated_among(alloc, attributes)
+    }
+}
+
+/// The same of any number of attributes.
+fn repeated_among(
     alloc: Global,
     attributes: &[Placed<Attribute<'_>>],
 ) -> Result<Option<usize>, AllocError>

@@ -7,12 +7,15 @@ ghost use Rattle.laws.specs.Text.{characters};
 ghost use Rattle.xml_text.specs.Tokens.{Literal};
 ghost use Rattle.xml_text.specs.Values.{character_of};
 ghost use Rattle.xml_text.specs.Views.{piece_view, reference_view};
+ghost use Rattle.xml_tree.specs.Plain.{is_plain, are_plain};
 ghost use Rattle.xml_tree.specs.Values.{line_part, lines_of, placed_character, shown, with_more, with_piece, value_of};
 ghost use Rattle.xml_tree.specs.Views.{refusal_of};
 
 use crate::error::TreeError;
 use std::alloc::{AllocError, Global};
-use texts::{empty_text, push_character, split_first};
+use texts::{
+    CharacterClass, empty_text, has_text, push_character, push_text, split_first, split_run,
+};
 use xml_text::{Piece, Reference};
 
 /// The character as it is shown: in a value white space is spaces.
@@ -45,8 +48,43 @@ fn push_line_part(
     }
 }
 
+/// The characters of texts without carriage returns that stand for themselves; in a value tabs and line feeds are spaces.
+#[derive(Clone, Copy)]
+struct Plain {
+    in_value: bool,
+}
+
+impl CharacterClass for Plain {
+    ghost passes = { λ class c. is_plain class.in_value c };
+
+    #[inline(always)]
+    fn contains(self, c: char) -> bool {
+        !(c == '\r' || self.in_value && (c == '\t' || c == '\n'))
+    }
+}
+
+/// Whether each character of a text stands for itself.
+#[inline(always)]
+fn are_plain(text: &str, in_value: bool) -> bool
+    ensures { result ≡ are_plain in_value (chars text.now) }
+{
+    !has_text(split_run(text, Plain { in_value }).1)
+}
+
 /// Appends a text, its ends of lines as line feeds.
 fn push_lines(text: &mut String, more: &str, in_value: bool) -> Result<(), AllocError>
+    ensures { OnOk result (characters text.new
+        ≡ characters text.old ++ map (shown in_value) (lines_of (chars more.now))) }
+{
+    if are_plain(more, in_value) {
+        push_text(text, more)
+    } else {
+        push_each(text, more, in_value)
+    }
+}
+
+/// The same, character by character.
+fn push_each(text: &mut String, more: &str, in_value: bool) -> Result<(), AllocError>
     ensures { OnOk result (characters text.new
         ≡ characters text.old ++ map (shown in_value) (lines_of (chars more.now))) }
 {

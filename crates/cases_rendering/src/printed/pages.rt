@@ -322,7 +322,10 @@ fn put_page<'a>(session: &mut Session, setting: &PageSetting<'_, 'a>, case: &'a 
 
 /// `page`: what a page shows to which things were appended, and its tree.
 pub(crate) fn answer(session: &mut Session, case: &Value<'_>) {
-    session.only(case, &["case", "name", "rule", "quotes", "chunks", "put", "other"]);
+    session.only(
+        case,
+        &["case", "name", "rule", "quotes", "chunks", "put", "other"],
+    );
     let quotes = session.texts(case, "quotes");
     let chunks: Option<Vec<StringChunk>> = maybe_given(session, case, "chunks");
     let chunks = chunks.unwrap_or(Vec::new(session.alloc));

@@ -14,5 +14,5 @@ returns c =
     let side = λ (year_suffix : List ℕ). side_pieces style.locales.now (manner_view style.manner) (shape_view style.shape) year_suffix first in
     on_ok_weaker c.push_side-3.result
     (λ e. append-apart (quotes_view style.quotes.now) (manner_view style.manner) _ side (side (chars c.args.year_suffix.now)) _ _ _ c.args.page.now _ _ _
-    (sym c.in_ok-prints_alike.ensures ∙ c.if-branch.false) c.range_delimiter.ensures c.in_ok-push_side.ensures c.in_ok-push_text.ensures e)
+    (sym c.in_ok-prints_alike.ensures ∙ c.if-branch.false) c.range_delimiter-delimiter.ensures c.in_ok-push_side.ensures c.in_ok-push_text.ensures e)
     c.push_side-3.ensures

@@ -1,5 +1,5 @@
 use Rattle.std.proofs.Common.{Some, None, ap, ◌∙◌}
-use Rattle.literature_values.specs.PersonViews.{person_view}
+use Rattle.literature_values.specs.PersonViews.{lent_person_view, person_view}
 use Rattle.rendering_page.specs.Views.{frame_view, quotes_view}
 use Rattle.rendering_tree.specs.Metas as metas
 use Rattle.rendering_names.specs.NameParts.{person_pieces}
@@ -16,7 +16,7 @@ returns c =
     let meta = metas.Name c.args.variable c.args.index in
     append-framed (quotes_view c.args.self.now.setting.quotes.now) (record { display = None; meta = Some meta; manner = s.manner; prefix = s.look.prefix; suffix = s.look.suffix })
     (record (frame_view c.name_frame-frame.result) { meta = Some meta })
-    _ c.args.page.now c.begin_element.new.self c.push_inverted_by.new.page c.end_element.new.self
+    (person_pieces (name_manner s) s.look o is_inverted c.args.form (lent_person_view c.args.person.now)) c.args.page.now c.begin_element.new.self c.push_inverted_by.new.page c.end_element.new.self
     (λ i. record (c.name_frame-frame.ensures i) { meta = Some meta })
     c.in_ok-begin_element.ensures
     (c.in_ok-push_inverted_by.ensures

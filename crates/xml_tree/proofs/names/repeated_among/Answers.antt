@@ -1,7 +1,7 @@
 use Rattle.std.proofs.Common.{◌≡◌, true, false, sym}
 use Rattle.xml_tree.specs.Views.{full_name_view}
 use Rattle.xml_tree.proofs.NamesMet.{was_met, was_new, has_full, none_repeated, repeated_here, repeated_later, repeated_nowhere}
-use Rattle.xml_tree.proofs.names.repeated.Goals as goal
+use Rattle.xml_tree.proofs.names.repeated_among.Goals as goal
 
 pub loop-attribute-init : goal.loop-attribute-init
 loop-attribute-init c = none_repeated c.new-met.result c.args.attributes.now c.new-met.ensures.empty

@@ -7,7 +7,7 @@ use Rattle.xml_tree.specs.Names.{with_value, valued}
 use Rattle.xml_tree.specs.Views.{refusal_of, valued_view, values_view}
 use Rattle.xml_tree.proofs.Folded.{folds_on, folds_end, folds_fail, slice_rest, slice_done}
 use Rattle.xml_tree.proofs.NamesMet.{none_met}
-use Rattle.xml_tree.proofs.names.all_valued.Goals as goal
+use Rattle.xml_tree.proofs.names.many_valued.Goals as goal
 
 pub loop-attribute-init : goal.loop-attribute-init
 loop-attribute-init c = record {

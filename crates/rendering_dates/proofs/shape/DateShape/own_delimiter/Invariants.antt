@@ -4,7 +4,7 @@ use Rattle.rendering_locale.specs.Locales.{DatePart}
 use Rattle.rendering_locale.specs.Views.{part_view}
 use Rattle.rendering_dates.specs.Dates.{differs_first, is_within}
 use Rattle.rendering_dates.specs.Views.{changed_by}
-use Rattle.rendering_dates.proofs.delimiters.DateShape.own_delimiter.Given as goal
+use Rattle.rendering_dates.proofs.shape.DateShape.own_delimiter.Given as goal
 
 abbrev pub invariant-loop-part : goal.invariant-loop-part
 invariant-loop-part l =

@@ -4,7 +4,7 @@ use Rattle.xml_tree.specs.Folding.{folded}
 use Rattle.xml_tree.specs.Met.{AreMet}
 use Rattle.xml_tree.specs.Names.{with_value, valued}
 use Rattle.xml_tree.specs.Views.{values_view}
-use Rattle.xml_tree.proofs.names.all_valued.Given as goal
+use Rattle.xml_tree.proofs.names.many_valued.Given as goal
 
 abbrev pub invariant-loop-attribute : goal.invariant-loop-attribute
 invariant-loop-attribute l = record {
