@@ -10,7 +10,7 @@ ghost use Rattle.xml_tree.specs.Views.{element_view};
 ghost use Rattle.csl_nodes.specs.Views.{words_view};
 ghost use Rattle.csl_styles.specs.Files.{meaning};
 ghost use Rattle.csl_styles.specs.Styles as styles;
-ghost use Rattle.csl_styles.specs.Views.{refusal_of};
+ghost use Rattle.csl_styles.specs.Views.{csl_view, refusal_of};
 ghost use Rattle.cite_csl_styles.specs.Answers.{Answers, IsRefusal, Returns};
 ghost use Rattle.cite_csl_styles.specs.CslLines as said;
 ghost use Rattle.cite_csl_styles.specs.Sheets as specs;

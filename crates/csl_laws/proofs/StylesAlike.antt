@@ -25,6 +25,7 @@ use Rattle.csl_styles.specs.Citations.{is_by_cite, usual_delimiter, citation}
 use Rattle.csl_styles.specs.Files.{Dependent, Independent, Localized, localized, style_by, meaning}
 use Rattle.csl_styles.specs.Information.{category_of, categories_in, categories_of, parent_address, address_in, last_segment, parent_of}
 use Rattle.csl_styles.specs.Layouts.{layout, empty_layout, layout_in, sort_key, sort_keys}
+use Rattle.csl_styles.specs.SecondFields.{aligned}
 use Rattle.csl_styles.specs.Styles.{demoting, splitting, default_locale, citation_in, bibliography_in, keys_in, style}
 use Rattle.csl_laws.specs.Alike.{AreAlikeInside}
 use Rattle.csl_laws.specs.Trees.{text_counts, Alike}
@@ -136,7 +137,7 @@ bibliography_same : (words : List (List ℕ)) (x y : Element) → Alike x y → 
 bibliography_same words x y a =
     let h : SaySame x y = alike_said x y a in
     λ j. record {
-      layout = layout_in_same words x y a j;
+      layout = aligned (value_same x y h (table SECOND_FIELDS.now) (codes "second-field-align") j) (layout_in_same words x y a j);
       name_options = options_same x y h (codes "name-form") (codes "name-delimiter") j;
       hanging_indent = true_same x y h (codes "hanging-indent") j;
       second_field_align = value_same x y h (table SECOND_FIELDS.now) (codes "second-field-align") j;

@@ -22,9 +22,9 @@ one_tree t x y s u =
 
 -- what one of them means, the other means
 means_too : (t u : List ℕ) (x y : Element) (c : Csl) → Spells x t → Spells y u → Alike x y → Means t c → Means u c
-means_too t u x y c spelled other a (z, again, none, is, answered) =
+means_too t u x y c spelled other a (z, (again, none, is, answered)) =
     let same : z ≡ x = one_tree t z x again spelled in
-    (y, other, files_sound x y a (ap faults (sym same) ∙ none), sym (meanings_same x y a) ∙ (ap meaning (sym same) ∙ is), answered)
+    (y, (other, files_sound x y a (ap faults (sym same) ∙ none), sym (meanings_same x y a) ∙ (ap meaning (sym same) ∙ is), answered))
 
 pub mean_together : (t u : List ℕ) → SayTheSame t u → (c : Csl) → Means t c ↔ Means u c
 mean_together t u (x, y, spelled, other, a) c = (means_too t u x y c spelled other a, means_too u t y x c other spelled (alike_back x y a))
@@ -43,11 +43,11 @@ refused_too : (t u : List ℕ) (x y : Element) → Spells x t → Spells y u →
 refused_too t u x y spelled other a (OfText r) e =
     let is : tree_of t ≡ Ok x = tree_is t x spelled in
     absurd cc
-refused_too t u x y spelled other a (OfTree f) (z, again, first, is, placed) =
+refused_too t u x y spelled other a (OfTree f) (z, again, (first, is, placed)) =
     let same : z ≡ x = one_tree t z x again spelled in
     let here : first_of (faults x) ≡ Some first = ap (λ (w : Element). first_of (faults w)) (sym same) ∙ is in
     let there : (g : Fault) × (first_of (faults y) ≡ Some g) = some_first (faults y) (λ none. has_first first (faults x) here (files_sound y x (alike_back x y a) none)) in
-    (OfTree (placed_in u there.0), (y, other, there.0, there.1, refl))
+    (OfTree (placed_in u there.0), (y, other, (there.0, there.1, refl)))
 refused_too t u x y spelled other a (OfStyle r left) (z, again, none, answered, place) =
     let same : z ≡ x = one_tree t z x again spelled in (
       OfStyle r (blamed r y),

@@ -9,6 +9,7 @@ use Rattle.xml_tree.specs.declared.tree.Element.{Element as ElementValue}
 use Rattle.xml_schema.specs.Faults as specs
 use Rattle.xml_schema.specs.Faults.{faults, first_of}
 use Rattle.xml_schema.specs.Moved.{moved_schema}
+use Rattle.xml_schema.specs.Placing.{placed_in}
 use Rattle.xml_schema.specs.Tables.{Schema}
 use Rattle.xml_schema.specs.Valid.{Refusal, as_text, unless_found, checked, valid_tree_of}
 use Rattle.xml_schema.specs.ValidViews.{refusal_of}
@@ -27,10 +28,10 @@ pub found_by : {E : Type 0} (s : Schema) (e : Element) (r : Result (Option Fault
 found_by s e (Ok f) first is = first ∙ ap (λ (fs : List specs.Fault). first_of fs) (same_faults s e is)
 found_by s e (Err error) first is = tt
 
-then_same : (s : Schema) (r : Result Element Refusal) → moved_schema s ≡ csl_schema → (r >>= checked s) ≡ (r >>= checked csl_schema)
-then_same s (Ok e) is = ap (λ (fs : List specs.Fault). unless_found e (first_of fs)) (same_faults s e is)
-then_same s (Err refusal) is = refl
+then_same : (s : Schema) (cs : List ℕ) (r : Result Element Refusal) → moved_schema s ≡ csl_schema → (r >>= checked s cs) ≡ (r >>= checked csl_schema cs)
+then_same s cs (Ok e) is = ap (λ (fs : List specs.Fault). unless_found e (option_map (placed_in cs) (first_of fs))) (same_faults s e is)
+then_same s cs (Err refusal) is = refl
 
 pub read_by : (s : Schema) (cs : List ℕ) (r : Result ElementValue ValidError) → Gives refusal_of element_view r (valid_tree_of s cs) → moved_schema s ≡ csl_schema
     → Gives refusal_of element_view r (valid_tree_of csl_schema cs)
-read_by s cs r reads is = subst (λ (t : Result Element Refusal). Gives refusal_of element_view r t) (then_same s (as_text (tree_of cs)) is) reads
+read_by s cs r reads is = subst (λ (t : Result Element Refusal). Gives refusal_of element_view r t) (then_same s cs (as_text (tree_of cs)) is) reads

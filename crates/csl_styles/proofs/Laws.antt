@@ -23,7 +23,7 @@ one_tree : (t : List ℕ) (x y : Element) → Spells x t → Spells y t → x �
 one_tree t x y s u = same_ok (tree_of t) x y (tree_is t x s) (tree_is t y u)
 
 pub one_file : (t : List ℕ) (c d : Csl) → Means t c → Means t d → c ≡ d
-one_file t c d (x, s, f, m, a) (y, u, g, n, b) = sym m ∙ (ap meaning (one_tree t x y s u) ∙ n)
+one_file t c d (x, (s, f, m, a)) (y, (u, g, n, b)) = sym m ∙ (ap meaning (one_tree t x y s u) ∙ n)
 
 -- the first ring
 one_ring : (ms : List Macro) (i j : ℕ) → IsFirstRing ms i → IsFirstRing ms j → i ≡ j
@@ -61,15 +61,15 @@ not_faultless x y f same first none =
 
 pub one_refusal : (t : List ℕ) (q r : Refusal) → IsRefused t q → IsRefused t r → q ≡ r
 one_refusal t (OfText q) (OfText r) e f = cc
-one_refusal t (OfText q) (OfTree g) e (x, s, first, f, placed) = absurd (not_spelled t q x e s)
+one_refusal t (OfText q) (OfTree g) e (x, s, (first, f, placed)) = absurd (not_spelled t q x e s)
 one_refusal t (OfText q) (OfStyle r left) e (x, s, f, a, p) = absurd (not_spelled t q x e s)
-one_refusal t (OfTree g) (OfText r) (x, s, first, f, placed) e = absurd (not_spelled t r x e s)
-one_refusal t (OfTree g) (OfTree h) (x, s, first, f, placed) (y, u, other, k, there) =
+one_refusal t (OfTree g) (OfText r) (x, s, (first, f, placed)) e = absurd (not_spelled t r x e s)
+one_refusal t (OfTree g) (OfTree h) (x, s, (first, f, placed)) (y, u, (other, k, there)) =
     let same : first ≡ other = same_some (first_of (faults x)) first other f (ap (λ (z : Element). first_of (faults z)) (one_tree t x y s u) ∙ k) in
     ap OfTree (placed ∙ (ap (placed_in t) same ∙ sym there))
-one_refusal t (OfTree g) (OfStyle r left) (x, s, first, f, placed) (y, u, none, a, p) = absurd (not_faultless x y first (one_tree t x y s u) f none)
+one_refusal t (OfTree g) (OfStyle r left) (x, s, (first, f, placed)) (y, u, none, a, p) = absurd (not_faultless x y first (one_tree t x y s u) f none)
 one_refusal t (OfStyle q left) (OfText r) (x, s, none, a, p) e = absurd (not_spelled t r x e s)
-one_refusal t (OfStyle q left) (OfTree g) (x, s, none, a, p) (y, u, first, f, placed) = absurd (not_faultless y x first (one_tree t y x u s) f none)
+one_refusal t (OfStyle q left) (OfTree g) (x, s, none, a, p) (y, u, (first, f, placed)) = absurd (not_faultless y x first (one_tree t y x u s) f none)
 one_refusal t (OfStyle q left) (OfStyle r right) (x, s, none, a, p) (y, u, more, b, o) =
     let same : x ≡ y = one_tree t x y s u in
     let why : q ≡ r = one_answered (meaning x) q r a (subst (λ (z : Element). IsAnswered (meaning z) (Some r)) (sym same) b) in
@@ -77,7 +77,7 @@ one_refusal t (OfStyle q left) (OfStyle r right) (x, s, none, a, p) (y, u, more,
     (λ i. OfStyle (why i) (place i))
 
 pub not_means_refused : (t : List ℕ) (c : Csl) (r : Refusal) → Means t c → IsRefused t r → ⊥
-not_means_refused t c (OfText r) (x, s, none, m, a) e = not_spelled t r x e s
-not_means_refused t c (OfTree g) (x, s, none, m, a) (y, u, first, f, placed) = not_faultless y x first (one_tree t y x u s) f none
-not_means_refused t c (OfStyle r left) (x, s, none, m, a) (y, u, more, b, p) =
+not_means_refused t c (OfText r) (x, (s, none, m, a)) e = not_spelled t r x e s
+not_means_refused t c (OfTree g) (x, (s, none, m, a)) (y, u, (first, f, placed)) = not_faultless y x first (one_tree t y x u s) f none
+not_means_refused t c (OfStyle r left) (x, (s, none, m, a)) (y, u, more, b, p) =
     answered_once c r a (subst (λ (k : Csl). IsAnswered k (Some r)) (sym (ap meaning (one_tree t x y s u)) ∙ m) b)

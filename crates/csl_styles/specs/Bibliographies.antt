@@ -11,6 +11,7 @@ use Rattle.csl_words.specs.Looking.{table, attribute, value_by, is_true, number,
 use Rattle.csl_words.specs.declared.options.TheConstants.{SECOND_FIELDS, SUBSTITUTE_RULES}
 use Rattle.csl_nodes.specs.Options.{name_options}
 use Rattle.csl_styles.specs.Layouts.{layout_in}
+use Rattle.csl_styles.specs.SecondFields.{aligned}
 
 -- a number of lines, of which there may be 32767
 abbrev pub lines : ℕ → ℤ
@@ -44,7 +45,7 @@ substitute_rule e = unwrap_or (value_by (table SUBSTITUTE_RULES.now) (codes "sub
 -- a bibliography
 abbrev pub bibliography : List (List ℕ) → Element → Bibliography
 bibliography words e = record {
-  layout = layout_in words e;
+  layout = aligned (value_by (table SECOND_FIELDS.now) (codes "second-field-align") e) (layout_in words e);
   name_options = name_options (codes "name-form") (codes "name-delimiter") e;
   hanging_indent = is_true (codes "hanging-indent") e;
   second_field_align = value_by (table SECOND_FIELDS.now) (codes "second-field-align") e;

@@ -11,6 +11,7 @@ ghost use Rattle.csl_nodes.specs.Views.{words_view};
 ghost use Rattle.csl_styles.specs.Bibliographies as specs;
 
 use crate::layouts::layout_in;
+use crate::second_fields::part_first;
 use csl_nodes::{Words, name_options};
 use csl_words::{
     SECOND_FIELDS, SUBSTITUTE_RULES, attribute, is_true, number, number_in, optional_text, value_by,
@@ -97,12 +98,14 @@ pub(crate) fn bibliography(
 {
     let substitute = optional_text(alloc, "subsequent-author-substitute", element)?;
     let name_options = name_options(alloc, "name-form", "name-delimiter", element)?;
-    let layout = layout_in(alloc, words, element)?;
+    let mut layout = layout_in(alloc, words, element)?;
+    let align = value_by(SECOND_FIELDS, "second-field-align", element);
+    part_first(alloc, align, &mut layout)?;
     Ok(Bibliography {
         layout,
         name_options,
         hanging_indent: is_true("hanging-indent", element),
-        second_field_align: value_by(SECOND_FIELDS, "second-field-align", element),
+        second_field_align: align,
         line_spacing: line_spacing_of(element),
         entry_spacing: spacing_of(element),
         subsequent_author_substitute: substitute,

@@ -13,6 +13,7 @@ mod locales;
 mod macros;
 mod meanings;
 mod reading;
+mod second_fields;
 mod sorting;
 mod styles;
 

@@ -180,7 +180,7 @@ fn with_meaning<'s>(
     text: &str,
     root: Element<'s>,
 ) -> Result<(Element<'s>, Csl), CslError<'s>>
-    requires { Spells (element_view root.entry) (chars text.now) }
+    requires { Spells (element_view root) (chars text.now) }
     ensures exact { MatchResult result
         (λ p. MeansBy (chars text.now) (element_view p.0) (csl_view p.1))
         (λ e. IfSome (refusal_of e) (IsRefused (chars text.now))) }

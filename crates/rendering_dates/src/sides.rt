@@ -84,7 +84,8 @@ impl<'s, 'a> DateStyle<'s, 'a> {
         ensures page { OnOk result (page.new
             ≡ append_pieces (quotes_view self.now.quotes.now) (joined_from is_first
             (delimiter_by self.now) (filled_pieces (manner_view self.now.manner)
-            (chars year_suffix.now) (printed_view part.now) (part_text_view text.entry))) page.old) }
+            (chars year_suffix.now) (printed_view part.now) (part_text_view text.entry)))
+            page.old) }
         ensures first { IfOk result (λ b. b
             ≡ still_first is_first (filled_pieces (manner_view self.now.manner)
             (chars year_suffix.now) (printed_view part.now) (part_text_view text.entry))) }

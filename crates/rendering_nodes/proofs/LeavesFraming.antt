@@ -121,8 +121,8 @@ ends_joined between (ps ∷ pss) h k = ends_both ps (dates.each_after between ps
 ends_part : (m : Manner) (year_suffix : List ℕ) (p : DatePart) (cs : List ℕ) → EndAll (dates.text_pieces m year_suffix p cs)
 ends_part m year_suffix p cs =
     let pm = dates.part_manner m p in
-    let more = normal pm (dates.year_suffix_of p.form year_suffix) ∷ [] in
-    ends_framed (dates.part_frame m p) (normal pm cs ∷ more) (ends_more (normal pm cs) more (ends_normal pm cs) (ends_normal pm (dates.year_suffix_of p.form year_suffix)))
+    let more = normal (uncased pm) (dates.year_suffix_of p.form year_suffix) ∷ [] in
+    ends_framed (dates.part_frame m p) (normal pm cs ∷ more) (ends_more (normal pm cs) more (ends_normal pm cs) (ends_normal (uncased pm) (dates.year_suffix_of p.form year_suffix)))
 
 one_if : (b : Bool) (ps : List Piece) (pss : List (List Piece)) → EndAll ps → EndEach pss → EndEach ((if b then ps ∷ [] else []) ++ pss)
 one_if true ps pss h k = (h, k)

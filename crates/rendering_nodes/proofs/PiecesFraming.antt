@@ -14,8 +14,9 @@ use Rattle.rendering_taxonomy.specs.declared.formatting.Formatting.{Formatting}
 use Rattle.rendering_tree.specs.Laws.{says_something, Bracket, of_mark, of_element, closes_mark, closes_element, are_nested}
 use Rattle.rendering_tree.specs.Metas.{Meta}
 use Rattle.rendering_tree.specs.Tokens.{Token, letter, formula, link, transparent, opening, closing, mark, unmark, with_letters, without_letters, with_letter_before, last_text}
-use Rattle.rendering_page.specs.Pages.{Page, Manner, Quotes, Frame, in_manner, appended, punctuated, quote_at_end, is_joined, is_repeated, append_as_written, append_to_join, append_normal, append_further, append_token, append_verbatim, append_quote, append_suffix, first_token, last_token, before_mark, before_prefix, prints, begun, closed_off, ended}
-use Rattle.rendering_page.specs.Pieces.{Piece, normal, further, close_quote, linked, own_locator, end, append_piece, append_pieces, framed, chunk_by, chunk_piece, chunk_pieces, further_by, further_piece}
+use Rattle.rendering_page.specs.Pages.{Page, Manner, uncased, Quotes, Frame, in_manner, appended, punctuated, quote_at_end, is_joined, is_repeated, append_as_written, append_to_join, append_normal, append_further, append_token, append_verbatim, append_quote, append_suffix, first_token, last_token, before_mark, before_prefix, prints, begun, closed_off, ended}
+use Rattle.rendering_page.specs.Pieces.{Piece, normal, further, close_quote, linked, own_locator, end, append_piece, append_pieces, framed, chunk_by, chunk_piece, chunk_pieces, each_piece, further_by, further_piece}
+use Rattle.rendering_cases.specs.Cases.{cased_chunks}
 use Rattle.rendering_page.specs.Tail.{is_punctuation, begins_close, trailing, closed_up, ends_in, without_end, unrepeated, remaining}
 
 -- where elements and marks begin and end on a page
@@ -193,7 +194,7 @@ level_further quotes m cs p =
     (level p.tokens (append_as_written quotes m cs p).tokens (frames_as_written quotes m cs p))
 
 level_suffix : (quotes : Quotes) (m : Manner) (cs : List ℕ) (p : Page) → AreLevel p.tokens (append_suffix quotes m cs p).tokens
-level_suffix quotes m cs p = level_either (is_repeated cs p) p.tokens p (append_normal quotes m cs p) (level_as p.tokens) (level_normal quotes m cs p)
+level_suffix quotes m cs p = level_either (is_repeated cs p) p.tokens p (append_normal quotes (uncased m) cs p) (level_as p.tokens) (level_normal quotes (uncased m) cs p)
 
 past_closing : (n : ℕ) (ts : List Token) → before_mark n (closing ∷ ts) ≡ before_mark n ts
 past_closing zero ts = refl
@@ -334,9 +335,12 @@ ends_furthers : (m : Manner) (cs : List Chunk) → EndAll (map (further_piece m)
 ends_furthers m [] = ends_none
 ends_furthers m (c ∷ cs) = ends_more (further_piece m c) (map (further_piece m) cs) (ends_further_by c.kind m c.value) (ends_furthers m cs)
 
+ends_pieces : (m : Manner) (cs : List Chunk) → EndAll (each_piece m cs)
+ends_pieces m [] = ends_none
+ends_pieces m (c ∷ cs) = ends_more (chunk_piece m c) (map (further_piece m) cs) (ends_chunk c.kind m c.value) (ends_furthers m cs)
+
 pub ends_chunks : (m : Manner) (cs : List Chunk) → EndAll (chunk_pieces m cs)
-ends_chunks m [] = ends_none
-ends_chunks m (c ∷ cs) = ends_more (chunk_piece m c) (map (further_piece m) cs) (ends_chunk c.kind m c.value) (ends_furthers m cs)
+ends_chunks m cs = ends_pieces (uncased m) (cased_chunks m.text_case m.is_english cs)
 
 pub ends_framed : (f : Frame) (ps : List Piece) → EndAll ps → EndAll (framed f ps)
 ends_framed f ps h = record {

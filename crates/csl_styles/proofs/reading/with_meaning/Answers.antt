@@ -10,8 +10,8 @@ returns-in-Ok-clause-exact c = means_by (element_view c.args.root) (chars c.args
 pub returns-in-Ok-clause-only : goal.returns-in-Ok-clause-only
 returns-in-Ok-clause-only c = λ none taken. c.in-Ok.ensures.1
 
-pub returns-in-Err-clause-exact : goal.returns-in-Err-clause-exact
-returns-in-Err-clause-exact c = refused_by (element_view c.args.root) (chars c.args.text.now) (refusal_of c.in-Err.error) c.requires c.in-Err.ensures
+pub returns-clause-exact : goal.returns-clause-exact
+returns-clause-exact c = refused_by (element_view c.args.root) (chars c.args.text.now) (refusal_of c.in-Err.error) c.requires c.in-Err.ensures
 
-pub returns-in-Err-clause-only : goal.returns-in-Err-clause-only
-returns-in-Err-clause-only c = λ none taken. not_refused (chars c.args.text.now) (element_view c.args.root) (refusal_of c.in-Err.error) c.in-Err.ensures none taken
+pub returns-clause-only : goal.returns-clause-only
+returns-clause-only c = λ none taken. not_refused (chars c.args.text.now) (element_view c.args.root) (refusal_of c.in-Err.error) c.in-Err.ensures none taken
